@@ -162,7 +162,7 @@ fn judged_planes(placement: &Placement, rows: u32, bytes: &[u8]) -> u64
             return 1;
         }
         let (block, others) = rest.split_at(size);
-        faults |= u64::from(PlaneSegment::judge(placement, col, rows, block).unwrap_or(0));
+        faults |= u64::from(PlaneSegment::find_fault(placement, col, rows, block).unwrap_or(0));
         rest = others;
     }
     faults
@@ -180,7 +180,7 @@ fn judged_slices(placement: &Placement, rows: u32, bytes: &[u8]) -> u64
             return 1;
         }
         let (block, others) = rest.split_at(size);
-        faults |= u64::from(SliceSegment::judge(placement, col, rows, block).unwrap_or(0));
+        faults |= u64::from(SliceSegment::find_fault(placement, col, rows, block).unwrap_or(0));
         rest = others;
     }
     faults

@@ -9,8 +9,8 @@ use crate::in_file::InFile;
 use crate::out_file::{OutFile, is_same_file};
 use crate::out_stream::OutStream;
 use crate::session::Teller;
-use bw_cli::{Asked, USAGE, Words, asked_by, words_given};
-use bw_explain::{Ended, Reads, explain, explain_rows};
+use bw_cli::{CommandArgs, Invocation, USAGE, asked_by, words_given};
+use bw_explain::{CommandFailure, Reads, explain, explain_rows};
 use bw_file::{FromRead, Layout, Source, ToWrite};
 use bw_io::ReadAhead;
 use bw_model::{Fault, MAX_SCHEMA_LEN, code};
@@ -40,8 +40,8 @@ fn run_given(rt: &HostRuntime, words: &[String]) -> u8 {
     }
 }
 
-fn run_asked(rt: &HostRuntime, asked: Asked<'_>) -> u8 {
-    let Asked {
+fn run_asked(rt: &HostRuntime, asked: Invocation<'_>) -> u8 {
+    let Invocation {
         words,
         programs,
         is_explained,
@@ -64,7 +64,7 @@ fn status_alone(fault: &Fault) -> u8 {
 }
 
 /// The input of a command that is the same file as what it is to write, by any name.
-fn input_as_output<'a>(rt: &HostRuntime, words: &Words<'a>) -> Option<&'a str> {
+fn input_as_output<'a>(rt: &HostRuntime, words: &CommandArgs<'a>) -> Option<&'a str> {
     let out = words.out()?;
     let inputs = [words.schema(), words.csv()];
     inputs
@@ -75,7 +75,12 @@ fn input_as_output<'a>(rt: &HostRuntime, words: &Words<'a>) -> Option<&'a str> {
 
 /// Writes the line of what ended a command, and what is to be said of it where that is to be reported, and gives the
 /// status.
-fn tell_fault(rt: &HostRuntime, words: &Words<'_>, ended: &Ended<'_>, told: bool) -> u8 {
+fn tell_fault(
+    rt: &HostRuntime,
+    words: &CommandArgs<'_>,
+    ended: &CommandFailure<'_>,
+    told: bool,
+) -> u8 {
     let status = report(&ended.fault, &mut ToWrite::new(rt.stderr()));
     if told {
         explain(rt, words, ended);
@@ -86,21 +91,23 @@ fn tell_fault(rt: &HostRuntime, words: &Words<'_>, ended: &Ended<'_>, told: bool
 /// Runs a command, reports how it was done where that is wanted, and gives the status.
 fn run_words<'a>(
     rt: &HostRuntime,
-    words: Words<'a>,
+    words: CommandArgs<'a>,
     programs: &[&'a str],
     told: bool,
-) -> Result<u8, Ended<'a>> {
+) -> Result<u8, CommandFailure<'a>> {
     match words {
-        Words::Session { stats, table } => return run_session(rt, programs, stats, table, told),
-        Words::Direct { schema, csv, sql } => run_direct(rt, schema, csv, sql)?,
-        Words::Infer { name, csv } => run_infer(rt, name, csv)?,
-        Words::Load {
+        CommandArgs::Session { stats, table } => return run_session(
+            rt, programs, stats, table, told,
+        ),
+        CommandArgs::Direct { schema, csv, sql } => run_direct(rt, schema, csv, sql)?,
+        CommandArgs::Infer { name, csv } => run_infer(rt, name, csv)?,
+        CommandArgs::Load {
             layout,
             schema,
             csv,
             out,
         } => run_load(rt, layout, schema, csv, out)?,
-        Words::Query {
+        CommandArgs::Query {
             program,
             stats,
             table,
@@ -111,10 +118,10 @@ fn run_words<'a>(
                 explain_rows(rt, table, sql);
             }
         }
-        Words::Info { table } => run_info(rt, table)?,
-        Words::Dump { table } => run_dump(rt, table)?,
-        Words::Plan { schema, sql } => run_plan(rt, schema, sql)?,
-        Words::Check { schema, sql, file } => run_check(rt, schema, sql, file)?,
+        CommandArgs::Info { table } => run_info(rt, table)?,
+        CommandArgs::Dump { table } => run_dump(rt, table)?,
+        CommandArgs::Plan { schema, sql } => run_plan(rt, schema, sql)?,
+        CommandArgs::Check { schema, sql, file } => run_check(rt, schema, sql, file)?,
     }
     Ok(0)
 }
@@ -125,7 +132,7 @@ fn run_direct<'a>(
     schema_path: &'a str,
     csv_path: &'a str,
     sql: &str,
-) -> Result<(), Ended<'a>> {
+) -> Result<(), CommandFailure<'a>> {
     let (mut schema, mut csv) = open_both(rt, schema_path, csv_path)?;
     let mut schema_source = FromRead::new(&mut schema);
     let mut csv_source = FromRead::new(&mut csv);
@@ -142,7 +149,11 @@ fn run_direct<'a>(
 }
 
 /// Runs `bw infer`.
-fn run_infer<'a>(rt: &HostRuntime, name: Option<&str>, csv_path: &'a str) -> Result<(), Ended<'a>> {
+fn run_infer<'a>(
+    rt: &HostRuntime,
+    name: Option<&str>,
+    csv_path: &'a str,
+) -> Result<(), CommandFailure<'a>> {
     let mut csv = open(rt, csv_path)?;
     let mut source = FromRead::new(&mut csv);
     let mut out = OutStream::new(rt.stdout());
@@ -158,7 +169,7 @@ fn run_load<'a>(
     schema_path: &'a str,
     csv_path: &'a str,
     out: &str,
-) -> Result<(), Ended<'a>> {
+) -> Result<(), CommandFailure<'a>> {
     let (mut schema, mut csv) = open_both(rt, schema_path, csv_path)?;
     let mut schema_source = FromRead::new(&mut schema);
     let mut csv_source = FromRead::new(&mut csv);
@@ -182,7 +193,7 @@ fn run_query<'a>(
     stats: bool,
     table_path: &'a str,
     sql: &str,
-) -> Result<Served, Ended<'a>> {
+) -> Result<Served, CommandFailure<'a>> {
     let table = open(rt, table_path)?;
     let program = program_given(rt, program)?;
     let served = answer_from(rt, table_path, table, sql, program.as_deref())?;
@@ -201,7 +212,7 @@ fn run_session<'a>(
     stats: bool,
     table_path: &'a str,
     told: bool,
-) -> Result<u8, Ended<'a>> {
+) -> Result<u8, CommandFailure<'a>> {
     let file = open(rt, table_path)?;
     let files = read_programs(rt, paths)?;
     let table = table_of(rt, table_path, file)?;
@@ -217,7 +228,7 @@ fn answer_input(
     programs: &mut ProgramCache,
     stats: bool,
     told: bool,
-) -> Result<u8, Ended<'static>>
+) -> Result<u8, CommandFailure<'static>>
     requires { Serves (schema_of table.now).columns.items programs.old }
 {
     let mut teller = Teller::new(rt, table.schema(), stats, told);
@@ -236,12 +247,15 @@ fn answer_input(
 }
 
 /// Returns the bytes of each program file of a session.
-fn read_programs<'a>(rt: &HostRuntime, paths: &[&'a str]) -> Result<Vec<Vec<u8>>, Ended<'a>> {
+fn read_programs<'a>(
+    rt: &HostRuntime,
+    paths: &[&'a str],
+) -> Result<Vec<Vec<u8>>, CommandFailure<'a>> {
     let mut files = Vec::new(rt.alloc());
     for path in paths {
         let file = read_program(rt, path, open(rt, path)?)?;
         if files.push(file).is_err() {
-            return Err(Ended::of(Fault::new(code::OUT_OF_MEMORY), &[]));
+            return Err(CommandFailure::of(Fault::new(code::OUT_OF_MEMORY), &[]));
         }
     }
     Ok(files)
@@ -253,14 +267,14 @@ fn programs_for<'a>(
     table: &MemoryTable,
     paths: &[&'a str],
     files: Vec<Vec<u8>>,
-) -> Result<ProgramCache, Ended<'a>>
+) -> Result<ProgramCache, CommandFailure<'a>>
     ensures { IfOk result (λ programs. Serves (schema_of table.now).columns.items programs) }
 {
     match ProgramCache::new(rt.alloc(), table.schema(), files) {
         Ok(programs) => Ok(programs),
         Err(rejected) => {
             let path = paths.get(rejected.number).copied();
-            Err(Ended::of(rejected.fault, &[]).of_program(path))
+            Err(CommandFailure::of(rejected.fault, &[]).of_program(path))
         }
     }
 }
@@ -270,7 +284,7 @@ fn table_of<'a>(
     rt: &HostRuntime,
     path: &'a str,
     mut file: InFile,
-) -> Result<MemoryTable, Ended<'a>> {
+) -> Result<MemoryTable, CommandFailure<'a>> {
     let mut source = ahead(rt, &mut file)?;
     let done = read_table(rt.alloc(), &mut source);
     drop(source);
@@ -278,12 +292,12 @@ fn table_of<'a>(
 }
 
 /// Standard input, of which the system is asked for as much as there is, up to a limit.
-fn input_ahead(rt: &HostRuntime) -> Result<ReadAhead<Stdin>, Ended<'static>>
+fn input_ahead(rt: &HostRuntime) -> Result<ReadAhead<Stdin>, CommandFailure<'static>>
     ensures { IfOk result (λ source. read_failures source ≡ 0) }
 {
     match ReadAhead::new(rt.alloc(), rt.stdin(), PIECE) {
         Ok(source) => Ok(source),
-        Err(fault) => Err(Ended::of(fault, &[])),
+        Err(fault) => Err(CommandFailure::of(fault, &[])),
     }
 }
 
@@ -291,7 +305,7 @@ fn input_ahead(rt: &HostRuntime) -> Result<ReadAhead<Stdin>, Ended<'static>>
 fn program_given<'a>(
     rt: &HostRuntime,
     program: Option<&'a str>,
-) -> Result<Option<Vec<u8>>, Ended<'a>> {
+) -> Result<Option<Vec<u8>>, CommandFailure<'a>> {
     match program {
         Some(path) => Ok(Some(read_program(rt, path, open(rt, path)?)?)),
         None => Ok(None),
@@ -305,7 +319,7 @@ fn answer_from<'a>(
     mut table: InFile,
     sql: &str,
     program: Option<&[u8]>,
-) -> Result<Served, Ended<'a>> {
+) -> Result<Served, CommandFailure<'a>> {
     let mut source = ahead(rt, &mut table)?;
     let mut out = OutStream::new(rt.stdout());
     let mut sink = ToWrite::new(&mut out);
@@ -316,18 +330,26 @@ fn answer_from<'a>(
 }
 
 /// The bytes of a program file, whole.
-fn read_program<'a>(rt: &HostRuntime, path: &'a str, file: InFile) -> Result<Vec<u8>, Ended<'a>> {
+fn read_program<'a>(
+    rt: &HostRuntime,
+    path: &'a str,
+    file: InFile,
+) -> Result<Vec<u8>, CommandFailure<'a>> {
     match read_text(rt, path, file, MAX_PROGRAM_FILE_LEN as u32)? {
         Input::Whole(bytes) => Ok(bytes),
         Input::Over => {
             let fault = Fault::new(code::PROGRAM_FILE_TOO_LONG);
-            Err(Ended::of(fault, &[]).of_program(Some(path)))
+            Err(CommandFailure::of(fault, &[]).of_program(Some(path)))
         }
     }
 }
 
 /// Runs `bw plan`.
-fn run_plan<'a>(rt: &HostRuntime, schema_path: &'a str, sql: &str) -> Result<(), Ended<'a>> {
+fn run_plan<'a>(
+    rt: &HostRuntime,
+    schema_path: &'a str,
+    sql: &str,
+) -> Result<(), CommandFailure<'a>> {
     let schema = open(rt, schema_path)?;
     let schema = read_schema(rt, schema_path, schema)?;
     let mut out = OutStream::new(rt.stdout());
@@ -336,7 +358,7 @@ fn run_plan<'a>(rt: &HostRuntime, schema_path: &'a str, sql: &str) -> Result<(),
 }
 
 /// Runs `bw info`.
-fn run_info<'a>(rt: &HostRuntime, table_path: &'a str) -> Result<(), Ended<'a>> {
+fn run_info<'a>(rt: &HostRuntime, table_path: &'a str) -> Result<(), CommandFailure<'a>> {
     let mut table = open(rt, table_path)?;
     let mut source = ahead(rt, &mut table)?;
     let mut out = OutStream::new(rt.stdout());
@@ -346,7 +368,7 @@ fn run_info<'a>(rt: &HostRuntime, table_path: &'a str) -> Result<(), Ended<'a>> 
 }
 
 /// Runs `bw dump`.
-fn run_dump<'a>(rt: &HostRuntime, table_path: &'a str) -> Result<(), Ended<'a>> {
+fn run_dump<'a>(rt: &HostRuntime, table_path: &'a str) -> Result<(), CommandFailure<'a>> {
     let mut table = open(rt, table_path)?;
     let mut source = ahead(rt, &mut table)?;
     let mut out = OutStream::new(rt.stdout());
@@ -361,7 +383,7 @@ fn run_check<'a>(
     schema_path: &'a str,
     sql: &str,
     file_path: &'a str,
-) -> Result<(), Ended<'a>> {
+) -> Result<(), CommandFailure<'a>> {
     let (schema, file) = open_both(rt, schema_path, file_path)?;
     let schema = read_schema(rt, schema_path, schema)?;
     let file = read_program(rt, file_path, file)?;
@@ -372,10 +394,14 @@ fn run_check<'a>(
 }
 
 /// The text of a schema, whole.
-fn read_schema<'a>(rt: &HostRuntime, path: &'a str, file: InFile) -> Result<Vec<u8>, Ended<'a>> {
+fn read_schema<'a>(
+    rt: &HostRuntime,
+    path: &'a str,
+    file: InFile,
+) -> Result<Vec<u8>, CommandFailure<'a>> {
     match read_text(rt, path, file, MAX_SCHEMA_LEN as u32)? {
         Input::Whole(text) => Ok(text),
-        Input::Over => Err(Ended::of(Fault::new(code::SCHEMA_TOO_LONG), &[])),
+        Input::Over => Err(CommandFailure::of(Fault::new(code::SCHEMA_TOO_LONG), &[])),
     }
 }
 
@@ -385,7 +411,7 @@ fn read_text<'a>(
     path: &'a str,
     mut file: InFile,
     limit: u32,
-) -> Result<Input, Ended<'a>> {
+) -> Result<Input, CommandFailure<'a>> {
     let mut source = FromRead::new(&mut file);
     let done = read_limited(rt.alloc(), &mut source, u64::from(limit));
     or_ended(done, &[(path, file.reads())])
@@ -393,10 +419,13 @@ fn read_text<'a>(
 
 /// What a call gave, or what ended the command: the call's fault, and the files that it read, each with how its reads
 /// went.
-fn or_ended<'a, T>(done: Result<T, Fault>, files: &[(&'a str, Reads)]) -> Result<T, Ended<'a>> {
+fn or_ended<'a, T>(
+    done: Result<T, Fault>,
+    files: &[(&'a str, Reads)],
+) -> Result<T, CommandFailure<'a>> {
     match done {
         Ok(given) => Ok(given),
-        Err(fault) => Err(Ended::of(fault, files)),
+        Err(fault) => Err(CommandFailure::of(fault, files)),
     }
 }
 
@@ -405,10 +434,10 @@ fn or_unwritten<'a, T>(
     done: Result<T, Fault>,
     files: &[(&'a str, Reads)],
     error: Option<io::Error>,
-) -> Result<T, Ended<'a>> {
+) -> Result<T, CommandFailure<'a>> {
     match done {
         Ok(given) => Ok(given),
-        Err(fault) => Err(Ended::of(fault, files).unwritten(error)),
+        Err(fault) => Err(CommandFailure::of(fault, files).unwritten(error)),
     }
 }
 
@@ -417,16 +446,16 @@ fn open_both<'a>(
     rt: &HostRuntime,
     first: &'a str,
     second: &'a str,
-) -> Result<(InFile, InFile), Ended<'a>> {
+) -> Result<(InFile, InFile), CommandFailure<'a>> {
     let first = open(rt, first)?;
     let second = open(rt, second)?;
     Ok((first, second))
 }
 
-fn open<'a>(rt: &HostRuntime, path: &'a str) -> Result<InFile, Ended<'a>> {
+fn open<'a>(rt: &HostRuntime, path: &'a str) -> Result<InFile, CommandFailure<'a>> {
     match File::open(rt, path) {
         Ok(file) => Ok(InFile::new(file)),
-        Err(error) => Err(Ended::unread(path, error)),
+        Err(error) => Err(CommandFailure::unread(path, error)),
     }
 }
 
@@ -435,7 +464,7 @@ fn open<'a>(rt: &HostRuntime, path: &'a str) -> Result<InFile, Ended<'a>> {
 fn ahead<'f>(
     rt: &HostRuntime,
     file: &'f mut InFile,
-) -> Result<ReadAhead<&'f mut InFile>, Ended<'static>>
+) -> Result<ReadAhead<&'f mut InFile>, CommandFailure<'static>>
     ensures { IfOk result (λ source. read_failures source ≡ 0) }
 {
     let piece = match file.len() {
@@ -444,6 +473,6 @@ fn ahead<'f>(
     };
     match ReadAhead::new(rt.alloc(), file, piece) {
         Ok(source) => Ok(source),
-        Err(fault) => Err(Ended::of(fault, &[])),
+        Err(fault) => Err(CommandFailure::of(fault, &[])),
     }
 }

@@ -10,7 +10,7 @@ use Rattle.bw_model.specs.Row.{Value, value_in}
 use Rattle.bw_model.specs.Code.{value_at}
 use Rattle.bw_model.specs.Column.{admits_values}
 use Rattle.bw_model.specs.Groups.{group_size}
-use Rattle.bw_model.specs.Selection.{picked}
+use Rattle.bw_model.specs.Selection.{selected_items}
 use Rattle.bw_model.specs.Stored.{stored_at}
 use Rattle.bw_model.specs.Total.{present}
 use Rattle.bw_model.specs.Truth.{is_null}
@@ -23,31 +23,31 @@ use Rattle.bw_segment.proofs.PickedCodes.{codes_counted}
 use Rattle.bw_aggregate.specs.Picked.{IsWithin, present_lanes, values_in, picked_rows}
 
 -- nothing is picked past the rows
-none_past : (lanes nulls : List Bool) (codes : List ℕ) → IsWithin 0 lanes → picked (zip2 (λ a b. a && b) lanes nulls) codes ≡ []
+none_past : (lanes nulls : List Bool) (codes : List ℕ) → IsWithin 0 lanes → selected_items (zip2 (λ a b. a && b) lanes nulls) codes ≡ []
 none_past [] nulls codes within = refl
 none_past (lane ∷ lanes) [] codes within = refl
 none_past (true ∷ lanes) (null ∷ nulls) codes within = not_both (within 0 (omega arith))
   where
-    not_both : true ≡ false → picked (zip2 (λ a b. a && b) (true ∷ lanes) (null ∷ nulls)) codes ≡ []
+    not_both : true ≡ false → selected_items (zip2 (λ a b. a && b) (true ∷ lanes) (null ∷ nulls)) codes ≡ []
     not_both e = cc
 none_past (false ∷ lanes) (null ∷ nulls) [] within = refl
 none_past (false ∷ lanes) (null ∷ nulls) (code ∷ codes) within = none_past lanes nulls codes (λ row le. within (suc row) (omega arith))
 
 one_more : (columns : List Column) (col code : ℕ) (value : Value) (rest : List ℤ) (lanes : List Bool) (codes : List ℕ) → value_held columns col (is_null value) code ≡ value
-    → rest ≡ map (value_at columns col) (picked lanes codes) → cons_option value rest ≡ map (value_at columns col) (picked (not (is_null value) ∷ lanes) (code ∷ codes))
+    → rest ≡ map (value_at columns col) (selected_items lanes codes) → cons_option value rest ≡ map (value_at columns col) (selected_items (not (is_null value) ∷ lanes) (code ∷ codes))
 one_more columns col code None rest lanes codes held same = same
 one_more columns col code (Some n) rest lanes codes held same = ap₂ ◌∷◌ (ap (λ v. unwrap_or v (pos 0)) (sym held)) same
 
 values_of_rows : (columns : List Column) (col n : ℕ) (rows : List (List Value)) (lanes : List Bool) → list_all (admits_values columns) rows ≡ true → col < length columns → IsWithin (length rows) lanes
-    → present col (picked lanes rows)
-    ≡ map (value_at columns col) (picked (zip2 (λ a b. a && b) lanes (map not (map (λ row. is_null (value_in row col)) rows ++ replicate n false))) (map (λ row. stored_at columns col (value_in row col)) rows ++ replicate n 0))
+    → present col (selected_items lanes rows)
+    ≡ map (value_at columns col) (selected_items (zip2 (λ a b. a && b) lanes (map not (map (λ row. is_null (value_in row col)) rows ++ replicate n false))) (map (λ row. stored_at columns col (value_in row col)) rows ++ replicate n 0))
 values_of_rows columns col n rows [] all lt within = refl
 values_of_rows columns col n [] (lane ∷ lanes) all lt within =
     ap (map (value_at columns col)) (sym (none_past (lane ∷ lanes) (map not (replicate n false)) (replicate n 0) within))
 values_of_rows columns col n (row ∷ rows) (true ∷ lanes) all lt within =
     let each = both (admits_values columns row) (list_all (admits_values columns) rows) all in
     let later = values_of_rows columns col n rows lanes each.1 lt (λ at le. within (suc at) (omega arith)) in
-    one_more columns col (stored_at columns col (value_in row col)) (value_in row col) (present col (picked lanes rows)) _ _ (held_admitted columns row col each.0 lt) later
+    one_more columns col (stored_at columns col (value_in row col)) (value_in row col) (present col (selected_items lanes rows)) _ _ (held_admitted columns row col each.0 lt) later
 values_of_rows columns col n (row ∷ rows) (false ∷ lanes) all lt within =
     values_of_rows columns col n rows lanes (both (admits_values columns row) (list_all (admits_values columns) rows) all).1 lt (λ at le. within (suc at) (omega arith))
 
@@ -66,7 +66,7 @@ none_counted (true ∷ lanes) within = absurd (true_is_not_false (within 0 (omeg
 none_counted (false ∷ lanes) within = sum_by-cons (λ b. cond b 1 0) false lanes ∙ omega (arith, none_counted lanes (λ row le. within (suc row) (omega arith)))
 
 -- the lanes that are 1 are as many as the picked rows
-pub rows_counted : (rows : List (List Value)) (lanes : List Bool) → IsWithin (length rows) lanes → count_by (λ lane. lane) lanes ≡ length (picked lanes rows)
+pub rows_counted : (rows : List (List Value)) (lanes : List Bool) → IsWithin (length rows) lanes → count_by (λ lane. lane) lanes ≡ length (selected_items lanes rows)
 rows_counted rows [] within = refl
 rows_counted [] (lane ∷ lanes) within = none_counted (lane ∷ lanes) within
 rows_counted (row ∷ rows) (true ∷ lanes) within = sum_by-cons (λ b. cond b 1 0) true lanes ∙ omega (arith, rows_counted rows lanes (λ at le. within (suc at) (omega arith)))

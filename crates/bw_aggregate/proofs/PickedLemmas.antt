@@ -3,7 +3,7 @@ use Rattle.std.proofs.Common.{◌≡◌, refl, ℕ, zero, suc, ◌≤◌, Bool, 
 use lib.Lanes.{zip2}
 use Rattle.std.proofs.lemmas.Int.{ints}
 use Rattle.bw_model.specs.Row.{Value}
-use Rattle.bw_model.specs.Selection.{picked}
+use Rattle.bw_model.specs.Selection.{selected_items}
 use Rattle.bw_model.specs.Total.{total}
 use Rattle.bw_rowwise.specs.Accumulator.{IsTotalOfRows, Tally, tally_joined}
 use Rattle.bw_aggregate.specs.Picked.{with_picked}
@@ -24,7 +24,7 @@ both_within (false ∷ lanes) (other ∷ others) zero within = refl
 both_within (lane ∷ lanes) (other ∷ others) (suc row) within = both_within lanes others row within
 
 -- no more are picked than there are
-pub few_picked : {A : Type 0} (lanes : List Bool) (items : List A) → length (picked lanes items) ≤ length items
+pub few_picked : {A : Type 0} (lanes : List Bool) (items : List A) → length (selected_items lanes items) ≤ length items
 few_picked [] items = omega arith
 few_picked (lane ∷ lanes) [] = omega arith
 few_picked (true ∷ lanes) (item ∷ items) = let rest = few_picked lanes items in omega (arith, rest)

@@ -3,7 +3,7 @@ use Rattle.std.specs.Prelude.{◌≡◌, ℕ, ℤ, ◌≤◌, Bool, false, not, 
 use Rattle.std.specs.Simd.Lanes.{zip2}
 use Rattle.bw_model.specs.Code.{value_at}
 use Rattle.bw_model.specs.Row.{Value}
-use Rattle.bw_model.specs.Selection.{picked}
+use Rattle.bw_model.specs.Selection.{selected_items}
 use Rattle.bw_model.specs.Total.{total}
 use Rattle.bw_segment.specs.Meaning.{Meaning, null_bits}
 use Rattle.bw_segment.specs.Picked.{codes_in}
@@ -25,7 +25,7 @@ values_in meaning column lanes = map (value_at meaning.columns column)
 
 -- the selected rows of a segment
 abbrev pub picked_rows : Meaning → List Bool → List (List Value)
-picked_rows meaning lanes = picked lanes meaning.rows
+picked_rows meaning lanes = selected_items lanes meaning.rows
 
 -- a tally with these selected rows more: if there are none, it stays as it is
 abbrev pub with_picked : Tally → List (List Value) → Tally

@@ -50,7 +50,7 @@ pub(crate) fn least<S: Segment>(segment: &S, col: usize, rows: &Selection) -> Op
         ≡ reduce int_min (values_in (S.meaning segment.now) col (lanes_of_words rows.now)) }
     ensures small { IsTotalOfRows 1 result }
 {
-    let code = segment.least_code(col, rows)?;
+    let code = segment.min_code(col, rows)?;
     Some(value_of_code(lowest(segment, col), code))
 }
 
@@ -61,7 +61,7 @@ pub(crate) fn greatest<S: Segment>(segment: &S, col: usize, rows: &Selection) ->
         ≡ reduce int_max (values_in (S.meaning segment.now) col (lanes_of_words rows.now)) }
     ensures small { IsTotalOfRows 1 result }
 {
-    let code = segment.greatest_code(col, rows)?;
+    let code = segment.max_code(col, rows)?;
     Some(value_of_code(lowest(segment, col), code))
 }
 

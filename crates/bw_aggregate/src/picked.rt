@@ -17,11 +17,11 @@ use bw_segment::Segment;
 /// must have no bit past the segment's rows, and the segment must have the aggregate's column. With
 /// the segment's rows the total must be of at most 2^24. If no row is selected, only the selection
 /// is read.
-pub fn add_picked<S: Segment>(total: &mut Accumulator, segment: &S, selection: &Selection)
+pub fn add_selected<S: Segment>(total: &mut Accumulator, segment: &S, selection: &Selection)
     requires column { IsTrue (item_within (length (S.meaning segment.now).columns) total.old.item) }
     requires selection { IsWithin (length (S.meaning segment.now).rows)
         (lanes_of_words selection.now) }
-    requires room { total.old.count + length (S.meaning segment.now).rows ≤ most_rows }
+    requires capacity { total.old.count + length (S.meaning segment.now).rows ≤ most_rows }
     ensures step { total.new ≡ with_picked total.old
         (picked_rows (S.meaning segment.now) (lanes_of_words selection.now)) }
     ensures item { total.new.item ≡ total.old.item }

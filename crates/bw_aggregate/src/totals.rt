@@ -7,7 +7,7 @@ ghost use Rattle.bw_model.specs.Total.{is_aggregate, item_within};
 ghost use Rattle.bw_rowwise.specs.Accumulator.{tally_of};
 ghost use Rattle.bw_aggregate.specs.Picked.{IsWithin, picked_rows};
 
-use crate::picked::add_picked;
+use crate::picked::add_selected;
 use bw_lanes::Selection;
 use bw_model::Item;
 use bw_rowwise::Accumulator;
@@ -58,7 +58,7 @@ impl Totals {
             (item_within (length (S.meaning segment.now).columns) self.old.picked.item) }
         requires selection { IsWithin (length (S.meaning segment.now).rows)
             (lanes_of_words selection.now) }
-        requires room { self.old.rows + length (S.meaning segment.now).rows ≤ most_rows }
+        requires capacity { self.old.rows + length (S.meaning segment.now).rows ≤ most_rows }
         ensures item { self.new.picked.item ≡ self.old.picked.item }
         ensures rows { self.new.rows ≡ self.old.rows + length (S.meaning segment.now).rows }
         ensures total { (rows : List (List Value)) → self.old.picked
@@ -66,7 +66,7 @@ impl Totals {
             (rows ++ picked_rows (S.meaning segment.now) (lanes_of_words selection.now)) }
     {
         let mut picked = self.picked;
-        add_picked(&mut picked, segment, selection);
+        add_selected(&mut picked, segment, selection);
         *self = Totals {
             picked,
             rows: self.rows + segment.rows_in(),

@@ -9,8 +9,8 @@ use Rattle.bw_model.specs.Row.{Value}
 use Rattle.bw_model.specs.Total.{is_aggregate}
 use Rattle.bw_rowwise.specs.Accumulator.{Tally, tally_of}
 use Rattle.bw_sql.specs.Items.{AreOfOneKind}
-use Rattle.bw_model.specs.Selection.{kept}
-use Rattle.bw_answer.specs.Answer.{csv_text, heading_of, listed, lists_rows, meaning, record_text, value_text, totalled}
+use Rattle.bw_model.specs.Selection.{matching_rows}
+use Rattle.bw_answer.specs.Answer.{csv_text, heading_of, row_records, lists_rows, meaning, record_text, value_text, totals_record}
 use Rattle.bw_answer.specs.Aggregates.{aggregates_of, answer_for, each_once}
 use Rattle.bw_answer.specs.AreOver.{text_over}
 use Rattle.bw_answer.proofs.AggregateLemmas.{answers_for}
@@ -29,16 +29,16 @@ meaning_with_rows names query rows e = rw e refl
 
 -- the heading's record and then that of the totals
 totals_after : (names : List (List ℕ)) (query : Query) (rows : List (List Value)) → lists_rows query.items.items ≡ false
-    → csv_text (meaning names query rows) ≡ record_text (map (heading_of names) query.items.items) ++ csv_text (totalled query rows ∷ [])
+    → csv_text (meaning names query rows) ≡ record_text (map (heading_of names) query.items.items) ++ csv_text (totals_record query rows ∷ [])
 unfolding csv_text meaning
 totals_after names query rows e = rw e refl
 
 pub meaning_with_totals : (names : List (List ℕ)) (query : Query) (rows : List (List Value)) → lists_rows query.items.items ≡ false
-    → csv_text (meaning names query rows) ≡ text_over names query rows ++ record_text (totalled query rows)
+    → csv_text (meaning names query rows) ≡ text_over names query rows ++ record_text (totals_record query rows)
 meaning_with_totals names query rows e =
     totals_after names query rows e
-    ∙ ap (λ (l : List ℕ). record_text (map (heading_of names) query.items.items) ++ l) (one_record (totalled query rows))
-    ∙ ap (λ (l : List ℕ). l ++ record_text (totalled query rows)) (sym (heading_alone names query rows e))
+    ∙ ap (λ (l : List ℕ). record_text (map (heading_of names) query.items.items) ++ l) (one_record (totals_record query rows))
+    ∙ ap (λ (l : List ℕ). l ++ record_text (totals_record query rows)) (sym (heading_alone names query rows e))
   where
     heading_alone : (names : List (List ℕ)) (query : Query) (rows : List (List Value)) → lists_rows query.items.items ≡ false
         → text_over names query rows ≡ record_text (map (heading_of names) query.items.items)
@@ -46,7 +46,7 @@ meaning_with_totals names query rows e =
 
 -- more rows that are listed
 pub text_over_more : (names : List (List ℕ)) (query : Query) (before rows : List (List Value)) → lists_rows query.items.items ≡ true
-    → text_over names query before ++ csv_text (listed query rows) ≡ text_over names query (before ++ rows)
+    → text_over names query before ++ csv_text (row_records query rows) ≡ text_over names query (before ++ rows)
 text_over_more names query before rows e =
     rw e (listed_more query before rows (record_text (map (heading_of names) query.items.items)))
 
@@ -73,16 +73,16 @@ all_aggregates (item ∷ items) e = let parts = both (is_aggregate item) (list_a
 
 -- the record of totals over the rows that are kept
 pub totals_fields : (query : Query) (tallies : List Tally) (rows : List (List Value)) → list_all is_aggregate query.items.items ≡ true
-    → tallies ≡ map (λ item. tally_of item (kept query.cond rows)) (aggregates_of query.items.items)
-    → map (λ item. value_text (answer_for tallies item)) query.items.items ≡ totalled query rows
+    → tallies ≡ map (λ item. tally_of item (matching_rows query.cond rows)) (aggregates_of query.items.items)
+    → map (λ item. value_text (answer_for tallies item)) query.items.items ≡ totals_record query rows
 totals_fields query tallies rows all is =
     let items = query.items.items in
-    let those : tallies ≡ map (λ item. tally_of item (kept query.cond rows)) (each_once items) =
-    is ∙ ap (λ (items : List Item). map (λ item. tally_of item (kept query.cond rows)) (each_once items)) (all_aggregates items all) in
-    ap (λ (tallies : List Tally). map (λ item. value_text (answer_for tallies item)) items) those ∙ answers_for (kept query.cond rows) items
+    let those : tallies ≡ map (λ item. tally_of item (matching_rows query.cond rows)) (each_once items) =
+    is ∙ ap (λ (items : List Item). map (λ item. tally_of item (matching_rows query.cond rows)) (each_once items)) (all_aggregates items all) in
+    ap (λ (tallies : List Tally). map (λ item. value_text (answer_for tallies item)) items) those ∙ answers_for (matching_rows query.cond rows) items
 
 -- over no rows there is the heading alone
-nothing_listed : (query : Query) → csv_text (listed query []) ≡ []
+nothing_listed : (query : Query) → csv_text (row_records query []) ≡ []
 unfolding csv_text
 nothing_listed query = refl
 

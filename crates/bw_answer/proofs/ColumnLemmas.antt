@@ -7,7 +7,7 @@ use Rattle.std.proofs.lemmas.List.Elements.{filter_map-append}
 use Rattle.bw_model.specs.declared.query.Item.{Item}
 use Rattle.bw_model.specs.declared.query.Item.TheVariants.{Plain, CountAll, Count, Sum, Min, Max}
 use Rattle.bw_model.specs.Row.{Value, value_in}
-use Rattle.bw_model.specs.Selection.{picked, positions_from, positions_of}
+use Rattle.bw_model.specs.Selection.{selected_items, positions_from, positions_of}
 use Rattle.bw_model.specs.Total.{item_within}
 use Rattle.bw_answer.specs.Answer.{field_of, lists_rows, value_text}
 use Rattle.bw_answer.specs.Columns.{column_of, columns_of, fields_of}
@@ -83,13 +83,13 @@ fields_same columns lanes number row e =
     map_same (λ column. value_text (value_in_lane lanes number column)) (λ column. value_text (value_in row column)) columns (λ i h. ap value_text (e i h))
 
 -- what is made of the positions of bits that are 1, and of the rows there
-nothing_picked : (bits : List Bool) → picked {A = List Value} bits [] ≡ []
+nothing_picked : (bits : List Bool) → selected_items {A = List Value} bits [] ≡ []
 nothing_picked [] = refl
 nothing_picked (bit ∷ bits) = refl
 
 at_positions : {X : Type 0} (f : ℕ → X) (g : List Value → X) (n : ℕ) (bits : List Bool) (rows : List (List Value))
     → ((k : ℕ) → k < length rows → get_or bits k false ≡ true → f (n + k) ≡ g (get_or rows k [])) → ((k : ℕ) → length rows ≤ k → get_or bits k false ≡ false)
-    → map f (positions_from n bits) ≡ map g (picked bits rows)
+    → map f (positions_from n bits) ≡ map g (selected_items bits rows)
 at_positions f g n [] rows here none = refl
 at_positions f g n (true ∷ bits) [] here none = absurd (true≢false (none 0 (omega arith)))
 at_positions f g n (false ∷ bits) [] here none =
@@ -105,7 +105,7 @@ at_positions f g n (false ∷ bits) (row ∷ rows) here none =
 
 pub records_same : (columns : List ℕ) (lanes : List ColumnValues) (bits : List Bool) (rows : List (List Value))
     → HasPicked rows bits columns lanes → ((k : ℕ) → length rows ≤ k → get_or bits k false ≡ false)
-    → map (fields_in_lane lanes columns) (positions_of bits) ≡ map (fields_of columns) (picked bits rows)
+    → map (fields_in_lane lanes columns) (positions_of bits) ≡ map (fields_of columns) (selected_items bits rows)
 records_same columns lanes bits rows fetched none =
     at_positions (fields_in_lane lanes columns) (fields_of columns) 0 bits rows (λ k h bit. let same : 0 + k ≡ k = omega arith in
     subst (λ m. fields_in_lane lanes columns m ≡ fields_of columns (get_or rows k [])) (sym same) (fields_same columns lanes k (get_or rows k []) (fetched k h bit))) none

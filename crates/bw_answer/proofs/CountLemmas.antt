@@ -5,17 +5,17 @@ use Rattle.std.proofs.lemmas.Bool.{leb-true, le-leb}
 use Rattle.bw_model.specs.declared.cond.Cond.{Cond}
 use Rattle.bw_model.specs.declared.query.Item.{Item}
 use Rattle.bw_model.specs.declared.query.Item.TheVariants.{Plain, CountAll, Count, Sum, Min, Max}
-use Rattle.bw_model.specs.Cond.{is_kept}
+use Rattle.bw_model.specs.Cond.{is_match}
 use Rattle.bw_model.specs.Row.{Value}
-use Rattle.bw_model.specs.Selection.{kept}
+use Rattle.bw_model.specs.Selection.{matching_rows}
 use Rattle.bw_model.specs.Total.{item_within}
-use Rattle.bw_rowwise.specs.Accumulator.{Tally, tally_of, counted}
+use Rattle.bw_rowwise.specs.Accumulator.{Tally, tally_of, count_rows}
 use Rattle.bw_answer.specs.Answer.{is_count_all, lists_rows}
 use Rattle.bw_answer.specs.Totals.{is_of}
 use Rattle.bw_answer.proofs.TotalsLemmas.{and_true, both}
 
 -- where a condition keeps every row, all are kept
-pub every_kept : (cond : Cond) (rows : List (List Value)) → ((row : List Value) → is_kept cond row ≡ true) → kept cond rows ≡ rows
+pub every_kept : (cond : Cond) (rows : List (List Value)) → ((row : List Value) → is_match cond row ≡ true) → matching_rows cond rows ≡ rows
 every_kept cond [] every = refl
 every_kept cond (row ∷ rows) every = rw (every row) (ap (λ (l : List (List Value)). row ∷ l) (every_kept cond rows every))
 
@@ -30,11 +30,11 @@ counts_list_nothing (Min column ∷ items) some e = refl
 counts_list_nothing (Max column ∷ items) some e = refl
 
 -- counts of rows, and so many more
-one_counted : (rows more : List (List Value)) (n : ℕ) → length more ≡ length rows + n → counted (tally_of CountAll rows) n ≡ tally_of CountAll more
+one_counted : (rows more : List (List Value)) (n : ℕ) → length more ≡ length rows + n → count_rows (tally_of CountAll rows) n ≡ tally_of CountAll more
 one_counted rows more n e = rw e refl
 
 pub all_counted : (items : List Item) (rows more : List (List Value)) (n : ℕ) → length more ≡ length rows + n → list_all is_count_all items ≡ true
-    → map (λ (tally : Tally). counted tally n) (map (λ item. tally_of item rows) items) ≡ map (λ item. tally_of item more) items
+    → map (λ (tally : Tally). count_rows tally n) (map (λ item. tally_of item rows) items) ≡ map (λ item. tally_of item more) items
 all_counted [] rows more n e all = refl
 all_counted (Plain column ∷ items) rows more n e all = absurd (cc all)
 all_counted (CountAll ∷ items) rows more n e all = λ i. one_counted rows more n e i ∷ all_counted items rows more n e all i
@@ -45,7 +45,7 @@ all_counted (Max column ∷ items) rows more n e all = absurd (cc all)
 
 -- totals of so many rows and more
 pub is_of-counted : (width rows n : ℕ) (tallies : List Tally) → list_all (is_of width rows) tallies ≡ true
-    → list_all (is_of width (rows + n)) (map (λ (tally : Tally). counted tally n) tallies) ≡ true
+    → list_all (is_of width (rows + n)) (map (λ (tally : Tally). count_rows tally n) tallies) ≡ true
 is_of-counted width rows n [] e = refl
 is_of-counted width rows n (t ∷ ts) e =
     let parts = both (is_of width rows t) (list_all (is_of width rows) ts) e in

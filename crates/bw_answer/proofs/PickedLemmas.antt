@@ -6,10 +6,10 @@ use Rattle.std.proofs.lemmas.Bool.{leb-true, le-leb}
 use Rattle.std.proofs.lemmas.List.Sums.{count_by-le-length, length-filter}
 use Rattle.bw_model.specs.declared.cond.Cond.{Cond}
 use Rattle.bw_model.specs.declared.query.Item.{Item}
-use Rattle.bw_model.specs.Cond.{is_kept}
+use Rattle.bw_model.specs.Cond.{is_match}
 use Rattle.bw_model.specs.Row.{Value}
-use Rattle.bw_model.specs.Selection.{kept, picked, selection}
-use Rattle.bw_model.specs.Total.{item_within, joined, total}
+use Rattle.bw_model.specs.Selection.{matching_rows, selected_items, selection}
+use Rattle.bw_model.specs.Total.{item_within, combine_totals, total}
 use Rattle.bw_rowwise.specs.Accumulator.{Tally, tally_of}
 use Rattle.bw_rowwise.specs.Prepared.{IsPreparedFrom, prepared_truth}
 use Rattle.bw_rowwise.specs.declared.prepared.Prepared.{Prepared}
@@ -20,36 +20,36 @@ use Rattle.bw_answer.specs.Totals.{is_of}
 use Rattle.bw_answer.proofs.TotalsLemmas.{and_true, both}
 
 -- the lanes of a selection, and zeros, pick what is kept
-zeros_pick_none : (n : ℕ) (rows : List (List Value)) → picked (replicate n false) rows ≡ []
+zeros_pick_none : (n : ℕ) (rows : List (List Value)) → selected_items (replicate n false) rows ≡ []
 zeros_pick_none zero rows = refl
 zeros_pick_none (suc n) [] = refl
 zeros_pick_none (suc n) (row ∷ rows) = zeros_pick_none n rows
 
-kept_by : (b : Bool) (row : List Value) (bits : List Bool) (rows those : List (List Value)) → picked bits rows ≡ those → picked (b ∷ bits) (row ∷ rows) ≡ cond b (row ∷ those) those
+kept_by : (b : Bool) (row : List Value) (bits : List Bool) (rows those : List (List Value)) → selected_items bits rows ≡ those → selected_items (b ∷ bits) (row ∷ rows) ≡ cond b (row ∷ those) those
 kept_by true row bits rows those e = ap (λ (l : List (List Value)). row ∷ l) e
 kept_by false row bits rows those e = e
 
-pub picked_as_kept : (c : Cond) (rows : List (List Value)) (n : ℕ) → picked (selection c rows ++ replicate n false) rows ≡ kept c rows
+pub picked_as_kept : (c : Cond) (rows : List (List Value)) (n : ℕ) → selected_items (selection c rows ++ replicate n false) rows ≡ matching_rows c rows
 picked_as_kept c [] n = zeros_pick_none n []
-picked_as_kept c (row ∷ rows) n = kept_by (is_kept c row) row (selection c rows ++ replicate n false) rows (kept c rows) (picked_as_kept c rows n)
+picked_as_kept c (row ∷ rows) n = kept_by (is_match c row) row (selection c rows ++ replicate n false) rows (matching_rows c rows) (picked_as_kept c rows n)
 
 -- where no lane is 1, no row is picked
-pub none_picked : (lanes : List Bool) (rows : List (List Value)) → list_all not lanes ≡ true → picked lanes rows ≡ []
+pub none_picked : (lanes : List Bool) (rows : List (List Value)) → list_all not lanes ≡ true → selected_items lanes rows ≡ []
 none_picked [] rows e = refl
 none_picked (lane ∷ lanes) [] e = refl
 none_picked (true ∷ lanes) (row ∷ rows) e = absurd (cc e)
 none_picked (false ∷ lanes) (row ∷ rows) e = none_picked lanes rows e
 
 -- totals of some rows are those of the picked rows too
-one_total : (item : Item) (rows more : List (List Value)) → ((item : Item) (a b : List (List Value)) → total item (a ++ b) ≡ joined item (total item a) (total item b))
+one_total : (item : Item) (rows more : List (List Value)) → ((item : Item) (a b : List (List Value)) → total item (a ++ b) ≡ combine_totals item (total item a) (total item b))
     → with_picked (tally_of item rows) more ≡ tally_of item (rows ++ more)
 one_total item rows [] join = ap (λ (l : List (List Value)). tally_of item l) (sym (append-nil rows))
 one_total item rows (row ∷ more) join =
     let long : length (rows ++ row ∷ more) ≡ length rows + length (row ∷ more) = length-append rows (row ∷ more) in
-    let whole : total item (rows ++ row ∷ more) ≡ joined item (total item rows) (total item (row ∷ more)) = join item rows (row ∷ more) in
+    let whole : total item (rows ++ row ∷ more) ≡ combine_totals item (total item rows) (total item (row ∷ more)) = join item rows (row ∷ more) in
     λ i. record { item = item; count = sym long i; answer = sym whole i }
 
-pub all_totals : (items : List Item) (rows more : List (List Value)) → ((item : Item) (a b : List (List Value)) → total item (a ++ b) ≡ joined item (total item a) (total item b))
+pub all_totals : (items : List Item) (rows more : List (List Value)) → ((item : Item) (a b : List (List Value)) → total item (a ++ b) ≡ combine_totals item (total item a) (total item b))
     → map (λ (tally : Tally). with_picked tally more) (map (λ item. tally_of item rows) items) ≡ map (λ item. tally_of item (rows ++ more)) items
 all_totals [] rows more join = refl
 all_totals (item ∷ items) rows more join = λ i. one_total item rows more join i ∷ all_totals items rows more join i
@@ -82,8 +82,8 @@ is_of-later width rows n (t ∷ ts) e =
     and_true _ _ (and_true _ _ here.0 (le-leb _ _ count)) (is_of-later width rows n ts parts.1)
 
 -- no more rows are kept than there are
-pub few_kept : (c : Cond) (rows : List (List Value)) → length (kept c rows) ≤ length rows
-few_kept c rows = let some = count_by-le-length (is_kept c) rows in omega (arith, length-filter (is_kept c) rows, some)
+pub few_kept : (c : Cond) (rows : List (List Value)) → length (matching_rows c rows) ≤ length rows
+few_kept c rows = let some = count_by-le-length (is_match c) rows in omega (arith, length-filter (is_match c) rows, some)
 
 -- a condition that is made ready keeps the rows that the condition keeps
 pub kept_alike : (c : Cond) (prepared : Prepared) (rows : List (List Value)) → IsPreparedFrom c prepared → map (λ row. is_truth (prepared_truth row prepared) Yes) rows ≡ selection c rows

@@ -6,10 +6,10 @@ use Rattle.std.proofs.lemmas.List.{map-append}
 use Rattle.std.proofs.lemmas.List.Elements.{filter-append}
 use Rattle.std.proofs.lemmas.Grind.{flat_map-append}
 use Rattle.bw_model.specs.declared.query.Query.{Query}
-use Rattle.bw_model.specs.Cond.{is_kept}
+use Rattle.bw_model.specs.Cond.{is_match}
 use Rattle.bw_model.specs.Row.{Value}
-use Rattle.bw_model.specs.Selection.{kept}
-use Rattle.bw_answer.specs.Answer.{csv_text, field_of, listed, record_text}
+use Rattle.bw_model.specs.Selection.{matching_rows}
+use Rattle.bw_answer.specs.Answer.{csv_text, field_of, row_records, record_text}
 
 -- the text of one row: its record where it is kept, and else nothing
 one_record : (record_ : List (List ℕ)) → csv_text (record_ ∷ []) ≡ record_text record_
@@ -20,28 +20,28 @@ no_record : csv_text [] ≡ []
 unfolding csv_text
 no_record = refl
 
-pub text_of_kept : (query : Query) (row : List Value) → is_kept query.cond row ≡ true
-    → csv_text (listed query (row ∷ [])) ≡ record_text (filter_map (field_of row) query.items.items)
+pub text_of_kept : (query : Query) (row : List Value) → is_match query.cond row ≡ true
+    → csv_text (row_records query (row ∷ [])) ≡ record_text (filter_map (field_of row) query.items.items)
 text_of_kept query row e = rw e (one_record (filter_map (field_of row) query.items.items))
 
-pub text_with_dropped : (query : Query) (row : List Value) (ended : List ℕ) → is_kept query.cond row ≡ false → ended ++ csv_text (listed query (row ∷ [])) ≡ ended
+pub text_with_dropped : (query : Query) (row : List Value) (ended : List ℕ) → is_match query.cond row ≡ false → ended ++ csv_text (row_records query (row ∷ [])) ≡ ended
 text_with_dropped query row ended e = rw (e, no_record) (append-nil ended)
 
 -- more rows
-kept_more : (query : Query) (before rows : List (List Value)) → listed query (before ++ rows) ≡ listed query before ++ listed query rows
+kept_more : (query : Query) (before rows : List (List Value)) → row_records query (before ++ rows) ≡ row_records query before ++ row_records query rows
 kept_more query before rows =
-    ap (map (λ (r : List Value). filter_map (field_of r) query.items.items)) (filter-append (is_kept query.cond) before rows)
-    ∙ map-append (λ (r : List Value). filter_map (field_of r) query.items.items) (kept query.cond before) (kept query.cond rows)
+    ap (map (λ (r : List Value). filter_map (field_of r) query.items.items)) (filter-append (is_match query.cond) before rows)
+    ∙ map-append (λ (r : List Value). filter_map (field_of r) query.items.items) (matching_rows query.cond before) (matching_rows query.cond rows)
 
 text_more : (records more : List (List (List ℕ))) → csv_text (records ++ more) ≡ csv_text records ++ csv_text more
 unfolding csv_text
 text_more records more = flat_map-append record_text records more
 
 pub listed_more : (query : Query) (before rows : List (List Value)) (ended : List ℕ)
-    → (ended ++ csv_text (listed query before)) ++ csv_text (listed query rows) ≡ ended ++ csv_text (listed query (before ++ rows))
+    → (ended ++ csv_text (row_records query before)) ++ csv_text (row_records query rows) ≡ ended ++ csv_text (row_records query (before ++ rows))
 listed_more query before rows ended =
-    append_assoc ended (csv_text (listed query before)) (csv_text (listed query rows))
-    ∙ ap (λ (l : List ℕ). ended ++ l) (sym (ap csv_text (kept_more query before rows) ∙ text_more (listed query before) (listed query rows)))
+    append_assoc ended (csv_text (row_records query before)) (csv_text (row_records query rows))
+    ∙ ap (λ (l : List ℕ). ended ++ l) (sym (ap csv_text (kept_more query before rows) ∙ text_more (row_records query before) (row_records query rows)))
 
 -- the records of no rows
 pub no_records : (ended : List ℕ) → ended ++ csv_text [] ≡ ended

@@ -6,8 +6,8 @@ use Rattle.bw_model.specs.Row.{Value}
 use Rattle.bw_model.specs.Total.{item_within}
 use Rattle.bw_rowwise.specs.Accumulator.{Tally, tally_of, tally_with}
 use Rattle.bw_model.specs.declared.query.Query.{Query}
-use Rattle.bw_model.specs.Cond.{is_kept}
-use Rattle.bw_model.specs.Selection.{kept}
+use Rattle.bw_model.specs.Cond.{is_match}
+use Rattle.bw_model.specs.Selection.{matching_rows}
 use Rattle.bw_answer.specs.Totals.{is_of, has_room}
 use Rattle.std.proofs.lemmas.List.{append-nil, drop_all, get_or_default, take_all}
 use Rattle.std.proofs.lemmas.List.Elements.{filter-append}
@@ -91,14 +91,14 @@ rows_added row rows items tallies e all = rw e (added items (subst (All (AddsRow
     added [] all = refl
     added (item ∷ items) all = λ i. all 0 (tally_of item rows) (omega arith) rows refl i ∷ added items (λ k d h. all (suc k) d (omega arith)) i
 
-pub kept_one : (query : Query) (row : List Value) → is_kept query.cond row ≡ true → kept query.cond (row ∷ []) ≡ row ∷ []
+pub kept_one : (query : Query) (row : List Value) → is_match query.cond row ≡ true → matching_rows query.cond (row ∷ []) ≡ row ∷ []
 kept_one query row e = rw e refl
 
-pub kept_none : (query : Query) (row : List Value) → is_kept query.cond row ≡ false → kept query.cond (row ∷ []) ≡ []
+pub kept_none : (query : Query) (row : List Value) → is_match query.cond row ≡ false → matching_rows query.cond (row ∷ []) ≡ []
 kept_none query row e = rw e refl
 
 -- what is kept of rows and one more, where the condition is the same
-pub kept_more : (here query : Query) (before : List (List Value)) (row : List Value) → here ≡ query → kept query.cond before ++ kept here.cond (row ∷ []) ≡ kept query.cond (before ++ row ∷ [])
-kept_more here query before row same = rw same (sym (filter-append (is_kept query.cond) before (row ∷ [])))
+pub kept_more : (here query : Query) (before : List (List Value)) (row : List Value) → here ≡ query → matching_rows query.cond before ++ matching_rows here.cond (row ∷ []) ≡ matching_rows query.cond (before ++ row ∷ [])
+kept_more here query before row same = rw same (sym (filter-append (is_match query.cond) before (row ∷ [])))
 
 pub ruleset kept_steps = (is_of-more, kept_one, kept_none)

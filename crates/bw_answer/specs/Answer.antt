@@ -6,7 +6,7 @@ use Rattle.bw_model.specs.declared.query.Item.{Item}
 use Rattle.bw_model.specs.declared.query.Item.TheVariants.{Plain, CountAll, Count, Sum, Min, Max}
 use Rattle.bw_model.specs.declared.query.Query.{Query}
 use Rattle.bw_model.specs.Row.{Value, value_in}
-use Rattle.bw_model.specs.Selection.{kept}
+use Rattle.bw_model.specs.Selection.{matching_rows}
 use Rattle.bw_model.specs.Total.{total}
 
 -- a number in decimal, and null as NULL
@@ -46,15 +46,17 @@ field_of row (Min column) = None
 field_of row (Max column) = None
 
 -- a record for each matching row, and the one record of totals over them
-abbrev pub listed : Query → List (List Value) → List (List (List ℕ))
-listed query rows = map (λ row. filter_map (field_of row) query.items.items) (kept query.cond rows)
+abbrev pub row_records : Query → List (List Value) → List (List (List ℕ))
+row_records query rows = map (λ row. filter_map (field_of row) query.items.items)
+    (matching_rows query.cond rows)
 
-abbrev pub totalled : Query → List (List Value) → List (List ℕ)
-totalled query rows = map (λ item. value_text (total item (kept query.cond rows))) query.items.items
+abbrev pub totals_record : Query → List (List Value) → List (List ℕ)
+totals_record query rows = map (λ item. value_text (total item (matching_rows query.cond rows)))
+    query.items.items
 
 abbrev pub records_of : Query → List (List Value) → List (List (List ℕ))
-records_of query rows = if lists_rows query.items.items then listed query rows
-    else totalled query rows ∷ []
+records_of query rows = if lists_rows query.items.items then row_records query rows
+    else totals_record query rows ∷ []
 
 -- the meaning of a query over rows of columns of these names: a heading record, and then a record
 -- for each matching row, or one record of totals over them

@@ -18,7 +18,7 @@ ghost use Rattle.bw_answer.specs.Listing.{IsListing};
 ghost use Rattle.bw_answer.specs.Totals.{is_of, has_room};
 
 use crate::heading::heading_text;
-use crate::kept::is_kept;
+use crate::kept::is_match;
 use crate::listing::Listing;
 use crate::picked::total_picked;
 use crate::totals::{add_count, add_kept, totals_of, with_totals};
@@ -49,11 +49,11 @@ pub struct Answer<'a> {
     totals: Vec<Accumulator>,
     ghost prepared: { IsPreparedFrom query.now.cond filter },
     ghost items: { IsTrue (list_all (item_within width) query.now.items.items) },
-    ghost some: { 1 ≤ length query.now.items.items },
+    ghost nonempty: { 1 ≤ length query.now.items.items },
     ghost listing: { lists ≡ lists_rows query.now.items.items },
     ghost names: { lists ≡ true → IsListing records width query.now.items.items },
     ghost totalling: { lists ≡ false → IsTrue (list_all is_aggregate query.now.items.items) },
-    ghost room: { IsTrue (list_all (is_of width rows) totals.items) },
+    ghost capacity: { IsTrue (list_all (is_of width rows) totals.items) },
 }
 
 impl<'a> Answer<'a> {
@@ -66,9 +66,9 @@ impl<'a> Answer<'a> {
     pub fn new(alloc: Global, schema: &Schema, query: &'a Query) -> Result<Self, Fault>
         requires items { IsTrue (list_all (item_within (vec_len schema.now.columns))
             query.now.items.items) }
-        requires some { 1 ≤ length query.now.items.items }
+        requires nonempty { 1 ≤ length query.now.items.items }
         requires kinds { AreOfOneKind query.now.items.items }
-        ensures over { IfOk result
+        ensures covers { IfOk result
             (λ answer. IsOver (names_of schema.now.columns.items) query.now [] answer) }
         ensures starts { IfOk result (λ answer. GoesOver answer [] answer) }
         ensures takes { IfOk result (λ answer. (row : List Value)
@@ -76,7 +76,7 @@ impl<'a> Answer<'a> {
             → IsTrue (length row == answer.width)) }
         ensures width { IfOk result (λ answer. answer.width ≡ vec_len schema.now.columns) }
         ensures rows { IfOk result (λ answer. answer.rows ≡ 0) }
-        ensures only_memory { IfErr result (λ fault. fault ≡ no_memory) }
+        ensures only_oom { IfErr result (λ fault. fault ≡ no_memory) }
     {
         admitted_rows_have_each_value();
         let width = schema.columns.len();
@@ -102,11 +102,11 @@ impl<'a> Answer<'a> {
     /// Reserves memory for the result over `count` rows, if the query lists each row. So a result
     /// that is too long for memory fails before the first row. Errors: 801 if memory is refused.
     pub fn reserve(&mut self, count: u32) -> Result<(), Fault>
-        ensures over { (names : List (List ℕ)) (query : Query) (rows : List (List Value))
+        ensures covers { (names : List (List ℕ)) (query : Query) (rows : List (List Value))
             → IsOver names query rows self.old → IsOver names query rows self.new }
         ensures width { self.new.width ≡ self.old.width }
         ensures rows { self.new.rows ≡ self.old.rows }
-        ensures only_memory { IfErr result (λ fault. fault ≡ no_memory) }
+        ensures only_oom { IfErr result (λ fault. fault ≡ no_memory) }
     {
         if self.lists && keeps_all(&self.query.cond) {
             self.records.reserve(&mut self.text, count)?;
@@ -125,8 +125,8 @@ impl<'a> Answer<'a> {
     /// for them.
     pub fn take_count(&mut self, count: u32)
         requires counts { CountsRows (asked_by self.old) }
-        requires room { self.old.rows + count ≤ most_rows }
-        ensures over { (start : Answer) (before rows : List (List Value)) → length rows ≡ count
+        requires capacity { self.old.rows + count ≤ most_rows }
+        ensures covers { (start : Answer) (before rows : List (List Value)) → length rows ≡ count
             → GoesOver start before self.old → GoesOver start (before ++ rows) self.new }
         ensures width { self.new.width ≡ self.old.width }
         ensures rows { self.new.rows ≡ self.old.rows + count }
@@ -146,16 +146,16 @@ impl<'a> Answer<'a> {
         requires picks { lanes_of_words selection.now
             ≡ selected_by (asked_by self.old).cond (S.meaning segment.now).rows
             ++ replicate (group_size - length (S.meaning segment.now).rows) false }
-        requires wide { length (S.meaning segment.now).columns ≡ self.old.width }
-        requires room { self.old.rows + length (S.meaning segment.now).rows ≤ most_rows }
-        ensures over { OnOk result ((start : Answer) (before : List (List Value))
+        requires same_width { length (S.meaning segment.now).columns ≡ self.old.width }
+        requires capacity { self.old.rows + length (S.meaning segment.now).rows ≤ most_rows }
+        ensures covers { OnOk result ((start : Answer) (before : List (List Value))
             → GoesOver start before self.old
             → GoesOver start (before ++ (S.meaning segment.now).rows) self.new) }
         ensures asked { OnOk result (asked_by self.new ≡ asked_by self.old) }
         ensures width { OnOk result (self.new.width ≡ self.old.width) }
         ensures rows { OnOk result (self.new.rows
             ≡ self.old.rows + length (S.meaning segment.now).rows) }
-        ensures only_memory { IfErr result (λ fault. fault ≡ no_memory) }
+        ensures only_oom { IfErr result (λ fault. fault ≡ no_memory) }
     {
         put_picked(
             &mut self.text,
@@ -174,16 +174,16 @@ impl<'a> Answer<'a> {
     /// query names are fetched. The segment must be of the query's table, and there must be space
     /// for its rows. Errors: 801 if memory is refused.
     pub fn take_segment<S: Segment>(&mut self, segment: &S) -> Result<(), Fault>
-        requires wide { length (S.meaning segment.now).columns ≡ self.old.width }
-        requires room { self.old.rows + length (S.meaning segment.now).rows ≤ most_rows }
-        ensures over { OnOk result ((start : Answer) (before : List (List Value))
+        requires same_width { length (S.meaning segment.now).columns ≡ self.old.width }
+        requires capacity { self.old.rows + length (S.meaning segment.now).rows ≤ most_rows }
+        ensures covers { OnOk result ((start : Answer) (before : List (List Value))
             → GoesOver start before self.old
             → GoesOver start (before ++ (S.meaning segment.now).rows) self.new) }
         ensures asked { OnOk result (asked_by self.new ≡ asked_by self.old) }
         ensures width { OnOk result (self.new.width ≡ self.old.width) }
         ensures rows { OnOk result (self.new.rows
             ≡ self.old.rows + length (S.meaning segment.now).rows) }
-        ensures only_memory { IfErr result (λ fault. fault ≡ no_memory) }
+        ensures only_oom { IfErr result (λ fault. fault ≡ no_memory) }
     {
         let kept = self.filter.rows_kept(segment);
         self.take_picked(segment, &kept)
@@ -192,14 +192,14 @@ impl<'a> Answer<'a> {
     /// Consumes a row. There must be space for it, and it must have a value for each of the table's
     /// columns. Errors: 801 if memory is refused.
     fn take_row(&mut self, row: &Row) -> Result<(), Fault>
-        requires wide { length (values_of row.now) ≡ self.old.width }
-        requires room { self.old.rows < most_rows }
-        ensures over { OnOk result ((start : Answer) (before : List (List Value))
+        requires same_width { length (values_of row.now) ≡ self.old.width }
+        requires capacity { self.old.rows < most_rows }
+        ensures covers { OnOk result ((start : Answer) (before : List (List Value))
             → GoesOver start before self.old
             → GoesOver start (before ++ values_of row.now ∷ []) self.new) }
         ensures width { OnOk result (self.new.width ≡ self.old.width) }
         ensures rows { OnOk result (self.new.rows ≡ self.old.rows + 1) }
-        ensures only_memory { IfErr result (λ fault. fault ≡ no_memory) }
+        ensures only_oom { IfErr result (λ fault. fault ≡ no_memory) }
     {
         put_row(
             &mut self.text,
@@ -221,7 +221,7 @@ impl<'a> Answer<'a> {
             → (rows : List (List Value))
             → IsOver names query rows self.entry
             → text.items ≡ csv_text (meaning names query rows)) }
-        ensures only_memory { IfErr result (λ fault. fault ≡ no_memory) }
+        ensures only_oom { IfErr result (λ fault. fault ≡ no_memory) }
     {
         let Answer {
             width: _,
@@ -271,8 +271,8 @@ fn put_row(
     requires lists { lists ≡ lists_rows query.now.items.items }
     requires names { lists ≡ true
         → IsListing records.old (length (values_of row.now)) query.now.items.items }
-    requires room { IsTrue (list_all (has_room (length (values_of row.now))) totals.old) }
-    ensures over { OnOk result ((names : List (List ℕ)) → (rows : List (List Value))
+    requires capacity { IsTrue (list_all (has_room (length (values_of row.now))) totals.old) }
+    ensures covers { OnOk result ((names : List (List ℕ)) → (rows : List (List Value))
         → AreOver names query.now rows text.old.items totals.old
         → AreOver names query.now (rows ++ values_of row.now ∷ []) text.new.items totals.new) }
     ensures counts { OnOk result ((rows : ℕ)
@@ -281,13 +281,13 @@ fn put_row(
     ensures left { IfErr result (λ _. totals.new ≡ totals.old) }
     ensures names { (width : ℕ) (items : List Item) → IsListing records.old width items
         → IsListing records.new width items }
-    ensures only_memory { IfErr result (λ fault. fault ≡ no_memory) }
+    ensures only_oom { IfErr result (λ fault. fault ≡ no_memory) }
 {
     if !lists {
         add_kept(totals, query, cond, row);
         return Ok(());
     }
-    if is_kept(cond, row) {
+    if is_match(cond, row) {
         records.push_row(text, row)?;
     }
     Ok(())
@@ -313,9 +313,9 @@ fn put_picked<S: Segment>(
         → IsListing records.old (length (S.meaning segment.now).columns) query.now.items.items }
     requires columns { All (λ tally. IsTrue
         (item_within (length (S.meaning segment.now).columns) tally.item)) totals.old }
-    requires room { All (λ tally. tally.count + length (S.meaning segment.now).rows ≤ most_rows)
+    requires capacity { All (λ tally. tally.count + length (S.meaning segment.now).rows ≤ most_rows)
         totals.old }
-    ensures over { OnOk result ((names : List (List ℕ)) → (rows : List (List Value))
+    ensures covers { OnOk result ((names : List (List ℕ)) → (rows : List (List Value))
         → AreOver names query.now rows text.old.items totals.old
         → AreOver names query.now (rows ++ (S.meaning segment.now).rows) text.new.items
         totals.new) }
@@ -324,7 +324,7 @@ fn put_picked<S: Segment>(
     ensures left { IfErr result (λ _. totals.new ≡ totals.old) }
     ensures names { (width : ℕ) (items : List Item) → IsListing records.old width items
         → IsListing records.new width items }
-    ensures only_memory { IfErr result (λ fault. fault ≡ no_memory) }
+    ensures only_oom { IfErr result (λ fault. fault ≡ no_memory) }
 {
     totals_join();
     if lists {

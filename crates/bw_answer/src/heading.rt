@@ -19,10 +19,10 @@ pub(crate) fn heading_text(
     items: &[Item],
 ) -> Result<Vec<u8>, Fault>
     requires columns { IsTrue (list_all (item_within (length columns.now)) items.now) }
-    requires some { 1 ≤ length items.now }
+    requires nonempty { 1 ≤ length items.now }
     ensures heading { IfOk result (λ text. text.items ≡ record_text
         (map (heading_of (names_of columns.now)) items.now)) }
-    ensures only_memory { IfErr result (λ fault. fault ≡ no_memory) }
+    ensures only_oom { IfErr result (λ fault. fault ≡ no_memory) }
 {
     let mut text = CsvText::onto(Vec::new(alloc));
     push_heading(alloc, columns, items, &mut text)?;
@@ -38,11 +38,11 @@ fn push_heading(
     text: &mut CsvText,
 ) -> Result<(), Fault>
     requires columns { IsTrue (list_all (item_within (length columns.now)) items.now) }
-    requires some { 1 ≤ length items.now }
+    requires nonempty { 1 ≤ length items.now }
     ensures heading { OnOk result ((ended : List ℕ) → Holds text.old ended []
         → Holds text.new (ended ++ record_text (map (heading_of (names_of columns.now)) items.now))
         []) }
-    ensures only_memory { IfErr result (λ fault. fault ≡ no_memory) }
+    ensures only_oom { IfErr result (λ fault. fault ≡ no_memory) }
 {
     let mut heading = Vec::new(alloc);
     for item in items {
@@ -58,7 +58,7 @@ fn put_heading(heading: &mut Vec<u8>, columns: &[Column], item: Item) -> Result<
     requires { IsTrue (item_within (length columns.now) item) }
     ensures heading { OnOk result (heading.new.items ≡ heading_of (names_of columns.now) item) }
     ensures plain { OnOk result (IsTrue (needs_no_quotes heading.new.items)) }
-    ensures only_memory { IfErr result (λ fault. fault ≡ no_memory) }
+    ensures only_oom { IfErr result (λ fault. fault ≡ no_memory) }
 {
     heading.clear();
     match item {
@@ -78,7 +78,7 @@ fn put_call(heading: &mut Vec<u8>, function: &[u8], column: &Column) -> Result<(
     requires { IsTrue (needs_no_quotes function.now) }
     ensures call { OnOk result (heading.new.items ≡ call_of function.now column.now.name) }
     ensures plain { OnOk result (IsTrue (needs_no_quotes heading.new.items)) }
-    ensures only_memory { IfErr result (λ fault. fault ≡ no_memory) }
+    ensures only_oom { IfErr result (λ fault. fault ≡ no_memory) }
 {
     heading.clear();
     heading.extend_from_slice(function)?;

@@ -63,7 +63,7 @@ impl ColumnValues {
 /// Returns `count` columns without values.
 pub(crate) fn no_values(alloc: Global, count: usize) -> Result<Vec<ColumnValues>, Fault>
     ensures count { IfOk result (λ lanes. vec_len lanes ≡ count) }
-    ensures only_memory { IfErr result (λ fault. fault ≡ no_memory) }
+    ensures only_oom { IfErr result (λ fault. fault ≡ no_memory) }
 {
     let mut lanes = Vec::with_capacity(alloc, count)?;
     for _ in 0..count {

@@ -38,7 +38,7 @@ pub(crate) struct Listing {
     at_once: usize,
     ghost within: { All (λ column. column < vec_len lanes) columns.items },
     ghost rows: { (1 ≤ at_once) × (at_once ≤ 512) },
-    ghost room: { 21 * vec_len columns * at_once ≤ vec_len draft },
+    ghost capacity: { 21 * vec_len columns * at_once ≤ vec_len draft },
 }
 
 impl Listing {
@@ -48,7 +48,7 @@ impl Listing {
         ensures columns { IfOk result (λ listing. listing.columns.items ≡ columns_of items.now) }
         ensures lanes { IfOk result (λ listing. 1 ≤ vec_len listing.columns → vec_len listing.lanes
             ≡ width) }
-        ensures only_memory { IfErr result (λ fault. fault ≡ no_memory) }
+        ensures only_oom { IfErr result (λ fault. fault ≡ no_memory) }
     {
         let columns = columns_of(alloc, items)?;
         let at_once = rows_at_once(columns.len());
@@ -64,7 +64,7 @@ impl Listing {
     /// for each field.
     pub(crate) fn reserve(&self, text: &mut Vec<u8>, rows: u32) -> Result<(), Fault>
         ensures text { text.new.items ≡ text.old.items }
-        ensures only_memory { IfErr result (λ fault. fault ≡ no_memory) }
+        ensures only_oom { IfErr result (λ fault. fault ≡ no_memory) }
     {
         let Some(size) = self.columns.len().checked_mul(SHORTEST * rows as usize) else {
             return Err(Fault::new(code::OUT_OF_MEMORY));
@@ -75,14 +75,14 @@ impl Listing {
 
     /// Adds the record of a row to a text.
     pub(crate) fn push_row(&mut self, text: &mut Vec<u8>, row: &Row) -> Result<(), Fault>
-        requires some { 1 ≤ vec_len self.old.columns }
-        requires wide { vec_len self.old.lanes ≡ length (values_of row.now) }
+        requires nonempty { 1 ≤ vec_len self.old.columns }
+        requires same_width { vec_len self.old.lanes ≡ length (values_of row.now) }
         ensures record { OnOk result (text.new.items
             ≡ text.old.items ++ record_text
             (fields_of self.old.columns.items (values_of row.now))) }
         ensures columns { self.new.columns.items ≡ self.old.columns.items }
         ensures lanes { vec_len self.new.lanes ≡ vec_len self.old.lanes }
-        ensures only_memory { IfErr result (λ fault. fault ≡ no_memory) }
+        ensures only_oom { IfErr result (λ fault. fault ≡ no_memory) }
     {
         put_row(&mut self.lanes, &self.columns, row);
         push_record(text, &mut self.draft, &self.lanes, &self.columns)
@@ -96,8 +96,8 @@ impl Listing {
         segment: &S,
         selection: &Selection,
     ) -> Result<(), Fault>
-        requires some { 1 ≤ vec_len self.old.columns }
-        requires wide { vec_len self.old.lanes ≡ length (S.meaning segment.now).columns }
+        requires nonempty { 1 ≤ vec_len self.old.columns }
+        requires same_width { vec_len self.old.lanes ≡ length (S.meaning segment.now).columns }
         requires selection { IsWithin (length (S.meaning segment.now).rows)
             (lanes_of_words selection.now) }
         ensures records { OnOk result (text.new.items ≡ text.old.items
@@ -105,7 +105,7 @@ impl Listing {
             (picked_rows (S.meaning segment.now) (lanes_of_words selection.now)))) }
         ensures columns { self.new.columns.items ≡ self.old.columns.items }
         ensures lanes { vec_len self.new.lanes ≡ vec_len self.old.lanes }
-        ensures only_memory { IfErr result (λ fault. fault ≡ no_memory) }
+        ensures only_oom { IfErr result (λ fault. fault ≡ no_memory) }
     {
         if is_zero(selection) {
             return Ok(());
@@ -125,7 +125,7 @@ impl Listing {
 /// Returns the columns of the items.
 fn columns_of(alloc: Global, items: &[Item]) -> Result<Vec<usize>, Fault>
     ensures columns { IfOk result (λ columns. columns.items ≡ columns_of items.now) }
-    ensures only_memory { IfErr result (λ fault. fault ≡ no_memory) }
+    ensures only_oom { IfErr result (λ fault. fault ≡ no_memory) }
 {
     let mut columns = Vec::new(alloc);
     for item in items {
@@ -146,8 +146,8 @@ fn rows_at_once(columns: usize) -> usize
 /// Returns space for the records of this many columns in this many rows.
 fn room_for(alloc: Global, columns: usize, rows: usize) -> Result<Vec<u8>, Fault>
     requires { rows ≤ 512 }
-    ensures room { IfOk result (λ room. 21 * columns * rows ≤ vec_len room) }
-    ensures only_memory { IfErr result (λ fault. fault ≡ no_memory) }
+    ensures capacity { IfOk result (λ room. 21 * columns * rows ≤ vec_len room) }
+    ensures only_oom { IfErr result (λ fault. fault ≡ no_memory) }
 {
     let Some(size) = (FIELD * rows).checked_mul(columns) else {
         return Err(Fault::new(code::OUT_OF_MEMORY));

@@ -5,7 +5,7 @@ ghost use Rattle.bw_model.specs.Limits.{most_rows};
 ghost use Rattle.bw_model.specs.Total.{item_within};
 ghost use Rattle.bw_aggregate.specs.Picked.{IsWithin, picked_rows, with_picked};
 
-use bw_aggregate::add_picked;
+use bw_aggregate::add_selected;
 use bw_lanes::Selection;
 use bw_rowwise::Accumulator;
 use bw_segment::Segment;
@@ -18,7 +18,7 @@ pub(crate) fn total_picked<S: Segment>(
 )
     requires columns { All (λ tally. IsTrue
         (item_within (length (S.meaning segment.now).columns) tally.item)) totals.old }
-    requires room { All (λ tally. tally.count + length (S.meaning segment.now).rows ≤ most_rows)
+    requires capacity { All (λ tally. tally.count + length (S.meaning segment.now).rows ≤ most_rows)
         totals.old }
     requires selection { IsWithin (length (S.meaning segment.now).rows)
         (lanes_of_words selection.now) }
@@ -26,6 +26,6 @@ pub(crate) fn total_picked<S: Segment>(
         (picked_rows (S.meaning segment.now) (lanes_of_words selection.now))) totals.old }
 {
     for total in totals.iter_mut() {
-        add_picked(total, segment, selection);
+        add_selected(total, segment, selection);
     }
 }

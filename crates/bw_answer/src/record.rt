@@ -20,12 +20,12 @@ pub(crate) fn push_record(
     lanes: &[ColumnValues],
     columns: &[usize],
 ) -> Result<(), Fault>
-    requires some { 1 ≤ length columns.now }
+    requires nonempty { 1 ≤ length columns.now }
     requires columns { All (λ column. column < length lanes.now) columns.now }
-    requires room { 21 * length columns.now ≤ length draft.old }
+    requires capacity { 21 * length columns.now ≤ length draft.old }
     ensures record { OnOk result (text.new.items
         ≡ text.old.items ++ record_text (fields_in_lane lanes.now columns.now 0)) }
-    ensures only_memory { IfErr result (λ fault. fault ≡ no_memory) }
+    ensures only_oom { IfErr result (λ fault. fault ≡ no_memory) }
 {
     let end = draft.len();
     let start = put_record(draft, end, lanes, columns, 0);
@@ -42,11 +42,11 @@ pub(crate) fn put_record(
     columns: &[usize],
     number: usize,
 ) -> usize
-    requires some { 1 ≤ length columns.now }
+    requires nonempty { 1 ≤ length columns.now }
     requires columns { All (λ column. column < length lanes.now) columns.now }
     requires number { number < 512 }
-    requires room { (21 * length columns.now ≤ end) × (end ≤ length text.old) }
-    ensures room { (result ≤ end) × (end ≤ result + 21 * length columns.now) }
+    requires capacity { (21 * length columns.now ≤ end) × (end ≤ length text.old) }
+    ensures capacity { (result ≤ end) × (end ≤ result + 21 * length columns.now) }
     ensures written { drop result text.new
         ≡ record_text (fields_in_lane lanes.now columns.now number) ++ drop end text.old }
 {
@@ -74,7 +74,7 @@ fn value_in_lane(lanes: &[ColumnValues], number: usize, column: usize) -> Value
 #[inline]
 fn put_value(text: &mut [u8], end: usize, value: Value) -> usize
     requires { (20 ≤ end) × (end ≤ length text.old) }
-    ensures room { (result ≤ end) × (end ≤ result + 20) }
+    ensures capacity { (result ≤ end) × (end ≤ result + 20) }
     ensures written { drop result text.new ≡ value_text value ++ drop end text.old }
 {
     match value {
@@ -87,7 +87,7 @@ fn put_value(text: &mut [u8], end: usize, value: Value) -> usize
 #[inline]
 fn put_null(text: &mut [u8], end: usize) -> usize
     requires { (4 ≤ end) × (end ≤ length text.old) }
-    ensures room { result + 4 ≡ end }
+    ensures capacity { result + 4 ≡ end }
     ensures written { drop result text.new ≡ 78 ∷ 85 ∷ 76 ∷ 76 ∷ drop end text.old }
 {
     let end = put_byte(text, end, b'L');
@@ -100,7 +100,7 @@ fn put_null(text: &mut [u8], end: usize) -> usize
 #[inline]
 fn put_number(text: &mut [u8], end: usize, n: i64) -> usize
     requires { (20 ≤ end) × (end ≤ length text.old) }
-    ensures room { (result ≤ end) × (end ≤ result + 20) }
+    ensures capacity { (result ≤ end) × (end ≤ result + 20) }
     ensures written { drop result text.new ≡ signed_decimal n ++ drop end text.old }
 {
     let start = write_digits(n.unsigned_abs(), text, end);
@@ -115,7 +115,7 @@ fn put_number(text: &mut [u8], end: usize, n: i64) -> usize
 #[inline]
 fn put_byte(text: &mut [u8], end: usize, byte: u8) -> usize
     requires { (1 ≤ end) × (end ≤ length text.old) }
-    ensures room { result + 1 ≡ end }
+    ensures capacity { result + 1 ≡ end }
     ensures written { drop result text.new ≡ byte ∷ drop end text.old }
 {
     text[end - 1] = byte;

@@ -21,14 +21,14 @@ pub(crate) fn push_records(
     selection: &Selection,
     rows: usize,
 ) -> Result<(), Fault>
-    requires some { 1 ≤ length columns.now }
+    requires nonempty { 1 ≤ length columns.now }
     requires columns { All (λ column. column < length lanes.now) columns.now }
     requires rows { (1 ≤ rows) × (rows ≤ 512) }
-    requires room { 21 * length columns.now * rows ≤ length draft.old }
+    requires capacity { 21 * length columns.now * rows ≤ length draft.old }
     ensures records { OnOk result (text.new.items ≡ text.old.items
         ++ csv_text (map (fields_in_lane lanes.now columns.now)
         (positions_of (lanes_of_words selection.now)))) }
-    ensures only_memory { IfErr result (λ fault. fault ≡ no_memory) }
+    ensures only_oom { IfErr result (λ fault. fault ≡ no_memory) }
 {
     let mut first = 0;
     while first < LANES {
@@ -50,10 +50,10 @@ fn put_records(
     first: usize,
     past: usize,
 ) -> usize
-    requires some { 1 ≤ length columns.now }
+    requires nonempty { 1 ≤ length columns.now }
     requires columns { All (λ column. column < length lanes.now) columns.now }
     requires rows { (first ≤ past) × (past ≤ 512) }
-    requires room { 21 * length columns.now * (past - first) ≤ length draft.old }
+    requires capacity { 21 * length columns.now * (past - first) ≤ length draft.old }
     ensures within { result ≤ length draft.new }
     ensures written { drop result draft.new ≡ csv_text (map (fields_in_lane lanes.now columns.now)
         (positions_between first past (lanes_of_words selection.now))) }

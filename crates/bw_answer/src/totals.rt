@@ -5,8 +5,8 @@ ghost use Rattle.bw_model.specs.declared.query.Item.{Item};
 ghost use Rattle.bw_model.specs.Fault.{no_memory};
 ghost use Rattle.bw_model.specs.Limits.{most_rows};
 ghost use Rattle.bw_model.specs.Row.{Value, values_of};
-ghost use Rattle.bw_model.specs.Selection.{kept};
-ghost use Rattle.bw_rowwise.specs.Accumulator.{counted, tally_of};
+ghost use Rattle.bw_model.specs.Selection.{matching_rows};
+ghost use Rattle.bw_rowwise.specs.Accumulator.{count_rows, tally_of};
 ghost use Rattle.bw_rowwise.specs.Prepared.{IsPreparedFrom};
 ghost use Rattle.bw_answer.specs.Aggregates.{aggregates_of, answer_for, column_in, function_of, is_same};
 ghost use Rattle.bw_answer.specs.Answer.{record_text, value_text};
@@ -14,7 +14,7 @@ ghost use Rattle.bw_answer.specs.Draft.{Holds};
 ghost use Rattle.bw_answer.specs.Totals.{is_of, has_room};
 
 use crate::csv_text::CsvText;
-use crate::kept::is_kept;
+use crate::kept::is_match;
 use bw_model::{Fault, Item, Query, Row};
 use bw_rowwise::{Accumulator, Prepared};
 use std::alloc::Global;
@@ -24,7 +24,7 @@ use std::alloc::Global;
 pub(crate) fn totals_of(alloc: Global, items: &[Item]) -> Result<Vec<Accumulator>, Fault>
     ensures totals { IfOk result (λ totals. totals.items ≡ map (λ item. tally_of item [])
         (aggregates_of items.now)) }
-    ensures only_memory { IfErr result (λ fault. fault ≡ no_memory) }
+    ensures only_oom { IfErr result (λ fault. fault ≡ no_memory) }
 {
     let mut totals = Vec::new(alloc);
     for item in items {
@@ -38,7 +38,7 @@ fn include(totals: &mut Vec<Accumulator>, item: Item) -> Result<(), Fault>
     ensures totals { OnOk result ((items : List Item) → totals.old.items
         ≡ map (λ item. tally_of item []) (aggregates_of items)
         → totals.new.items ≡ map (λ item. tally_of item []) (aggregates_of (items ++ item ∷ []))) }
-    ensures only_memory { IfErr result (λ fault. fault ≡ no_memory) }
+    ensures only_oom { IfErr result (λ fault. fault ≡ no_memory) }
 {
     if let Item::Plain(_) = item {
         return Ok(());
@@ -109,16 +109,16 @@ fn column_in(item: Item) -> usize
 #[tactic(auto, using(crate::proofs::TotalsLemmas::kept_steps))]
 pub(crate) fn add_kept(totals: &mut [Accumulator], query: &Query, cond: &Prepared, row: &Row)
     requires prepared { IsPreparedFrom query.now.cond cond.now }
-    requires room { IsTrue (list_all (has_room (length (values_of row.now))) totals.old) }
+    requires capacity { IsTrue (list_all (has_room (length (values_of row.now))) totals.old) }
     ensures counts { (rows : ℕ)
         → IsTrue (list_all (is_of (length (values_of row.now)) rows) totals.old)
         → IsTrue (list_all (is_of (length (values_of row.now)) (rows + 1)) totals.new) }
     ensures totals { (items : List Item) → (rows : List (List Value)) → totals.old
         ≡ map (λ item. tally_of item rows) items
         → totals.new ≡ map (λ item. tally_of item
-        (rows ++ kept query.now.cond (values_of row.now ∷ []))) items }
+        (rows ++ matching_rows query.now.cond (values_of row.now ∷ []))) items }
 {
-    if !is_kept(cond, row) {
+    if !is_match(cond, row) {
         return;
     }
     add_row(totals, row);
@@ -142,7 +142,7 @@ fn add_row(totals: &mut [Accumulator], row: &Row)
 /// Adds `count` rows, whatever their values, to each total, as to a count of rows.
 pub(crate) fn add_count(totals: &mut [Accumulator], count: u32)
     requires { All (λ tally. tally.count + count ≤ most_rows) totals.old }
-    ensures { totals.new ≡ map (λ tally. counted tally count) totals.old }
+    ensures { totals.new ≡ map (λ tally. count_rows tally count) totals.old }
 {
     for total in totals.iter_mut() {
         total.add_count(count);
@@ -159,7 +159,7 @@ pub(crate) fn with_totals(
     ensures record { IfOk result (λ text. text.items
         ≡ bytes.items ++ record_text
         (map (λ item. value_text (answer_for totals.now item)) items.now)) }
-    ensures only_memory { IfErr result (λ fault. fault ≡ no_memory) }
+    ensures only_oom { IfErr result (λ fault. fault ≡ no_memory) }
 {
     let mut text = CsvText::onto(bytes);
     push_totals(&mut text, totals, items)?;
@@ -172,7 +172,7 @@ fn push_totals(text: &mut CsvText, totals: &[Accumulator], items: &[Item]) -> Re
     ensures record { OnOk result ((ended : List ℕ) → Holds text.old ended []
         → Holds text.new (ended ++ record_text
         (map (λ item. value_text (answer_for totals.now item)) items.now)) []) }
-    ensures only_memory { IfErr result (λ fault. fault ≡ no_memory) }
+    ensures only_oom { IfErr result (λ fault. fault ≡ no_memory) }
 {
     for item in items {
         text.push_number(total_for(totals, *item))?;

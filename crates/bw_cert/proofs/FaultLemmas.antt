@@ -9,7 +9,7 @@ use Rattle.bw_diagram.specs.declared.chain.ChainKind.{ChainKind}
 use Rattle.bw_diagram.specs.declared.chain.ChainKind.TheVariants.{Less, Equal}
 use Rattle.bw_diagram.specs.declared.product.Connective.{Connective}
 use Rattle.bw_diagram.specs.declared.product.Connective.TheVariants as connective
-use Rattle.bw_diagram.specs.Cited.{cited, variable_cited}
+use Rattle.bw_diagram.specs.Cited.{product_node, variable_node}
 use Rattle.bw_diagram.specs.Facts.{Facts}
 use Rattle.bw_program.specs.declared.instr.Instr.{Instr}
 use Rattle.bw_program.specs.declared.instr.Instr.TheVariants as does
@@ -21,10 +21,10 @@ use Rattle.bw_cert_text.specs.declared.lines.InstructionEntry.{InstructionEntry}
 use Rattle.bw_cert_text.specs.declared.lines.Keep.{Keep}
 use Rattle.bw_cert_rules.specs.declared.edge.Edge.{Edge}
 use Rattle.bw_cert_rules.specs.Accepted.{KeepLine, keep_line, are_kept}
-use Rattle.bw_cert_rules.specs.Instruction.{after, put, is_fill, is_skip_line, loaded_node, operation_row, byte_chain, byte_node, terminal, plane_on, read_on, joined_on, opposite_on, byte_on}
-use Rattle.bw_cert_rules.specs.Join.{is_kept}
+use Rattle.bw_cert_rules.specs.Instruction.{check_instruction_line, put, is_fill, is_skip_line, loaded_node, operation_row, byte_chain, byte_node, terminal, plane_on, read_on, joined_on, opposite_on, byte_on}
+use Rattle.bw_cert_rules.specs.Join.{is_valid_keep}
 use Rattle.bw_cert_rules.specs.Known.{Known, node_of, nothing_known, with_node}
-use Rattle.bw_cert_rules.specs.Walk.{Taken, keep_in, by_keep, keeps_taken, join_taken, is_join, instruction_on, instruction_taken, joined}
+use Rattle.bw_cert_rules.specs.Walk.{WalkState, keep_in, by_keep, keeps_taken, join_taken, is_join, instruction_on, instruction_taken, apply_join}
 use Rattle.bw_cert_rules.proofs.JoinLemmas.{keep_on, keep_refused}
 use Rattle.bw_cert.specs.FirstFault.{NoKeep, WrongLine, WrongKeep, WrongJoin}
 use Rattle.bw_cert.proofs.ValidLemmas.{bind_ok, not_refused}
@@ -45,11 +45,11 @@ map_err (Ok x) g fault is = cc
 map_err {A = A} {B = B} (Err first) g fault is = ap (λ (fault : Fault). Err fault) (err_same B first fault is)
 
 -- the line of an instruction
-abbrev pub taken_of : List BodyLine → Known → Taken
+abbrev pub taken_of : List BodyLine → Known → WalkState
 taken_of lines known = record { known = known; rest = lines }
 
 pub line_wrong : (facts : Facts) (end : ℕ) (known : Known) (instr : Instr) (lines : List BodyLine) (fault : Fault) → instruction_taken facts end known instr lines ≡ Err fault → WrongLine facts end known instr lines fault
-line_wrong facts end known instr [] fault is = sym (err_same Taken (at_line 607 end) fault is)
+line_wrong facts end known instr [] fault is = sym (err_same WalkState (at_line 607 end) fault is)
 line_wrong facts end known instr (line ∷ lines) fault is = map_err (instruction_on facts known instr line line.entry) (taken_of lines) fault is
 
 pub wrong_line : (facts : Facts) (end : ℕ) (known : Known) (instr : Instr) (lines : List BodyLine) (fault : Fault) → WrongLine facts end known instr lines fault → instruction_taken facts end known instr lines ≡ Err fault
@@ -70,9 +70,9 @@ line_is : (line : BodyLine) (keep : Keep) → keep_in line.entry ≡ Some keep �
 line_is line keep is = ap (λ (entry : Entry). record { line = line.line; entry = entry }) (entry_is line.entry keep is)
 
 module _ (facts : Facts) (through : Known) (edges : List Edge) where
-  abbrev pub next_keep : ℕ → Known → BodyLine → List BodyLine → Keep → Result Taken Fault
+  abbrev pub next_keep : ℕ → Known → BodyLine → List BodyLine → Keep → Result WalkState Fault
   next_keep least kept line lines keep =
-      refused_if (not (is_kept facts through edges least keep)) (at_line 608 line.line) (keeps_taken facts through edges (suc keep.register) (with_node kept keep.register keep.node) lines)
+      refused_if (not (is_valid_keep facts through edges least keep)) (at_line 608 line.line) (keeps_taken facts through edges (suc keep.register) (with_node kept keep.register keep.node) lines)
 
   pub keep_wrong : (least : ℕ) (kept : Known) (lines : List BodyLine) (fault : Fault) → keeps_taken facts through edges least kept lines ≡ Err fault → WrongKeep facts through edges least lines fault
   unfolding keeps_taken are_kept
@@ -80,7 +80,7 @@ module _ (facts : Facts) (through : Known) (edges : List Edge) where
   keep_wrong least kept (line ∷ lines) fault is =
       at (keep_in line.entry) refl is (λ keep. keep_wrong (suc keep.register) (with_node kept keep.register keep.node) lines fault)
     where
-      judged : (keep : Keep) (holds : Bool) → keep_in line.entry ≡ Some keep → is_kept facts through edges least keep ≡ holds →
+      judged : (keep : Keep) (holds : Bool) → keep_in line.entry ≡ Some keep → is_valid_keep facts through edges least keep ≡ holds →
           refused_if (not holds) (at_line 608 line.line) (keeps_taken facts through edges (suc keep.register) (with_node kept keep.register keep.node) lines) ≡ Err fault →
           (keeps_taken facts through edges (suc keep.register) (with_node kept keep.register keep.node) lines ≡ Err fault → WrongKeep facts through edges (suc keep.register) lines fault) →
           WrongKeep facts through edges least (line ∷ lines) fault
@@ -91,7 +91,7 @@ module _ (facts : Facts) (through : Known) (edges : List Edge) where
         spelled = ap (λ (line : BodyLine). line ∷ lines) (line_is line keep there);
         kept = refl;
         broken = ap (λ b. b && true) holds;
-        stands = sym (err_same Taken (at_line 608 line.line) fault is);
+        stands = sym (err_same WalkState (at_line 608 line.line) fault is);
       }
       judged keep true there holds is rest =
           let more = rest is in
@@ -109,46 +109,46 @@ module _ (facts : Facts) (through : Known) (edges : List Edge) where
           ((keep : Keep) → keeps_taken facts through edges (suc keep.register) (with_node kept keep.register keep.node) lines ≡ Err fault → WrongKeep facts through edges (suc keep.register) lines fault) →
           WrongKeep facts through edges least (line ∷ lines) fault
       at None there is rest = cc
-      at (Some keep) there is rest = judged keep (is_kept facts through edges least keep) there refl is (rest keep)
+      at (Some keep) there is rest = judged keep (is_valid_keep facts through edges least keep) there refl is (rest keep)
 
   wrong_keep : (least : ℕ) (kept : Known) (keeps : List KeepLine) (wrong : KeepLine) (others : List BodyLine) → are_kept facts through edges least keeps ≡ true →
       are_kept facts through edges least (keeps ++ wrong ∷ []) ≡ false → keeps_taken facts through edges least kept (map keep_line keeps ++ keep_line wrong ∷ others) ≡ Err (at_line 608 wrong.line)
   unfolding are_kept
   wrong_keep least kept [] wrong others hold broken =
-      keep_refused facts through edges least kept _ others (keep_line wrong) wrong.keep refl refl (sym (and-true (is_kept facts through edges least wrong.keep)) ∙ broken)
+      keep_refused facts through edges least kept _ others (keep_line wrong) wrong.keep refl refl (sym (and-true (is_valid_keep facts through edges least wrong.keep)) ∙ broken)
   wrong_keep least kept (k ∷ keeps) wrong others hold broken =
-      let now = both (is_kept facts through edges least k.keep) (are_kept facts through edges (suc k.keep.register) keeps) hold in
+      let now = both (is_valid_keep facts through edges least k.keep) (are_kept facts through edges (suc k.keep.register) keeps) hold in
       let rest = are_kept facts through edges (suc k.keep.register) (keeps ++ wrong ∷ []) in
       keep_on facts through edges least kept _ (map keep_line keeps ++ keep_line wrong ∷ others) (keep_line k) k.keep refl refl now.0
       ∙ wrong_keep (suc k.keep.register) (with_node kept k.keep.register k.keep.node) keeps wrong others now.1 (sym (ap (λ b. b && rest) now.0) ∙ broken)
 
   -- after the lines KEEP that were taken comes another line, or none
-  pub keeps_stop : (least : ℕ) (kept : Known) (lines : List BodyLine) (taken : Taken) → keeps_taken facts through edges least kept lines ≡ Ok taken → NoKeep taken.rest
+  pub keeps_stop : (least : ℕ) (kept : Known) (lines : List BodyLine) (taken : WalkState) → keeps_taken facts through edges least kept lines ≡ Ok taken → NoKeep taken.rest
   unfolding keeps_taken
-  keeps_stop least kept [] taken is = subst (λ (t : Taken). NoKeep t.rest) (ok_same is) tt
+  keeps_stop least kept [] taken is = subst (λ (t : WalkState). NoKeep t.rest) (ok_same is) tt
   keeps_stop least kept (line ∷ lines) taken is =
       at (keep_in line.entry) refl is (λ keep. keeps_stop (suc keep.register) (with_node kept keep.register keep.node) lines taken)
     where
       at : (said : Option Keep) → keep_in line.entry ≡ said → by_keep said (Ok (taken_of (line ∷ lines) kept)) (next_keep least kept line lines) ≡ Ok taken →
           ((keep : Keep) → keeps_taken facts through edges (suc keep.register) (with_node kept keep.register keep.node) lines ≡ Ok taken → NoKeep taken.rest) → NoKeep taken.rest
-      at None there is rest = subst (λ (t : Taken). NoKeep t.rest) (ok_same is) there
-      at (Some keep) there is rest = rest keep (not_refused (not (is_kept facts through edges least keep)) _ _ taken is).1
+      at None there is rest = subst (λ (t : WalkState). NoKeep t.rest) (ok_same is) there
+      at (Some keep) there is rest = rest keep (not_refused (not (is_valid_keep facts through edges least keep)) _ _ taken is).1
 
 -- the join of a place
 module _ (facts : Facts) (end place : ℕ) (through : Known) where
-  abbrev pub after_join : List Edge → List BodyLine → Result Taken Fault
+  abbrev pub after_join : List Edge → List BodyLine → Result WalkState Fault
   after_join edges lines = keeps_taken facts through edges 0 nothing_known lines
 
-  pub join_wrong : (edges : List Edge) (lines : List BodyLine) (fault : Fault) → joined facts end place edges (taken_of lines through) ≡ Err fault → (0 < length edges) × WrongJoin facts end place through edges lines fault
+  pub join_wrong : (edges : List Edge) (lines : List BodyLine) (fault : Fault) → apply_join facts end place edges (taken_of lines through) ≡ Err fault → (0 < length edges) × WrongJoin facts end place through edges lines fault
   join_wrong [] lines fault is = cc
-  join_wrong (edge ∷ edges) [] fault is = (omega arith, sym (err_same Taken (at_line 608 end) fault is))
+  join_wrong (edge ∷ edges) [] fault is = (omega arith, sym (err_same WalkState (at_line 608 end) fault is))
   join_wrong (edge ∷ edges) (line ∷ lines) fault is = (omega arith, at (is_join place line.entry) refl is)
     where
       at : (joins : Bool) → is_join place line.entry ≡ joins → (refused_if (not joins) (at_line 608 line.line) (Ok lines) >>= after_join (edge ∷ edges)) ≡ Err fault → WrongJoin facts end place through (edge ∷ edges) (line ∷ lines) fault
-      at false joins is = inl (joins, sym (err_same Taken (at_line 608 line.line) fault is))
+      at false joins is = inl (joins, sym (err_same WalkState (at_line 608 line.line) fault is))
       at true joins is = inr (joins, keep_wrong facts through (edge ∷ edges) 0 nothing_known lines fault is)
 
-  pub wrong_join : (edges : List Edge) (lines : List BodyLine) (fault : Fault) → 0 < length edges → WrongJoin facts end place through edges lines fault → joined facts end place edges (taken_of lines through) ≡ Err fault
+  pub wrong_join : (edges : List Edge) (lines : List BodyLine) (fault : Fault) → 0 < length edges → WrongJoin facts end place through edges lines fault → apply_join facts end place edges (taken_of lines through) ≡ Err fault
   wrong_join [] lines fault some wrong = absurd (omega (arith, some))
   wrong_join (edge ∷ edges) [] fault some wrong = ap (λ (fault : Fault). Err fault) (sym wrong)
   wrong_join (edge ∷ edges) (line ∷ lines) fault some (inl (other, stands)) =
@@ -160,11 +160,11 @@ module _ (facts : Facts) (end place : ℕ) (through : Known) where
       ∙ ap (λ (fault : Fault). Err fault) (sym keep.stands)
 
   -- where a join was taken, no further line KEEP follows it
-  pub join_stops : (edges : List Edge) (lines : List BodyLine) (taken : Taken) → 0 < length edges → joined facts end place edges (taken_of lines through) ≡ Ok taken → NoKeep taken.rest
+  pub join_stops : (edges : List Edge) (lines : List BodyLine) (taken : WalkState) → 0 < length edges → apply_join facts end place edges (taken_of lines through) ≡ Ok taken → NoKeep taken.rest
   join_stops [] lines taken some is = absurd (omega (arith, some))
   join_stops (edge ∷ edges) lines taken some is =
-      let after = bind_ok (join_taken end place lines) (after_join (edge ∷ edges)) taken is in
-      keeps_stop facts through (edge ∷ edges) 0 nothing_known after.0 taken after.2
+      let check_instruction_line = bind_ok (join_taken end place lines) (after_join (edge ∷ edges)) taken is in
+      keeps_stop facts through (edge ∷ edges) 0 nothing_known check_instruction_line.0 taken check_instruction_line.2
 
 -- where there is a fault, it stands on this line
 record OnLine (A : Type 0) (line : ℕ) (r : Result A Fault) : Type 0 where
@@ -194,26 +194,26 @@ put_stands known line register given here = then_stands ℕ Known line given _ h
 plane_stands : (facts : Facts) (line : ℕ) (there : Bool) (variable : ℕ) (given : InstructionEntry) → OnLine ℕ line (plane_on facts line there variable given)
 plane_stands facts line there variable given =
     then_stands ℕ ℕ line (found_on 607 line (loaded_node given)) _ (found_stands ℕ 607 line (loaded_node given))
-    (λ node. refused_stands ℕ (not there) 607 line _ (found_stands ℕ 607 line (variable_cited facts variable node)))
+    (λ node. refused_stands ℕ (not there) 607 line _ (found_stands ℕ 607 line (variable_node facts variable node)))
 
 joined_stands : (facts : Facts) (known : Known) (line : ℕ) (op : Connective) (x y : ℕ) (given : InstructionEntry) → OnLine ℕ line (joined_on facts known line op x y given)
 joined_stands facts known line op x y given =
     then_stands ℕ ℕ line (found_on 607 line (operation_row given)) _ (found_stands ℕ 607 line (operation_row given))
     (λ row. then_stands ℕ ℕ line (read_on known line x) _ (found_stands ℕ 609 line (node_of known x))
-    (λ a. then_stands ℕ ℕ line (read_on known line y) _ (found_stands ℕ 609 line (node_of known y)) (λ b. found_stands ℕ 607 line (cited facts op a b row))))
+    (λ a. then_stands ℕ ℕ line (read_on known line y) _ (found_stands ℕ 609 line (node_of known y)) (λ b. found_stands ℕ 607 line (product_node facts op a b row))))
 
 opposite_stands : (facts : Facts) (known : Known) (line x : ℕ) (given : InstructionEntry) → OnLine ℕ line (opposite_on facts known line x given)
 opposite_stands facts known line x given =
     then_stands ℕ ℕ line (found_on 607 line (operation_row given)) _ (found_stands ℕ 607 line (operation_row given))
-    (λ row. then_stands ℕ ℕ line (read_on known line x) _ (found_stands ℕ 609 line (node_of known x)) (λ a. found_stands ℕ 607 line (cited facts connective.Diff 1 a row)))
+    (λ row. then_stands ℕ ℕ line (read_on known line x) _ (found_stands ℕ 609 line (node_of known x)) (λ a. found_stands ℕ 607 line (product_node facts connective.Diff 1 a row)))
 
 byte_stands : (facts : Facts) (line : ℕ) (kind : ChainKind) (there : Bool) (column slice k : ℕ) (given : InstructionEntry) → OnLine ℕ line (byte_on facts line kind there column slice k given)
 byte_stands facts line kind there column slice k given =
     then_stands (Option ℕ) ℕ line (found_on 607 line (byte_chain given)) _ (found_stands (Option ℕ) 607 line (byte_chain given))
     (λ chain. refused_stands ℕ (not there) 607 line _ (found_stands ℕ 607 line (byte_node facts kind column slice k chain)))
 
-after_stands : (facts : Facts) (known : Known) (line : ℕ) (i : Instr) (given : InstructionEntry) → OnLine Known line (after facts known line i given)
-unfolding after
+after_stands : (facts : Facts) (known : Known) (line : ℕ) (i : Instr) (given : InstructionEntry) → OnLine Known line (check_instruction_line facts known line i given)
+unfolding check_instruction_line
 after_stands facts known line (does.Load r column bit) given = put_stands known line r _ (plane_stands facts line _ _ given)
 after_stands facts known line (does.Nulls r column) given = put_stands known line r _ (plane_stands facts line _ _ given)
 after_stands facts known line (does.Fill r bit) given = refused_stands Known (not (is_fill given)) 607 line _ (ok_stands Known line (with_node known r (terminal bit)))

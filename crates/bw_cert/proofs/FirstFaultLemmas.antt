@@ -10,11 +10,11 @@ use Rattle.bw_program.specs.declared.instr.Instr.{Instr}
 use Rattle.bw_cert_text.specs.declared.lines.BodyLine.{BodyLine}
 use Rattle.bw_cert_text.specs.declared.lines.Entry.TheVariants as line_of
 use Rattle.bw_cert_rules.specs.declared.edge.Edge.{Edge}
-use Rattle.bw_cert_rules.specs.Accepted.{KeepLine, JoinLines, Part, keep_line, join_lines, lines_of, before, edges_before, edge_at, fallen, past, known_past, kept_by, are_kept, obeys_join, Obeys}
-use Rattle.bw_cert_rules.specs.Instruction.{after}
+use Rattle.bw_cert_rules.specs.Accepted.{KeepLine, JoinLines, Part, keep_line, join_lines, lines_of, known_before, edges_before, edge_at, known_on_fallthrough, known_after_join, known_past, kept_by, are_kept, is_valid_join, Obeys}
+use Rattle.bw_cert_rules.specs.Instruction.{check_instruction_line}
 use Rattle.bw_cert_rules.specs.Join.{edge_of, with_edge, edges_into}
 use Rattle.bw_cert_rules.specs.Known.{Known, nothing_known, with_node}
-use Rattle.bw_cert_rules.specs.Walk.{Taken, by_keep, keeps_taken, instruction_taken, joined, walked, judged}
+use Rattle.bw_cert_rules.specs.Walk.{WalkState, by_keep, keeps_taken, instruction_taken, apply_join, check_lines_from, check_lines}
 use Rattle.bw_cert_rules.proofs.AcceptLemmas.{Line, Joined, line_read, join_read, drop_stands}
 use Rattle.bw_cert_rules.proofs.JoinLemmas.{keep_on}
 use Rattle.bw_cert.specs.FirstFault.{NoKeep, KeepsAreAll, WrongLine, WrongJoin, WrongPlace, known_after, edges_after, FirstFault, StandsOn}
@@ -22,7 +22,7 @@ use Rattle.bw_cert.proofs.PartsLemmas.{with_one, stands_last, edges_here, known_
 use Rattle.bw_cert.proofs.FaultLemmas.{bind_err, taken_of, line_wrong, wrong_line, next_keep, after_join, join_wrong, wrong_join, join_stops, line_stands}
 
 -- how far a walk has come: after some first instructions, whose lines are those of parts that obey
-record Come (facts : Facts) (lines : List BodyLine) (first : List Instr) (edges : List Edge) (taken : Taken) : Type 0 where
+record Come (facts : Facts) (lines : List BodyLine) (first : List Instr) (edges : List Edge) (taken : WalkState) : Type 0 where
   parts : List Part
   obeys : Obeys facts first parts
   spelled : lines ≡ lines_of 0 parts ++ taken.rest
@@ -34,19 +34,19 @@ some_same : {A : Type 0} {x y : A} → Some x ≡ Some y → x ≡ y
 some_same is = cc
 
 -- a join that obeys stands where skips come
-joins_some : (facts : Facts) (through : Known) (edges : List Edge) (join : Option JoinLines) (lines : JoinLines) → join ≡ Some lines → obeys_join facts through edges join ≡ true → 0 < length edges
+joins_some : (facts : Facts) (through : Known) (edges : List Edge) (join : Option JoinLines) (lines : JoinLines) → join ≡ Some lines → is_valid_join facts through edges join ≡ true → 0 < length edges
 joins_some facts through [] None lines some obeys = cc
 joins_some facts through [] (Some join) lines some obeys = cc
 joins_some facts through (edge ∷ edges) join lines some obeys = omega arith
 
 -- past one more instruction
-come_further : (facts : Facts) (end : ℕ) (lines : List BodyLine) (first : List Instr) (instr : Instr) (edges : List Edge) (taken through gone : Taken) → Come facts lines first edges taken →
-    Line facts taken.known instr taken.rest through → joined facts end (suc (length first)) (edges_into (suc (length first)) (with_edge edges (edge_of taken.known instr))) through ≡ Ok gone →
+come_further : (facts : Facts) (end : ℕ) (lines : List BodyLine) (first : List Instr) (instr : Instr) (edges : List Edge) (taken through gone : WalkState) → Come facts lines first edges taken →
+    Line facts taken.known instr taken.rest through → apply_join facts end (suc (length first)) (edges_into (suc (length first)) (with_edge edges (edge_of taken.known instr))) through ≡ Ok gone →
     Come facts lines (with_one first instr) (with_edge edges (edge_of taken.known instr)) gone
 come_further facts end lines first instr edges taken through gone come line took = record {
   parts = with_one come.parts part;
   obeys = obeys_more facts first instr come.parts part come.obeys.counted through.known come.obeys says
-      (ap (λ (edges : List Edge). obeys_join facts through.known (edges_into (suc (length first)) edges) join.join) (sym edges_same) ∙ join.obeys);
+      (ap (λ (edges : List Edge). is_valid_join facts through.known (edges_into (suc (length first)) edges) join.join) (sym edges_same) ∙ join.obeys);
   spelled = come.spelled
       ∙ ap (λ rest. lines_of 0 come.parts ++ rest) (line.spelled ∙ ap (λ (lines : List BodyLine). own ∷ lines) join.spelled)
       ∙ sym (append_assoc (lines_of 0 come.parts) (own ∷ join_lines (suc (length first)) join.join) gone.rest)
@@ -54,7 +54,7 @@ come_further facts end lines first instr edges taken through gone come line took
       ∙ ap (λ lines. lines ++ gone.rest) (sym (lines_more 0 come.parts part));
   whole = whole;
   known = join.known ∙ sym (known_here facts first instr come.parts part come.obeys.counted through.known says)
-      ∙ ap (before facts (with_one first instr) (with_one come.parts part)) one_more;
+      ∙ ap (known_before facts (with_one first instr) (with_one come.parts part)) one_more;
   edges_are = edges_same ∙ sym (edges_here facts first instr come.parts part come.obeys.counted)
       ∙ ap (edges_before facts (with_one first instr) (with_one come.parts part)) one_more;
 }
@@ -77,8 +77,8 @@ come_further facts end lines first instr edges taken through gone come line took
     one_more : suc (length first) ≡ length (with_one first instr)
     one_more = omega (arith, length-append first (instr ∷ []))
 
-    says : after facts (known_after facts first come.parts) line.line instr line.entry ≡ Ok through.known
-    says = ap (λ (known : Known). after facts known line.line instr line.entry) (sym come.known) ∙ line.says
+    says : check_instruction_line facts (known_after facts first come.parts) line.line instr line.entry ≡ Ok through.known
+    says = ap (λ (known : Known). check_instruction_line facts known line.line instr line.entry) (sym come.known) ∙ line.says
 
     edges_same : with_edge edges (edge_of taken.known instr) ≡ with_edge (edges_before facts first come.parts (length first)) (edge_of (known_after facts first come.parts) instr)
     edges_same = ap₂ (λ (edges : List Edge) (known : Known). with_edge edges (edge_of known instr)) come.edges_are come.known
@@ -91,9 +91,9 @@ come_further facts end lines first instr edges taken through gone come line took
         join_stops facts end (suc (length first)) through.known into through.rest gone (joins_some facts through.known into join.join lines joins join.obeys) took
 
 -- lines that are refused from there on have a first fault
-stands_from : (facts : Facts) (end : ℕ) (lines : List BodyLine) (fault : Fault) (instrs others first : List Instr) (edges : List Edge) (taken : Taken) → instrs ≡ first ++ others → Come facts lines first edges taken →
-    walked facts end (length first) edges others taken ≡ Err fault → FirstFault facts instrs end lines fault
-unfolding walked
+stands_from : (facts : Facts) (end : ℕ) (lines : List BodyLine) (fault : Fault) (instrs others first : List Instr) (edges : List Edge) (taken : WalkState) → instrs ≡ first ++ others → Come facts lines first edges taken →
+    check_lines_from facts end (length first) edges others taken ≡ Err fault → FirstFault facts instrs end lines fault
+unfolding check_lines_from
 stands_from facts end lines fault instrs [] first edges taken program come is = cc
 stands_from facts end lines fault instrs (instr ∷ others) first edges taken program come is =
     at (bind_err (instruction_taken facts end taken.known instr taken.rest) _ fault is) (λ first edges taken. stands_from facts end lines fault instrs others first edges taken)
@@ -108,8 +108,8 @@ stands_from facts end lines fault instrs (instr ∷ others) first edges taken pr
     into_are = ap₂ (λ (edges : List Edge) (known : Known). edges_into (suc (length first)) (with_edge edges (edge_of known instr))) come.edges_are come.known
 
     Goes : Type 0
-    Goes = (first : List Instr) (edges : List Edge) (taken : Taken) → instrs ≡ first ++ others → Come facts lines first edges taken →
-        walked facts end (length first) edges others taken ≡ Err fault → FirstFault facts instrs end lines fault
+    Goes = (first : List Instr) (edges : List Edge) (taken : WalkState) → instrs ≡ first ++ others → Come facts lines first edges taken →
+        check_lines_from facts end (length first) edges others taken ≡ Err fault → FirstFault facts instrs end lines fault
 
     fault_of : WrongLine facts end (known_after facts first come.parts) instr taken.rest fault
         ⊎ WrongPlace facts end (suc (length first)) (known_after facts first come.parts) (edges_after facts first come.parts instr) instr taken.rest fault →
@@ -127,19 +127,19 @@ stands_from facts end lines fault instrs (instr ∷ others) first edges taken pr
       wrong = wrong;
     }
 
-    past_line : (through : Taken) → Line facts taken.known instr taken.rest through →
-        (joined facts end (suc (length first)) into through ≡ Err fault) ⊎ ((gone : Taken) × (joined facts end (suc (length first)) into through ≡ Ok gone) × (walked facts end (suc (length first)) further others gone ≡ Err fault)) →
+    past_line : (through : WalkState) → Line facts taken.known instr taken.rest through →
+        (apply_join facts end (suc (length first)) into through ≡ Err fault) ⊎ ((gone : WalkState) × (apply_join facts end (suc (length first)) into through ≡ Ok gone) × (check_lines_from facts end (suc (length first)) further others gone ≡ Err fault)) →
         Goes → FirstFault facts instrs end lines fault
     past_line through line (inl refused) goes =
         let wrong = join_wrong facts end (suc (length first)) through.known (edges_after facts first come.parts instr) through.rest fault
-        (ap (λ (edges : List Edge). joined facts end (suc (length first)) edges through) (sym into_are) ∙ refused) in
+        (ap (λ (edges : List Edge). apply_join facts end (suc (length first)) edges through) (sym into_are) ∙ refused) in
         fault_of (inr (record {
           line = line.line;
           entry = line.entry;
           rest = through.rest;
           spelled = line.spelled;
           through = through.known;
-          says = ap (λ (known : Known). after facts known line.line instr line.entry) (sym come.known) ∙ line.says;
+          says = ap (λ (known : Known). check_instruction_line facts known line.line instr line.entry) (sym come.known) ∙ line.says;
           skips = wrong.0;
           wrong = wrong.1;
         }))
@@ -147,20 +147,20 @@ stands_from facts end lines fault instrs (instr ∷ others) first edges taken pr
         let one_more : length (with_one first instr) ≡ suc (length first) = omega (arith, length-append first (instr ∷ [])) in
         goes (with_one first instr) further gone (program ∙ sym (append_assoc first (instr ∷ []) others))
         (come_further facts end lines first instr edges taken through gone come line took)
-        (ap (λ n. walked facts end n further others gone) one_more ∙ refused)
+        (ap (λ n. check_lines_from facts end n further others gone) one_more ∙ refused)
 
     at : (instruction_taken facts end taken.known instr taken.rest ≡ Err fault)
-        ⊎ ((through : Taken) × (instruction_taken facts end taken.known instr taken.rest ≡ Ok through)
-        × ((joined facts end (suc (length first)) into through >>= λ gone. walked facts end (suc (length first)) further others gone) ≡ Err fault)) →
+        ⊎ ((through : WalkState) × (instruction_taken facts end taken.known instr taken.rest ≡ Ok through)
+        × ((apply_join facts end (suc (length first)) into through >>= λ gone. check_lines_from facts end (suc (length first)) further others gone) ≡ Err fault)) →
         Goes → FirstFault facts instrs end lines fault
     at (inl refused) goes =
         fault_of (inl (subst (λ (known : Known). WrongLine facts end known instr taken.rest fault) come.known (line_wrong facts end taken.known instr taken.rest fault refused)))
     at (inr (through, took, refused)) goes =
         past_line through (line_read facts end taken.known instr taken.rest through took)
-        (bind_err (joined facts end (suc (length first)) into through) (λ gone. walked facts end (suc (length first)) further others gone) fault refused) goes
+        (bind_err (apply_join facts end (suc (length first)) into through) (λ gone. check_lines_from facts end (suc (length first)) further others gone) fault refused) goes
 
-pub first_fault_stands : (facts : Facts) (instrs : List Instr) (end : ℕ) (lines : List BodyLine) (fault : Fault) → judged facts instrs end lines ≡ Err fault → FirstFault facts instrs end lines fault
-unfolding before edges_before lines_of
+pub first_fault_stands : (facts : Facts) (instrs : List Instr) (end : ℕ) (lines : List BodyLine) (fault : Fault) → check_lines facts instrs end lines ≡ Err fault → FirstFault facts instrs end lines fault
+unfolding known_before edges_before lines_of
 first_fault_stands facts instrs end lines fault is =
     stands_from facts end lines fault instrs instrs [] [] (taken_of lines nothing_known) refl
     (record {
@@ -192,7 +192,7 @@ keeps_over facts through edges least kept (k ∷ keeps) lines none are =
 
 -- a join that obeys, and then other lines
 join_over : (facts : Facts) (end place : ℕ) (edges : List Edge) (through : Known) (join : Option JoinLines) (lines : List BodyLine) → ((given : JoinLines) → join ≡ Some given → NoKeep lines) →
-    obeys_join facts through edges join ≡ true → joined facts end place edges (taken_of (join_lines place join ++ lines) through) ≡ Ok (taken_of lines (past through join))
+    is_valid_join facts through edges join ≡ true → apply_join facts end place edges (taken_of (join_lines place join ++ lines) through) ≡ Ok (taken_of lines (known_after_join through join))
 join_over facts end place [] through None lines none obeys = refl
 join_over facts end place [] through (Some join) lines none obeys = cc
 join_over facts end place (edge ∷ edges) through None lines none obeys = cc
@@ -210,48 +210,48 @@ no_keep_after place (part ∷ parts) rest none = refl
 -- the walk over the lines of parts that obey, from a place on, goes on after them
 walk_over : (facts : Facts) (all : List Instr) (every : List Part) (end place : ℕ) (instrs : List Instr) (parts : List Part) (others : List Instr) (rest : List BodyLine) → Obeys facts all every → KeepsAreAll every rest →
     drop place all ≡ instrs → drop place every ≡ parts → length parts ≡ length instrs →
-    walked facts end place (edges_before facts all every place) (instrs ++ others) (taken_of (lines_of place parts ++ rest) (before facts all every place))
-    ≡ walked facts end (place + length instrs) (edges_before facts all every (place + length instrs)) others (taken_of rest (before facts all every (place + length instrs)))
-unfolding walked lines_of before edges_before
+    check_lines_from facts end place (edges_before facts all every place) (instrs ++ others) (taken_of (lines_of place parts ++ rest) (known_before facts all every place))
+    ≡ check_lines_from facts end (place + length instrs) (edges_before facts all every (place + length instrs)) others (taken_of rest (known_before facts all every (place + length instrs)))
+unfolding check_lines_from lines_of known_before edges_before
 walk_over facts all every end place [] [] others rest obeys whole instrs_are parts_are count =
-    ap (λ n. walked facts end n (edges_before facts all every n) others (taken_of rest (before facts all every n))) (sym (add-zero place))
+    ap (λ n. check_lines_from facts end n (edges_before facts all every n) others (taken_of rest (known_before facts all every n))) (sym (add-zero place))
 walk_over facts all every end place [] (part ∷ parts) others rest obeys whole instrs_are parts_are count = absurd (omega (arith, count))
 walk_over facts all every end place (instr ∷ instrs) [] others rest obeys whole instrs_are parts_are count = absurd (omega (arith, count))
 walk_over facts all every end place (instr ∷ instrs) (part ∷ parts) others rest obeys whole instrs_are parts_are count =
     let instr_there = drop_stands all instrs place instr instrs_are in
     let part_there = drop_stands every parts place part parts_are in
-    let known : Known = before facts all every place in
-    let through : Known = fallen facts known instr part in
+    let known : Known = known_before facts all every place in
+    let through : Known = known_on_fallthrough facts known instr part in
     let more : List BodyLine = lines_of (suc place) parts ++ rest in
     let own : List BodyLine = (join_lines (suc place) part.join ++ lines_of (suc place) parts) ++ rest in
     let edges : List Edge = with_edge (edges_before facts all every place) (edge_of known instr) in
     let edges_are : edges ≡ edges_before facts all every (suc place) = ap (λ i. with_edge (edges_before facts all every place) (edge_at known i)) (sym instr_there.0) in
-    let next : before facts all every (suc place) ≡ past through part.join = ap₂ (known_past facts known) instr_there.0 part_there.0 in
+    let next : known_before facts all every (suc place) ≡ known_after_join through part.join = ap₂ (known_past facts known) instr_there.0 part_there.0 in
     let left : length (drop (suc place) every) ≡ length parts = ap (λ (parts : List Part). length parts) part_there.1 in
     let inside = slice_get_within every place part part_there.0 in
     let none : (given : JoinLines) → part.join ≡ Some given → NoKeep more = λ given some. no_keep_after (suc place) parts rest
     (λ empty. whole place part given (omega (arith, empty, left, length-drop (suc place) every, inside)) part_there.0 some) in
     let says : instruction_taken facts end known instr (lines_of place (part ∷ parts) ++ rest) ≡ Ok (taken_of own through) =
     ap (λ r. r >>= λ k. Ok (taken_of own k)) (obeys.instruction place instr part instr_there.0 part_there.0) in
-    let joins : joined facts end (suc place) (edges_into (suc place) edges) (taken_of own through) ≡ Ok (taken_of more (before facts all every (suc place))) =
-    ap₂ (λ (es : List Edge) (lines : List BodyLine). joined facts end (suc place) (edges_into (suc place) es) (taken_of lines through)) edges_are (append_assoc (join_lines (suc place) part.join) (lines_of (suc place) parts) rest)
+    let joins : apply_join facts end (suc place) (edges_into (suc place) edges) (taken_of own through) ≡ Ok (taken_of more (known_before facts all every (suc place))) =
+    ap₂ (λ (es : List Edge) (lines : List BodyLine). apply_join facts end (suc place) (edges_into (suc place) es) (taken_of lines through)) edges_are (append_assoc (join_lines (suc place) part.join) (lines_of (suc place) parts) rest)
     ∙ join_over facts end (suc place) _ through part.join more none (obeys.join place instr part instr_there.0 part_there.0)
     ∙ ap (λ (k : Known). Ok (taken_of more k)) (sym next) in
     let same : suc place + length instrs ≡ place + suc (length instrs) = omega arith in
-    ap (λ t. t >>= λ through. joined facts end (suc place) (edges_into (suc place) edges) through >>= λ taken. walked facts end (suc place) edges (instrs ++ others) taken) says
-    ∙ ap (λ t. t >>= λ taken. walked facts end (suc place) edges (instrs ++ others) taken) joins
-    ∙ ap (λ (es : List Edge). walked facts end (suc place) es (instrs ++ others) (taken_of more (before facts all every (suc place)))) edges_are
+    ap (λ t. t >>= λ through. apply_join facts end (suc place) (edges_into (suc place) edges) through >>= λ taken. check_lines_from facts end (suc place) edges (instrs ++ others) taken) says
+    ∙ ap (λ t. t >>= λ taken. check_lines_from facts end (suc place) edges (instrs ++ others) taken) joins
+    ∙ ap (λ (es : List Edge). check_lines_from facts end (suc place) es (instrs ++ others) (taken_of more (known_before facts all every (suc place)))) edges_are
     ∙ walk_over facts all every end (suc place) instrs parts others rest obeys whole instr_there.1 part_there.1 (omega (arith, count))
-    ∙ ap (λ n. walked facts end n (edges_before facts all every n) others (taken_of rest (before facts all every n))) same
+    ∙ ap (λ n. check_lines_from facts end n (edges_before facts all every n) others (taken_of rest (known_before facts all every n))) same
 
 -- lines with a first fault are refused with it
-pub refused_with_first : (facts : Facts) (instrs : List Instr) (end : ℕ) (lines : List BodyLine) (fault : Fault) → FirstFault facts instrs end lines fault → judged facts instrs end lines ≡ Err fault
-unfolding walked before edges_before
+pub refused_with_first : (facts : Facts) (instrs : List Instr) (end : ℕ) (lines : List BodyLine) (fault : Fault) → FirstFault facts instrs end lines fault → check_lines facts instrs end lines ≡ Err fault
+unfolding check_lines_from known_before edges_before
 refused_with_first facts instrs end lines fault f =
     let from_start : 0 + length f.first ≡ length f.first = omega arith in
-    ap₂ (λ (instrs : List Instr) (lines : List BodyLine). judged facts instrs end lines) f.instructions f.spelled
+    ap₂ (λ (instrs : List Instr) (lines : List BodyLine). check_lines facts instrs end lines) f.instructions f.spelled
     ∙ walk_over facts f.first f.parts end 0 f.first f.parts (f.instr ∷ f.others) f.rest f.obeys f.whole refl refl f.obeys.counted
-    ∙ ap (λ n. walked facts end n (edges_before facts f.first f.parts n) (f.instr ∷ f.others) (taken_of f.rest (before facts f.first f.parts n))) from_start
+    ∙ ap (λ n. check_lines_from facts end n (edges_before facts f.first f.parts n) (f.instr ∷ f.others) (taken_of f.rest (known_before facts f.first f.parts n))) from_start
     ∙ at f.wrong
   where
     known : Known
@@ -263,14 +263,14 @@ refused_with_first facts instrs end lines fault f =
     further : List Edge
     further = with_edge edges (edge_of known f.instr)
 
-    past_join : Taken → Result Taken Fault
-    past_join gone = walked facts end (suc (length f.first)) further f.others gone
+    past_join : WalkState → Result WalkState Fault
+    past_join gone = check_lines_from facts end (suc (length f.first)) further f.others gone
 
-    past_line : Taken → Result Taken Fault
-    past_line through = joined facts end (suc (length f.first)) (edges_into (suc (length f.first)) further) through >>= past_join
+    past_line : WalkState → Result WalkState Fault
+    past_line through = apply_join facts end (suc (length f.first)) (edges_into (suc (length f.first)) further) through >>= past_join
 
     at : WrongLine facts end known f.instr f.rest fault ⊎ WrongPlace facts end (suc (length f.first)) known (edges_after facts f.first f.parts f.instr) f.instr f.rest fault →
-        walked facts end (length f.first) edges (f.instr ∷ f.others) (taken_of f.rest known) ≡ Err fault
+        check_lines_from facts end (length f.first) edges (f.instr ∷ f.others) (taken_of f.rest known) ≡ Err fault
     at (inl line) = ap (λ t. t >>= past_line) (wrong_line facts end known f.instr f.rest fault line)
     at (inr place) =
         ap (λ (rest : List BodyLine). instruction_taken facts end known f.instr rest >>= past_line) place.spelled
@@ -295,7 +295,7 @@ lines_after facts instrs end lines fault f = at f.wrong
 
     -- other lines with that fault
     refused : (rest : List BodyLine) → KeepsAreAll f.parts rest → WrongLine facts end known f.instr rest fault ⊎ WrongPlace facts end (suc (length f.first)) known edges f.instr rest fault →
-        judged facts instrs end (front ++ rest) ≡ Err fault
+        check_lines facts instrs end (front ++ rest) ≡ Err fault
     refused rest whole wrong = refused_with_first facts instrs end (front ++ rest) fault (record {
       first = f.first;
       instr = f.instr;
@@ -317,14 +317,14 @@ lines_after facts instrs end lines fault f = at f.wrong
       others = others;
       spelled = f.spelled ∙ ap (λ rest. front ++ rest) there;
       stands = line_stands facts known f.instr line line.entry fault is;
-      alike = λ after. refused (line ∷ after) (λ place part join last given some. subst NoKeep there (f.whole place part join last given some)) (inl is);
+      alike = λ check_instruction_line. refused (line ∷ check_instruction_line) (λ place part join last given some. subst NoKeep there (f.whole place part join last given some)) (inl is);
     })
 
     own : WrongPlace facts end (suc (length f.first)) known edges f.instr f.rest fault → BodyLine
     own place = record { line = place.line; entry = line_of.Instruction place.entry }
 
     again : (place : WrongPlace facts end (suc (length f.first)) known edges f.instr f.rest fault) (rest : List BodyLine) → WrongJoin facts end (suc (length f.first)) place.through edges rest fault →
-        judged facts instrs end (front ++ own place ∷ rest) ≡ Err fault
+        check_lines facts instrs end (front ++ own place ∷ rest) ≡ Err fault
     again place rest wrong = refused (own place ∷ rest) (λ at part join last given some. refl) (inr (record {
       line = place.line;
       entry = place.entry;
@@ -345,7 +345,7 @@ lines_after facts instrs end lines fault f = at f.wrong
       others = others;
       spelled = f.spelled ∙ ap (λ (rest : List BodyLine). front ++ rest) (place.spelled ∙ ap (λ (rest : List BodyLine). own place ∷ rest) there) ∙ sym (append_assoc front (own place ∷ []) (line ∷ others));
       stands = at_end 608 line.line fault stands;
-      alike = λ after. ap (judged facts instrs end) (append_assoc front (own place ∷ []) (line ∷ after)) ∙ again place (line ∷ after) (inl (other, stands));
+      alike = λ check_instruction_line. ap (check_lines facts instrs end) (append_assoc front (own place ∷ []) (line ∷ check_instruction_line)) ∙ again place (line ∷ check_instruction_line) (inl (other, stands));
     })
     by_join place (line ∷ others) there (inr (joins, keep)) = inl (record {
       upto = front ++ own place ∷ line ∷ map keep_line keep.keeps;
@@ -355,13 +355,13 @@ lines_after facts instrs end lines fault f = at f.wrong
           ∙ ap (λ (rest : List BodyLine). front ++ rest) (place.spelled ∙ ap (λ (rest : List BodyLine). own place ∷ rest) (there ∙ ap (λ (lines : List BodyLine). line ∷ lines) keep.spelled))
           ∙ sym (append_assoc front (own place ∷ line ∷ map keep_line keep.keeps) (keep_line keep.wrong ∷ keep.others));
       stands = at_end 608 keep.wrong.line fault keep.stands;
-      alike = λ after. ap (judged facts instrs end) (append_assoc front (own place ∷ line ∷ map keep_line keep.keeps) (keep_line keep.wrong ∷ after))
-          ∙ again place (line ∷ map keep_line keep.keeps ++ keep_line keep.wrong ∷ after) (inr (
+      alike = λ check_instruction_line. ap (check_lines facts instrs end) (append_assoc front (own place ∷ line ∷ map keep_line keep.keeps) (keep_line keep.wrong ∷ check_instruction_line))
+          ∙ again place (line ∷ map keep_line keep.keeps ++ keep_line keep.wrong ∷ check_instruction_line) (inr (
             joins,
             record {
               keeps = keep.keeps;
               wrong = keep.wrong;
-              others = after;
+              others = check_instruction_line;
               spelled = refl;
               kept = keep.kept;
               broken = keep.broken;

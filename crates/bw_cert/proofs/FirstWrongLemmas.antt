@@ -11,13 +11,13 @@ use Rattle.bw_cert_text.specs.declared.lines.NodeLine.{NodeLine}
 use Rattle.bw_cert_text.specs.declared.lines.ChainLine.{ChainLine}
 use Rattle.bw_cert_text.specs.declared.lines.ProductLine.{ProductLine}
 use Rattle.bw_cert_text.specs.CertificateShape.{CertificateShape}
-use Rattle.bw_cert_rules.specs.declared.nodes.Pair.{Pair}
+use Rattle.bw_cert_rules.specs.declared.nodes.TruthPair.{TruthPair}
 use Rattle.bw_cert_rules.specs.Pair.{pair_of}
-use Rattle.bw_cert_rules.specs.Walk.{Taken, judged}
+use Rattle.bw_cert_rules.specs.Walk.{WalkState, check_lines}
 use Rattle.bw_cert_rules.proofs.AcceptLemmas.{judged_accepts}
 use Rattle.bw_cert.specs.FirstWrong.{WrongStated, WrongFact, WrongProgram, WrongBody, FirstWrong}
 use Rattle.bw_cert.specs.Stated.{facts_stated, with_lines, with_node_line, with_chain_line, with_product_line}
-use Rattle.bw_cert.specs.Valid.{checked, end_on}
+use Rattle.bw_cert.specs.Valid.{check_certificate, end_on}
 use Rattle.bw_cert.proofs.FaultLemmas.{bind_err}
 use Rattle.bw_cert.proofs.FirstFaultLemmas.{first_fault_stands}
 
@@ -59,17 +59,17 @@ fact_wrong columns certificate fault is = nodes (bind_err (with_lines with_node_
         inr (held, there, chains held (bind_err (with_lines with_chain_line held certificate.chains) (λ more. with_lines with_product_line more certificate.products) fault refused))
 
 module _ (columns : List Column) (cond : Cond) (program : ProgramShape) (certificate : CertificateShape) (fault : Fault) where
-  abbrev at_end : Facts → Pair → Taken → Result Facts Fault
+  abbrev at_end : Facts → TruthPair → WalkState → Result Facts Fault
   at_end facts pair taken = end_on facts certificate.end.line taken program.result pair.yes certificate.end.row
 
-  abbrev past_pair : Facts → Pair × List BodyLine → Result Facts Fault
-  past_pair facts read = judged facts program.instrs certificate.end.line read.1 >>= λ taken. at_end facts read.0 taken
+  abbrev past_pair : Facts → TruthPair × List BodyLine → Result Facts Fault
+  past_pair facts read = check_lines facts program.instrs certificate.end.line read.1 >>= λ taken. at_end facts read.0 taken
 
-  program_wrong : (facts : Facts) (pair : Pair) (rest : List BodyLine) → past_pair facts (pair, rest) ≡ Err fault → WrongProgram facts program certificate pair rest fault
-  program_wrong facts pair rest is = at (bind_err (judged facts program.instrs certificate.end.line rest) (λ taken. at_end facts pair taken) fault is)
+  program_wrong : (facts : Facts) (pair : TruthPair) (rest : List BodyLine) → past_pair facts (pair, rest) ≡ Err fault → WrongProgram facts program certificate pair rest fault
+  program_wrong facts pair rest is = at (bind_err (check_lines facts program.instrs certificate.end.line rest) (λ taken. at_end facts pair taken) fault is)
     where
-      at : (judged facts program.instrs certificate.end.line rest ≡ Err fault)
-          ⊎ ((taken : Taken) × (judged facts program.instrs certificate.end.line rest ≡ Ok taken) × (at_end facts pair taken ≡ Err fault)) → WrongProgram facts program certificate pair rest fault
+      at : (check_lines facts program.instrs certificate.end.line rest ≡ Err fault)
+          ⊎ ((taken : WalkState) × (check_lines facts program.instrs certificate.end.line rest ≡ Ok taken) × (at_end facts pair taken ≡ Err fault)) → WrongProgram facts program certificate pair rest fault
       at (inl refused) = inl (first_fault_stands facts program.instrs certificate.end.line rest fault refused)
       at (inr (taken, took, refused)) = inr (taken, judged_accepts facts program.instrs certificate.end.line rest taken took, refused)
 
@@ -77,11 +77,11 @@ module _ (columns : List Column) (cond : Cond) (program : ProgramShape) (certifi
   body_wrong facts is = at (bind_err (pair_of columns facts certificate.end.line cond certificate.body) (λ read. past_pair facts read) fault is)
     where
       at : (pair_of columns facts certificate.end.line cond certificate.body ≡ Err fault)
-          ⊎ ((read : Pair × List BodyLine) × (pair_of columns facts certificate.end.line cond certificate.body ≡ Ok read) × (past_pair facts read ≡ Err fault)) → WrongBody columns facts cond program certificate fault
+          ⊎ ((read : TruthPair × List BodyLine) × (pair_of columns facts certificate.end.line cond certificate.body ≡ Ok read) × (past_pair facts read ≡ Err fault)) → WrongBody columns facts cond program certificate fault
       at (inl refused) = inl refused
       at (inr (read, there, refused)) = inr (read.0, read.1, there, program_wrong facts read.0 read.1 refused)
 
-  pub first_wrong : checked columns cond program certificate ≡ Err fault → FirstWrong columns cond program certificate fault
+  pub first_wrong : check_certificate columns cond program certificate ≡ Err fault → FirstWrong columns cond program certificate fault
   first_wrong is = at (bind_err (facts_stated columns certificate) _ fault is)
     where
       at : (facts_stated columns certificate ≡ Err fault)

@@ -12,10 +12,10 @@ use Rattle.bw_cert_text.specs.declared.lines.BodyLine.{BodyLine}
 use Rattle.bw_cert_text.specs.declared.lines.ChainLine.{ChainLine}
 use Rattle.bw_cert_text.specs.CertificateFields.{CertificateFields, ChainFields, ColumnFields, BodyFields, One, Two, chain_fields, column_fields, body_fields, certificate_fields}
 use Rattle.bw_cert_text.specs.CertificateShape.{CertificateShape}
-use Rattle.bw_cert_rules.specs.declared.nodes.Pair.{Pair}
+use Rattle.bw_cert_rules.specs.declared.nodes.TruthPair.{TruthPair}
 use Rattle.bw_cert_rules.specs.Pair as pairs
 use Rattle.bw_cert_rules.specs.Known.{Known}
-use Rattle.bw_cert_rules.specs.Walk.{Taken}
+use Rattle.bw_cert_rules.specs.Walk.{WalkState}
 use Rattle.bw_cert_rules.specs.Walk as walk
 use Rattle.bw_cert.specs.Stated.{on_line, with_lines, with_node_line, with_chain_line, with_product_line, facts_stated}
 use Rattle.bw_cert.specs.Valid.{last_on}
@@ -61,18 +61,18 @@ pub stated-same : (columns : List Column) (certificate other : CertificateShape)
 stated-same columns certificate other same = stated-said columns certificate ∙ ap (stated_said columns) same ∙ sym (stated-said columns other)
 
 -- what follows a condition's lines, and a program's
-pub after_pair : (read other : pairs.Reading) (f g : Pair × List BodyLine → Result Facts Fault) → pairs.told read ≡ pairs.told other →
-    ((pair : Pair) (lines others : List BodyLine) → SayTheSame lines others → f (pair, lines) ≡ g (pair, others)) → (read >>= f) ≡ (other >>= g)
+pub after_pair : (read other : pairs.Reading) (f g : TruthPair × List BodyLine → Result Facts Fault) → pairs.line_fields read ≡ pairs.line_fields other →
+    ((pair : TruthPair) (lines others : List BodyLine) → SayTheSame lines others → f (pair, lines) ≡ g (pair, others)) → (read >>= f) ≡ (other >>= g)
 after_pair (Ok a) (Ok b) f g same each =
     let both : (a.0, map body_fields a.1) ≡ (b.0, map body_fields b.1) = cc in
-    let pair : a.0 ≡ b.0 = ap (λ (said : Pair × List BodyFields). said.0) both in
-    let rests : SayTheSame a.1 b.1 = ap (λ (said : Pair × List BodyFields). said.1) both in
+    let pair : a.0 ≡ b.0 = ap (λ (said : TruthPair × List BodyFields). said.0) both in
+    let rests : SayTheSame a.1 b.1 = ap (λ (said : TruthPair × List BodyFields). said.1) both in
     each a.0 a.1 b.1 rests ∙ ap (λ pair. g (pair, b.1)) pair
 after_pair (Ok a) (Err fault) f g same each = cc
 after_pair (Err fault) (Ok b) f g same each = cc
 after_pair (Err fault) (Err other) f g same each = cc
 
-pub after_walk : (read other : Result Taken Fault) (f g : Taken → Result Facts Fault) → walk.told read ≡ walk.told other →
+pub after_walk : (read other : Result WalkState Fault) (f g : WalkState → Result Facts Fault) → walk.line_fields read ≡ walk.line_fields other →
     ((known : Known) (lines others : List BodyLine) → SayTheSame lines others → f (record { known = known; rest = lines }) ≡ g (record { known = known; rest = others })) →
     (read >>= f) ≡ (other >>= g)
 after_walk (Ok a) (Ok b) f g same each =

@@ -9,7 +9,7 @@ use Rattle.bw_model.specs.declared.column.Column.{Column}
 use Rattle.bw_model.specs.declared.cond.Cond.{Cond}
 use Rattle.bw_model.specs.declared.cond.Truth.TheVariants.{Yes}
 use Rattle.bw_model.specs.Column.{admits_values}
-use Rattle.bw_model.specs.Cond.{truth_of, is_kept}
+use Rattle.bw_model.specs.Cond.{truth_of, is_match}
 use Rattle.bw_model.specs.Groups.{group_size, lanes_of, together}
 use Rattle.bw_model.specs.Row.{Value}
 use Rattle.bw_model.specs.Stored.{no_bits}
@@ -28,7 +28,7 @@ abbrev pub on_lane : List Column → Cond → Assignment → Bool
 on_lane columns cond assignment = is_truth (truth_of (row_of columns assignment) cond) Yes
 
 rows_kept : (columns : List Column) (cond : Cond) (rows : List (List Value)) → Spelled columns → list_all (admits_values columns) rows ≡ true →
-    map (on_lane columns cond) (map (λ row. assignment_of (bits_of columns row)) rows) ≡ map (is_kept cond) rows
+    map (on_lane columns cond) (map (λ row. assignment_of (bits_of columns row)) rows) ≡ map (is_match cond) rows
 rows_kept columns cond [] spelled admitted = refl
 rows_kept columns cond (row ∷ rows) spelled admitted =
     let each = both (admits_values columns row) (list_all (admits_values columns) rows) admitted in
@@ -36,7 +36,7 @@ rows_kept columns cond (row ∷ rows) spelled admitted =
 
 -- the result register's lanes on a group: those of its rows, and others
 pub register_is : (columns : List Column) (cond : Cond) (program : ProgramShape) (rows : List (List Value)) → Selects columns cond program → Spelled columns → list_all (admits_values columns) rows ≡ true →
-    (end_state columns (lanes_of columns rows) program).registers program.result ≡ map (is_kept cond) rows ++ map (on_lane columns cond) (replicate (group_size - length rows) no_bits)
+    (end_state columns (lanes_of columns rows) program).registers program.result ≡ map (is_match cond) rows ++ map (on_lane columns cond) (replicate (group_size - length rows) no_bits)
 unfolding lanes_of
 register_is columns cond program rows selects spelled admitted =
     selects (lanes_of columns rows)
@@ -48,9 +48,9 @@ take_front f [] more = refl
 take_front {B = B} f (x ∷ xs) more = ap (λ (ys : List B). f x ∷ ys) (take_front f xs more)
 
 group_selected : (columns : List Column) (cond : Cond) (program : ProgramShape) (group : List (List Value)) → Selects columns cond program → Spelled columns → list_all (admits_values columns) group ≡ true →
-    selection_in columns program group ≡ map (is_kept cond) group
+    selection_in columns program group ≡ map (is_match cond) group
 group_selected columns cond program group selects spelled admitted =
-    ap (take (length group)) (register_is columns cond program group selects spelled admitted) ∙ take_front (is_kept cond) group (map (on_lane columns cond) (replicate (group_size - length group) no_bits))
+    ap (take (length group)) (register_is columns cond program group selects spelled admitted) ∙ take_front (is_match cond) group (map (on_lane columns cond) (replicate (group_size - length group) no_bits))
 
 all_of_both : {A : Type 0} (p : A → Bool) (xs ys : List A) → list_all p (xs ++ ys) ≡ true → (list_all p xs ≡ true) × (list_all p ys ≡ true)
 all_of_both p [] ys all = (refl, all)
@@ -60,12 +60,12 @@ all_of_both p (x ∷ xs) ys all =
     (ap₂ (λ a b. a && b) each.0 rest.0, rest.1)
 
 pub groups_selected : (columns : List Column) (cond : Cond) (program : ProgramShape) (groups : List (List (List Value))) → Selects columns cond program → Spelled columns → list_all (admits_values columns) (together groups) ≡ true →
-    flat_map (selection_in columns program) groups ≡ map (is_kept cond) (together groups)
+    flat_map (selection_in columns program) groups ≡ map (is_match cond) (together groups)
 groups_selected columns cond program [] selects spelled admitted = refl
 groups_selected columns cond program (group ∷ groups) selects spelled admitted =
     let each = all_of_both (admits_values columns) group (together groups) admitted in
     ap₂ (λ (xs ys : List Bool). xs ++ ys) (group_selected columns cond program group selects spelled each.0) (groups_selected columns cond program groups selects spelled each.1)
-    ∙ sym (map-append (is_kept cond) group (together groups))
+    ∙ sym (map-append (is_match cond) group (together groups))
 
 -- masked to the rows, the others are 0
 pub masked : (front rest : List Bool) (more : ℕ) → length rest ≡ more → zip2 (λ a b. a && b) (front ++ rest) (replicate (length front) true ++ replicate more false) ≡ front ++ replicate more false

@@ -10,8 +10,8 @@ use Rattle.bw_diagram.specs.declared.product.Connective.TheVariants.{Xor}
 use Rattle.std.proofs.lemmas.Bool.{eqb-true}
 use Rattle.bw_model.specs.Variable.{Assignment}
 use Rattle.bw_diagram.specs.Node.{node_value}
-use Rattle.bw_diagram.specs.Product.{joined}
-use Rattle.bw_diagram.specs.Cited.{AreWorth, cited}
+use Rattle.bw_diagram.specs.Product.{apply_connective}
+use Rattle.bw_diagram.specs.Cited.{AreWorth, product_node}
 use Rattle.bw_diagram.specs.Facts.{Facts, AreTrue, no_facts, with_node, with_chain, with_product}
 use Rattle.bw_program.specs.declared.instr.Instr.{Instr}
 use Rattle.bw_program.specs.declared.instr.Instr.TheVariants as instr
@@ -24,10 +24,10 @@ use Rattle.bw_program.specs.ProgramText.{found_on}
 use Rattle.bw_cert_text.specs.declared.lines.BodyLine.{BodyLine}
 use Rattle.bw_cert_text.specs.declared.lines.InstructionEntry.{InstructionEntry}
 use Rattle.bw_cert_text.specs.CertificateShape.{CertificateShape}
-use Rattle.bw_cert_rules.specs.Instruction.{after, loaded_node, byte_chain, plane_on, byte_on}
+use Rattle.bw_cert_rules.specs.Instruction.{check_instruction_line, loaded_node, byte_chain, plane_on, byte_on}
 use Rattle.bw_cert_rules.specs.Join.{is_zero}
 use Rattle.bw_cert_rules.specs.Known.{Known, node_of}
-use Rattle.bw_cert_rules.specs.Walk.{Taken}
+use Rattle.bw_cert_rules.specs.Walk.{WalkState}
 use Rattle.bw_cert.specs.Stated.{on_line, with_lines, with_node_line, with_chain_line, with_product_line, facts_stated}
 use Rattle.bw_cert.specs.Valid.{last_on, end_on}
 
@@ -52,26 +52,26 @@ on_line_ok line (Ok x) facts is = is
 on_line_ok line (Err fault) facts is = cc
 
 -- the end, where it is right
-pub record Ended (facts : Facts) (taken : Taken) (result first row : ℕ) : Type 0 where
+pub record Ended (facts : Facts) (taken : WalkState) (result first row : ℕ) : Type 0 where
   pub none : taken.rest ≡ []
   pub node : ℕ
   pub known : node_of taken.known result ≡ Some node
-  pub zero : is_zero (cited facts Xor node first row) ≡ true
+  pub zero : is_zero (product_node facts Xor node first row) ≡ true
 
-pub ended : (facts found : Facts) (end : ℕ) (taken : Taken) (result first row : ℕ) → end_on facts end taken result first row ≡ Ok found → Ended facts taken result first row
+pub ended : (facts found : Facts) (end : ℕ) (taken : WalkState) (result first row : ℕ) → end_on facts end taken result first row ≡ Ok found → Ended facts taken result first row
 ended facts found end taken result first row is = at taken.rest refl is
   where
     at : (rest : List BodyLine) → taken.rest ≡ rest → last_on facts end rest taken.known result first row ≡ Ok found → Ended facts taken result first row
     at (line ∷ lines) there is = cc
     at [] there is =
         let node = bind_ok (found_on 609 end (node_of taken.known result)) _ found is in
-        let zero = not_refused (not (is_zero (cited facts Xor node.0 first row))) _ _ found node.2 in
+        let zero = not_refused (not (is_zero (product_node facts Xor node.0 first row))) _ _ found node.2 in
         record { none = there; node = node.0; known = found_ok 609 end _ node.0 node.1; zero = negated _ zero.0 }
 
-pub ends : (facts : Facts) (end : ℕ) (known : Known) (result first row node : ℕ) → node_of known result ≡ Some node → is_zero (cited facts Xor node first row) ≡ true →
+pub ends : (facts : Facts) (end : ℕ) (known : Known) (result first row node : ℕ) → node_of known result ≡ Some node → is_zero (product_node facts Xor node first row) ≡ true →
     end_on facts end (record { known = known; rest = [] }) result first row ≡ Ok facts
 ends facts end known result first row node there none =
-    ap (λ o. found_on 609 end o >>= λ node. refused_if (not (is_zero (cited facts Xor node first row))) (at_line 610 end) (Ok facts)) there
+    ap (λ o. found_on 609 end o >>= λ node. refused_if (not (is_zero (product_node facts Xor node first row))) (at_line 610 end) (Ok facts)) there
     ∙ ap (λ b. refused_if (not b) (at_line 610 end) (Ok facts)) none
 
 -- what holds before lines, and past each that is accepted, holds past all
@@ -121,8 +121,8 @@ stated_true columns certificate facts start node chain row is =
     start nodes.1) chains.1) chains.2
 
 -- an instruction whose line is right names what the columns have
-pub after_fits : (facts : Facts) (known past : Known) (line : ℕ) (i : Instr) (given : InstructionEntry) → after facts known line i given ≡ Ok past → instr_fits facts.columns i ≡ true
-unfolding after
+pub after_fits : (facts : Facts) (known past : Known) (line : ℕ) (i : Instr) (given : InstructionEntry) → check_instruction_line facts known line i given ≡ Ok past → instr_fits facts.columns i ≡ true
+unfolding check_instruction_line
 after_fits facts known past line (instr.Load r column bit) given is =
     let node = bind_ok (plane_on facts line (instr_fits facts.columns (instr.Load r column bit)) (bit_variable facts.columns column bit) given) _ past is in
     let named = bind_ok (found_on 607 line (loaded_node given)) _ node.0 node.1 in
@@ -163,7 +163,7 @@ map_same f g [] same = refl
 map_same {B = B} f g (x ∷ xs) same = ap₂ (λ (y : B) (ys : List B). y ∷ ys) (same x) (map_same f g xs same)
 
 -- of two nodes whose XOR is the node 0 by a row, the values are the same
-pub same_worth : (facts : Facts) (a b row : ℕ) → AreWorth facts → is_zero (cited facts Xor a b row) ≡ true → (assignment : Assignment) → node_value facts.nodes assignment a ≡ node_value facts.nodes assignment b
+pub same_worth : (facts : Facts) (a b row : ℕ) → AreWorth facts → is_zero (product_node facts Xor a b row) ≡ true → (assignment : Assignment) → node_value facts.nodes assignment a ≡ node_value facts.nodes assignment b
 same_worth facts a b row worth is assignment =
     xor_zero _ _ (sym ((worth.row Xor a b row 0 (zero_is _ is)).1 assignment) ∙ worth.zero assignment)
   where
@@ -171,7 +171,7 @@ same_worth facts a b row worth is assignment =
     zero_is None is = cc
     zero_is (Some n) is = ap Some (eqb-true n 0 is)
 
-    xor_zero : (a b : Bool) → joined Xor a b ≡ false → a ≡ b
+    xor_zero : (a b : Bool) → apply_connective Xor a b ≡ false → a ≡ b
     xor_zero true true is = refl
     xor_zero false false is = refl
     xor_zero true false is = cc

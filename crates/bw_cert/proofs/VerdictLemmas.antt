@@ -5,17 +5,17 @@ use Rattle.bw_model.specs.declared.column.Column.{Column}
 use Rattle.bw_model.specs.declared.cond.Cond.{Cond}
 use Rattle.bw_model.specs.declared.fault.Fault.{Fault}
 use Rattle.bw_model.specs.CondTree.{tree_of}
-use Rattle.bw_model.specs.Fault.{Gives, is_memory}
+use Rattle.bw_model.specs.Fault.{MatchesUnlessOom, is_memory}
 use Rattle.bw_text.specs.Lines.{numbered_from}
 use Rattle.bw_program.specs.Program.{ProgramShape, is_skip}
 use Rattle.bw_program.specs.ProgramText.{program_on, program_of, IsProgramText}
 use Rattle.bw_cert_text.specs.CertificateFields.{CertificateFields, chain_fields, certificate_fields}
 use Rattle.bw_cert_text.specs.CertificateShape.{CertificateShape}
 use Rattle.bw_cert_text.specs.CertificateText.{certificate_from, certificate_of, IsCertificateText}
-use Rattle.bw_cert.specs.Valid.{Valid, checked}
+use Rattle.bw_cert.specs.Valid.{Valid, check_certificate}
 use Rattle.bw_report.specs.declared.accepted.Accepted.{Accepted}
 use Rattle.bw_cert.specs.declared.certified_file.CertifiedFile.{CertifiedFile}
-use Rattle.bw_cert.specs.Judged.{Certifies, IsFileFault, too_long, program_refused, certificate_refused, line_refused, counted, told, told_of}
+use Rattle.bw_cert.specs.Judged.{Certifies, IsFileFault, too_long, program_refused, certificate_refused, line_refused, counts_of, program_and_counts, told_of}
 use Rattle.bw_cert.specs.ProgramFile.{IsCut, longest_program_file}
 
 not_both : {A : Type 0} {x : A} {fault : Fault} → ◌≡◌ {A = Result A Fault} (Ok x) (Err fault) → ⊥
@@ -39,9 +39,9 @@ pub record Laws : Type 0 where
   pub program : (columns : List Column) (text : List ℕ) (program : ProgramShape) → IsProgramText columns text program → program_of columns text ≡ Ok program
   pub certificate : (first : ℕ) (text : List ℕ) (certificate : CertificateFields) → IsCertificateText first text certificate → certificate_of first text ≡ Ok certificate
   pub judged : (columns : List Column) (cond same : Cond) (program : ProgramShape) (certificate other : CertificateShape) → tree_of cond ≡ tree_of same →
-      certificate_fields certificate ≡ certificate_fields other → checked columns cond program certificate ≡ checked columns same program other
+      certificate_fields certificate ≡ certificate_fields other → check_certificate columns cond program certificate ≡ check_certificate columns same program other
   pub valid : (columns : List Column) (cond : Cond) (program : ProgramShape) (certificate : CertificateShape) → (valid : Valid columns cond program certificate) →
-      checked columns cond program certificate ≡ Ok valid.facts
+      check_certificate columns cond program certificate ≡ Ok valid.facts
 
 module _ (laws : Laws) (columns : List Column) (file : List ℕ) where
   -- one cut of a file spells one program and one certificate
@@ -77,7 +77,7 @@ module _ (laws : Laws) (columns : List Column) (file : List ℕ) where
       let programs : program ≡ next = one_program is.program_text text is.certificate_text stated is.first first program next is.cut cut is.spelled spelled in
       let fields : certificate_fields certificate ≡ certificate_fields other = one_certificate is.program_text text is.certificate_text stated is.first first _ _ is.cut cut is.stated says in
       not_both (sym (laws.valid columns cond program certificate is.valid) ∙ laws.judged columns cond same program certificate other trees fields
-      ∙ ap (λ (p : ProgramShape). checked columns same p other) programs ∙ refused)
+      ∙ ap (λ (p : ProgramShape). check_certificate columns same p other) programs ∙ refused)
 
   -- the same fault of a program text, of a certificate text, and of a line
   program_fault : (cond : Cond) (text stated : List ℕ) (first : ℕ) (fault other : Fault) → length file ≤ longest_program_file → IsCut file text stated first → program_of columns text ≡ Err fault →
@@ -101,7 +101,7 @@ module _ (laws : Laws) (columns : List Column) (file : List ℕ) where
       absurd (not_both (sym (laws.certificate second another _ says) ∙ certificates_same file next text another stated second first there cut ∙ refused))
 
   line_fault : (cond same : Cond) (text stated : List ℕ) (first : ℕ) (program : ProgramShape) (certificate : CertificateShape) (fault other : Fault) → tree_of cond ≡ tree_of same → length file ≤ longest_program_file →
-      IsCut file text stated first → IsProgramText columns text program → IsCertificateText first stated (certificate_fields certificate) → checked columns cond program certificate ≡ Err fault →
+      IsCut file text stated first → IsProgramText columns text program → IsCertificateText first stated (certificate_fields certificate) → check_certificate columns cond program certificate ≡ Err fault →
       IsFileFault columns same file other → fault ≡ other
   line_fault cond same text stated first program certificate fault _ trees short cut spelled says refused (too_long long) = absurd (omega arith)
   line_fault cond same text stated first program certificate fault _ trees short cut spelled says refused (program_refused {text = next} {stated = another} {first = second} _ there is) =
@@ -111,7 +111,7 @@ module _ (laws : Laws) (columns : List Column) (file : List ℕ) where
   line_fault cond same text stated first program certificate fault _ trees short cut spelled says refused (line_refused {text = next} {stated = another} {first = second} {program = later} other _ there as_well say is) =
       let programs : program ≡ later = one_program text next stated another first second program later cut there spelled as_well in
       let fields : certificate_fields certificate ≡ certificate_fields other = one_certificate text next stated another first second _ _ cut there says say in
-      same_fault (sym refused ∙ laws.judged columns cond same program certificate other trees fields ∙ ap (λ (p : ProgramShape). checked columns same p other) programs ∙ is)
+      same_fault (sym refused ∙ laws.judged columns cond same program certificate other trees fields ∙ ap (λ (p : ProgramShape). check_certificate columns same p other) programs ∙ is)
 
   pub one_fault : (cond same : Cond) (fault other : Fault) → tree_of cond ≡ tree_of same → IsFileFault columns cond file fault → IsFileFault columns same file other → fault ≡ other
   one_fault cond same _ _ trees (too_long long) (too_long _) = refl
@@ -133,7 +133,7 @@ counted_said program said = record {
   rows = length said.products;
 }
 
-counted-said : (program : ProgramShape) (certificate : CertificateShape) → counted program certificate ≡ counted_said program (certificate_fields certificate)
+counted-said : (program : ProgramShape) (certificate : CertificateShape) → counts_of program certificate ≡ counted_said program (certificate_fields certificate)
 counted-said program certificate =
     ap (λ (chains : ℕ). record {
       instructions = length program.instrs;
@@ -147,11 +147,11 @@ counted-said program certificate =
 pub accepted_from : (columns : List Column) (file : List ℕ) (cond same : Cond) (program : ProgramShape) (certificate : CertificateShape) →
     ((next : ProgramShape) (other : CertificateShape) → Certifies columns cond file next other → (program ≡ next) × (certificate_fields certificate ≡ certificate_fields other)) →
     ((fault : Fault) → IsFileFault columns cond file fault → ⊥) → (result : Result CertifiedFile Fault) →
-    IfOk result (λ found. (other : CertificateShape) × Certifies columns cond file found.certified.program other × (found.accepted ≡ counted found.certified.program other)) →
-    IfErr result (λ fault. is_memory fault ≡ false → IsFileFault columns cond file fault) → Gives told result (Ok (told_of program certificate))
+    IfOk result (λ found. (other : CertificateShape) × Certifies columns cond file found.certified.program other × (found.accepted ≡ counts_of found.certified.program other)) →
+    IfErr result (λ fault. is_memory fault ≡ false → IsFileFault columns cond file fault) → MatchesUnlessOom program_and_counts result (Ok (told_of program certificate))
 accepted_from columns file cond same program certificate one none (Ok found) valid fault =
     let same = one found.certified.program valid.0 valid.1 in
-    let numbers : counted program certificate ≡ found.accepted =
+    let numbers : counts_of program certificate ≡ found.accepted =
     counted-said program certificate ∙ ap₂ counted_said same.0 same.1 ∙ sym (counted-said found.certified.program valid.0) ∙ sym valid.2 in
     ap₂ (λ (p : ProgramShape) (n : Accepted). Ok (p, n)) same.0 numbers
 accepted_from columns file cond same program certificate one none (Err other) valid fault = λ aside. absurd (none other (fault aside))

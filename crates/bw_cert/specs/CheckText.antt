@@ -9,7 +9,7 @@ use Rattle.bw_program.specs.Program.{ProgramShape}
 use Rattle.bw_cert_text.specs.CertificateShape.{CertificateShape}
 use Rattle.bw_sql.specs.Statement.{IsReadAs}
 use Rattle.bw_report.specs.declared.accepted.Accepted.{Accepted}
-use Rattle.bw_cert.specs.Judged.{Certifies, IsFileFault, counted}
+use Rattle.bw_cert.specs.Judged.{Certifies, IsFileFault, counts_of}
 
 -- The first text spells a schema, the statement a query under it, and the file a program and a
 -- certificate that is valid for it and the query's condition. These are their numbers.
@@ -21,7 +21,7 @@ pub record IsAccepted (text sql file : List ℕ) (accepted : Accepted) : Type 0 
   pub spelled : IsSchemaText text (schema_shape schema)
   pub asked : IsReadAs schema sql (Ok query)
   pub certifies : Certifies schema.columns.items query.cond file program certificate
-  pub numbers : accepted ≡ counted program certificate
+  pub numbers : accepted ≡ counts_of program certificate
 
 -- The error of these three: that of the schema text; else that of the statement under the schema;
 -- else that of the file.

@@ -11,11 +11,11 @@ use Rattle.bw_cert_text.specs.declared.lines.BodyLine.{BodyLine}
 use Rattle.bw_cert_text.specs.declared.lines.Entry.TheVariants as line_of
 use Rattle.bw_cert_text.specs.declared.lines.InstructionEntry.{InstructionEntry}
 use Rattle.bw_cert_rules.specs.declared.edge.Edge.{Edge}
-use Rattle.bw_cert_rules.specs.Accepted.{KeepLine, JoinLines, Part, Obeys, keep_line, lines_of, before, edges_before, are_kept}
-use Rattle.bw_cert_rules.specs.Instruction.{after}
+use Rattle.bw_cert_rules.specs.Accepted.{KeepLine, JoinLines, Part, Obeys, keep_line, lines_of, known_before, edges_before, are_kept}
+use Rattle.bw_cert_rules.specs.Instruction.{check_instruction_line}
 use Rattle.bw_cert_rules.specs.Join.{edge_of, with_edge, edges_into}
 use Rattle.bw_cert_rules.specs.Known.{Known}
-use Rattle.bw_cert_rules.specs.Walk.{instruction_on, is_join, keep_in, judged}
+use Rattle.bw_cert_rules.specs.Walk.{instruction_on, is_join, keep_in, check_lines}
 
 -- the lines don't begin with a line KEEP
 abbrev pub NoKeep : List BodyLine → Type 0
@@ -67,13 +67,13 @@ pub record WrongPlace (facts : Facts) (end place : ℕ) (known : Known) (edges :
   pub rest : List BodyLine
   pub spelled : lines ≡ record { line = line; entry = line_of.Instruction entry } ∷ rest
   pub through : Known
-  pub says : after facts known line instr entry ≡ Ok through
+  pub says : check_instruction_line facts known line instr entry ≡ Ok through
   pub skips : 0 < length edges
   pub wrong : WrongJoin facts end place through edges rest fault
 
 -- what is known after these first instructions
 abbrev pub known_after : Facts → List Instr → List Part → Known
-known_after facts first parts = before facts first parts (length first)
+known_after facts first parts = known_before facts first parts (length first)
 
 -- the edges of the skips, among these and one more instruction, that lead to the place after them
 abbrev pub edges_after : Facts → List Instr → List Part → Instr → List Edge
@@ -109,5 +109,5 @@ pub record StandsOn (facts : Facts) (instrs : List Instr) (end : ℕ) (lines : L
   pub others : List BodyLine
   pub spelled : lines ≡ upto ++ line ∷ others
   pub stands : fault ≡ at_line fault.code line.line
-  pub alike : (further : List BodyLine) → judged facts instrs end (upto ++ line ∷ further)
+  pub alike : (further : List BodyLine) → check_lines facts instrs end (upto ++ line ∷ further)
       ≡ Err fault

@@ -11,10 +11,10 @@ use Rattle.bw_cert_text.specs.declared.lines.NodeLine.{NodeLine}
 use Rattle.bw_cert_text.specs.declared.lines.ChainLine.{ChainLine}
 use Rattle.bw_cert_text.specs.declared.lines.ProductLine.{ProductLine}
 use Rattle.bw_cert_text.specs.CertificateShape.{CertificateShape}
-use Rattle.bw_cert_rules.specs.declared.nodes.Pair.{Pair}
+use Rattle.bw_cert_rules.specs.declared.nodes.TruthPair.{TruthPair}
 use Rattle.bw_cert_rules.specs.Pair.{pair_of}
 use Rattle.bw_cert_rules.specs.Accepted.{Accepts}
-use Rattle.bw_cert_rules.specs.Walk.{Taken}
+use Rattle.bw_cert_rules.specs.Walk.{WalkState}
 use Rattle.bw_cert.specs.FirstFault.{FirstFault}
 use Rattle.bw_cert.specs.Stated.{facts_stated, with_lines, with_node_line, with_chain_line, with_product_line}
 use Rattle.bw_cert.specs.Valid.{end_on}
@@ -43,11 +43,11 @@ WrongFact columns certificate fault =
 
 -- after a condition's lines, the first error in the lines of the program's instructions and joins;
 -- or after these, END
-abbrev pub WrongProgram : Facts → ProgramShape → CertificateShape → Pair → List BodyLine → Fault
-    → Type 0
+abbrev pub WrongProgram : Facts → ProgramShape → CertificateShape → TruthPair → List BodyLine
+    → Fault → Type 0
 WrongProgram facts program certificate pair lines fault =
     FirstFault facts program.instrs certificate.end.line lines fault
-    ⊎ ((taken : Taken) × Accepts facts program.instrs lines taken
+    ⊎ ((taken : WalkState) × Accepts facts program.instrs lines taken
     × (end_on facts certificate.end.line taken program.result pair.yes certificate.end.row
     ≡ Err fault))
 
@@ -55,7 +55,7 @@ WrongProgram facts program certificate pair lines fault =
 abbrev pub WrongBody : List Column → Facts → Cond → ProgramShape → CertificateShape → Fault → Type 0
 WrongBody columns facts cond program certificate fault =
     (pair_of columns facts certificate.end.line cond certificate.body ≡ Err fault)
-    ⊎ ((pair : Pair) × (rest : List BodyLine)
+    ⊎ ((pair : TruthPair) × (rest : List BodyLine)
     × (pair_of columns facts certificate.end.line cond certificate.body
     ≡ Ok (pair, rest))
     × WrongProgram facts program certificate pair rest fault)

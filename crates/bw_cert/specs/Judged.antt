@@ -10,7 +10,7 @@ use Rattle.bw_program.specs.ProgramText.{program_of, IsProgramText}
 use Rattle.bw_cert_text.specs.CertificateFields.{certificate_fields}
 use Rattle.bw_cert_text.specs.CertificateShape.{CertificateShape}
 use Rattle.bw_cert_text.specs.CertificateText.{certificate_of, IsCertificateText}
-use Rattle.bw_cert.specs.Valid.{Valid, checked}
+use Rattle.bw_cert.specs.Valid.{Valid, check_certificate}
 use Rattle.bw_report.specs.declared.accepted.Accepted.{Accepted}
 use Rattle.bw_cert.specs.declared.certified_file.CertifiedFile.{CertifiedFile}
 use Rattle.bw_cert.specs.ProgramFile.{IsCut, longest_program_file}
@@ -28,8 +28,8 @@ pub record Certifies (columns : List Column) (cond : Cond) (file : List ℕ) (pr
   pub valid : Valid columns cond program certificate
 
 -- the numbers that are reported of an accepted file
-abbrev pub counted : ProgramShape → CertificateShape → Accepted
-counted program certificate = record {
+abbrev pub counts_of : ProgramShape → CertificateShape → Accepted
+counts_of program certificate = record {
   instructions = length program.instrs;
   skips = count_by is_skip program.instrs;
   nodes = length certificate.nodes;
@@ -39,10 +39,10 @@ counted program certificate = record {
 
 -- what is reported of a certified file: its program and these numbers
 abbrev pub told_of : ProgramShape → CertificateShape → ProgramShape × Accepted
-told_of program certificate = (program, counted program certificate)
+told_of program certificate = (program, counts_of program certificate)
 
-abbrev pub told : CertifiedFile → ProgramShape × Accepted
-told found = (found.certified.program, found.accepted)
+abbrev pub program_and_counts : CertifiedFile → ProgramShape × Accepted
+program_and_counts found = (found.certified.program, found.accepted)
 
 -- The error of a file: that it is too long; else the first error of its program text; else the
 -- first of its certificate text; else the first line of the certificate that breaks a rule.
@@ -63,7 +63,8 @@ pub data IsFileFault (columns : List Column) (cond : Cond) (file : List ℕ) : F
       length file ≤ longest_program_file → IsCut file text stated first →
       IsProgramText columns text program →
       IsCertificateText first stated (certificate_fields certificate) →
-      checked columns cond program certificate ≡ Err fault → IsFileFault columns cond file fault
+      check_certificate columns cond program certificate ≡ Err fault
+      → IsFileFault columns cond file fault
 
 -- the error is one of 501 to 508 or 601 to 610, or out of memory
 abbrev pub is_file_fault : Fault → Bool

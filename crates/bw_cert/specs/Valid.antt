@@ -7,18 +7,18 @@ use Rattle.bw_model.specs.declared.cond.Cond.{Cond}
 use Rattle.bw_model.specs.declared.fault.Fault.{Fault}
 use Rattle.bw_model.specs.Fault.{at_line, is_memory, ◌>>=◌, refused_if}
 use Rattle.bw_diagram.specs.declared.product.Connective.TheVariants.{Xor}
-use Rattle.bw_diagram.specs.Cited.{cited}
+use Rattle.bw_diagram.specs.Cited.{product_node}
 use Rattle.bw_diagram.specs.Facts.{Facts, is_diagram_fault}
 use Rattle.bw_program.specs.Program.{ProgramShape}
 use Rattle.bw_program.specs.ProgramText.{found_on}
 use Rattle.bw_cert_text.specs.declared.lines.BodyLine.{BodyLine}
 use Rattle.bw_cert_text.specs.CertificateShape.{CertificateShape}
-use Rattle.bw_cert_rules.specs.declared.nodes.Pair.{Pair}
+use Rattle.bw_cert_rules.specs.declared.nodes.TruthPair.{TruthPair}
 use Rattle.bw_cert_rules.specs.Pair.{pair_of}
-use Rattle.bw_cert_rules.specs.Accepted.{Part, Obeys, before, lines_of}
+use Rattle.bw_cert_rules.specs.Accepted.{Part, Obeys, known_before, lines_of}
 use Rattle.bw_cert_rules.specs.Join.{is_zero}
 use Rattle.bw_cert_rules.specs.Known.{Known, node_of}
-use Rattle.bw_cert_rules.specs.Walk.{Taken, judged}
+use Rattle.bw_cert_rules.specs.Walk.{WalkState, check_lines}
 use Rattle.bw_cert.specs.Stated.{facts_stated}
 
 -- A certificate is valid for a condition and a program under these columns.
@@ -30,7 +30,7 @@ pub record Valid (columns : List Column) (cond : Cond) (program : ProgramShape)
   pub stated : facts_stated columns certificate ≡ Ok facts
   -- the lines of the condition's steps satisfy theirs, and make this truth pair: when it is TRUE,
   -- and when it is FALSE
-  pub pair : Pair
+  pub pair : TruthPair
   pub rest : List BodyLine
   pub paired : pair_of columns facts certificate.end.line cond certificate.body ≡ Ok (pair, rest)
   -- the other lines are those of the program's instructions and joins; they satisfy theirs, and
@@ -41,31 +41,33 @@ pub record Valid (columns : List Column) (cond : Cond) (program : ProgramShape)
   -- at the end the result register's node is known, and END references a product row by which its
   -- XOR with the first node of the pair is 0
   pub node : ℕ
-  pub known : node_of (before facts program.instrs parts (length program.instrs)) program.result
+  pub known : node_of (known_before facts program.instrs parts (length program.instrs))
+      program.result
       ≡ Some node
-  pub ended : IsTrue (is_zero (cited facts Xor node pair.yes certificate.end.row))
+  pub ended : IsTrue (is_zero (product_node facts Xor node pair.yes certificate.end.row))
 
 -- END: no line is left over (610), the result register's node is known (609), and by the product
 -- row its XOR with the condition's node is 0 (610)
 abbrev pub result_on : Facts → ℕ → Known → ℕ → ℕ → ℕ → Result Facts Fault
 result_on facts end known result first row =
     found_on REGISTER_UNKNOWN end (node_of known result) >>= λ node.
-    refused_if (not (is_zero (cited facts Xor node first row))) (at_line END end) (Ok facts)
+    refused_if (not (is_zero (product_node facts Xor node first row))) (at_line END end) (Ok facts)
 
 abbrev pub last_on : Facts → ℕ → List BodyLine → Known → ℕ → ℕ → ℕ → Result Facts Fault
 last_on facts end [] known result first row = result_on facts end known result first row
 last_on facts end (line ∷ lines) known result first row = Err (at_line END line.line)
 
-abbrev pub end_on : Facts → ℕ → Taken → ℕ → ℕ → ℕ → Result Facts Fault
+abbrev pub end_on : Facts → ℕ → WalkState → ℕ → ℕ → ℕ → Result Facts Fault
 end_on facts end taken result first row = last_on facts end taken.rest taken.known result first row
 
 -- The facts that a valid certificate states, or the first line that breaks a rule: the sections one
 -- after another, and the lines of each in their order.
-abbrev pub checked : List Column → Cond → ProgramShape → CertificateShape → Result Facts Fault
-checked columns cond program certificate =
+abbrev pub check_certificate : List Column → Cond → ProgramShape → CertificateShape
+    → Result Facts Fault
+check_certificate columns cond program certificate =
     facts_stated columns certificate >>= λ facts.
     pair_of columns facts certificate.end.line cond certificate.body >>= λ read.
-    judged facts program.instrs certificate.end.line read.1 >>= λ taken.
+    check_lines facts program.instrs certificate.end.line read.1 >>= λ taken.
     end_on facts certificate.end.line taken program.result read.0.yes certificate.end.row
 
 -- What the checker returns is what is expected: it accepts, or it returns the program with the

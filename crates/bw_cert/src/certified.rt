@@ -5,7 +5,7 @@ ghost use Rattle.bw_lanes.specs.Lanes.{lanes_of_words};
 ghost use Rattle.bw_model.specs.Column.{admits_values};
 ghost use Rattle.bw_model.specs.Groups.{group_size};
 ghost use Rattle.bw_model.specs.Row.{Value};
-ghost use Rattle.bw_model.specs.Selection.{selection, selected, positions_of};
+ghost use Rattle.bw_model.specs.Selection.{selection, matching_positions, positions_of};
 ghost use Rattle.bw_run.specs.Run.{run_of};
 ghost use Rattle.bw_model.specs.CondTree.{tree_of};
 ghost use Rattle.bw_model.specs.Fault.{is_memory};
@@ -117,7 +117,7 @@ impl Certified {
         ensures positions { (rows : List (List Value))
             → list_all (admits_values self.now.schema.columns.items) rows ≡ true
             → positions_of (selection_by self.now.schema.columns.items self.now.program rows)
-            ≡ selected self.now.condition rows }
+            ≡ matching_positions self.now.condition rows }
     {
         groups_make_the_table();
         self.schema.bits_spell_row();

@@ -2,10 +2,10 @@
 ghost use Rattle.std.specs.Prelude.{◌≡◌, false, Ok, IfOk, IfErr, IsTrue, length};
 ghost use Rattle.bw_model.specs.Cond.{names_within};
 ghost use Rattle.bw_model.specs.CondTree.{tree_of};
-ghost use Rattle.bw_model.specs.Fault.{Gives, is_memory};
+ghost use Rattle.bw_model.specs.Fault.{MatchesUnlessOom, is_memory};
 ghost use Rattle.bw_program.specs.Program.{ProgramShape};
 ghost use Rattle.bw_cert_text.specs.CertificateShape.{CertificateShape};
-ghost use Rattle.bw_cert.specs.Judged.{Certifies, IsFileFault, counted, is_file_fault, told, told_of};
+ghost use Rattle.bw_cert.specs.Judged.{Certifies, IsFileFault, counts_of, is_file_fault, program_and_counts, told_of};
 
 use crate::certified::Certified;
 use crate::checker::check;
@@ -41,11 +41,11 @@ pub fn certify(
     // if they are valid for another condition of the same tree.
     ensures valid { IfOk result (λ found. (certificate : CertificateShape)
         × Certifies schema.now.columns.items condition.now file.now found.certified.program
-        certificate × (found.accepted ≡ counted found.certified.program certificate)) }
+        certificate × (found.accepted ≡ counts_of found.certified.program certificate)) }
     ensures accepted { (same : Cond) (program : ProgramShape) (certificate : CertificateShape)
         → tree_of same ≡ tree_of condition.now
         → Certifies schema.now.columns.items same file.now program certificate
-        → Gives told result (Ok (told_of program certificate)) }
+        → MatchesUnlessOom program_and_counts result (Ok (told_of program certificate)) }
 
     // A failed call returns the file's error.
     ensures fault { IfErr result (λ fault. is_memory fault ≡ false
@@ -74,7 +74,7 @@ fn judge_file(
     requires { IsTrue (names_within (length schema.now.columns.items) condition.now) }
     ensures valid { IfOk result (λ found. (certificate : CertificateShape)
         × Certifies schema.now.columns.items condition.now file.now found.certified.program
-        certificate × (found.accepted ≡ counted found.certified.program certificate)) }
+        certificate × (found.accepted ≡ counts_of found.certified.program certificate)) }
     ensures fault { IfErr result (λ fault. is_memory fault ≡ false
         → IsFileFault schema.now.columns.items condition.now file.now fault) }
     ensures code { IfErr result (λ fault. IsTrue (is_file_fault fault)) }

@@ -2,12 +2,12 @@
 ghost use Rattle.std.specs.Prelude.{◌≡◌, false, Ok, IfOk, IfErr, IsTrue, length};
 ghost use Rattle.bw_model.specs.Cond.{names_within};
 ghost use Rattle.bw_model.specs.CondTree.{tree_of};
-ghost use Rattle.bw_model.specs.Fault.{Gives, is_memory};
+ghost use Rattle.bw_model.specs.Fault.{MatchesUnlessOom, is_memory};
 ghost use Rattle.bw_program.specs.Program.{ProgramShape};
 ghost use Rattle.bw_cert_text.specs.CertificateShape.{CertificateShape};
 ghost use Rattle.bw_cert.specs.CheckText.{IsAccepted, IsCheckFault};
 ghost use Rattle.bw_report.specs.declared.accepted.Accepted.{Accepted as Numbers};
-ghost use Rattle.bw_cert.specs.Judged.{Certifies, IsFileFault, counted};
+ghost use Rattle.bw_cert.specs.Judged.{Certifies, IsFileFault, counts_of};
 
 use crate::certified_file::certify;
 use bw_model::{Cond, Fault, Schema};
@@ -24,7 +24,7 @@ use std::alloc::Global;
 pub fn check_text(alloc: Global, schema: &[u8], sql: &[u8], file: &[u8]) -> Result<Accepted, Fault>
     ensures accepted { IfOk result (λ accepted. IsAccepted schema.now sql.now file.now accepted) }
     ensures accepts { (accepted : Numbers) → IsAccepted schema.now sql.now file.now accepted
-        → Gives (λ numbers. numbers) result (Ok accepted) }
+        → MatchesUnlessOom (λ numbers. numbers) result (Ok accepted) }
     ensures fault { IfErr result (λ fault. is_memory fault ≡ false
         → IsCheckFault schema.now sql.now file.now fault) }
 {
@@ -41,11 +41,11 @@ fn numbers(alloc: Global, schema: &Schema, condition: &Cond, file: &[u8]) -> Res
     ensures valid { IfOk result (λ numbers. (program : ProgramShape)
         × (certificate : CertificateShape)
         × Certifies schema.now.columns.items condition.now file.now program certificate
-        × (numbers ≡ counted program certificate)) }
+        × (numbers ≡ counts_of program certificate)) }
     ensures accepted { (same : Cond) (program : ProgramShape) (certificate : CertificateShape)
         → tree_of same ≡ tree_of condition.now
         → Certifies schema.now.columns.items same file.now program certificate
-        → Gives (λ numbers. numbers) result (Ok (counted program certificate)) }
+        → MatchesUnlessOom (λ numbers. numbers) result (Ok (counts_of program certificate)) }
     ensures fault { IfErr result (λ fault. is_memory fault ≡ false
         → IsFileFault schema.now.columns.items condition.now file.now fault) }
 {

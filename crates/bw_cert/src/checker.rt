@@ -5,7 +5,7 @@ ghost use Rattle.bw_model.specs.CondTree.{tree_of};
 ghost use Rattle.bw_model.specs.Fault.{is_memory};
 ghost use Rattle.bw_diagram.specs.Facts.{Facts};
 ghost use Rattle.bw_cert_text.specs.BodyLines.{body_lines};
-ghost use Rattle.bw_cert.specs.Valid.{Valid, Checks, checked, end_on, is_check_fault};
+ghost use Rattle.bw_cert.specs.Valid.{Valid, Checks, check_certificate, end_on, is_check_fault};
 
 use crate::certified::Certified;
 use crate::laws::{valid_exactly_where_checked, valid_programs_select};
@@ -40,7 +40,7 @@ pub fn check(
 ) -> Result<Certified, (Program, Fault)>
     requires { IsTrue (names_within (length schema.now.columns.items) condition.now) }
     ensures checked { Checks result
-        (checked schema.now.columns.items condition.now program certificate.now) }
+        (check_certificate schema.now.columns.items condition.now program certificate.now) }
     ensures valid { IfOk result (λ certified.
         Valid schema.now.columns.items condition.now program certificate.now) }
     ensures schema { IfOk result (λ certified. (certified.schema.name ≡ schema.now.name)
@@ -70,9 +70,11 @@ fn judge(
 ) -> Result<(), Fault>
     requires { IsTrue (names_within (length schema.now.columns.items) condition.now) }
     ensures right { OnOk result ((facts : Facts)
-        × (checked schema.now.columns.items condition.now program.now certificate.now ≡ Ok facts)) }
+        × (check_certificate schema.now.columns.items condition.now program.now certificate.now
+        ≡ Ok facts)) }
     ensures fault { IfErr result (λ fault. is_memory fault ≡ false
-        → checked schema.now.columns.items condition.now program.now certificate.now ≡ Err fault) }
+        → check_certificate schema.now.columns.items condition.now program.now certificate.now
+        ≡ Err fault) }
     ensures code { IfErr result (λ fault. IsTrue (is_check_fault fault)) }
 {
     let diagram = diagram_of(alloc, schema, certificate)?;
@@ -105,7 +107,7 @@ fn check_end(
     let Some(node) = at_end.known[answer as usize] else {
         return Err(Fault::at_line(code::REGISTER_UNKNOWN, end.line));
     };
-    match diagram.cited(Connective::Xor, node, first, end.row) {
+    match diagram.product_node(Connective::Xor, node, first, end.row) {
         Some(0) => Ok(()),
         _ => Err(Fault::at_line(code::END, end.line)),
     }

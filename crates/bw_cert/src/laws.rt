@@ -15,13 +15,13 @@ ghost use Rattle.bw_program.specs.declared.instr.Instr.{Instr};
 ghost use Rattle.bw_cert_text.specs.CertificateFields.{certificate_fields};
 ghost use Rattle.bw_cert_text.specs.CertificateShape.{CertificateShape};
 ghost use Rattle.bw_cert_text.specs.declared.lines.BodyLine.{BodyLine};
-ghost use Rattle.bw_cert_rules.specs.Accepted.{before};
+ghost use Rattle.bw_cert_rules.specs.Accepted.{known_before};
 ghost use Rattle.bw_cert_rules.specs.Sound.{Hold};
-ghost use Rattle.bw_cert_rules.specs.Walk.{judged};
+ghost use Rattle.bw_cert_rules.specs.Walk.{check_lines};
 ghost use Rattle.bw_cert.specs.FirstFault.{FirstFault, StandsOn};
 ghost use Rattle.bw_cert.specs.FirstWrong.{FirstWrong};
 ghost use Rattle.bw_cert.specs.Selects.{Selects};
-ghost use Rattle.bw_cert.specs.Valid.{Valid, checked};
+ghost use Rattle.bw_cert.specs.Valid.{Valid, check_certificate};
 
 use bw_cert_rules::{
     judged_lines_obey, lines_are_judged_by_what_they_say, obeying_lines_are_judged,
@@ -34,12 +34,12 @@ use bw_run::runs_come_to_the_end;
 pub fn valid_exactly_where_checked()
     ensures sound { (columns : List Column) (cond : Cond) (program : ProgramShape)
         (certificate : CertificateShape) (facts : Facts)
-        → checked columns cond program certificate ≡ Ok facts
+        → check_certificate columns cond program certificate ≡ Ok facts
         → Valid columns cond program certificate }
     ensures complete { (columns : List Column) (cond : Cond) (program : ProgramShape)
         (certificate : CertificateShape)
         → (valid : Valid columns cond program certificate)
-        → checked columns cond program certificate ≡ Ok valid.facts }
+        → check_certificate columns cond program certificate ≡ Ok valid.facts }
 {
     judged_lines_obey();
     obeying_lines_are_judged();
@@ -61,7 +61,7 @@ pub fn valid_programs_select()
         → (valid : Valid columns cond program certificate)
         → (lanes : List Assignment) (place : ℕ) (state : State)
         → Reaches columns lanes program place state
-        → Hold valid.facts lanes (before valid.facts program.instrs valid.parts place)
+        → Hold valid.facts lanes (known_before valid.facts program.instrs valid.parts place)
         state.registers }
     ensures end { (columns : List Column) (program : ProgramShape) → IsTrue (is_program program)
         → (lanes : List Assignment)
@@ -84,7 +84,8 @@ pub fn certificates_are_judged_by_what_they_say()
     ensures { (columns : List Column) (cond same : Cond) (program : ProgramShape)
         (certificate other : CertificateShape)
         → tree_of cond ≡ tree_of same → certificate_fields certificate ≡ certificate_fields other
-        → checked columns cond program certificate ≡ checked columns same program other }
+        → check_certificate columns cond program certificate
+        ≡ check_certificate columns same program other }
 {
     pairs_are_of_trees();
     lines_are_judged_by_what_they_say();
@@ -100,13 +101,13 @@ pub fn certificates_are_judged_by_what_they_say()
 pub fn refused_lines_have_a_first_fault()
     ensures stands { (facts : Facts) (instrs : List Instr) (end : ℕ) (lines : List BodyLine)
         (fault : Fault)
-        → judged facts instrs end lines ≡ Err fault → FirstFault facts instrs end lines fault }
+        → check_lines facts instrs end lines ≡ Err fault → FirstFault facts instrs end lines fault }
     ensures first { (facts : Facts) (instrs : List Instr) (end : ℕ) (lines : List BodyLine)
         (fault : Fault)
-        → FirstFault facts instrs end lines fault → judged facts instrs end lines ≡ Err fault }
+        → FirstFault facts instrs end lines fault → check_lines facts instrs end lines ≡ Err fault }
     ensures after { (facts : Facts) (instrs : List Instr) (end : ℕ) (lines : List BodyLine)
         (fault : Fault)
-        → judged facts instrs end lines ≡ Err fault
+        → check_lines facts instrs end lines ≡ Err fault
         → StandsOn facts instrs end lines fault ⊎ (fault ≡ at_line fault.code end) }
 {}
 
@@ -117,6 +118,6 @@ pub fn refused_lines_have_a_first_fault()
 pub fn refused_certificates_have_a_first_fault()
     ensures { (columns : List Column) (cond : Cond) (program : ProgramShape)
         (certificate : CertificateShape) (fault : Fault)
-        → checked columns cond program certificate ≡ Err fault
+        → check_certificate columns cond program certificate ≡ Err fault
         → FirstWrong columns cond program certificate fault }
 {}

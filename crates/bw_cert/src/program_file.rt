@@ -22,7 +22,7 @@ pub struct ProgramFile<'a> {
 pub fn split_file(file: &[u8]) -> ProgramFile<'_>
     ensures cut { IsCut file.now result.program.now result.certificate.now result.first_line }
     ensures first { (1 ≤ result.first_line) × (result.first_line ≤ length file.now + 1) }
-    ensures shorter { length result.program.now ≤ length file.now }
+    ensures consumes_input { length result.program.now ≤ length file.now }
 {
     let mut lines = Lines::new(file);
     let mut read = 0;

@@ -1,7 +1,7 @@
 //! What the NODE, CHAIN and ROW lines of a certificate state.
 ghost use Rattle.std.specs.Prelude.{◌≡◌, List, true, false, IfErr, IsTrue};
 ghost use Rattle.bw_model.specs.declared.column.Column.{Column};
-ghost use Rattle.bw_model.specs.Fault.{Gives, is_memory, at_line, no_memory};
+ghost use Rattle.bw_model.specs.Fault.{MatchesUnlessOom, is_memory, at_line, no_memory};
 ghost use Rattle.bw_diagram.specs.Facts.{is_diagram_fault};
 ghost use Rattle.bw_cert.specs.Stated.{facts_stated, with_lines, with_node_line, with_chain_line, with_product_line};
 
@@ -17,7 +17,7 @@ pub(crate) fn diagram_of<'a>(
     schema: &'a Schema,
     certificate: &Certificate,
 ) -> Result<Diagram<'a>, Fault>
-    ensures stated { Gives (λ diagram. diagram) result
+    ensures stated { MatchesUnlessOom (λ diagram. diagram) result
         (facts_stated schema.now.columns.items certificate.now) }
     ensures code { IfErr result (λ fault. IsTrue (is_diagram_fault fault)) }
 {
@@ -30,14 +30,14 @@ pub(crate) fn diagram_of<'a>(
 
 /// Adds the nodes of the lines.
 fn add_nodes(diagram: &mut Diagram<'_>, lines: &[NodeLine]) -> Result<(), Fault>
-    ensures stated { Gives (λ _. diagram.new) result
+    ensures stated { MatchesUnlessOom (λ _. diagram.new) result
         (with_lines with_node_line diagram.old lines.now) }
     ensures code { IfErr result (λ fault. IsTrue (is_diagram_fault fault)) }
 {
     for line in lines {
         match diagram.add_node(line.n, line.v, line.low, line.high) {
             Ok(()) => {}
-            Err(fault) => return Err(placed(fault, line.line)),
+            Err(fault) => return Err(fault_on_line(fault, line.line)),
         }
     }
     Ok(())
@@ -45,7 +45,7 @@ fn add_nodes(diagram: &mut Diagram<'_>, lines: &[NodeLine]) -> Result<(), Fault>
 
 /// Adds the chains of the lines.
 fn add_chains(diagram: &mut Diagram<'_>, lines: &[ChainLine]) -> Result<(), Fault>
-    ensures stated { Gives (λ _. diagram.new) result
+    ensures stated { MatchesUnlessOom (λ _. diagram.new) result
         (with_lines with_chain_line diagram.old lines.now) }
     ensures code { IfErr result (λ fault. IsTrue (is_diagram_fault fault)) }
 {
@@ -57,32 +57,33 @@ fn add_chains(diagram: &mut Diagram<'_>, lines: &[ChainLine]) -> Result<(), Faul
 
 /// Adds the chain of a line.
 fn add_chain(diagram: &mut Diagram<'_>, line: &ChainLine) -> Result<(), Fault>
-    ensures stated { Gives (λ _. diagram.new) result (with_chain_line diagram.old line.now) }
+    ensures stated { MatchesUnlessOom (λ _. diagram.new) result
+        (with_chain_line diagram.old line.now) }
     ensures code { IfErr result (λ fault. IsTrue (is_diagram_fault fault)) }
 {
     match diagram.add_chain(line.n, &line.columns) {
         Ok(()) => Ok(()),
-        Err(fault) => Err(placed(fault, line.line)),
+        Err(fault) => Err(fault_on_line(fault, line.line)),
     }
 }
 
 /// Adds the product rows of the lines.
 fn add_products(diagram: &mut Diagram<'_>, lines: &[ProductLine]) -> Result<(), Fault>
-    ensures stated { Gives (λ _. diagram.new) result
+    ensures stated { MatchesUnlessOom (λ _. diagram.new) result
         (with_lines with_product_line diagram.old lines.now) }
     ensures code { IfErr result (λ fault. IsTrue (is_diagram_fault fault)) }
 {
     for line in lines {
         match diagram.add_row(line.n, line.op, line.a, line.b, line.c, line.reason) {
             Ok(()) => {}
-            Err(fault) => return Err(placed(fault, line.line)),
+            Err(fault) => return Err(fault_on_line(fault, line.line)),
         }
     }
     Ok(())
 }
 
 /// Returns the error, which has no place yet, at this line. Out of memory stays without a place.
-fn placed(fault: Fault, line: u64) -> Fault
+fn fault_on_line(fault: Fault, line: u64) -> Fault
     ensures memory { is_memory fault ≡ true → result ≡ fault }
     ensures line { is_memory fault ≡ false → result ≡ at_line fault.code line }
 {

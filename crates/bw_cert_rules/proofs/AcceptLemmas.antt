@@ -11,11 +11,11 @@ use Rattle.bw_cert_text.specs.declared.lines.Entry.TheVariants as line_of
 use Rattle.bw_cert_text.specs.declared.lines.InstructionEntry.{InstructionEntry}
 use Rattle.bw_cert_text.specs.declared.lines.Keep.{Keep}
 use Rattle.bw_cert_rules.specs.declared.edge.Edge.{Edge}
-use Rattle.bw_cert_rules.specs.Accepted.{KeepLine, JoinLines, Part, keep_line, join_lines, lines_of, before, edges_before, edge_at, fallen, known_or_nothing, past, known_past, kept_by, are_kept, obeys_join, Accepts}
-use Rattle.bw_cert_rules.specs.Instruction.{after}
-use Rattle.bw_cert_rules.specs.Join.{edge_of, with_edge, edges_into, is_kept}
+use Rattle.bw_cert_rules.specs.Accepted.{KeepLine, JoinLines, Part, keep_line, join_lines, lines_of, known_before, edges_before, edge_at, known_on_fallthrough, known_or_nothing, known_after_join, known_past, kept_by, are_kept, is_valid_join, Accepts}
+use Rattle.bw_cert_rules.specs.Instruction.{check_instruction_line}
+use Rattle.bw_cert_rules.specs.Join.{edge_of, with_edge, edges_into, is_valid_keep}
 use Rattle.bw_cert_rules.specs.Known.{Known, nothing_known, with_node}
-use Rattle.bw_cert_rules.specs.Walk.{Taken, keep_in, by_keep, keeps_taken, join_taken, is_join, instruction_on, instruction_taken, joined, walked, judged}
+use Rattle.bw_cert_rules.specs.Walk.{WalkState, keep_in, by_keep, keeps_taken, join_taken, is_join, instruction_on, instruction_taken, apply_join, check_lines_from, check_lines}
 use Rattle.bw_cert_rules.proofs.HoldLemmas.{bind_ok, not_refused}
 
 -- what is the same where it was answered, and what can't be
@@ -33,57 +33,57 @@ negated true is = refl
 negated false is = cc
 
 -- the line of an instruction
-pub record Line (facts : Facts) (known : Known) (instr : Instr) (lines : List BodyLine) (through : Taken) : Type 0 where
+pub record Line (facts : Facts) (known : Known) (instr : Instr) (lines : List BodyLine) (through : WalkState) : Type 0 where
   pub line : ℕ
   pub entry : InstructionEntry
   pub spelled : lines ≡ record { line = line; entry = line_of.Instruction entry } ∷ through.rest
-  pub says : after facts known line instr entry ≡ Ok through.known
+  pub says : check_instruction_line facts known line instr entry ≡ Ok through.known
 
-pub line_read : (facts : Facts) (end : ℕ) (known : Known) (instr : Instr) (lines : List BodyLine) (through : Taken) → instruction_taken facts end known instr lines ≡ Ok through → Line facts known instr lines through
+pub line_read : (facts : Facts) (end : ℕ) (known : Known) (instr : Instr) (lines : List BodyLine) (through : WalkState) → instruction_taken facts end known instr lines ≡ Ok through → Line facts known instr lines through
 line_read facts end known instr [] through is = cc
 line_read facts end known instr (line ∷ lines) through is = at line.entry refl (bind_ok (instruction_on facts known instr line line.entry) _ through is)
   where
-    at : (entry : Entry) → line.entry ≡ entry → (k : Known) × (instruction_on facts known instr line line.entry ≡ Ok k) × (◌≡◌ {A = Result Taken Fault} (Ok (record { known = k; rest = lines })) (Ok through)) →
+    at : (entry : Entry) → line.entry ≡ entry → (k : Known) × (instruction_on facts known instr line line.entry ≡ Ok k) × (◌≡◌ {A = Result WalkState Fault} (Ok (record { known = k; rest = lines })) (Ok through)) →
         Line facts known instr (line ∷ lines) through
     at (line_of.Instruction entry) there (k, says, done) =
         let same : record { known = k; rest = lines } ≡ through = ok_is done in
         record {
           line = line.line;
           entry = entry;
-          spelled = ap₂ (λ (l : BodyLine) (ls : List BodyLine). l ∷ ls) (ap (λ e. record { line = line.line; entry = e }) there) (ap (λ (t : Taken). t.rest) same);
-          says = ap (instruction_on facts known instr line) (sym there) ∙ says ∙ ap (λ (t : Taken). Ok t.known) same;
+          spelled = ap₂ (λ (l : BodyLine) (ls : List BodyLine). l ∷ ls) (ap (λ e. record { line = line.line; entry = e }) there) (ap (λ (t : WalkState). t.rest) same);
+          says = ap (instruction_on facts known instr line) (sym there) ∙ says ∙ ap (λ (t : WalkState). Ok t.known) same;
         }
     at (line_of.Condition given) there (k, says, done) = err_not (ap (instruction_on facts known instr line) (sym there) ∙ says)
     at (line_of.Join place) there (k, says, done) = err_not (ap (instruction_on facts known instr line) (sym there) ∙ says)
     at (line_of.Keep keep) there (k, says, done) = err_not (ap (instruction_on facts known instr line) (sym there) ∙ says)
 
 -- the lines KEEP of a join
-pub record Keeps (facts : Facts) (through : Known) (edges : List Edge) (least : ℕ) (kept : Known) (lines : List BodyLine) (taken : Taken) : Type 0 where
+pub record Keeps (facts : Facts) (through : Known) (edges : List Edge) (least : ℕ) (kept : Known) (lines : List BodyLine) (taken : WalkState) : Type 0 where
   pub keeps : List KeepLine
   pub spelled : lines ≡ map keep_line keeps ++ taken.rest
   pub kept_are : are_kept facts through edges least keeps ≡ true
   pub known : taken.known ≡ kept_by kept keeps
 
-pub keeps_read : (facts : Facts) (through : Known) (edges : List Edge) (least : ℕ) (kept : Known) (lines : List BodyLine) (taken : Taken) → keeps_taken facts through edges least kept lines ≡ Ok taken →
+pub keeps_read : (facts : Facts) (through : Known) (edges : List Edge) (least : ℕ) (kept : Known) (lines : List BodyLine) (taken : WalkState) → keeps_taken facts through edges least kept lines ≡ Ok taken →
     Keeps facts through edges least kept lines taken
 unfolding keeps_taken are_kept kept_by
 keeps_read facts through edges least kept [] taken is =
     let same : record { known = kept; rest = [] } ≡ taken = ok_is is in
-    record { keeps = []; spelled = ap (λ (t : Taken). t.rest) same; kept_are = refl; known = sym (ap (λ (t : Taken). t.known) same) }
+    record { keeps = []; spelled = ap (λ (t : WalkState). t.rest) same; kept_are = refl; known = sym (ap (λ (t : WalkState). t.known) same) }
 keeps_read facts through edges least kept (line ∷ lines) taken is =
     at line.entry refl is (λ keep. keeps_read facts through edges (suc keep.register) (with_node kept keep.register keep.node) lines taken)
   where
-    next : Keep → Result Taken Fault
-    next keep = refused_if (not (is_kept facts through edges least keep)) (at_line 608 line.line)
+    next : Keep → Result WalkState Fault
+    next keep = refused_if (not (is_valid_keep facts through edges least keep)) (at_line 608 line.line)
         (keeps_taken facts through edges (suc keep.register) (with_node kept keep.register keep.node) lines)
 
-    stop : Taken
+    stop : WalkState
     stop = record { known = kept; rest = line ∷ lines }
 
-    ended : ◌≡◌ {A = Result Taken Fault} (Ok stop) (Ok taken) → Keeps facts through edges least kept (line ∷ lines) taken
+    ended : ◌≡◌ {A = Result WalkState Fault} (Ok stop) (Ok taken) → Keeps facts through edges least kept (line ∷ lines) taken
     ended done =
         let same : stop ≡ taken = ok_is done in
-        record { keeps = []; spelled = ap (λ (t : Taken). t.rest) same; kept_are = refl; known = sym (ap (λ (t : Taken). t.known) same) }
+        record { keeps = []; spelled = ap (λ (t : WalkState). t.rest) same; kept_are = refl; known = sym (ap (λ (t : WalkState). t.known) same) }
 
     at : (entry : Entry) → line.entry ≡ entry → by_keep (keep_in line.entry) (Ok stop) next ≡ Ok taken →
         ((keep : Keep) → keeps_taken facts through edges (suc keep.register) (with_node kept keep.register keep.node) lines ≡ Ok taken → Keeps facts through edges (suc keep.register) (with_node kept keep.register keep.node) lines taken) →
@@ -93,9 +93,9 @@ keeps_read facts through edges least kept (line ∷ lines) taken is =
     at (line_of.Join place) there is rest = ended (ap (λ e. by_keep (keep_in e) (Ok stop) next) (sym there) ∙ is)
     at (line_of.Keep keep) there is rest =
         let now : next keep ≡ Ok taken = ap (λ e. by_keep (keep_in e) (Ok stop) next) (sym there) ∙ is in
-        let passed = not_refused (not (is_kept facts through edges least keep)) _ _ taken now in
+        let passed = not_refused (not (is_valid_keep facts through edges least keep)) _ _ taken now in
         let more = rest keep passed.1 in
-        let kept_is : is_kept facts through edges least keep ≡ true = negated _ passed.0 in
+        let kept_is : is_valid_keep facts through edges least keep ≡ true = negated _ passed.0 in
         record {
           keeps = record { line = line.line; keep = keep } ∷ more.keeps;
           spelled = ap₂ (λ (l : BodyLine) (ls : List BodyLine). l ∷ ls) (ap (λ e. record { line = line.line; entry = e }) there) more.spelled;
@@ -104,16 +104,16 @@ keeps_read facts through edges least kept (line ∷ lines) taken is =
         }
 
 -- the join of a place, if it has one
-pub record Joined (facts : Facts) (place : ℕ) (edges : List Edge) (through taken : Taken) : Type 0 where
+pub record Joined (facts : Facts) (place : ℕ) (edges : List Edge) (through taken : WalkState) : Type 0 where
   pub join : Option JoinLines
   pub spelled : through.rest ≡ join_lines place join ++ taken.rest
-  pub obeys : obeys_join facts through.known edges join ≡ true
-  pub known : taken.known ≡ past through.known join
+  pub obeys : is_valid_join facts through.known edges join ≡ true
+  pub known : taken.known ≡ known_after_join through.known join
 
-pub join_read : (facts : Facts) (end place : ℕ) (edges : List Edge) (through taken : Taken) → joined facts end place edges through ≡ Ok taken → Joined facts place edges through taken
+pub join_read : (facts : Facts) (end place : ℕ) (edges : List Edge) (through taken : WalkState) → apply_join facts end place edges through ≡ Ok taken → Joined facts place edges through taken
 join_read facts end place [] through taken is =
     let same : through ≡ taken = ok_is is in
-    record { join = None; spelled = ap (λ (t : Taken). t.rest) same; obeys = refl; known = sym (ap (λ (t : Taken). t.known) same) }
+    record { join = None; spelled = ap (λ (t : WalkState). t.rest) same; obeys = refl; known = sym (ap (λ (t : WalkState). t.known) same) }
 join_read facts end place (edge ∷ edges) through taken is = at through.rest refl (bind_ok (join_taken end place through.rest) _ taken is)
   where
     Answer : Type 0
@@ -161,8 +161,8 @@ stands_last [] x = refl
 stands_last (a ∷ xs) x = stands_last xs x
 
 -- one more part changes nothing before it
-before_more : (facts : Facts) (instrs : List Instr) (parts : List Part) (part : Part) (place : ℕ) → place ≤ length parts → before facts instrs (parts ++ part ∷ []) place ≡ before facts instrs parts place
-unfolding before
+before_more : (facts : Facts) (instrs : List Instr) (parts : List Part) (part : Part) (place : ℕ) → place ≤ length parts → known_before facts instrs (parts ++ part ∷ []) place ≡ known_before facts instrs parts place
+unfolding known_before
 before_more facts instrs parts part zero le = refl
 before_more facts instrs parts part (suc place) le =
     ap₂ (λ (known : Known) (p : Option Part). known_past facts known (slice_get instrs place) p) (before_more facts instrs parts part place (omega (arith, le))) (stands_before parts part place (omega (arith, le)))
@@ -201,29 +201,29 @@ drop_stands (a ∷ all) xs zero x is = (cc, cc)
 drop_stands (a ∷ all) xs (suc place) x is = drop_stands all xs place x is
 
 -- the lines up to a place are right
-record Come (facts : Facts) (instrs : List Instr) (lines : List BodyLine) (place : ℕ) (edges : List Edge) (taken : Taken) : Type 0 where
+record Come (facts : Facts) (instrs : List Instr) (lines : List BodyLine) (place : ℕ) (edges : List Edge) (taken : WalkState) : Type 0 where
   parts : List Part
   counted : length parts ≡ place
   instruction : (k : ℕ) (instr : Instr) (part : Part) → slice_get instrs k ≡ Some instr → slice_get parts k ≡ Some part →
-      after facts (before facts instrs parts k) part.line instr part.entry ≡ Ok (fallen facts (before facts instrs parts k) instr part)
+      check_instruction_line facts (known_before facts instrs parts k) part.line instr part.entry ≡ Ok (known_on_fallthrough facts (known_before facts instrs parts k) instr part)
   joins : (k : ℕ) (instr : Instr) (part : Part) → slice_get instrs k ≡ Some instr → slice_get parts k ≡ Some part →
-      obeys_join facts (fallen facts (before facts instrs parts k) instr part) (edges_into (suc k) (edges_before facts instrs parts (suc k))) part.join ≡ true
+      is_valid_join facts (known_on_fallthrough facts (known_before facts instrs parts k) instr part) (edges_into (suc k) (edges_before facts instrs parts (suc k))) part.join ≡ true
   edges_are : edges ≡ edges_before facts instrs parts place
-  known : taken.known ≡ before facts instrs parts place
+  known : taken.known ≡ known_before facts instrs parts place
   spelled : lines ≡ lines_of 0 parts ++ taken.rest
 
 -- and past one more instruction
-come_on : (facts : Facts) (instrs : List Instr) (lines : List BodyLine) (place : ℕ) (edges : List Edge) (taken through past_it : Taken) (instr : Instr) → slice_get instrs place ≡ Some instr → Come facts instrs lines place edges taken →
+come_on : (facts : Facts) (instrs : List Instr) (lines : List BodyLine) (place : ℕ) (edges : List Edge) (taken through past_it : WalkState) (instr : Instr) → slice_get instrs place ≡ Some instr → Come facts instrs lines place edges taken →
     Line facts taken.known instr taken.rest through → Joined facts (suc place) (edges_into (suc place) (with_edge edges (edge_of taken.known instr))) through past_it →
     Come facts instrs lines (suc place) (with_edge edges (edge_of taken.known instr)) past_it
-unfolding before edges_before
+unfolding known_before edges_before
 come_on facts instrs lines place edges taken through past_it instr there come line join = record {
   parts = all;
   counted = length-append come.parts (part ∷ []) ∙ omega (arith, come.counted);
   instruction = λ k i q i_there q_there. instruction_at k i q i_there (stands_in come.parts part q k q_there);
   joins = λ k i q i_there q_there. join_at k i q i_there (stands_in come.parts part q k q_there);
   edges_are = edges_same ∙ sym (edges_more facts instrs come.parts part (suc place) (omega (arith, come.counted)));
-  known = join.known ∙ ap (λ k. past k join.join) (sym through_is) ∙ sym known_there;
+  known = join.known ∙ ap (λ k. known_after_join k join.join) (sym through_is) ∙ sym known_there;
   spelled = come.spelled
       ∙ ap (λ rest. lines_of 0 come.parts ++ rest) (line.spelled ∙ ap (λ (ls : List BodyLine). own ∷ ls) join.spelled)
       ∙ sym (append_assoc (lines_of 0 come.parts) (own ∷ join_lines (suc place) join.join) past_it.rest)
@@ -244,56 +244,56 @@ come_on facts instrs lines place edges taken through past_it instr there come li
     all = come.parts ++ part ∷ []
 
     -- what is known, and which edges there are, before the instruction
-    here : before facts instrs all place ≡ taken.known
+    here : known_before facts instrs all place ≡ taken.known
     here = before_more facts instrs come.parts part place (omega (arith, come.counted)) ∙ sym come.known
 
-    through_is : fallen facts (before facts instrs all place) instr part ≡ through.known
-    through_is = ap (λ k. fallen facts k instr part) here ∙ ap known_or_nothing line.says
+    through_is : known_on_fallthrough facts (known_before facts instrs all place) instr part ≡ through.known
+    through_is = ap (λ k. known_on_fallthrough facts k instr part) here ∙ ap known_or_nothing line.says
 
     edges_same : with_edge edges (edge_of taken.known instr) ≡ edges_before facts instrs come.parts (suc place)
     edges_same = ap₂ (λ es k. with_edge es (edge_of k instr)) come.edges_are come.known
-        ∙ ap (λ i. with_edge (edges_before facts instrs come.parts place) (edge_at (before facts instrs come.parts place) i)) (sym there)
+        ∙ ap (λ i. with_edge (edges_before facts instrs come.parts place) (edge_at (known_before facts instrs come.parts place) i)) (sym there)
 
     last_there : slice_get all place ≡ Some part
     last_there = ap (slice_get all) (sym come.counted) ∙ stands_last come.parts part
 
-    known_there : before facts instrs all (suc place) ≡ past (fallen facts (before facts instrs all place) instr part) join.join
-    known_there = ap₂ (known_past facts (before facts instrs all place)) there last_there
+    known_there : known_before facts instrs all (suc place) ≡ known_after_join (known_on_fallthrough facts (known_before facts instrs all place) instr part) join.join
+    known_there = ap₂ (known_past facts (known_before facts instrs all place)) there last_there
 
-    says : after facts (before facts instrs all place) line.line instr line.entry ≡ Ok (fallen facts (before facts instrs all place) instr part)
-    says = ap (λ k. after facts k line.line instr line.entry) here ∙ line.says ∙ ap Ok (sym through_is)
+    says : check_instruction_line facts (known_before facts instrs all place) line.line instr line.entry ≡ Ok (known_on_fallthrough facts (known_before facts instrs all place) instr part)
+    says = ap (λ k. check_instruction_line facts k line.line instr line.entry) here ∙ line.says ∙ ap Ok (sym through_is)
 
-    obeyed : obeys_join facts (fallen facts (before facts instrs all place) instr part) (edges_into (suc place) (edges_before facts instrs all (suc place))) join.join ≡ true
-    obeyed = ap₂ (λ k es. obeys_join facts k (edges_into (suc place) es) join.join) through_is (edges_more facts instrs come.parts part (suc place) (omega (arith, come.counted)) ∙ sym edges_same) ∙ join.obeys
+    obeyed : is_valid_join facts (known_on_fallthrough facts (known_before facts instrs all place) instr part) (edges_into (suc place) (edges_before facts instrs all (suc place))) join.join ≡ true
+    obeyed = ap₂ (λ k es. is_valid_join facts k (edges_into (suc place) es) join.join) through_is (edges_more facts instrs come.parts part (suc place) (omega (arith, come.counted)) ∙ sym edges_same) ∙ join.obeys
 
     same_instr : (k : ℕ) (i : Instr) → k ≡ place → slice_get instrs k ≡ Some i → instr ≡ i
     same_instr k i at i_there = some_is (sym there ∙ ap (slice_get instrs) (sym at) ∙ i_there)
 
     instruction_at : (k : ℕ) (i : Instr) (q : Part) → slice_get instrs k ≡ Some i → ((k < length come.parts) × (slice_get come.parts k ≡ Some q)) ⊎ ((k ≡ length come.parts) × (part ≡ q)) →
-        after facts (before facts instrs all k) q.line i q.entry ≡ Ok (fallen facts (before facts instrs all k) i q)
+        check_instruction_line facts (known_before facts instrs all k) q.line i q.entry ≡ Ok (known_on_fallthrough facts (known_before facts instrs all k) i q)
     instruction_at k i q i_there (inl (lt, earlier)) =
-        subst (λ known. after facts known q.line i q.entry ≡ Ok (fallen facts known i q)) (sym (before_more facts instrs come.parts part k (omega (arith, lt)))) (come.instruction k i q i_there earlier)
+        subst (λ known. check_instruction_line facts known q.line i q.entry ≡ Ok (known_on_fallthrough facts known i q)) (sym (before_more facts instrs come.parts part k (omega (arith, lt)))) (come.instruction k i q i_there earlier)
     instruction_at k i q i_there (inr (last, same)) =
         let at : k ≡ place = last ∙ come.counted in
-        subst (λ k. after facts (before facts instrs all k) q.line i q.entry ≡ Ok (fallen facts (before facts instrs all k) i q)) (sym at)
-        (subst (λ i. after facts (before facts instrs all place) q.line i q.entry ≡ Ok (fallen facts (before facts instrs all place) i q)) (same_instr k i at i_there)
-        (subst (λ (q : Part). after facts (before facts instrs all place) q.line instr q.entry ≡ Ok (fallen facts (before facts instrs all place) instr q)) same says))
+        subst (λ k. check_instruction_line facts (known_before facts instrs all k) q.line i q.entry ≡ Ok (known_on_fallthrough facts (known_before facts instrs all k) i q)) (sym at)
+        (subst (λ i. check_instruction_line facts (known_before facts instrs all place) q.line i q.entry ≡ Ok (known_on_fallthrough facts (known_before facts instrs all place) i q)) (same_instr k i at i_there)
+        (subst (λ (q : Part). check_instruction_line facts (known_before facts instrs all place) q.line instr q.entry ≡ Ok (known_on_fallthrough facts (known_before facts instrs all place) instr q)) same says))
 
     join_at : (k : ℕ) (i : Instr) (q : Part) → slice_get instrs k ≡ Some i → ((k < length come.parts) × (slice_get come.parts k ≡ Some q)) ⊎ ((k ≡ length come.parts) × (part ≡ q)) →
-        obeys_join facts (fallen facts (before facts instrs all k) i q) (edges_into (suc k) (edges_before facts instrs all (suc k))) q.join ≡ true
+        is_valid_join facts (known_on_fallthrough facts (known_before facts instrs all k) i q) (edges_into (suc k) (edges_before facts instrs all (suc k))) q.join ≡ true
     join_at k i q i_there (inl (lt, earlier)) =
-        ap₂ (λ known es. obeys_join facts (fallen facts known i q) (edges_into (suc k) es) q.join) (before_more facts instrs come.parts part k (omega (arith, lt))) (edges_more facts instrs come.parts part (suc k) (omega (arith, lt)))
+        ap₂ (λ known es. is_valid_join facts (known_on_fallthrough facts known i q) (edges_into (suc k) es) q.join) (before_more facts instrs come.parts part k (omega (arith, lt))) (edges_more facts instrs come.parts part (suc k) (omega (arith, lt)))
         ∙ come.joins k i q i_there earlier
     join_at k i q i_there (inr (last, same)) =
         let at : k ≡ place = last ∙ come.counted in
-        subst (λ k. obeys_join facts (fallen facts (before facts instrs all k) i q) (edges_into (suc k) (edges_before facts instrs all (suc k))) q.join ≡ true) (sym at)
-        (subst (λ i. obeys_join facts (fallen facts (before facts instrs all place) i q) (edges_into (suc place) (edges_before facts instrs all (suc place))) q.join ≡ true) (same_instr k i at i_there)
-        (subst (λ (q : Part). obeys_join facts (fallen facts (before facts instrs all place) instr q) (edges_into (suc place) (edges_before facts instrs all (suc place))) q.join ≡ true) same obeyed))
+        subst (λ k. is_valid_join facts (known_on_fallthrough facts (known_before facts instrs all k) i q) (edges_into (suc k) (edges_before facts instrs all (suc k))) q.join ≡ true) (sym at)
+        (subst (λ i. is_valid_join facts (known_on_fallthrough facts (known_before facts instrs all place) i q) (edges_into (suc place) (edges_before facts instrs all (suc place))) q.join ≡ true) (same_instr k i at i_there)
+        (subst (λ (q : Part). is_valid_join facts (known_on_fallthrough facts (known_before facts instrs all place) instr q) (edges_into (suc place) (edges_before facts instrs all (suc place))) q.join ≡ true) same obeyed))
 
 -- to the end
-come_to_end : (facts : Facts) (all instrs : List Instr) (end : ℕ) (lines : List BodyLine) (place : ℕ) (edges : List Edge) (taken last : Taken) → drop place all ≡ instrs → place + length instrs ≡ length all → Come facts all lines place edges taken →
-    walked facts end place edges instrs taken ≡ Ok last → Accepts facts all lines last
-unfolding walked
+come_to_end : (facts : Facts) (all instrs : List Instr) (end : ℕ) (lines : List BodyLine) (place : ℕ) (edges : List Edge) (taken last : WalkState) → drop place all ≡ instrs → place + length instrs ≡ length all → Come facts all lines place edges taken →
+    check_lines_from facts end place edges instrs taken ≡ Ok last → Accepts facts all lines last
+unfolding check_lines_from
 come_to_end facts all [] end lines place edges taken last rest count come is =
     let same : taken ≡ last = ok_is is in
     let long : place ≡ length all = omega (arith, count) in
@@ -301,17 +301,17 @@ come_to_end facts all [] end lines place edges taken last rest count come is =
       parts = come.parts;
       obeys = record { counted = come.counted ∙ long; instruction = come.instruction; join = come.joins };
       spelled = come.spelled;
-      known = come.known ∙ ap (before facts all come.parts) long;
+      known = come.known ∙ ap (known_before facts all come.parts) long;
     })
 come_to_end facts all (instr ∷ instrs) end lines place edges taken last rest count come is =
     let line = bind_ok (instruction_taken facts end taken.known instr taken.rest) _ last is in
-    let join = bind_ok (joined facts end (suc place) (edges_into (suc place) (with_edge edges (edge_of taken.known instr))) line.0) _ last line.2 in
+    let join = bind_ok (apply_join facts end (suc place) (edges_into (suc place) (with_edge edges (edge_of taken.known instr))) line.0) _ last line.2 in
     let stands = drop_stands all instrs place instr rest in
     come_to_end facts all instrs end lines (suc place) (with_edge edges (edge_of taken.known instr)) join.0 last stands.1 (omega (arith, count))
     (come_on facts all lines place edges taken line.0 join.0 instr stands.0 come (line_read facts end taken.known instr taken.rest line.0 line.1) (join_read facts end (suc place) _ line.0 join.0 join.1)) join.2
 
-pub judged_accepts : (facts : Facts) (instrs : List Instr) (end : ℕ) (lines : List BodyLine) (taken : Taken) → judged facts instrs end lines ≡ Ok taken → Accepts facts instrs lines taken
-unfolding before edges_before lines_of
+pub judged_accepts : (facts : Facts) (instrs : List Instr) (end : ℕ) (lines : List BodyLine) (taken : WalkState) → check_lines facts instrs end lines ≡ Ok taken → Accepts facts instrs lines taken
+unfolding known_before edges_before lines_of
 judged_accepts facts instrs end lines taken is =
     come_to_end facts instrs instrs end lines 0 [] (record { known = nothing_known; rest = lines }) taken refl (omega arith)
     (record { parts = []; counted = refl; instruction = λ k i q i_there q_there. nothing_there k q q_there; joins = λ k i q i_there q_there. nothing_there k q q_there; edges_are = refl; known = refl; spelled = refl }) is

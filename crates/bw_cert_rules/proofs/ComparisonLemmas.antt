@@ -15,7 +15,7 @@ use Rattle.bw_model.specs.Code.{width_at, value_at}
 use Rattle.bw_model.specs.Cond.{operand_value, is_within}
 use Rattle.bw_model.specs.Row.{Value, value_in}
 use Rattle.bw_model.specs.Stored.{number_spelled}
-use Rattle.bw_model.specs.Truth.{truth_from, is_truth, holds, compared, turned}
+use Rattle.bw_model.specs.Truth.{truth_from, is_truth, holds, compare_values, swap_operands}
 use Rattle.bw_model.specs.Variable.{Assignment, first_variable, is_nullable, spelled, row_of, null_variable, bit_variable}
 use Rattle.bw_model.proofs.PlaceLemmas.{value_in-row_of}
 use Rattle.bw_diagram.specs.declared.chain.ChainKind.{ChainKind}
@@ -23,31 +23,31 @@ use Rattle.bw_diagram.specs.declared.chain.ChainKind.TheVariants.{Less, Equal}
 use Rattle.bw_diagram.specs.declared.node.Node.{Node}
 use Rattle.bw_diagram.specs.declared.product.Connective.TheVariants.{And, Diff}
 use Rattle.bw_diagram.specs.Chain.{compares, padded_number, first_node}
-use Rattle.bw_diagram.specs.Cited.{AreWorth, cited, chain_cited, two_cited}
+use Rattle.bw_diagram.specs.Cited.{AreWorth, product_node, comparison_node, two_column_node}
 use Rattle.bw_diagram.specs.Facts.{Facts}
 use Rattle.bw_diagram.proofs.ChainLemmas.{padded_number-whole, number_spelled-whole}
 use Rattle.bw_cert_text.specs.declared.lines.ConditionEntry.{ConditionEntry}
 use Rattle.bw_cert_text.specs.declared.lines.ConditionEntry.TheVariants.{Compare, CompareColumns, Fixed}
-use Rattle.bw_cert_rules.specs.declared.nodes.Pair.{Pair}
+use Rattle.bw_cert_rules.specs.declared.nodes.TruthPair.{TruthPair}
 use Rattle.bw_cert_rules.specs.declared.comparison.Bound.{Bound}
 use Rattle.bw_cert_rules.specs.declared.comparison.Order.{Order}
-use Rattle.bw_cert_rules.specs.Rows.{if_both, exchanged, value_node}
-use Rattle.bw_cert_rules.specs.Comparison.{lo_at, constant_pair, fixed, split, turned_if, bound_of, terminal_of, terminal_or_cited, bound_node, with_literal, order_of, order_node, both_node, with_column, comparison}
+use Rattle.bw_cert_rules.specs.Rows.{if_both, exchange_nodes, value_node}
+use Rattle.bw_cert_rules.specs.Comparison.{lo_at, constant_pair, fixed_pair, pair_if_known, exchange_if, bound_of, terminal_of, terminal_or_cited, bound_node, with_literal, order_of, order_node, both_node, with_column, comparison}
 use Rattle.bw_cert_rules.specs.Meaning.{Tells}
 use Rattle.bw_cert_rules.proofs.NumberLemmas.{compares_to, turned_bit, lt_low, lt_high, eq_low, eq_high, lt_within, eq_within, holds_moved, holds_turned, lt_apart, le_apart, eq_apart, equal-lo}
 use Rattle.bw_cert_rules.proofs.RowLemmas.{Worth, zero_worth, one_worth, worth_so, if_both-is, cited-worth, has_value, value_node-worth}
 
 -- a pair whose nodes are worth this tells it
-pub tells_by : (nodes : List Node) (truth : Assignment → Truth) (pair : Pair) → Worth nodes (λ assignment. is_truth (truth assignment) Yes) pair.yes → Worth nodes (λ assignment. is_truth (truth assignment) No) pair.no → Tells nodes truth pair
+pub tells_by : (nodes : List Node) (truth : Assignment → Truth) (pair : TruthPair) → Worth nodes (λ assignment. is_truth (truth assignment) Yes) pair.yes → Worth nodes (λ assignment. is_truth (truth assignment) No) pair.no → Tells nodes truth pair
 tells_by nodes truth pair t f = record { yes_node = t.is_node; no_node = f.is_node; yes = t.worth; no = f.worth }
 
-pub tells_yes : (nodes : List Node) (truth : Assignment → Truth) (pair : Pair) → Tells nodes truth pair → Worth nodes (λ assignment. is_truth (truth assignment) Yes) pair.yes
+pub tells_yes : (nodes : List Node) (truth : Assignment → Truth) (pair : TruthPair) → Tells nodes truth pair → Worth nodes (λ assignment. is_truth (truth assignment) Yes) pair.yes
 tells_yes nodes truth pair t = record { is_node = t.yes_node; worth = t.yes }
 
-pub tells_no : (nodes : List Node) (truth : Assignment → Truth) (pair : Pair) → Tells nodes truth pair → Worth nodes (λ assignment. is_truth (truth assignment) No) pair.no
+pub tells_no : (nodes : List Node) (truth : Assignment → Truth) (pair : TruthPair) → Tells nodes truth pair → Worth nodes (λ assignment. is_truth (truth assignment) No) pair.no
 tells_no nodes truth pair t = record { is_node = t.no_node; worth = t.no }
 
-pub tells_so : (nodes : List Node) (truth other : Assignment → Truth) (pair : Pair) → ((assignment : Assignment) → truth assignment ≡ other assignment) → Tells nodes truth pair → Tells nodes other pair
+pub tells_so : (nodes : List Node) (truth other : Assignment → Truth) (pair : TruthPair) → ((assignment : Assignment) → truth assignment ≡ other assignment) → Tells nodes truth pair → Tells nodes other pair
 tells_so nodes truth other pair same t = record {
   yes_node = t.yes_node;
   no_node = t.no_node;
@@ -62,7 +62,7 @@ constant_tells nodes No = tells_by nodes (λ assignment. No) (constant_pair No) 
 constant_tells nodes Unknown = tells_by nodes (λ assignment. Unknown) (constant_pair Unknown) (zero_worth nodes) (zero_worth nodes)
 
 -- the same by its line
-pub fixed-tells : (nodes : List Node) (truth : Truth) (pair : Pair) (entry : ConditionEntry) → fixed truth entry ≡ Some pair → Tells nodes (λ assignment. truth) pair
+pub fixed-tells : (nodes : List Node) (truth : Truth) (pair : TruthPair) (entry : ConditionEntry) → fixed_pair truth entry ≡ Some pair → Tells nodes (λ assignment. truth) pair
 fixed-tells nodes truth pair Fixed is = subst (Tells nodes (λ assignment. truth)) (cc) (constant_tells nodes truth)
 fixed-tells nodes truth pair _ is = cc
 
@@ -151,11 +151,11 @@ holds_ordered Eq lo c d code = eq_apart lo (code c) (code d)
 holds_ordered Ne lo c d code = ap not (eq_apart lo (code c) (code d))
 
 -- a comparison of a literal with a value, and the other way round
-compared-turned : (op : Op) (n : ℤ) (v : Value) → compared (turned op) v (Some n) ≡ compared op (Some n) v
+compared-turned : (op : Op) (n : ℤ) (v : Value) → compare_values (swap_operands op) v (Some n) ≡ compare_values op (Some n) v
 compared-turned op n None = refl
 compared-turned op n (Some m) = ap truth_from (holds_turned op m n)
 
-compared-null : (op : Op) (v : Value) → compared op v None ≡ Unknown
+compared-null : (op : Op) (v : Value) → compare_values op v None ≡ Unknown
 compared-null op None = refl
 compared-null op (Some m) = refl
 
@@ -165,24 +165,24 @@ abbrev split_truth : Bool → Bool → Bool → Truth
 split_truth negated there bit = cond there (truth_from (turned_bit negated bit)) Unknown
 
 module _ (facts : Facts) (are_worth : AreWorth facts) where
-  split-tells : (negated : Bool) (m e : Option ℕ) (p q : ℕ) (pair : Pair) (there bit : Assignment → Bool) → ((n : ℕ) → m ≡ Some n → Worth facts.nodes there n) → ((n : ℕ) → e ≡ Some n → Worth facts.nodes bit n) →
-      turned_if negated (split facts m e p q) ≡ Some pair → Tells facts.nodes (λ assignment. split_truth negated (there assignment) (bit assignment)) pair
+  split-tells : (negated : Bool) (m e : Option ℕ) (p q : ℕ) (pair : TruthPair) (there bit : Assignment → Bool) → ((n : ℕ) → m ≡ Some n → Worth facts.nodes there n) → ((n : ℕ) → e ≡ Some n → Worth facts.nodes bit n) →
+      exchange_if negated (pair_if_known facts m e p q) ≡ Some pair → Tells facts.nodes (λ assignment. split_truth negated (there assignment) (bit assignment)) pair
   split-tells negated None e p q pair there bit m_worth e_worth is = by_turn negated is
     where
-      by_turn : (negated : Bool) → turned_if negated None ≡ Some pair → Tells facts.nodes (λ assignment. split_truth negated (there assignment) (bit assignment)) pair
+      by_turn : (negated : Bool) → exchange_if negated None ≡ Some pair → Tells facts.nodes (λ assignment. split_truth negated (there assignment) (bit assignment)) pair
       by_turn true is = cc
       by_turn false is = cc
   split-tells negated (Some m) None p q pair there bit m_worth e_worth is = by_turn negated is
     where
-      by_turn : (negated : Bool) → turned_if negated None ≡ Some pair → Tells facts.nodes (λ assignment. split_truth negated (there assignment) (bit assignment)) pair
+      by_turn : (negated : Bool) → exchange_if negated None ≡ Some pair → Tells facts.nodes (λ assignment. split_truth negated (there assignment) (bit assignment)) pair
       by_turn true is = cc
       by_turn false is = cc
-  split-tells negated (Some m) (Some e) p q pair there bit m_worth e_worth is = by_turn negated (if_both (cited facts And m e p) (cited facts Diff m e q)) refl is
+  split-tells negated (Some m) (Some e) p q pair there bit m_worth e_worth is = by_turn negated (if_both (product_node facts And m e p) (product_node facts Diff m e q)) refl is
     where
-      t_worth : (made : Pair) → if_both (cited facts And m e p) (cited facts Diff m e q) ≡ Some made → Worth facts.nodes (λ assignment. there assignment && bit assignment) made.yes
+      t_worth : (made : TruthPair) → if_both (product_node facts And m e p) (product_node facts Diff m e q) ≡ Some made → Worth facts.nodes (λ assignment. there assignment && bit assignment) made.yes
       t_worth made is = cited-worth facts are_worth And m e made.yes p there bit (m_worth m refl) (e_worth e refl) (if_both-is _ _ made is).0
 
-      f_worth : (made : Pair) → if_both (cited facts And m e p) (cited facts Diff m e q) ≡ Some made → Worth facts.nodes (λ assignment. there assignment && not (bit assignment)) made.no
+      f_worth : (made : TruthPair) → if_both (product_node facts And m e p) (product_node facts Diff m e q) ≡ Some made → Worth facts.nodes (λ assignment. there assignment && not (bit assignment)) made.no
       f_worth made is = cited-worth facts are_worth Diff m e made.no q there bit (m_worth m refl) (e_worth e refl) (if_both-is _ _ made is).1
 
       both_yes : (there bit : Bool) → (there && bit) ≡ is_truth (split_truth false there bit) Yes
@@ -205,7 +205,7 @@ module _ (facts : Facts) (are_worth : AreWorth facts) where
       turned_no true false = refl
       turned_no false bit = refl
 
-      by_turn : (negated : Bool) (made : Option Pair) → if_both (cited facts And m e p) (cited facts Diff m e q) ≡ made → turned_if negated made ≡ Some pair →
+      by_turn : (negated : Bool) (made : Option TruthPair) → if_both (product_node facts And m e p) (product_node facts Diff m e q) ≡ made → exchange_if negated made ≡ Some pair →
           Tells facts.nodes (λ assignment. split_truth negated (there assignment) (bit assignment)) pair
       by_turn true None made is = cc
       by_turn false None made is = cc
@@ -216,7 +216,7 @@ module _ (facts : Facts) (are_worth : AreWorth facts) where
           (worth_so facts.nodes _ _ found.no (λ assignment. both_no (there assignment) (bit assignment)) (f_worth found made)))
       by_turn true (Some found) made is =
           subst (Tells facts.nodes (λ assignment. split_truth true (there assignment) (bit assignment))) (cc)
-          (tells_by facts.nodes _ (exchanged found)
+          (tells_by facts.nodes _ (exchange_nodes found)
           (worth_so facts.nodes _ _ found.no (λ assignment. turned_yes (there assignment) (bit assignment)) (f_worth found made))
           (worth_so facts.nodes _ _ found.yes (λ assignment. turned_no (there assignment) (bit assignment)) (t_worth found made)))
 
@@ -226,7 +226,7 @@ module _ (facts : Facts) (are_worth : AreWorth facts) where
   bound_node-worth col bound chain e is = by_terminal (terminal_of bound.kind bound.limit (width_at facts.columns col)) refl chain is
     where
       cite : ℕ → Option ℕ
-      cite = chain_cited facts bound.kind col 0 (width_at facts.columns col) (unsigned_abs bound.limit)
+      cite = comparison_node facts bound.kind col 0 (width_at facts.columns col) (unsigned_abs bound.limit)
 
       P : ℕ → Type 0
       P = Worth facts.nodes (λ assignment. compares_to bound.kind (pos (code_spelled facts.columns col assignment)) bound.limit)
@@ -242,8 +242,8 @@ module _ (facts : Facts) (are_worth : AreWorth facts) where
           (record { is_node = found.0; worth = found.1 })
 
   -- CMP
-  pub with_literal-tells : (op : Op) (col : ℕ) (n : ℤ) (entry : ConditionEntry) (pair : Pair) → col < length facts.columns → with_literal facts.columns facts op col n entry ≡ Some pair →
-      Tells facts.nodes (λ assignment. compared op (value_in (row_of facts.columns assignment) col) (Some n)) pair
+  pub with_literal-tells : (op : Op) (col : ℕ) (n : ℤ) (entry : ConditionEntry) (pair : TruthPair) → col < length facts.columns → with_literal facts.columns facts op col n entry ≡ Some pair →
+      Tells facts.nodes (λ assignment. compare_values op (value_in (row_of facts.columns assignment) col) (Some n)) pair
   unfolding with_literal
   with_literal-tells op col n (Compare chain value p q) pair lt is =
       tells_so facts.nodes _ _ pair same
@@ -254,13 +254,13 @@ module _ (facts : Facts) (are_worth : AreWorth facts) where
       bound : Bound
       bound = bound_of op (n -ℤ lo_at facts.columns col)
 
-      by_value : (there : Bool) (x : ℤ) → split_truth bound.negated there (compares_to bound.kind x bound.limit) ≡ compared op (value_if there (lo_at facts.columns col +ℤ x)) (Some n)
+      by_value : (there : Bool) (x : ℤ) → split_truth bound.negated there (compares_to bound.kind x bound.limit) ≡ compare_values op (value_if there (lo_at facts.columns col +ℤ x)) (Some n)
       by_value true x = ap truth_from (sym (holds_moved op (lo_at facts.columns col) x n))
       by_value false x = refl
 
-      same : (assignment : Assignment) → split_truth bound.negated (has_value facts.columns col assignment) (compares_to bound.kind (pos (code_spelled facts.columns col assignment)) bound.limit) ≡ compared op (value_in (row_of facts.columns assignment) col) (Some n)
+      same : (assignment : Assignment) → split_truth bound.negated (has_value facts.columns col assignment) (compares_to bound.kind (pos (code_spelled facts.columns col assignment)) bound.limit) ≡ compare_values op (value_in (row_of facts.columns assignment) col) (Some n)
       same assignment = by_value (has_value facts.columns col assignment) (pos (code_spelled facts.columns col assignment))
-          ∙ ap (λ v. compared op v (Some n)) (sym (value_in-assigned facts.columns col lt assignment))
+          ∙ ap (λ v. compare_values op v (Some n)) (sym (value_in-assigned facts.columns col lt assignment))
   with_literal-tells op col n _ pair lt is = cc
 
   -- the node of a comparison of the codes of two columns
@@ -272,7 +272,7 @@ module _ (facts : Facts) (are_worth : AreWorth facts) where
       len = max (width_at facts.columns order.left) (width_at facts.columns order.right)
 
       cite : ℕ → Option ℕ
-      cite = two_cited facts order.kind order.left order.right len
+      cite = two_column_node facts order.kind order.left order.right len
 
       P : ℕ → Type 0
       P = Worth facts.nodes (λ assignment. compares order.kind (code_spelled facts.columns order.left assignment) (code_spelled facts.columns order.right assignment))
@@ -306,8 +306,8 @@ module _ (facts : Facts) (are_worth : AreWorth facts) where
   both_node-worth None right number m x y x_worth y_worth is = cc
 
   -- CMP2
-  pub with_column-tells : (op : Op) (c d : ℕ) (entry : ConditionEntry) (pair : Pair) → c < length facts.columns → d < length facts.columns → with_column facts.columns facts op c d entry ≡ Some pair →
-      Tells facts.nodes (λ assignment. compared op (value_in (row_of facts.columns assignment) c) (value_in (row_of facts.columns assignment) d)) pair
+  pub with_column-tells : (op : Op) (c d : ℕ) (entry : ConditionEntry) (pair : TruthPair) → c < length facts.columns → d < length facts.columns → with_column facts.columns facts op c d entry ≡ Some pair →
+      Tells facts.nodes (λ assignment. compare_values op (value_in (row_of facts.columns assignment) c) (value_in (row_of facts.columns assignment) d)) pair
   unfolding with_column
   with_column-tells op c d (CompareColumns chain left right number p q) pair c_lt d_lt is = by_lo (int_eq (lo_at facts.columns c) (lo_at facts.columns d)) refl is
     where
@@ -322,20 +322,20 @@ module _ (facts : Facts) (are_worth : AreWorth facts) where
 
       by_value : (assignment : Assignment) (x y : Bool) → lo_at facts.columns c ≡ lo_at facts.columns d →
           split_truth order.negated (x && y) (compares order.kind (code assignment order.left) (code assignment order.right))
-          ≡ compared op (value_if x (lo_at facts.columns c +ℤ pos (code assignment c))) (value_if y (lo_at facts.columns d +ℤ pos (code assignment d)))
+          ≡ compare_values op (value_if x (lo_at facts.columns c +ℤ pos (code assignment c))) (value_if y (lo_at facts.columns d +ℤ pos (code assignment d)))
       by_value assignment true true one = ap truth_from (sym (holds_ordered op (lo_at facts.columns c) c d (code assignment)) ∙ ap (λ lo. holds op (lo_at facts.columns c +ℤ pos (code assignment c)) (lo +ℤ pos (code assignment d))) one)
       by_value assignment true false one = refl
       by_value assignment false y one = refl
 
       same : lo_at facts.columns c ≡ lo_at facts.columns d → (assignment : Assignment) →
           split_truth order.negated (has_value facts.columns c assignment && has_value facts.columns d assignment) (compares order.kind (code assignment order.left) (code assignment order.right))
-          ≡ compared op (value_in (row_of facts.columns assignment) c) (value_in (row_of facts.columns assignment) d)
+          ≡ compare_values op (value_in (row_of facts.columns assignment) c) (value_in (row_of facts.columns assignment) d)
       same one assignment = by_value assignment (has_value facts.columns c assignment) (has_value facts.columns d assignment) one
-          ∙ ap₂ (compared op) (sym (value_in-assigned facts.columns c c_lt assignment)) (sym (value_in-assigned facts.columns d d_lt assignment))
+          ∙ ap₂ (compare_values op) (sym (value_in-assigned facts.columns c c_lt assignment)) (sym (value_in-assigned facts.columns d d_lt assignment))
 
       by_lo : (one : Bool) → int_eq (lo_at facts.columns c) (lo_at facts.columns d) ≡ one →
-          cond one (turned_if order.negated (split facts m (order_node facts.columns facts order chain) p q)) None ≡ Some pair →
-          Tells facts.nodes (λ assignment. compared op (value_in (row_of facts.columns assignment) c) (value_in (row_of facts.columns assignment) d)) pair
+          cond one (exchange_if order.negated (pair_if_known facts m (order_node facts.columns facts order chain) p q)) None ≡ Some pair →
+          Tells facts.nodes (λ assignment. compare_values op (value_in (row_of facts.columns assignment) c) (value_in (row_of facts.columns assignment) d)) pair
       by_lo false one is = cc
       by_lo true one is =
           tells_so facts.nodes _ _ pair (same (equal-lo (lo_at facts.columns c) (lo_at facts.columns d) one))
@@ -347,13 +347,13 @@ module _ (facts : Facts) (are_worth : AreWorth facts) where
   with_column-tells op c d _ pair c_lt d_lt is = cc
 
   -- a comparison
-  pub comparison-tells : (op : Op) (x y : Operand) (entry : ConditionEntry) (pair : Pair) → is_within (length facts.columns) x ≡ true → is_within (length facts.columns) y ≡ true → comparison facts.columns facts op x y entry ≡ Some pair →
-      Tells facts.nodes (λ assignment. compared op (operand_value (row_of facts.columns assignment) x) (operand_value (row_of facts.columns assignment) y)) pair
+  pub comparison-tells : (op : Op) (x y : Operand) (entry : ConditionEntry) (pair : TruthPair) → is_within (length facts.columns) x ≡ true → is_within (length facts.columns) y ≡ true → comparison facts.columns facts op x y entry ≡ Some pair →
+      Tells facts.nodes (λ assignment. compare_values op (operand_value (row_of facts.columns assignment) x) (operand_value (row_of facts.columns assignment) y)) pair
   unfolding comparison
   comparison-tells op (Col c) (Lit n) entry pair x_in y_in is = with_literal-tells op c n entry pair (ltb-true c (length facts.columns) x_in) is
   comparison-tells op (Lit n) (Col c) entry pair x_in y_in is =
       tells_so facts.nodes _ _ pair (λ assignment. compared-turned op n (value_in (row_of facts.columns assignment) c))
-      (with_literal-tells (turned op) c n entry pair (ltb-true c (length facts.columns) y_in) is)
+      (with_literal-tells (swap_operands op) c n entry pair (ltb-true c (length facts.columns) y_in) is)
   comparison-tells op (Col c) (Col d) entry pair x_in y_in is = with_column-tells op c d entry pair (ltb-true c (length facts.columns) x_in) (ltb-true d (length facts.columns) y_in) is
   comparison-tells op (Lit m) (Lit n) entry pair x_in y_in is = fixed-tells facts.nodes (truth_from (holds op m n)) pair entry is
   comparison-tells op (Col c) Null entry pair x_in y_in is =

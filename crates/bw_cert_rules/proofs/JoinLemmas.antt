@@ -10,9 +10,9 @@ use Rattle.bw_cert_text.specs.declared.lines.Entry.TheVariants as line_of
 use Rattle.bw_cert_text.specs.declared.lines.EdgeProducts.{EdgeProducts}
 use Rattle.bw_cert_text.specs.declared.lines.Keep.{Keep}
 use Rattle.bw_cert_rules.specs.declared.edge.Edge.{Edge}
-use Rattle.bw_cert_rules.specs.Join.{keeps_by_skip, keeps_by_skips, is_kept}
+use Rattle.bw_cert_rules.specs.Join.{keeps_by_skip, keeps_by_skips, is_valid_keep}
 use Rattle.bw_cert_rules.specs.Known.{Known, with_node}
-use Rattle.bw_cert_rules.specs.Walk.{Taken, keep_in, by_keep, keeps_taken}
+use Rattle.bw_cert_rules.specs.Walk.{WalkState, keep_in, by_keep, keeps_taken}
 
 -- a list that ends, or doesn't
 pub empty_is : {A : Type 0} (xs : List A) → length xs ≡ 0 → xs ≡ []
@@ -38,11 +38,11 @@ no_skips facts keep skips pairs none = ap (λ es. keeps_by_skips facts keep es p
 
 -- a line KEEP that is kept
 pub keep_on : (facts : Facts) (through : Known) (edges : List Edge) (least : ℕ) (kept : Known) (lines more : List BodyLine) (line : BodyLine) (keep : Keep) → lines ≡ line ∷ more → line.entry ≡ line_of.Keep keep →
-    is_kept facts through edges least keep ≡ true →
+    is_valid_keep facts through edges least keep ≡ true →
     keeps_taken facts through edges least kept lines ≡ keeps_taken facts through edges (suc keep.register) (with_node kept keep.register keep.node) more
 unfolding keeps_taken
 keep_on facts through edges least kept lines more line keep there entry is =
-    let next : Keep → Result Taken Fault = λ keep. refused_if (not (is_kept facts through edges least keep)) (at_line 608 line.line)
+    let next : Keep → Result WalkState Fault = λ keep. refused_if (not (is_valid_keep facts through edges least keep)) (at_line 608 line.line)
     (keeps_taken facts through edges (suc keep.register) (with_node kept keep.register keep.node) more) in
     ap (keeps_taken facts through edges least kept) there
     ∙ ap (λ e. by_keep (keep_in e) (Ok (record { known = kept; rest = line ∷ more })) next) entry
@@ -50,10 +50,10 @@ keep_on facts through edges least kept lines more line keep there entry is =
 
 -- one that isn't
 pub keep_refused : (facts : Facts) (through : Known) (edges : List Edge) (least : ℕ) (kept : Known) (lines more : List BodyLine) (line : BodyLine) (keep : Keep) → lines ≡ line ∷ more → line.entry ≡ line_of.Keep keep →
-    is_kept facts through edges least keep ≡ false → keeps_taken facts through edges least kept lines ≡ Err (at_line 608 line.line)
+    is_valid_keep facts through edges least keep ≡ false → keeps_taken facts through edges least kept lines ≡ Err (at_line 608 line.line)
 unfolding keeps_taken
 keep_refused facts through edges least kept lines more line keep there entry is =
-    let next : Keep → Result Taken Fault = λ keep. refused_if (not (is_kept facts through edges least keep)) (at_line 608 line.line)
+    let next : Keep → Result WalkState Fault = λ keep. refused_if (not (is_valid_keep facts through edges least keep)) (at_line 608 line.line)
     (keeps_taken facts through edges (suc keep.register) (with_node kept keep.register keep.node) more) in
     ap (keeps_taken facts through edges least kept) there
     ∙ ap (λ e. by_keep (keep_in e) (Ok (record { known = kept; rest = line ∷ more })) next) entry
@@ -70,7 +70,7 @@ unfolding keeps_taken
 no_more_keeps facts through edges least kept lines more line there other =
     ap (keeps_taken facts through edges least kept) there ∙ at line.entry refl ∙ ap (λ rest. Ok (record { known = kept; rest = rest })) (sym there)
   where
-    at : (entry : Entry) → line.entry ≡ entry → by_keep (keep_in entry) (Ok (record { known = kept; rest = line ∷ more })) (λ keep. refused_if (not (is_kept facts through edges least keep)) (at_line 608 line.line)
+    at : (entry : Entry) → line.entry ≡ entry → by_keep (keep_in entry) (Ok (record { known = kept; rest = line ∷ more })) (λ keep. refused_if (not (is_valid_keep facts through edges least keep)) (at_line 608 line.line)
         (keeps_taken facts through edges (suc keep.register) (with_node kept keep.register keep.node) more)) ≡ Ok (record { known = kept; rest = line ∷ more })
     at (line_of.Condition given) is = refl
     at (line_of.Instruction given) is = refl

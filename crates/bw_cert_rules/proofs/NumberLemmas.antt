@@ -4,7 +4,7 @@ use Rattle.std.specs.Ordering.{int_eq}
 use Rattle.std.proofs.lemmas.Int.{ints}
 use Rattle.bw_model.specs.declared.cond.Op.{Op}
 use Rattle.bw_model.specs.declared.cond.Op.TheVariants.{Eq, Ne, Lt, Gt, Le, Ge}
-use Rattle.bw_model.specs.Truth.{holds, turned}
+use Rattle.bw_model.specs.Truth.{holds, swap_operands}
 use Rattle.bw_diagram.specs.declared.chain.ChainKind.{ChainKind}
 use Rattle.bw_diagram.specs.declared.chain.ChainKind.TheVariants.{Less, Equal}
 use Rattle.bw_cert_rules.specs.Comparison.{bound_of}
@@ -64,7 +64,7 @@ eq_turned : (x y : ℤ) → int_eq x y ≡ int_eq y x
 eq_turned x y = grind (arith, ints)
 
 -- a comparison the other way round
-pub holds_turned : (op : Op) (x y : ℤ) → holds (turned op) x y ≡ holds op y x
+pub holds_turned : (op : Op) (x y : ℤ) → holds (swap_operands op) x y ≡ holds op y x
 holds_turned Eq x y = eq_turned x y
 holds_turned Ne x y = ap not (eq_turned x y)
 holds_turned Lt x y = refl

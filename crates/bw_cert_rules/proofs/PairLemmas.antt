@@ -12,11 +12,11 @@ use Rattle.bw_model.specs.Fault.{◌>>=◌}
 use Rattle.bw_diagram.specs.Facts.{Facts}
 use Rattle.bw_cert_text.specs.declared.lines.BodyLine.{BodyLine}
 use Rattle.bw_cert_rules.specs.declared.steps.Junction.TheVariants.{All, Any}
-use Rattle.bw_cert_rules.specs.Comparison.{fixed, comparison}
+use Rattle.bw_cert_rules.specs.Comparison.{fixed_pair, comparison}
 use Rattle.bw_cert_rules.specs.Pair.{Reading, by_line, is_null_test, negated_pair, tested_pair, joined_parts, equations, pair_step, pair_of}
 
 module _ (columns : List Column) (facts : Facts) (end : ℕ) where
-  pub pair_of-Always : (lines : List BodyLine) → pair_of columns facts end Always lines ≡ by_line end (fixed Yes) lines
+  pub pair_of-Always : (lines : List BodyLine) → pair_of columns facts end Always lines ≡ by_line end (fixed_pair Yes) lines
   unfolding pair_of
   pair_of-Always lines = ap (λ cond. pair_of columns facts end cond lines) (sym rolls-Always) ∙ ap (λ reader. reader lines) (fold-roll-Cond (List BodyLine → Reading) (pair_step columns facts end) Cond-F.Always)
 

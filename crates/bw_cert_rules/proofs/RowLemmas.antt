@@ -10,13 +10,13 @@ use Rattle.bw_diagram.specs.declared.node.Node.{Node}
 use Rattle.bw_diagram.specs.declared.product.Connective.{Connective}
 use Rattle.bw_diagram.specs.declared.product.Connective.TheVariants.{Diff}
 use Rattle.bw_diagram.specs.declared.product.Product.{Product}
-use Rattle.bw_diagram.specs.Cited.{AreWorth, cited, is_variable, variable_cited}
+use Rattle.bw_diagram.specs.Cited.{AreWorth, product_node, is_variable, variable_node}
 use Rattle.bw_diagram.specs.Node.{IsNode, node_value}
-use Rattle.bw_diagram.specs.Product.{joined}
+use Rattle.bw_diagram.specs.Product.{apply_connective}
 use Rattle.bw_diagram.specs.Facts.{Facts}
 use Rattle.bw_diagram.proofs.NodeLemmas.{node_value-zero, node_value-one}
-use Rattle.bw_cert_rules.specs.declared.nodes.Pair.{Pair}
-use Rattle.bw_cert_rules.specs.Rows.{if_both, null_cited, value_node}
+use Rattle.bw_cert_rules.specs.declared.nodes.TruthPair.{TruthPair}
+use Rattle.bw_cert_rules.specs.Rows.{if_both, null_pair, value_node}
 
 -- a node that is worth this under every assignment
 pub record Worth (nodes : List Node) (value : Assignment → Bool) (node : ℕ) : Type 0 where
@@ -33,28 +33,28 @@ one_worth nodes = record { is_node = omega arith; worth = node_value-one nodes }
 pub worth_so : (nodes : List Node) (value other : Assignment → Bool) (node : ℕ) → ((assignment : Assignment) → value assignment ≡ other assignment) → Worth nodes value node → Worth nodes other node
 worth_so nodes value other node same w = record { is_node = w.is_node; worth = λ assignment. w.worth assignment ∙ same assignment }
 
-pub if_both-is : (t f : Option ℕ) (pair : Pair) → if_both t f ≡ Some pair → (t ≡ Some pair.yes) × (f ≡ Some pair.no)
+pub if_both-is : (t f : Option ℕ) (pair : TruthPair) → if_both t f ≡ Some pair → (t ≡ Some pair.yes) × (f ≡ Some pair.no)
 if_both-is (Some t) (Some f) pair is = (cc, cc)
 if_both-is (Some t) None pair is = cc
 if_both-is None f pair is = cc
 
 module _ (facts : Facts) (are_worth : AreWorth facts) where
   -- the node of a cited row is worth the connective of what the two nodes are worth
-  pub cited-worth : (op : Connective) (a b c number : ℕ) (x y : Assignment → Bool) → Worth facts.nodes x a → Worth facts.nodes y b → cited facts op a b number ≡ Some c → Worth facts.nodes (λ assignment. joined op (x assignment) (y assignment)) c
+  pub cited-worth : (op : Connective) (a b c number : ℕ) (x y : Assignment → Bool) → Worth facts.nodes x a → Worth facts.nodes y b → product_node facts op a b number ≡ Some c → Worth facts.nodes (λ assignment. apply_connective op (x assignment) (y assignment)) c
   cited-worth op a b c number x y x_worth y_worth is =
       let row = are_worth.row op a b number c is in
       record {
         is_node = row.0;
-        worth = λ assignment. row.1 assignment ∙ ap (λ v. joined op v (node_value facts.nodes assignment b)) (x_worth.worth assignment) ∙ ap (joined op (x assignment)) (y_worth.worth assignment);
+        worth = λ assignment. row.1 assignment ∙ ap (λ v. apply_connective op v (node_value facts.nodes assignment b)) (x_worth.worth assignment) ∙ ap (apply_connective op (x assignment)) (y_worth.worth assignment);
       }
 
   -- a null test's nodes are 1 where the column is null, and where it isn't
-  pub null_cited-worth : (variable number : ℕ) (pair : Pair) → null_cited facts variable number ≡ Some pair →
+  pub null_cited-worth : (variable number : ℕ) (pair : TruthPair) → null_pair facts variable number ≡ Some pair →
       Worth facts.nodes (λ assignment. assignment variable) pair.yes × Worth facts.nodes (λ assignment. not (assignment variable)) pair.no
   null_cited-worth variable number pair is =
-      option_and_then_some (λ (row : Product). if_both (variable_cited facts variable row.b) (cited facts Diff 1 row.b number)) (slice_get facts.products number) pair is (λ row there found. by_node row.b found)
+      option_and_then_some (λ (row : Product). if_both (variable_node facts variable row.b) (product_node facts Diff 1 row.b number)) (slice_get facts.products number) pair is (λ row there found. by_node row.b found)
     where
-      by_node : (z : ℕ) → if_both (variable_cited facts variable z) (cited facts Diff 1 z number) ≡ Some pair →
+      by_node : (z : ℕ) → if_both (variable_node facts variable z) (product_node facts Diff 1 z number) ≡ Some pair →
           Worth facts.nodes (λ assignment. assignment variable) pair.yes × Worth facts.nodes (λ assignment. not (assignment variable)) pair.no
       by_node z found =
           let made = if_both-is _ _ pair found in
@@ -78,8 +78,8 @@ value_node-worth columns facts are_worth col number m is = by_nullable (is_nulla
     by_nullable false None is = subst (Worth facts.nodes (λ assignment. true)) (cc) (one_worth facts.nodes)
     by_nullable false (Some number) is = cc
     by_nullable true None is = cc
-    by_nullable true (Some number) is = by_test (null_cited facts (first_variable columns col) number) refl is
+    by_nullable true (Some number) is = by_test (null_pair facts (first_variable columns col) number) refl is
       where
-        by_test : (found : Option Pair) → null_cited facts (first_variable columns col) number ≡ found → option_map (λ pair. pair.no) found ≡ Some m → Worth facts.nodes (λ assignment. not (assignment (first_variable columns col))) m
+        by_test : (found : Option TruthPair) → null_pair facts (first_variable columns col) number ≡ found → option_map (λ pair. pair.no) found ≡ Some m → Worth facts.nodes (λ assignment. not (assignment (first_variable columns col))) m
         by_test None found is = cc
         by_test (Some pair) found is = subst (Worth facts.nodes (λ assignment. not (assignment (first_variable columns col)))) (cc) (null_cited-worth facts are_worth (first_variable columns col) number pair found).1

@@ -5,7 +5,7 @@ use Rattle.bw_model.specs.declared.fault.Fault.{Fault}
 use Rattle.bw_model.specs.Fault.{at_line, ◌>>=◌, refused_if}
 use Rattle.bw_diagram.specs.declared.product.Connective.TheVariants as connective
 use Rattle.bw_diagram.specs.Facts.{Facts}
-use Rattle.bw_diagram.specs.Cited.{cited}
+use Rattle.bw_diagram.specs.Cited.{product_node}
 use Rattle.bw_program.specs.declared.instr.Instr.{Instr}
 use Rattle.bw_text.specs.Register.{is_register}
 use Rattle.bw_cert_text.specs.declared.lines.BodyLine.{BodyLine}
@@ -15,10 +15,10 @@ use Rattle.bw_cert_text.specs.declared.lines.Entry.TheVariants as entry
 use Rattle.bw_cert_text.specs.declared.lines.Keep.{Keep}
 use Rattle.bw_cert_text.specs.CertificateFields.{BodyFields, EntryFields, KeepFields, Condition, Instruction, Join, Kept, body_fields, entry_fields, keep_fields}
 use Rattle.bw_cert_rules.specs.declared.edge.Edge.{Edge}
-use Rattle.bw_cert_rules.specs.Instruction.{after}
-use Rattle.bw_cert_rules.specs.Join.{edge_of, with_edge, edges_into, is_zero, keeps_by_skip, keeps_by_skips, is_kept}
+use Rattle.bw_cert_rules.specs.Instruction.{check_instruction_line}
+use Rattle.bw_cert_rules.specs.Join.{edge_of, with_edge, edges_into, is_zero, keeps_by_skip, keeps_by_skips, is_valid_keep}
 use Rattle.bw_cert_rules.specs.Known.{Known, node_of, with_node, nothing_known}
-use Rattle.bw_cert_rules.specs.Walk.{Taken, told, instruction_on, instruction_taken, is_join, keep_in, by_keep, keeps_taken, joined, walked}
+use Rattle.bw_cert_rules.specs.Walk.{WalkState, line_fields, instruction_on, instruction_taken, is_join, keep_in, by_keep, keeps_taken, apply_join, check_lines_from}
 
 -- lines that say the same
 abbrev pub SayTheSame : List BodyLine → List BodyLine → Type 0
@@ -27,12 +27,12 @@ SayTheSame lines others = map body_fields lines ≡ map body_fields others
 abbrev Told : Type 0
 Told = Result (Known × List BodyFields) Fault
 
-abbrev taken_of : Known → List BodyLine → Taken
+abbrev taken_of : Known → List BodyLine → WalkState
 taken_of known rest = record { known = known; rest = rest }
 
 -- what a line says of an instruction, of a join and of a register
 abbrev instruction_said : Facts → Known → Instr → ℕ → EntryFields → Result Known Fault
-instruction_said facts known instr line (Instruction given) = after facts known line instr given
+instruction_said facts known instr line (Instruction given) = check_instruction_line facts known line instr given
 instruction_said facts known instr line (Condition given) = Err (at_line 607 line)
 instruction_said facts known instr line (Join place) = Err (at_line 607 line)
 instruction_said facts known instr line (Kept keep) = Err (at_line 607 line)
@@ -70,8 +70,8 @@ keep-said (entry.Keep keep) = refl
 -- a line KEEP is judged by its fields
 skip_said : Facts → ℕ → ℕ → Edge → EdgeProducts → Bool
 skip_said facts node register edge rows =
-    is_zero (option_and_then (λ differs. option_and_then (λ skipped. cited facts connective.Diff differs skipped rows.within) (node_of edge.known edge.register))
-    (option_and_then (λ g. cited facts connective.Xor g node rows.differs) (node_of edge.known register)))
+    is_zero (option_and_then (λ differs. option_and_then (λ skipped. product_node facts connective.Diff differs skipped rows.within) (node_of edge.known edge.register))
+    (option_and_then (λ g. product_node facts connective.Xor g node rows.differs) (node_of edge.known register)))
 
 skips_said : Facts → ℕ → ℕ → List Edge → List EdgeProducts → Bool
 skips_said facts node register [] [] = true
@@ -88,55 +88,55 @@ skips-said facts keep (edge ∷ edges) (rows ∷ others) = ap (λ b. keeps_by_sk
 
 kept_said : Facts → Known → List Edge → ℕ → KeepFields → Bool
 kept_said facts through edges least keep =
-    nat_le least keep.register && is_register keep.register && is_zero (option_and_then (λ f. cited facts connective.Xor f keep.node keep.through) (node_of through keep.register))
+    nat_le least keep.register && is_register keep.register && is_zero (option_and_then (λ f. product_node facts connective.Xor f keep.node keep.through) (node_of through keep.register))
     && skips_said facts keep.node keep.register edges keep.edges
 
-kept-said : (facts : Facts) (through : Known) (edges : List Edge) (least : ℕ) (keep : Keep) → is_kept facts through edges least keep ≡ kept_said facts through edges least (keep_fields keep)
-unfolding is_kept kept_said
+kept-said : (facts : Facts) (through : Known) (edges : List Edge) (least : ℕ) (keep : Keep) → is_valid_keep facts through edges least keep ≡ kept_said facts through edges least (keep_fields keep)
+unfolding is_valid_keep kept_said
 kept-said facts through edges least keep =
-    ap (λ b. nat_le least keep.register && is_register keep.register && is_zero (option_and_then (λ f. cited facts connective.Xor f keep.node keep.through) (node_of through keep.register)) && b)
+    ap (λ b. nat_le least keep.register && is_register keep.register && is_zero (option_and_then (λ f. product_node facts connective.Xor f keep.node keep.through) (node_of through keep.register)) && b)
     (skips-said facts keep edges keep.edges)
 
 -- one step after another
-then-same : {A : Type 0} (read : Result A Fault) (f g : A → Result Taken Fault) → ((x : A) → told (f x) ≡ told (g x)) → told (read >>= f) ≡ told (read >>= g)
+then-same : {A : Type 0} (read : Result A Fault) (f g : A → Result WalkState Fault) → ((x : A) → line_fields (f x) ≡ line_fields (g x)) → line_fields (read >>= f) ≡ line_fields (read >>= g)
 then-same (Ok x) f g each = each x
 then-same (Err fault) f g each = refl
 
-then-told : (read other : Result Taken Fault) (f g : Taken → Result Taken Fault) → told read ≡ told other →
-    ((known : Known) (lines others : List BodyLine) → SayTheSame lines others → told (f (taken_of known lines)) ≡ told (g (taken_of known others))) →
-    told (read >>= f) ≡ told (other >>= g)
+then-told : (read other : Result WalkState Fault) (f g : WalkState → Result WalkState Fault) → line_fields read ≡ line_fields other →
+    ((known : Known) (lines others : List BodyLine) → SayTheSame lines others → line_fields (f (taken_of known lines)) ≡ line_fields (g (taken_of known others))) →
+    line_fields (read >>= f) ≡ line_fields (other >>= g)
 then-told (Ok a) (Ok b) f g same each =
     let both : (a.known, map body_fields a.rest) ≡ (b.known, map body_fields b.rest) = cc in
     let known : a.known ≡ b.known = ap (λ (said : Known × List BodyFields). said.0) both in
     let rests : SayTheSame a.rest b.rest = ap (λ (said : Known × List BodyFields). said.1) both in
-    each a.known a.rest b.rest rests ∙ ap (λ known. told (g (taken_of known b.rest))) known
+    each a.known a.rest b.rest rests ∙ ap (λ known. line_fields (g (taken_of known b.rest))) known
 then-told (Ok a) (Err fault) f g same each = cc
 then-told (Err fault) (Ok b) f g same each = cc
 then-told (Err fault) (Err other) f g same each = same
 
-refused-same : (b : Bool) (fault : Fault) (read other : Result Taken Fault) → told read ≡ told other → told (refused_if b fault read) ≡ told (refused_if b fault other)
+refused-same : (b : Bool) (fault : Fault) (read other : Result WalkState Fault) → line_fields read ≡ line_fields other → line_fields (refused_if b fault read) ≡ line_fields (refused_if b fault other)
 refused-same true fault read other same = refl
 refused-same false fault read other same = same
 
 module _ (facts : Facts) (end : ℕ) where
-  instruction-same : (known : Known) (instr : Instr) (lines others : List BodyLine) → SayTheSame lines others → told (instruction_taken facts end known instr lines) ≡ told (instruction_taken facts end known instr others)
+  instruction-same : (known : Known) (instr : Instr) (lines others : List BodyLine) → SayTheSame lines others → line_fields (instruction_taken facts end known instr lines) ≡ line_fields (instruction_taken facts end known instr others)
   instruction-same known instr [] [] same = refl
   instruction-same known instr [] (other ∷ others) same = cc
   instruction-same known instr (line ∷ lines) [] same = cc
   instruction-same known instr (line ∷ lines) (other ∷ others) same =
       let first : body_fields line ≡ body_fields other = cc in
       let rest : SayTheSame lines others = cc in
-      let next : List BodyLine → Known → Result Taken Fault = λ (rest : List BodyLine) (through : Known). Ok (taken_of through rest) in
-      ap (λ (r : Result Known Fault). told (r >>= next lines)) (instruction-said facts known instr line line.entry
+      let next : List BodyLine → Known → Result WalkState Fault = λ (rest : List BodyLine) (through : Known). Ok (taken_of through rest) in
+      ap (λ (r : Result Known Fault). line_fields (r >>= next lines)) (instruction-said facts known instr line line.entry
       ∙ ap (λ (fields : BodyFields). instruction_said facts known instr fields.line fields.entry) first ∙ sym (instruction-said facts known instr other other.entry))
       ∙ then-same (instruction_on facts known instr other other.entry) (next lines) (next others) (λ through. ap (λ (fields : List BodyFields). Ok (through, fields)) rest)
 
-  abbrev kept_on : Known → List Edge → ℕ → Known → BodyLine → List BodyLine → Keep → Result Taken Fault
+  abbrev kept_on : Known → List Edge → ℕ → Known → BodyLine → List BodyLine → Keep → Result WalkState Fault
   kept_on through edges least kept line lines keep =
-      refused_if (not (is_kept facts through edges least keep)) (at_line 608 line.line) (keeps_taken facts through edges (suc keep.register) (with_node kept keep.register keep.node) lines)
+      refused_if (not (is_valid_keep facts through edges least keep)) (at_line 608 line.line) (keeps_taken facts through edges (suc keep.register) (with_node kept keep.register keep.node) lines)
 
   keeps-same : (through : Known) (edges : List Edge) (least : ℕ) (kept : Known) (lines others : List BodyLine) → SayTheSame lines others →
-      told (keeps_taken facts through edges least kept lines) ≡ told (keeps_taken facts through edges least kept others)
+      line_fields (keeps_taken facts through edges least kept lines) ≡ line_fields (keeps_taken facts through edges least kept others)
   unfolding keeps_taken
   keeps-same through edges least kept [] [] same = refl
   keeps-same through edges least kept [] (other ∷ others) same = cc
@@ -148,22 +148,22 @@ module _ (facts : Facts) (end : ℕ) where
       (λ least kept. keeps-same through edges least kept lines others rest)
     where
       by : (k l : Option Keep) → option_map keep_fields k ≡ option_map keep_fields l → body_fields line ≡ body_fields other →
-          ((least : ℕ) (kept : Known) → told (keeps_taken facts through edges least kept lines) ≡ told (keeps_taken facts through edges least kept others)) →
-          told (by_keep k (Ok (taken_of kept (line ∷ lines))) (kept_on through edges least kept line lines)) ≡ told (by_keep l (Ok (taken_of kept (other ∷ others))) (kept_on through edges least kept other others))
+          ((least : ℕ) (kept : Known) → line_fields (keeps_taken facts through edges least kept lines) ≡ line_fields (keeps_taken facts through edges least kept others)) →
+          line_fields (by_keep k (Ok (taken_of kept (line ∷ lines))) (kept_on through edges least kept line lines)) ≡ line_fields (by_keep l (Ok (taken_of kept (other ∷ others))) (kept_on through edges least kept other others))
       by None None keeps first more = ap (λ (fields : List BodyFields). Ok (kept, fields)) same
       by None (Some l) keeps first more = cc
       by (Some k) None keeps first more = cc
       by (Some k) (Some l) keeps first more =
           let fields : keep_fields k ≡ keep_fields l = cc in
-          let judged : is_kept facts through edges least k ≡ is_kept facts through edges least l = kept-said facts through edges least k ∙ ap (kept_said facts through edges least) fields ∙ sym (kept-said facts through edges least l) in
+          let judged : is_valid_keep facts through edges least k ≡ is_valid_keep facts through edges least l = kept-said facts through edges least k ∙ ap (kept_said facts through edges least) fields ∙ sym (kept-said facts through edges least l) in
           let register : k.register ≡ l.register = ap (λ (f : KeepFields). f.register) fields in
           let node : k.node ≡ l.node = ap (λ (f : KeepFields). f.node) fields in
-          refused-same (not (is_kept facts through edges least k)) (at_line 608 line.line) _ _ (more (suc k.register) (with_node kept k.register k.node))
-          ∙ ap₂ (λ b at. told (refused_if (not b) (at_line 608 at) (keeps_taken facts through edges (suc k.register) (with_node kept k.register k.node) others))) judged (ap (λ (f : BodyFields). f.line) first)
-          ∙ ap₂ (λ r n. told (refused_if (not (is_kept facts through edges least l)) (at_line 608 other.line) (keeps_taken facts through edges (suc r) (with_node kept r n) others))) register node
+          refused-same (not (is_valid_keep facts through edges least k)) (at_line 608 line.line) _ _ (more (suc k.register) (with_node kept k.register k.node))
+          ∙ ap₂ (λ b at. line_fields (refused_if (not b) (at_line 608 at) (keeps_taken facts through edges (suc k.register) (with_node kept k.register k.node) others))) judged (ap (λ (f : BodyFields). f.line) first)
+          ∙ ap₂ (λ r n. line_fields (refused_if (not (is_valid_keep facts through edges least l)) (at_line 608 other.line) (keeps_taken facts through edges (suc r) (with_node kept r n) others))) register node
 
   joined-same : (place : ℕ) (edges : List Edge) (known : Known) (lines others : List BodyLine) → SayTheSame lines others →
-      told (joined facts end place edges (taken_of known lines)) ≡ told (joined facts end place edges (taken_of known others))
+      line_fields (apply_join facts end place edges (taken_of known lines)) ≡ line_fields (apply_join facts end place edges (taken_of known others))
   joined-same place [] known lines others same = ap (λ (fields : List BodyFields). Ok (known, fields)) same
   joined-same place (edge ∷ edges) known [] [] same = refl
   joined-same place (edge ∷ edges) known [] (other ∷ others) same = cc
@@ -174,20 +174,20 @@ module _ (facts : Facts) (end : ℕ) where
       by (is_join place line.entry) (is_join place other.entry) (join-said place line.entry ∙ ap (λ (fields : BodyFields). join_said place fields.entry) first ∙ sym (join-said place other.entry)) (ap (λ (f : BodyFields). f.line) first) rest
     where
       by : (b c : Bool) → b ≡ c → line.line ≡ other.line → SayTheSame lines others →
-          told (refused_if (not b) (at_line 608 line.line) (Ok lines) >>= keeps_taken facts known (edge ∷ edges) 0 nothing_known)
-          ≡ told (refused_if (not c) (at_line 608 other.line) (Ok others) >>= keeps_taken facts known (edge ∷ edges) 0 nothing_known)
+          line_fields (refused_if (not b) (at_line 608 line.line) (Ok lines) >>= keeps_taken facts known (edge ∷ edges) 0 nothing_known)
+          ≡ line_fields (refused_if (not c) (at_line 608 other.line) (Ok others) >>= keeps_taken facts known (edge ∷ edges) 0 nothing_known)
       by true true joins at rest = keeps-same known (edge ∷ edges) 0 nothing_known lines others rest
       by true false joins at rest = cc
       by false true joins at rest = cc
       by false false joins at rest = ap (λ at. Err (at_line 608 at)) at
 
   pub walked-same : (place : ℕ) (edges : List Edge) (instrs : List Instr) (known : Known) (lines others : List BodyLine) → SayTheSame lines others →
-      told (walked facts end place edges instrs (taken_of known lines)) ≡ told (walked facts end place edges instrs (taken_of known others))
-  unfolding walked
+      line_fields (check_lines_from facts end place edges instrs (taken_of known lines)) ≡ line_fields (check_lines_from facts end place edges instrs (taken_of known others))
+  unfolding check_lines_from
   walked-same place edges [] known lines others same = ap (λ (fields : List BodyFields). Ok (known, fields)) same
   walked-same place edges (instr ∷ instrs) known lines others same =
       let further = with_edge edges (edge_of known instr) in
       then-told (instruction_taken facts end known instr lines) (instruction_taken facts end known instr others) _ _ (instruction-same known instr lines others same)
-      (λ through lines others same. then-told (joined facts end (suc place) (edges_into (suc place) further) (taken_of through lines)) (joined facts end (suc place) (edges_into (suc place) further) (taken_of through others)) _ _
+      (λ through lines others same. then-told (apply_join facts end (suc place) (edges_into (suc place) further) (taken_of through lines)) (apply_join facts end (suc place) (edges_into (suc place) further) (taken_of through others)) _ _
       (joined-same (suc place) (edges_into (suc place) further) through lines others same)
-      (λ joined lines others same. walked-same (suc place) further instrs joined lines others same))
+      (λ apply_join lines others same. walked-same (suc place) further instrs apply_join lines others same))

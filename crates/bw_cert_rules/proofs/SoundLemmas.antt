@@ -10,8 +10,8 @@ use Rattle.bw_model.specs.Variable.{Assignment}
 use Rattle.bw_diagram.specs.declared.product.Connective.TheVariants as connective
 use Rattle.bw_diagram.specs.Facts.{Facts}
 use Rattle.bw_diagram.specs.Node.{node_value}
-use Rattle.bw_diagram.specs.Product.{joined}
-use Rattle.bw_diagram.specs.Cited.{AreWorth, cited}
+use Rattle.bw_diagram.specs.Product.{apply_connective}
+use Rattle.bw_diagram.specs.Cited.{AreWorth, product_node}
 use Rattle.bw_program.specs.declared.instr.Instr.{Instr}
 use Rattle.bw_program.specs.declared.instr.Instr.TheVariants.{Load, Nulls, Fill, And, Or, Xor, Not, ByteLt, ByteEq, Skip}
 use Rattle.bw_program.specs.Machine.{State, step, step_of, state_after, steps_from, after_skip, is_zero_in_all, end_state}
@@ -19,15 +19,15 @@ use Rattle.bw_program.specs.Program.{ProgramShape, is_sound, are_sound, is_progr
 use Rattle.bw_cert_text.specs.declared.lines.EdgeProducts.{EdgeProducts}
 use Rattle.bw_cert_text.specs.declared.lines.Keep.{Keep}
 use Rattle.bw_cert_rules.specs.declared.edge.Edge.{Edge}
-use Rattle.bw_cert_rules.specs.Accepted.{KeepLine, JoinLines, Part, before, edges_before, edge_at, fallen, past, known_past, kept_by, are_kept, obeys_join, Obeys}
-use Rattle.bw_cert_rules.specs.Join.{with_edge, edges_into, is_zero, is_kept, keeps_through, keeps_by_skip, keeps_by_skips}
+use Rattle.bw_cert_rules.specs.Accepted.{KeepLine, JoinLines, Part, known_before, edges_before, edge_at, known_on_fallthrough, known_after_join, known_past, kept_by, are_kept, is_valid_join, Obeys}
+use Rattle.bw_cert_rules.specs.Join.{with_edge, edges_into, is_zero, is_valid_keep, keeps_through, keeps_by_skip, keeps_by_skips}
 use Rattle.bw_cert_rules.specs.Known.{Known, node_of, nothing_known, with_node}
 use Rattle.bw_cert_rules.specs.Sound.{Hold}
 use Rattle.bw_cert_rules.proofs.HoldLemmas.{map_same, holds_nothing, holds_kept}
 use Rattle.bw_cert_rules.proofs.StepLemmas.{values, holds_after_instr}
 
 -- two bits whose XOR is 0 are the same
-xor_zero : (a b : Bool) → joined connective.Xor a b ≡ false → a ≡ b
+xor_zero : (a b : Bool) → apply_connective connective.Xor a b ≡ false → a ≡ b
 xor_zero true true is = refl
 xor_zero false false is = refl
 xor_zero true false is = cc
@@ -43,7 +43,7 @@ chained None f y is = cc
 chained (Some x) f y is = (x, refl, is)
 
 -- of two nodes whose XOR is the node 0, the values are the same
-same_worth : (facts : Facts) (f h row : ℕ) → AreWorth facts → cited facts connective.Xor f h row ≡ Some 0 → (assignment : Assignment) → node_value facts.nodes assignment f ≡ node_value facts.nodes assignment h
+same_worth : (facts : Facts) (f h row : ℕ) → AreWorth facts → product_node facts connective.Xor f h row ≡ Some 0 → (assignment : Assignment) → node_value facts.nodes assignment f ≡ node_value facts.nodes assignment h
 same_worth facts f h row worth is assignment =
     xor_zero _ _ (sym ((worth.row connective.Xor f h row 0 is).1 assignment) ∙ worth.zero assignment)
 
@@ -51,12 +51,12 @@ same_worth facts f h row worth is assignment =
 kept_through : (facts : Facts) (lanes : List Assignment) (through : Known) (registers : ℕ → List Bool) (keep : Keep) → AreWorth facts → Hold facts lanes through registers → keeps_through facts through keep ≡ true →
     registers keep.register ≡ values facts lanes keep.node
 kept_through facts lanes through registers keep worth holds is =
-    let node = chained (node_of through keep.register) (λ f. cited facts connective.Xor f keep.node keep.through) 0 (zero_is _ is) in
+    let node = chained (node_of through keep.register) (λ f. product_node facts connective.Xor f keep.node keep.through) 0 (zero_is _ is) in
     holds keep.register node.0 node.1 ∙ map_same _ _ lanes (same_worth facts node.0 keep.node keep.through worth node.2)
 
 -- where a node is 0 in all lanes, and another is 1 only where it is 1, two nodes that differ only
 -- where the other is 1 have the same values
-same_where_zero : (facts : Facts) (lanes : List Assignment) (g h z q differs within : ℕ) → AreWorth facts → cited facts connective.Xor g h differs ≡ Some z → cited facts connective.Diff z q within ≡ Some 0 →
+same_where_zero : (facts : Facts) (lanes : List Assignment) (g h z q differs within : ℕ) → AreWorth facts → product_node facts connective.Xor g h differs ≡ Some z → product_node facts connective.Diff z q within ≡ Some 0 →
     is_zero_in_all (values facts lanes q) ≡ true → values facts lanes g ≡ values facts lanes h
 same_where_zero facts [] g h z q differs within worth xor diff zeros = refl
 same_where_zero facts (lane ∷ lanes) g h z q differs within worth xor diff zeros =
@@ -65,7 +65,7 @@ same_where_zero facts (lane ∷ lanes) g h z q differs within worth xor diff zer
     (sym ((worth.row connective.Diff z q within 0 diff).1 lane) ∙ worth.zero lane) each.0)
     (same_where_zero facts lanes g h z q differs within worth xor diff each.1)
   where
-    at : (zv qv : Bool) → node_value facts.nodes lane z ≡ zv → joined connective.Diff zv qv ≡ false → not qv ≡ true → node_value facts.nodes lane g ≡ node_value facts.nodes lane h
+    at : (zv qv : Bool) → node_value facts.nodes lane z ≡ zv → apply_connective connective.Diff zv qv ≡ false → not qv ≡ true → node_value facts.nodes lane g ≡ node_value facts.nodes lane h
     at false qv zv_is none q_is = xor_zero _ _ (sym ((worth.row connective.Xor g h differs z xor).1 lane) ∙ zv_is)
     at true true zv_is none q_is = cc
     at true false zv_is none q_is = cc
@@ -74,9 +74,9 @@ same_where_zero facts (lane ∷ lanes) g h z q differs within worth xor diff zer
 kept_by_skip : (facts : Facts) (lanes : List Assignment) (registers : ℕ → List Bool) (keep : Keep) (edge : Edge) (rows : EdgeProducts) → AreWorth facts → Hold facts lanes edge.known registers →
     is_zero_in_all (registers edge.register) ≡ true → keeps_by_skip facts keep edge rows ≡ true → registers keep.register ≡ values facts lanes keep.node
 kept_by_skip facts lanes registers keep edge rows worth holds zeros is =
-    let z = chained (option_and_then (λ g. cited facts connective.Xor g keep.node rows.differs) (node_of edge.known keep.register)) _ 0 (zero_is _ is) in
-    let q = chained (node_of edge.known edge.register) (λ skipped. cited facts connective.Diff z.0 skipped rows.within) 0 z.2 in
-    let g = chained (node_of edge.known keep.register) (λ g. cited facts connective.Xor g keep.node rows.differs) z.0 z.1 in
+    let z = chained (option_and_then (λ g. product_node facts connective.Xor g keep.node rows.differs) (node_of edge.known keep.register)) _ 0 (zero_is _ is) in
+    let q = chained (node_of edge.known edge.register) (λ skipped. product_node facts connective.Diff z.0 skipped rows.within) 0 z.2 in
+    let g = chained (node_of edge.known keep.register) (λ g. product_node facts connective.Xor g keep.node rows.differs) z.0 z.1 in
     holds keep.register g.0 g.1
     ∙ same_where_zero facts lanes g.0 keep.node z.0 q.0 rows.differs rows.within worth g.2 q.2 (ap is_zero_in_all (sym (holds edge.register q.0 q.1)) ∙ zeros)
 
@@ -93,8 +93,8 @@ pair_there facts keep edge (e ∷ edges) (pair ∷ more) (inl same) is = (pair, 
 pair_there facts keep edge (e ∷ edges) (pair ∷ more) (inr there) is = pair_there facts keep edge edges more there (both _ _ is).1
 
 -- what is kept of a register
-kept_parts : (facts : Facts) (through : Known) (edges : List Edge) (least : ℕ) (keep : Keep) → is_kept facts through edges least keep ≡ true → (keeps_through facts through keep ≡ true) × (keeps_by_skips facts keep edges keep.edges ≡ true)
-unfolding is_kept
+kept_parts : (facts : Facts) (through : Known) (edges : List Edge) (least : ℕ) (keep : Keep) → is_valid_keep facts through edges least keep ≡ true → (keeps_through facts through keep ≡ true) × (keeps_by_skips facts keep edges keep.edges ≡ true)
+unfolding is_valid_keep
 kept_parts facts through edges least keep is =
     let skips = both _ _ is in
     let falls = both _ _ skips.0 in
@@ -114,7 +114,7 @@ all_kept facts lanes through registers edges least known (k ∷ keeps) each hold
 
 -- what is known after an instruction holds on falling through to its join, if it has one
 past_through : (facts : Facts) (lanes : List Assignment) (through : Known) (registers : ℕ → List Bool) (edges : List Edge) (join : Option JoinLines) → AreWorth facts → Hold facts lanes through registers →
-    obeys_join facts through edges join ≡ true → Hold facts lanes (past through join) registers
+    is_valid_join facts through edges join ≡ true → Hold facts lanes (known_after_join through join) registers
 past_through facts lanes through registers edges None worth holds is = holds
 past_through facts lanes through registers [] (Some join) worth holds is = cc
 past_through facts lanes through registers (e ∷ edges) (Some join) worth holds is =
@@ -122,7 +122,7 @@ past_through facts lanes through registers (e ∷ edges) (Some join) worth holds
 
 -- and by a skip into it that is taken
 past_skip : (facts : Facts) (lanes : List Assignment) (through : Known) (registers : ℕ → List Bool) (edge : Edge) (edges : List Edge) (join : Option JoinLines) → AreWorth facts → In edge edges → Hold facts lanes edge.known registers →
-    is_zero_in_all (registers edge.register) ≡ true → obeys_join facts through edges join ≡ true → Hold facts lanes (past through join) registers
+    is_zero_in_all (registers edge.register) ≡ true → is_valid_join facts through edges join ≡ true → Hold facts lanes (known_after_join through join) registers
 unfolding In
 past_skip facts lanes through registers edge [] join worth there holds zeros is = absurd there
 past_skip facts lanes through registers edge (e ∷ edges) None worth there holds zeros is = cc
@@ -165,23 +165,23 @@ in_into edge (e ∷ edges) place target there = at (eqb e.target place) refl the
 
 -- the edge of a skip stands among those before each later place
 skip_before : (facts : Facts) (instrs : List Instr) (parts : List Part) (k x target place : ℕ) → slice_get instrs k ≡ Some (Skip x target) → k < place →
-    In (record { target = target; register = x; known = before facts instrs parts k }) (edges_before facts instrs parts place)
+    In (record { target = target; register = x; known = known_before facts instrs parts k }) (edges_before facts instrs parts place)
 unfolding edges_before
 skip_before facts instrs parts k x target zero there lt = absurd (omega (arith, lt))
 skip_before facts instrs parts k x target (suc place) there lt = at (eqb k place) refl (skip_before facts instrs parts k x target place there)
   where
     edge : Edge
-    edge = record { target = target; register = x; known = before facts instrs parts k }
+    edge = record { target = target; register = x; known = known_before facts instrs parts k }
 
     earlier : List Edge
     earlier = edges_before facts instrs parts place
 
-    at : (here : Bool) → eqb k place ≡ here → (k < place → In edge earlier) → In edge (with_edge earlier (edge_at (before facts instrs parts place) (slice_get instrs place)))
+    at : (here : Bool) → eqb k place ≡ here → (k < place → In edge earlier) → In edge (with_edge earlier (edge_at (known_before facts instrs parts place) (slice_get instrs place)))
     at true is rest =
         let same : k ≡ place = eqb-true k place is in
-        let last : with_edge earlier (edge_at (before facts instrs parts place) (slice_get instrs place)) ≡ earlier ++ edge ∷ [] =
-        ap (λ p. with_edge earlier (edge_at (before facts instrs parts p) (slice_get instrs p))) (sym same)
-        ∙ ap (λ i. with_edge earlier (edge_at (before facts instrs parts k) i)) there in
+        let last : with_edge earlier (edge_at (known_before facts instrs parts place) (slice_get instrs place)) ≡ earlier ++ edge ∷ [] =
+        ap (λ p. with_edge earlier (edge_at (known_before facts instrs parts p) (slice_get instrs p))) (sym same)
+        ∙ ap (λ i. with_edge earlier (edge_at (known_before facts instrs parts k) i)) there in
         subst (In edge) (sym last) (in_last edge earlier)
     at false is rest = in_more edge earlier _ (rest (omega (arith, lt, eqb-false k place is)))
 
@@ -199,9 +199,9 @@ instr_there (a ∷ xs) (suc k) lt = instr_there xs k (omega (arith, lt))
 
 -- what is known after an instruction, by its part
 past_is : (facts : Facts) (instrs : List Instr) (parts : List Part) (place : ℕ) (instr : Instr) (part : Part) → slice_get instrs place ≡ Some instr → slice_get parts place ≡ Some part →
-    before facts instrs parts (suc place) ≡ past (fallen facts (before facts instrs parts place) instr part) part.join
-unfolding before
-past_is facts instrs parts place instr part there given = ap₂ (known_past facts (before facts instrs parts place)) there given
+    known_before facts instrs parts (suc place) ≡ known_after_join (known_on_fallthrough facts (known_before facts instrs parts place) instr part) part.join
+unfolding known_before
+past_is facts instrs parts place instr part there given = ap₂ (known_past facts (known_before facts instrs parts place)) there given
 
 -- skips go forward, and not past the end
 abbrev pub Forward : List Instr → Type 0
@@ -209,7 +209,7 @@ Forward instrs = (k x target : ℕ) → slice_get instrs k ≡ Some (Skip x targ
 
 -- a state in which what is known at its place holds
 HoldsAt : Facts → List Assignment → List Instr → List Part → State → Type 0
-HoldsAt facts lanes instrs parts state = Hold facts lanes (before facts instrs parts state.place) state.registers
+HoldsAt facts lanes instrs parts state = Hold facts lanes (known_before facts instrs parts state.place) state.registers
 
 -- an instruction after which the next one comes
 fell : (facts : Facts) (lanes : List Assignment) (instrs : List Instr) (parts : List Part) (state : State) (instr : Instr) (next : State) → AreWorth facts → Obeys facts instrs parts → slice_get instrs state.place ≡ Some instr →
@@ -217,26 +217,26 @@ fell : (facts : Facts) (lanes : List Assignment) (instrs : List Instr) (parts : 
 unfolding HoldsAt
 fell facts lanes instrs parts state instr next worth obeys there holds place registers =
     let part = part_there instrs parts state.place instr obeys.counted there in
-    let known : Known = before facts instrs parts state.place in
-    let stepped = holds_after_instr facts lanes known (fallen facts known instr part.0) state part.0.line instr part.0.entry worth holds (obeys.instruction state.place instr part.0 there part.1) in
-    let past_join = past_through facts lanes (fallen facts known instr part.0) (step facts.columns lanes instr state).registers _ part.0.join worth stepped (obeys.join state.place instr part.0 there part.1) in
+    let known : Known = known_before facts instrs parts state.place in
+    let stepped = holds_after_instr facts lanes known (known_on_fallthrough facts known instr part.0) state part.0.line instr part.0.entry worth holds (obeys.instruction state.place instr part.0 there part.1) in
+    let past_join = past_through facts lanes (known_on_fallthrough facts known instr part.0) (step facts.columns lanes instr state).registers _ part.0.join worth stepped (obeys.join state.place instr part.0 there part.1) in
     let here = past_is facts instrs parts state.place instr part.0 there part.1 in
-    subst (λ p. Hold facts lanes (before facts instrs parts p) next.registers) (sym place)
-    (subst (λ rs. Hold facts lanes (before facts instrs parts (suc state.place)) rs) (sym registers) (subst (λ k. Hold facts lanes k (step facts.columns lanes instr state).registers) (sym here) past_join))
+    subst (λ p. Hold facts lanes (known_before facts instrs parts p) next.registers) (sym place)
+    (subst (λ rs. Hold facts lanes (known_before facts instrs parts (suc state.place)) rs) (sym registers) (subst (λ k. Hold facts lanes k (step facts.columns lanes instr state).registers) (sym here) past_join))
 
 -- a skip that is taken
 skipped : (facts : Facts) (lanes : List Assignment) (instrs : List Instr) (parts : List Part) (state : State) (x target : ℕ) → AreWorth facts → Obeys facts instrs parts → Forward instrs → slice_get instrs state.place ≡ Some (Skip x target) →
-    is_zero_in_all (state.registers x) ≡ true → HoldsAt facts lanes instrs parts state → Hold facts lanes (before facts instrs parts target) state.registers
+    is_zero_in_all (state.registers x) ≡ true → HoldsAt facts lanes instrs parts state → Hold facts lanes (known_before facts instrs parts target) state.registers
 unfolding HoldsAt
 skipped facts lanes instrs parts state x zero worth obeys forward there zeros holds = absurd (omega (arith, (forward state.place x 0 there).0))
 skipped facts lanes instrs parts state x (suc place) worth obeys forward there zeros holds =
     let ahead = forward state.place x (suc place) there in
     let instr = instr_there instrs place (omega (arith, ahead.1)) in
     let part = part_there instrs parts place instr.0 obeys.counted instr.1 in
-    let edge : Edge = record { target = suc place; register = x; known = before facts instrs parts state.place } in
+    let edge : Edge = record { target = suc place; register = x; known = known_before facts instrs parts state.place } in
     let among = in_into edge (edges_before facts instrs parts (suc place)) (suc place) refl (skip_before facts instrs parts state.place x (suc place) (suc place) there ahead.0) in
     subst (λ k. Hold facts lanes k state.registers) (sym (past_is facts instrs parts place instr.0 part.0 instr.1 part.1))
-    (past_skip facts lanes (fallen facts (before facts instrs parts place) instr.0 part.0) state.registers edge _ part.0.join worth among holds zeros (obeys.join place instr.0 part.0 instr.1 part.1))
+    (past_skip facts lanes (known_on_fallthrough facts (known_before facts instrs parts place) instr.0 part.0) state.registers edge _ part.0.join worth among holds zeros (obeys.join place instr.0 part.0 instr.1 part.1))
 
 -- one step more
 stepped : (facts : Facts) (lanes : List Assignment) (instrs : List Instr) (parts : List Part) (state : State) (instr : Instr) → AreWorth facts → Obeys facts instrs parts → Forward instrs → slice_get instrs state.place ≡ Some instr →
@@ -263,8 +263,8 @@ stepped facts lanes instrs parts state (Skip x target) worth obeys forward there
 
 -- after any number of steps
 pub holds_after : (facts : Facts) (lanes : List Assignment) (program : ProgramShape) (parts : List Part) (steps : ℕ) → AreWorth facts → Obeys facts program.instrs parts → Forward program.instrs →
-    let state : State = state_after facts.columns lanes program steps in Hold facts lanes (before facts program.instrs parts state.place) state.registers
-unfolding HoldsAt steps_from before
+    let state : State = state_after facts.columns lanes program steps in Hold facts lanes (known_before facts program.instrs parts state.place) state.registers
+unfolding HoldsAt steps_from known_before
 holds_after facts lanes program parts zero worth obeys forward = holds_nothing facts lanes _
 holds_after facts lanes program parts (suc steps) worth obeys forward =
     at (slice_get program.instrs (state_after facts.columns lanes program steps).place) refl (holds_after facts lanes program parts steps worth obeys forward)
@@ -338,9 +338,9 @@ come_far columns lanes program (suc steps) forward = at (slice_get program.instr
 
 -- at the end, what is known there holds
 pub holds_at_end : (facts : Facts) (lanes : List Assignment) (program : ProgramShape) (parts : List Part) → AreWorth facts → Obeys facts program.instrs parts → Forward program.instrs →
-    Hold facts lanes (before facts program.instrs parts (length program.instrs)) (end_state facts.columns lanes program).registers
+    Hold facts lanes (known_before facts program.instrs parts (length program.instrs)) (end_state facts.columns lanes program).registers
 holds_at_end facts lanes program parts worth obeys forward =
-    subst (λ p. Hold facts lanes (before facts program.instrs parts p) (end_state facts.columns lanes program).registers) (there (come_far facts.columns lanes program (length program.instrs) forward))
+    subst (λ p. Hold facts lanes (known_before facts program.instrs parts p) (end_state facts.columns lanes program).registers) (there (come_far facts.columns lanes program (length program.instrs) forward))
     (holds_after facts lanes program parts (length program.instrs) worth obeys forward)
   where
     there : ((end_state facts.columns lanes program).place ≤ length program.instrs) × ((length program.instrs ≤ (end_state facts.columns lanes program).place) ⊎ ((end_state facts.columns lanes program).place ≡ length program.instrs)) →

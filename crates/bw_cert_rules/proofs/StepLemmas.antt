@@ -13,15 +13,15 @@ use Rattle.bw_diagram.specs.declared.product.Connective.TheVariants as connectiv
 use Rattle.bw_diagram.specs.Chain.{compares}
 use Rattle.bw_diagram.specs.Facts.{Facts}
 use Rattle.bw_diagram.specs.Node.{node_value}
-use Rattle.bw_diagram.specs.Product.{joined}
-use Rattle.bw_diagram.specs.Cited.{AreWorth, chain_cited, is_variable, variable_cited}
+use Rattle.bw_diagram.specs.Product.{apply_connective}
+use Rattle.bw_diagram.specs.Cited.{AreWorth, comparison_node, is_variable, variable_node}
 use Rattle.bw_program.specs.declared.instr.Instr.{Instr}
 use Rattle.bw_program.specs.declared.instr.Instr.TheVariants.{Load, Nulls, Fill, And, Or, Xor, Not, ByteLt, ByteEq, Skip}
 use Rattle.bw_program.specs.Machine.{State, in_lanes, differ, step, after_skip, is_zero_in_all}
 use Rattle.bw_program.specs.Program.{instr_fits}
 use Rattle.bw_program.specs.ProgramText.{found_on}
 use Rattle.bw_cert_text.specs.declared.lines.InstructionEntry.{InstructionEntry}
-use Rattle.bw_cert_rules.specs.Instruction.{loaded_node, operation_row, byte_chain, is_fill, is_skip_line, terminal, plane_on, operation_on, read_on, joined_on, opposite_on, past_node, byte_node, byte_on, after}
+use Rattle.bw_cert_rules.specs.Instruction.{loaded_node, operation_row, byte_chain, is_fill, is_skip_line, terminal, plane_on, operation_on, read_on, joined_on, opposite_on, past_node, byte_node, byte_on, check_instruction_line}
 use Rattle.bw_cert_rules.specs.Known.{Known}
 use Rattle.bw_cert_rules.specs.Sound.{Hold}
 use Rattle.bw_cert_rules.proofs.HoldLemmas.{bind_ok, not_refused, found_ok, map_same, holds_written, spelled_small}
@@ -39,7 +39,7 @@ none_is is = cc
 abbrev pub values : Facts → List Assignment → ℕ → List Bool
 values facts lanes node = map (λ assignment. node_value facts.nodes assignment node) lanes
 
-variable_worth : (facts : Facts) (lanes : List Assignment) (v given node : ℕ) → AreWorth facts → variable_cited facts v given ≡ Some node → in_lanes lanes (λ bits. bits v) ≡ values facts lanes node
+variable_worth : (facts : Facts) (lanes : List Assignment) (v given node : ℕ) → AreWorth facts → variable_node facts v given ≡ Some node → in_lanes lanes (λ bits. bits v) ≡ values facts lanes node
 variable_worth facts lanes v given node worth is = at (is_variable facts v given) refl is
   where
     at : (tested : Bool) → is_variable facts v given ≡ tested → cond tested (Some given) None ≡ Some node → in_lanes lanes (λ bits. bits v) ≡ values facts lanes node
@@ -57,12 +57,12 @@ plane_worth facts lanes line v node there given worth is =
 
 -- the third node of an operation's row
 row_worth : (facts : Facts) (line : ℕ) (op : Connective) (a b row node : ℕ) → AreWorth facts → operation_on facts line op a b row ≡ Ok node → (assignment : Assignment) →
-    node_value facts.nodes assignment node ≡ joined op (node_value facts.nodes assignment a) (node_value facts.nodes assignment b)
+    node_value facts.nodes assignment node ≡ apply_connective op (node_value facts.nodes assignment a) (node_value facts.nodes assignment b)
 row_worth facts line op a b row node worth is = (worth.row op a b row node (found_ok 607 line _ node is)).1
 
 -- an operation on two registers, lane by lane
 joined_worth : (facts : Facts) (lanes : List Assignment) (known : Known) (registers : ℕ → List Bool) (line : ℕ) (op : Connective) (f : Bool → Bool → Bool) (x y node : ℕ) (given : InstructionEntry) → AreWorth facts →
-    Hold facts lanes known registers → ((a b : Bool) → f a b ≡ joined op a b) → joined_on facts known line op x y given ≡ Ok node → zip2 f (registers x) (registers y) ≡ values facts lanes node
+    Hold facts lanes known registers → ((a b : Bool) → f a b ≡ apply_connective op a b) → joined_on facts known line op x y given ≡ Ok node → zip2 f (registers x) (registers y) ≡ values facts lanes node
 joined_worth facts lanes known registers line op f x y node given worth holds same is =
     let named = bind_ok (found_on 607 line (operation_row given)) _ node is in
     let left = bind_ok (read_on known line x) _ node named.2 in
@@ -110,13 +110,13 @@ byte_worth facts lanes line kind there column slice k node given worth is =
         omega (arith, leb-true (2 ^ bits_in_slice facts.columns column slice) k past, spelled_small assignment (first_variable facts.columns (suc column) - (8 * slice + bits_in_slice facts.columns column slice)) (bits_in_slice facts.columns column slice)) in
         past_worth facts assignment kind (byte assignment) k worth small ∙ ap (node_value facts.nodes assignment) node_is
     at None false past is assignment = none_is (ap (λ b. cond b (Some (past_node kind)) None) (sym past) ∙ is)
-    at (Some chain) true past is assignment = none_is (ap (λ b. cond b None (chain_cited facts kind column (8 * slice) (bits_in_slice facts.columns column slice) k chain)) (sym past) ∙ is)
+    at (Some chain) true past is assignment = none_is (ap (λ b. cond b None (comparison_node facts kind column (8 * slice) (bits_in_slice facts.columns column slice) k chain)) (sym past) ∙ is)
     at (Some chain) false past is assignment =
-        let cites : chain_cited facts kind column (8 * slice) (bits_in_slice facts.columns column slice) k chain ≡ Some node =
-        ap (λ b. cond b None (chain_cited facts kind column (8 * slice) (bits_in_slice facts.columns column slice) k chain)) (sym past) ∙ is in
+        let cites : comparison_node facts kind column (8 * slice) (bits_in_slice facts.columns column slice) k chain ≡ Some node =
+        ap (λ b. cond b None (comparison_node facts kind column (8 * slice) (bits_in_slice facts.columns column slice) k chain)) (sym past) ∙ is in
         sym ((worth.chain kind column (8 * slice) (bits_in_slice facts.columns column slice) k chain node cites).1 assignment)
 
-differ_joins : (a b : Bool) → differ a b ≡ joined connective.Xor a b
+differ_joins : (a b : Bool) → differ a b ≡ apply_connective connective.Xor a b
 differ_joins true true = refl
 differ_joins true false = refl
 differ_joins false true = refl
@@ -125,8 +125,8 @@ differ_joins false false = refl
 -- What is known after an instruction by its line holds after its step, where what was known held
 -- before it.
 pub holds_after_instr : (facts : Facts) (lanes : List Assignment) (known past : Known) (state : State) (line : ℕ) (instr : Instr) (given : InstructionEntry) → AreWorth facts → Hold facts lanes known state.registers →
-    after facts known line instr given ≡ Ok past → Hold facts lanes past (step facts.columns lanes instr state).registers
-unfolding after
+    check_instruction_line facts known line instr given ≡ Ok past → Hold facts lanes past (step facts.columns lanes instr state).registers
+unfolding check_instruction_line
 holds_after_instr facts lanes known past state line (Load r column bit) given worth holds is =
     let node = bind_ok (plane_on facts line (instr_fits facts.columns (Load r column bit)) (bit_variable facts.columns column bit) given) _ past is in
     subst (λ k. Hold facts lanes k (step facts.columns lanes (Load r column bit) state).registers) (ok_same node.2)

@@ -18,11 +18,11 @@ use Rattle.bw_cert_text.specs.declared.lines.ConditionEntry.{ConditionEntry}
 use Rattle.bw_cert_text.specs.declared.lines.Entry.{Entry}
 use Rattle.bw_cert_text.specs.declared.lines.Entry.TheVariants as entry
 use Rattle.bw_cert_text.specs.CertificateFields.{BodyFields, EntryFields, Condition, Instruction, Join, Kept, body_fields, entry_fields}
-use Rattle.bw_cert_rules.specs.declared.nodes.Pair.{Pair}
+use Rattle.bw_cert_rules.specs.declared.nodes.TruthPair.{TruthPair}
 use Rattle.bw_cert_rules.specs.declared.steps.Junction.{Junction}
 use Rattle.bw_cert_rules.specs.declared.steps.Junction.TheVariants.{All, Any}
-use Rattle.bw_cert_rules.specs.Comparison.{fixed, comparison}
-use Rattle.bw_cert_rules.specs.Pair.{Reading, told, condition_entry, next_entry, taken, by_line, is_null_test, joined_pair, negated_pair, tested_pair, one_more, more_parts, joined_parts, equations, pair_step, pair_of}
+use Rattle.bw_cert_rules.specs.Comparison.{fixed_pair, comparison}
+use Rattle.bw_cert_rules.specs.Pair.{Reading, line_fields, condition_entry, next_entry, expect_line, by_line, is_null_test, joined_pair, negated_pair, tested_pair, one_more, more_parts, joined_parts, equations, pair_step, pair_of}
 
 -- lines that say the same
 abbrev pub SayTheSame : List BodyLine → List BodyLine → Type 0
@@ -30,7 +30,7 @@ SayTheSame lines others = map body_fields lines ≡ map body_fields others
 
 -- a reader of what lines say
 abbrev pub Steady : (List BodyLine → Reading) → Type 0
-Steady reader = (lines others : List BodyLine) → SayTheSame lines others → told (reader lines) ≡ told (reader others)
+Steady reader = (lines others : List BodyLine) → SayTheSame lines others → line_fields (reader lines) ≡ line_fields (reader others)
 
 abbrev AllSteady : List (List BodyLine → Reading) → Type 0
 AllSteady [] = Unit {0}
@@ -49,7 +49,7 @@ said (entry.Instruction given) = refl
 said (entry.Join place) = refl
 said (entry.Keep keep) = refl
 
-taken-steady : (end : ℕ) (made : Option Pair) → Steady (taken end made)
+taken-steady : (end : ℕ) (made : Option TruthPair) → Steady (expect_line end made)
 taken-steady end None [] [] same = refl
 taken-steady end None [] (other ∷ others) same = cc
 taken-steady end None (line ∷ lines) [] same = cc
@@ -71,28 +71,28 @@ next-same (line ∷ lines) (other ∷ others) same =
     let first : body_fields line ≡ body_fields other = cc in
     said line.entry ∙ ap (λ (fields : BodyFields). said_of_condition fields.entry) first ∙ sym (said other.entry)
 
-by_line-steady : (end : ℕ) (rule : ConditionEntry → Option Pair) → Steady (by_line end rule)
+by_line-steady : (end : ℕ) (rule : ConditionEntry → Option TruthPair) → Steady (by_line end rule)
 unfolding by_line
 by_line-steady end rule lines others same =
     taken-steady end (option_and_then rule (next_entry lines)) lines others same
-    ∙ ap (λ entry. told (taken end (option_and_then rule entry) others)) (next-same lines others same)
+    ∙ ap (λ entry. line_fields (expect_line end (option_and_then rule entry) others)) (next-same lines others same)
 
 -- one reader after another
-then-steady : (read other : Reading) (f g : Pair × List BodyLine → Reading) → told read ≡ told other →
-    ((pair : Pair) (lines others : List BodyLine) → SayTheSame lines others → told (f (pair, lines)) ≡ told (g (pair, others))) →
-    told (read >>= f) ≡ told (other >>= g)
+then-steady : (read other : Reading) (f g : TruthPair × List BodyLine → Reading) → line_fields read ≡ line_fields other →
+    ((pair : TruthPair) (lines others : List BodyLine) → SayTheSame lines others → line_fields (f (pair, lines)) ≡ line_fields (g (pair, others))) →
+    line_fields (read >>= f) ≡ line_fields (other >>= g)
 then-steady (Ok a) (Ok b) f g same each =
     let both : (a.0, map body_fields a.1) ≡ (b.0, map body_fields b.1) = cc in
-    let pairs : a.0 ≡ b.0 = ap (λ (said : Pair × List BodyFields). said.0) both in
-    let rests : SayTheSame a.1 b.1 = ap (λ (said : Pair × List BodyFields). said.1) both in
-    each a.0 a.1 b.1 rests ∙ ap (λ pair. told (g (pair, b.1))) pairs
+    let pairs : a.0 ≡ b.0 = ap (λ (said : TruthPair × List BodyFields). said.0) both in
+    let rests : SayTheSame a.1 b.1 = ap (λ (said : TruthPair × List BodyFields). said.1) both in
+    each a.0 a.1 b.1 rests ∙ ap (λ pair. line_fields (g (pair, b.1))) pairs
 then-steady (Ok a) (Err fault) f g same each = cc
 then-steady (Err fault) (Ok b) f g same each = cc
 then-steady (Err fault) (Err other) f g same each = same
 
 module _ (columns : List Column) (facts : Facts) (end : ℕ) where
-  more-steady : (junction : Junction) (parts : List (List BodyLine → Reading)) → AllSteady parts → (pair : Pair) (lines others : List BodyLine) → SayTheSame lines others →
-      told (more_parts columns facts end junction parts (pair, lines)) ≡ told (more_parts columns facts end junction parts (pair, others))
+  more-steady : (junction : Junction) (parts : List (List BodyLine → Reading)) → AllSteady parts → (pair : TruthPair) (lines others : List BodyLine) → SayTheSame lines others →
+      line_fields (more_parts columns facts end junction parts (pair, lines)) ≡ line_fields (more_parts columns facts end junction parts (pair, others))
   more-steady junction [] all pair lines others same = ap (λ (fields : List BodyFields). Ok (pair, fields)) same
   more-steady junction (part ∷ parts) all pair lines others same =
       then-steady (one_more columns facts end junction part (pair, lines)) (one_more columns facts end junction part (pair, others)) _ _
@@ -109,17 +109,17 @@ module _ (columns : List Column) (facts : Facts) (end : ℕ) where
   equations-steady x (item ∷ items) = (by_line-steady end (comparison columns facts Eq x item), equations-steady x items)
 
   -- a part's lines, and one line more
-  abbrev after_part : (List BodyLine → Reading) → (Pair → ConditionEntry → Option Pair) → List BodyLine → Reading
+  abbrev after_part : (List BodyLine → Reading) → (TruthPair → ConditionEntry → Option TruthPair) → List BodyLine → Reading
   after_part reader rule lines = reader lines >>= λ read. by_line end (rule read.0) read.1
 
-  after-steady : (reader : List BodyLine → Reading) (rule : Pair → ConditionEntry → Option Pair) → Steady reader → Steady (after_part reader rule)
+  after-steady : (reader : List BodyLine → Reading) (rule : TruthPair → ConditionEntry → Option TruthPair) → Steady reader → Steady (after_part reader rule)
   after-steady reader rule steady lines others same =
       then-steady (reader lines) (reader others) _ _ (steady lines others same) (λ pair lines others same. by_line-steady end (rule pair) lines others same)
 
   -- what a condition's lines are read as, by its tree
   abbrev mutual
     pub tree_pair : CondTree → List BodyLine → Reading
-    tree_pair tree.Always lines = by_line end (fixed Yes) lines
+    tree_pair tree.Always lines = by_line end (fixed_pair Yes) lines
     tree_pair (tree.Cmp op x y) lines = by_line end (comparison columns facts op x y) lines
     tree_pair (tree.Between x y z) lines =
         joined_parts columns facts end All (by_line end (comparison columns facts Ge x y) ∷ by_line end (comparison columns facts Le x z) ∷ []) lines
@@ -136,7 +136,7 @@ module _ (columns : List Column) (facts : Facts) (end : ℕ) where
 
   mutual
     pub tree-steady : (t : CondTree) → Steady (tree_pair t)
-    tree-steady tree.Always = by_line-steady end (fixed Yes)
+    tree-steady tree.Always = by_line-steady end (fixed_pair Yes)
     tree-steady (tree.Cmp op x y) = by_line-steady end (comparison columns facts op x y)
     tree-steady (tree.Between x y z) =
         joined-steady All (by_line end (comparison columns facts Ge x y) ∷ by_line end (comparison columns facts Le x z) ∷ [])

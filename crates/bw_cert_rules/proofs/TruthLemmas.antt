@@ -12,16 +12,16 @@ use Rattle.bw_model.specs.declared.cond.Cond.{Cond, Cond-F, fold-roll-Cond, roll
 use Rattle.bw_model.specs.declared.cond.Cond.TheFolds.{map-Cond}
 use Rattle.bw_model.specs.Cond.{operand_value, is_within, truth_of, truth_step, names_within, within_step}
 use Rattle.bw_model.specs.Row.{Value}
-use Rattle.bw_model.specs.Truth.{compared, least, among, any_of}
+use Rattle.bw_model.specs.Truth.{compare_values, least, in_list, any_of}
 use Rattle.bw_model.specs.Variable.{Assignment, row_of}
 use Rattle.bw_model.proofs.BitsLemmas.{both}
 use Rattle.bw_diagram.specs.Cited.{AreWorth}
 use Rattle.bw_diagram.specs.Facts.{Facts}
 use Rattle.bw_cert_text.specs.declared.lines.BodyLine.{BodyLine}
-use Rattle.bw_cert_rules.specs.declared.nodes.Pair.{Pair}
+use Rattle.bw_cert_rules.specs.declared.nodes.TruthPair.{TruthPair}
 use Rattle.bw_cert_rules.specs.declared.steps.Junction.{Junction}
 use Rattle.bw_cert_rules.specs.declared.steps.Junction.TheVariants.{All, Any}
-use Rattle.bw_cert_rules.specs.Comparison.{fixed, comparison}
+use Rattle.bw_cert_rules.specs.Comparison.{fixed_pair, comparison}
 use Rattle.bw_cert_rules.specs.Meaning.{Tells}
 use Rattle.bw_cert_rules.specs.Pair.{Reading, by_line, is_null_test, negated_pair, tested_pair, joined_parts, equations, pair_step, pair_of}
 use Rattle.bw_cert_rules.proofs.ComparisonLemmas.{tells_so, fixed-tells, comparison-tells}
@@ -43,7 +43,7 @@ module _ (facts : Facts) (are_worth : AreWorth facts) (end : ℕ) where
   within = is_within (length facts.columns)
 
   -- a comparison's line
-  compared-sound : (op : Op) (x y : Operand) → within x ≡ true → within y ≡ true → IsSound facts are_worth (by_line end (comparison facts.columns facts op x y)) (λ assignment. compared op (operand_value (row assignment) x) (operand_value (row assignment) y))
+  compared-sound : (op : Op) (x y : Operand) → within x ≡ true → within y ≡ true → IsSound facts are_worth (by_line end (comparison facts.columns facts op x y)) (λ assignment. compare_values op (operand_value (row assignment) x) (operand_value (row assignment) y))
   compared-sound op x y x_in y_in = by_line-sound facts are_worth end (comparison facts.columns facts op x y) _ (λ entry pair is. comparison-tells facts are_worth op x y entry pair x_in y_in is)
 
   abbrev reader : Cond → List BodyLine → Reading
@@ -75,7 +75,7 @@ module _ (facts : Facts) (are_worth : AreWorth facts) (end : ℕ) where
   -- BETWEEN
   between-sound : (x y z : Operand) → (within x && within y && within z) ≡ true →
       IsSound facts are_worth (joined_parts facts.columns facts end All (by_line end (comparison facts.columns facts Ge x y) ∷ by_line end (comparison facts.columns facts Le x z) ∷ []))
-      (λ assignment. least (compared Ge (operand_value (row assignment) x) (operand_value (row assignment) y)) (compared Le (operand_value (row assignment) x) (operand_value (row assignment) z)))
+      (λ assignment. least (compare_values Ge (operand_value (row assignment) x) (operand_value (row assignment) y)) (compare_values Le (operand_value (row assignment) x) (operand_value (row assignment) z)))
   between-sound x y z pass lines rest pair is =
       let upper = both _ _ pass in
       let lower = both _ _ upper.0 in
@@ -83,22 +83,22 @@ module _ (facts : Facts) (are_worth : AreWorth facts) (end : ℕ) where
       let inside : list_all (λ (e : Op × Operand). within e.1) ends ≡ true = rw lower.1 (rw upper.1 refl) in
       tells_so facts.nodes _ _ pair (λ assignment. least-yes _ _)
       (joined_parts-sound facts are_worth facts.columns end All (λ (e : Op × Operand). by_line end (comparison facts.columns facts e.0 x e.1))
-      (λ (e : Op × Operand) assignment. compared e.0 (operand_value (row assignment) x) (operand_value (row assignment) e.1)) (λ (e : Op × Operand). within e.1)
+      (λ (e : Op × Operand) assignment. compare_values e.0 (operand_value (row assignment) x) (operand_value (row assignment) e.1)) (λ (e : Op × Operand). within e.1)
       (λ e pass. compared-sound e.0 x e.1 lower.0 pass) ends inside lines rest pair is)
 
   -- IN
   among-sound : (x : Operand) (items : List Operand) → (within x && list_all within items) ≡ true →
-      IsSound facts are_worth (joined_parts facts.columns facts end Any (equations facts.columns facts end x items)) (λ assignment. among (operand_value (row assignment) x) (map (operand_value (row assignment)) items))
+      IsSound facts are_worth (joined_parts facts.columns facts end Any (equations facts.columns facts end x items)) (λ assignment. in_list (operand_value (row assignment) x) (map (operand_value (row assignment)) items))
   among-sound x items pass lines rest pair is =
       let inside = both _ _ pass in
-      tells_so facts.nodes _ _ pair (λ assignment. ap any_of (sym (map-map (compared Eq (operand_value (row assignment) x)) (operand_value (row assignment)) items)))
-      (joined_parts-sound facts are_worth facts.columns end Any (λ item. by_line end (comparison facts.columns facts Eq x item)) (λ item assignment. compared Eq (operand_value (row assignment) x) (operand_value (row assignment) item)) within
+      tells_so facts.nodes _ _ pair (λ assignment. ap any_of (sym (map-map (compare_values Eq (operand_value (row assignment) x)) (operand_value (row assignment)) items)))
+      (joined_parts-sound facts are_worth facts.columns end Any (λ item. by_line end (comparison facts.columns facts Eq x item)) (λ item assignment. compare_values Eq (operand_value (row assignment) x) (operand_value (row assignment) item)) within
       (λ item pass. compared-sound Eq x item inside.0 pass) items inside.1 lines rest pair is)
 
   -- a condition, from its parts
   layer-sound : (layer : Cond-F Known) → within_step (length facts.columns) (map-Cond Cond Bool names (bare layer)) ≡ true →
       IsSound facts are_worth (pair_step facts.columns facts end (map-Cond Cond (List BodyLine → Reading) reader (bare layer))) (λ assignment. truth_step (row assignment) (map-Cond Cond Truth (truth_of (row assignment)) (bare layer)))
-  layer-sound Cond-F.Always pass = by_line-sound facts are_worth end (fixed Yes) _ (λ entry pair is. fixed-tells facts.nodes Yes pair entry is)
+  layer-sound Cond-F.Always pass = by_line-sound facts are_worth end (fixed_pair Yes) _ (λ entry pair is. fixed-tells facts.nodes Yes pair entry is)
   layer-sound (Cond-F.Cmp op x y) pass = let inside = both _ _ pass in compared-sound op x y inside.0 inside.1
   layer-sound (Cond-F.Between x y z) pass = between-sound x y z pass
   layer-sound (Cond-F.Among x items) pass = among-sound x items.items pass
@@ -115,7 +115,7 @@ module _ (facts : Facts) (are_worth : AreWorth facts) (end : ℕ) where
   abbrev Sound : Cond → Type 0
   Sound cond = names cond ≡ true → IsSound facts are_worth (reader cond) (truth cond)
 
-  pub pair_of-sound : (cond : Cond) → names_within (length facts.columns) cond ≡ true → (lines rest : List BodyLine) (pair : Pair) → pair_of facts.columns facts end cond lines ≡ Ok (pair, rest) →
+  pub pair_of-sound : (cond : Cond) → names_within (length facts.columns) cond ≡ true → (lines rest : List BodyLine) (pair : TruthPair) → pair_of facts.columns facts end cond lines ≡ Ok (pair, rest) →
       Tells facts.nodes (λ assignment. truth_of (row_of facts.columns assignment) cond) pair
   unfolding pair_of truth_of names_within
   pair_of-sound = ind-Cond Sound (λ x y is. subst (λ z. Sound (roll-Cond z)) is (rolled y))

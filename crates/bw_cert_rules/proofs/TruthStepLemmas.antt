@@ -17,28 +17,28 @@ use Rattle.bw_model.specs.Truth.{truth_from, is_truth, is_null, least, greatest,
 use Rattle.bw_model.specs.Variable.{Assignment, first_variable, is_nullable, null_variable, row_of}
 use Rattle.bw_model.proofs.BitsLemmas.{both}
 use Rattle.bw_diagram.specs.declared.product.Connective.TheVariants as connective
-use Rattle.bw_diagram.specs.Cited.{AreWorth, cited}
+use Rattle.bw_diagram.specs.Cited.{AreWorth, product_node}
 use Rattle.bw_diagram.specs.Facts.{Facts}
 use Rattle.bw_cert_text.specs.declared.lines.BodyLine.{BodyLine}
 use Rattle.bw_cert_text.specs.declared.lines.ConditionEntry.{ConditionEntry}
 use Rattle.bw_cert_text.specs.declared.lines.ConditionEntry.TheVariants.{NullTest, And, Or, Not, Is, IsUnknown}
-use Rattle.bw_cert_rules.specs.declared.nodes.Pair.{Pair}
+use Rattle.bw_cert_rules.specs.declared.nodes.TruthPair.{TruthPair}
 use Rattle.bw_cert_rules.specs.declared.steps.Junction.{Junction}
 use Rattle.bw_cert_rules.specs.declared.steps.Junction.TheVariants.{All, Any}
-use Rattle.bw_cert_rules.specs.Rows.{exchanged}
+use Rattle.bw_cert_rules.specs.Rows.{exchange_nodes}
 use Rattle.bw_cert_rules.specs.Meaning.{Tells}
-use Rattle.bw_cert_rules.specs.Pair.{Reading, next_entry, taken, by_line, null_test, is_null_test, joined_pair, negated_pair, with_opposite, unknown_pair, tested_pair, one_more, more_parts, joined_parts}
+use Rattle.bw_cert_rules.specs.Pair.{Reading, next_entry, expect_line, by_line, null_test, is_null_test, joined_pair, negated_pair, with_opposite, unknown_pair, tested_pair, one_more, more_parts, joined_parts}
 use Rattle.bw_cert_rules.proofs.ComparisonLemmas.{tells_by, tells_yes, tells_no, tells_so, fixed-tells, value_if, value_in-assigned}
 use Rattle.bw_cert_rules.proofs.RowLemmas.{Worth, worth_so, one_worth, if_both-is, cited-worth, null_cited-worth}
 
 -- a step that was taken has a line that makes its pair
-taken-is : {G : Type 0} (end : ℕ) (made : Option Pair) (lines rest : List BodyLine) (pair : Pair) → taken end made lines ≡ Ok (pair, rest) → (made ≡ Some pair → G) → G
+taken-is : {G : Type 0} (end : ℕ) (made : Option TruthPair) (lines rest : List BodyLine) (pair : TruthPair) → expect_line end made lines ≡ Ok (pair, rest) → (made ≡ Some pair → G) → G
 taken-is end (Some made) (line ∷ lines) rest pair is f =
-    let same : (made, lines) ≡ (pair, rest) = cc in f (ap (λ (read : Pair × List BodyLine). Some read.0) same)
+    let same : (made, lines) ≡ (pair, rest) = cc in f (ap (λ (read : TruthPair × List BodyLine). Some read.0) same)
 taken-is end (Some made) [] rest pair is f = cc
 taken-is end None lines rest other is f = cc
 
-by_line-is : {G : Type 0} (end : ℕ) (rule : ConditionEntry → Option Pair) (lines rest : List BodyLine) (pair : Pair) → by_line end rule lines ≡ Ok (pair, rest) → ((entry : ConditionEntry) → rule entry ≡ Some pair → G) → G
+by_line-is : {G : Type 0} (end : ℕ) (rule : ConditionEntry → Option TruthPair) (lines rest : List BodyLine) (pair : TruthPair) → by_line end rule lines ≡ Ok (pair, rest) → ((entry : ConditionEntry) → rule entry ≡ Some pair → G) → G
 unfolding by_line
 by_line-is end rule lines rest pair is f =
     taken-is end (option_and_then rule (next_entry lines)) lines rest pair is (λ made.
@@ -146,7 +146,7 @@ unknown-no Yes = refl
 
 module _ (facts : Facts) (are_worth : AreWorth facts) where
   -- AND and OR
-  joined_pair-tells : (junction : Junction) (a b pair : Pair) (t u : Assignment → Truth) (entry : ConditionEntry) → Tells facts.nodes t a → Tells facts.nodes u b → joined_pair facts junction a b entry ≡ Some pair →
+  joined_pair-tells : (junction : Junction) (a b pair : TruthPair) (t u : Assignment → Truth) (entry : ConditionEntry) → Tells facts.nodes t a → Tells facts.nodes u b → joined_pair facts junction a b entry ≡ Some pair →
       Tells facts.nodes (λ assignment. joined_truth junction (t assignment) (u assignment)) pair
   unfolding joined_pair
   joined_pair-tells All a b pair t u (And i j) t_told u_told is =
@@ -162,24 +162,24 @@ module _ (facts : Facts) (are_worth : AreWorth facts) where
   joined_pair-tells _ a b pair t u _ t_told u_told is = cc
 
   -- NOT
-  pub negated_pair-tells : (a pair : Pair) (t : Assignment → Truth) (entry : ConditionEntry) → Tells facts.nodes t a → negated_pair a entry ≡ Some pair → Tells facts.nodes (λ assignment. negation (t assignment)) pair
+  pub negated_pair-tells : (a pair : TruthPair) (t : Assignment → Truth) (entry : ConditionEntry) → Tells facts.nodes t a → negated_pair a entry ≡ Some pair → Tells facts.nodes (λ assignment. negation (t assignment)) pair
   unfolding negated_pair
   negated_pair-tells a pair t Not told is =
       subst (Tells facts.nodes (λ assignment. negation (t assignment))) (cc)
-      (tells_by facts.nodes _ (exchanged a)
+      (tells_by facts.nodes _ (exchange_nodes a)
       (worth_so facts.nodes _ _ a.no (λ assignment. negation-yes (t assignment)) (tells_no facts.nodes t a told))
       (worth_so facts.nodes _ _ a.yes (λ assignment. negation-no (t assignment)) (tells_yes facts.nodes t a told)))
   negated_pair-tells a pair t _ told is = cc
 
   -- a node and its opposite tell what the node is worth
-  opposite-tells : (node number : ℕ) (pair : Pair) (b : Assignment → Bool) → Worth facts.nodes b node → with_opposite facts node number ≡ Some pair → Tells facts.nodes (λ assignment. truth_from (b assignment)) pair
+  opposite-tells : (node number : ℕ) (pair : TruthPair) (b : Assignment → Bool) → Worth facts.nodes b node → with_opposite facts node number ≡ Some pair → Tells facts.nodes (λ assignment. truth_from (b assignment)) pair
   opposite-tells node number pair b worth is =
       let made = if_both-is (Some node) _ pair is in
       tells_by facts.nodes _ pair
       (worth_so facts.nodes _ _ pair.yes (λ assignment. truth_from-yes (b assignment)) (subst (Worth facts.nodes b) (cc) worth))
       (worth_so facts.nodes _ _ pair.no (λ assignment. truth_from-no (b assignment)) (cited-worth facts are_worth connective.Diff 1 node pair.no number (λ assignment. true) b (one_worth facts.nodes) worth made.1))
 
-  unknown-tells : (a pair : Pair) (t : Assignment → Truth) (known : Option ℕ) (i j : ℕ) → Tells facts.nodes t a → cited facts connective.Or a.yes a.no i ≡ known → unknown_pair facts known j ≡ Some pair →
+  unknown-tells : (a pair : TruthPair) (t : Assignment → Truth) (known : Option ℕ) (i j : ℕ) → Tells facts.nodes t a → product_node facts connective.Or a.yes a.no i ≡ known → unknown_pair facts known j ≡ Some pair →
       Tells facts.nodes (λ assignment. truth_from (is_truth (t assignment) Unknown)) pair
   unknown-tells a pair t None i j told cites is = cc
   unknown-tells a pair t (Some known) i j told cites is =
@@ -190,16 +190,16 @@ module _ (facts : Facts) (are_worth : AreWorth facts) where
       (worth_so facts.nodes _ _ pair.no (λ assignment. unknown-no (t assignment)) (subst (Worth facts.nodes (λ assignment. is_truth (t assignment) Yes || is_truth (t assignment) No)) (cc) worth))
 
   -- IS TRUE, IS FALSE and IS UNKNOWN
-  pub tested_pair-tells : (wanted : Truth) (a pair : Pair) (t : Assignment → Truth) (entry : ConditionEntry) → Tells facts.nodes t a → tested_pair facts wanted a entry ≡ Some pair →
+  pub tested_pair-tells : (wanted : Truth) (a pair : TruthPair) (t : Assignment → Truth) (entry : ConditionEntry) → Tells facts.nodes t a → tested_pair facts wanted a entry ≡ Some pair →
       Tells facts.nodes (λ assignment. truth_from (is_truth (t assignment) wanted)) pair
   unfolding tested_pair
   tested_pair-tells Yes a pair t (Is i) told is = opposite-tells a.yes i pair (λ assignment. is_truth (t assignment) Yes) (tells_yes facts.nodes t a told) is
   tested_pair-tells No a pair t (Is i) told is = opposite-tells a.no i pair (λ assignment. is_truth (t assignment) No) (tells_no facts.nodes t a told) is
-  tested_pair-tells Unknown a pair t (IsUnknown i j) told is = unknown-tells a pair t (cited facts connective.Or a.yes a.no i) i j told refl is
+  tested_pair-tells Unknown a pair t (IsUnknown i j) told is = unknown-tells a pair t (product_node facts connective.Or a.yes a.no i) i j told refl is
   tested_pair-tells _ a pair t _ told is = cc
 
   -- IS NULL
-  null_test-tells : (col : ℕ) (entry : ConditionEntry) (pair : Pair) → col < length facts.columns → null_test facts (null_variable facts.columns col) entry ≡ Some pair →
+  null_test-tells : (col : ℕ) (entry : ConditionEntry) (pair : TruthPair) → col < length facts.columns → null_test facts (null_variable facts.columns col) entry ≡ Some pair →
       Tells facts.nodes (λ assignment. truth_from (is_null (value_in (row_of facts.columns assignment) col))) pair
   null_test-tells col entry pair lt is =
       tells_so facts.nodes _ _ pair (λ assignment. ap truth_from (by_value (is_nullable facts.columns col && assignment (first_variable facts.columns col)) _ ∙ ap is_null (sym (value_in-assigned facts.columns col lt assignment))))
@@ -222,7 +222,7 @@ module _ (facts : Facts) (are_worth : AreWorth facts) where
               (worth_so facts.nodes _ _ pair.no (λ assignment. truth_from-no (assignment (first_variable facts.columns col))) worth.1)
           by_entry _ is = cc
 
-  pub is_null_test-tells : (x : Operand) (entry : ConditionEntry) (pair : Pair) → is_within (length facts.columns) x ≡ true → is_null_test facts.columns facts x entry ≡ Some pair →
+  pub is_null_test-tells : (x : Operand) (entry : ConditionEntry) (pair : TruthPair) → is_within (length facts.columns) x ≡ true → is_null_test facts.columns facts x entry ≡ Some pair →
       Tells facts.nodes (λ assignment. truth_from (is_null (operand_value (row_of facts.columns assignment) x))) pair
   unfolding is_null_test
   is_null_test-tells (Col col) entry pair inside is = null_test-tells col entry pair (ltb-true col (length facts.columns) inside) is
@@ -231,15 +231,15 @@ module _ (facts : Facts) (are_worth : AreWorth facts) where
 
   -- a reader of lines whose pairs tell a truth
   abbrev pub IsSound : (List BodyLine → Reading) → (Assignment → Truth) → Type 0
-  IsSound reader truth = (lines rest : List BodyLine) (pair : Pair) → reader lines ≡ Ok (pair, rest) → Tells facts.nodes truth pair
+  IsSound reader truth = (lines rest : List BodyLine) (pair : TruthPair) → reader lines ≡ Ok (pair, rest) → Tells facts.nodes truth pair
 
   -- of one line
-  pub by_line-sound : (end : ℕ) (rule : ConditionEntry → Option Pair) (truth : Assignment → Truth) → ((entry : ConditionEntry) (pair : Pair) → rule entry ≡ Some pair → Tells facts.nodes truth pair) → IsSound (by_line end rule) truth
+  pub by_line-sound : (end : ℕ) (rule : ConditionEntry → Option TruthPair) (truth : Assignment → Truth) → ((entry : ConditionEntry) (pair : TruthPair) → rule entry ≡ Some pair → Tells facts.nodes truth pair) → IsSound (by_line end rule) truth
   by_line-sound end rule truth tells lines rest pair is = by_line-is end rule lines rest pair is (λ entry found. tells entry pair found)
 
   -- of a part's lines, and one line more
-  pub after_part-sound : (end : ℕ) (reader : List BodyLine → Reading) (t u : Assignment → Truth) (rule : Pair → ConditionEntry → Option Pair) → IsSound reader t →
-      ((made : Pair) (entry : ConditionEntry) (pair : Pair) → Tells facts.nodes t made → rule made entry ≡ Some pair → Tells facts.nodes u pair) →
+  pub after_part-sound : (end : ℕ) (reader : List BodyLine → Reading) (t u : Assignment → Truth) (rule : TruthPair → ConditionEntry → Option TruthPair) → IsSound reader t →
+      ((made : TruthPair) (entry : ConditionEntry) (pair : TruthPair) → Tells facts.nodes t made → rule made entry ≡ Some pair → Tells facts.nodes u pair) →
       IsSound (λ lines. reader lines >>= λ read. by_line end (rule read.0) read.1) u
   after_part-sound end reader t u rule sound tells lines rest pair is =
       let read = then-is (reader lines) (λ read. by_line end (rule read.0) read.1) (pair, rest) is in
@@ -251,11 +251,11 @@ module _ (facts : Facts) (are_worth : AreWorth facts) where
     abbrev pub truths : List X → Assignment → Truth
     truths parts assignment = truth_of_all junction (map (λ x. truth x assignment) parts)
 
-    more_parts-tells : (parts : List X) (t : Assignment → Truth) (before : Pair × List BodyLine) (rest : List BodyLine) (pair : Pair) → list_all test parts ≡ true → Tells facts.nodes t before.0 →
+    more_parts-tells : (parts : List X) (t : Assignment → Truth) (before : TruthPair × List BodyLine) (rest : List BodyLine) (pair : TruthPair) → list_all test parts ≡ true → Tells facts.nodes t before.0 →
         more_parts columns facts end junction (map reader parts) before ≡ Ok (pair, rest) → Tells facts.nodes (λ assignment. joined_truth junction (t assignment) (truths parts assignment)) pair
     more_parts-tells [] t before rest pair pass told is =
         let same : before ≡ (pair, rest) = cc in
-        tells_so facts.nodes _ _ pair (λ assignment. joined-none junction (t assignment)) (subst (λ (read : Pair × List BodyLine). Tells facts.nodes t read.0) same told)
+        tells_so facts.nodes _ _ pair (λ assignment. joined-none junction (t assignment)) (subst (λ (read : TruthPair × List BodyLine). Tells facts.nodes t read.0) same told)
     more_parts-tells (part ∷ parts) t before rest pair pass told is =
         let passes = both _ _ pass in
         let one = then-is (one_more columns facts end junction (reader part) before) (λ next. more_parts columns facts end junction (map reader parts) next) (pair, rest) is in

@@ -9,14 +9,14 @@ use Rattle.bw_cert_text.specs.declared.lines.BodyLine.{BodyLine}
 use Rattle.bw_cert_rules.specs.declared.edge.Edge.{Edge}
 use Rattle.bw_cert_rules.specs.Edges.{Holds}
 use Rattle.bw_cert_rules.specs.Join.{edge_of, with_edge, edges_into}
-use Rattle.bw_cert_rules.specs.Walk.{Taken, instruction_taken, joined, walked, judged}
+use Rattle.bw_cert_rules.specs.Walk.{WalkState, instruction_taken, apply_join, check_lines_from, check_lines}
 
 -- the walk has come to an instruction: what the lines say is what those that are left say, after
 -- what is known there
-pub record Walking (facts : Facts) (instrs : List Instr) (end : ℕ) (lines : List BodyLine) (by_target : List (List Edge)) (number : ℕ) (taken : Taken) : Type 0 where
+pub record Walking (facts : Facts) (instrs : List Instr) (end : ℕ) (lines : List BodyLine) (by_target : List (List Edge)) (number : ℕ) (taken : WalkState) : Type 0 where
   pub edges : List Edge
   pub holds : Holds by_target edges
-  pub told : judged facts instrs end lines ≡ walked facts end number edges (drop number instrs) taken
+  pub told : check_lines facts instrs end lines ≡ check_lines_from facts end number edges (drop number instrs) taken
 
 -- from an instruction on, it is the first
 pub drop_at : {A : Type 0} (xs : List A) (n : ℕ) (x : A) → slice_get xs n ≡ Some x → drop n xs ≡ x ∷ drop (suc n) xs
@@ -25,45 +25,45 @@ drop_at {A = A} (y ∷ ys) zero x is = ap (λ (z : A). z ∷ ys) cc
 drop_at (y ∷ ys) (suc n) x is = drop_at ys n x is
 
 -- past an instruction whose lines are right
-pub walked_on : (facts : Facts) (end number place : ℕ) (edges into : List Edge) (instrs : List Instr) (instr : Instr) (taken through past : Taken) → slice_get instrs number ≡ Some instr →
-    instruction_taken facts end taken.known instr taken.rest ≡ Ok through → place ≡ suc number → into ≡ edges_into place (with_edge edges (edge_of taken.known instr)) → joined facts end place into through ≡ Ok past →
-    walked facts end number edges (drop number instrs) taken ≡ walked facts end place (with_edge edges (edge_of taken.known instr)) (drop place instrs) past
-unfolding walked
+pub walked_on : (facts : Facts) (end number place : ℕ) (edges into : List Edge) (instrs : List Instr) (instr : Instr) (taken through past : WalkState) → slice_get instrs number ≡ Some instr →
+    instruction_taken facts end taken.known instr taken.rest ≡ Ok through → place ≡ suc number → into ≡ edges_into place (with_edge edges (edge_of taken.known instr)) → apply_join facts end place into through ≡ Ok past →
+    check_lines_from facts end number edges (drop number instrs) taken ≡ check_lines_from facts end place (with_edge edges (edge_of taken.known instr)) (drop place instrs) past
+unfolding check_lines_from
 walked_on facts end number place edges into instrs instr taken through past there line next all join =
     let after : List Edge = with_edge edges (edge_of taken.known instr) in
     let rest : List Instr = drop (suc number) instrs in
-    let joins : joined facts end (suc number) (edges_into (suc number) after) through ≡ Ok past = ap (λ n. joined facts end n (edges_into n after) through) (sym next) ∙ ap (λ es. joined facts end place es through) (sym all) ∙ join in
-    ap (λ is. walked facts end number edges is taken) (drop_at instrs number instr there)
-    ∙ ap (λ t. t >>= λ through. joined facts end (suc number) (edges_into (suc number) after) through >>= λ past. walked facts end (suc number) after rest past) line
-    ∙ ap (λ t. t >>= λ past. walked facts end (suc number) after rest past) joins
-    ∙ ap (λ n. walked facts end n after (drop n instrs) past) (sym next)
+    let joins : apply_join facts end (suc number) (edges_into (suc number) after) through ≡ Ok past = ap (λ n. apply_join facts end n (edges_into n after) through) (sym next) ∙ ap (λ es. apply_join facts end place es through) (sym all) ∙ join in
+    ap (λ is. check_lines_from facts end number edges is taken) (drop_at instrs number instr there)
+    ∙ ap (λ t. t >>= λ through. apply_join facts end (suc number) (edges_into (suc number) after) through >>= λ past. check_lines_from facts end (suc number) after rest past) line
+    ∙ ap (λ t. t >>= λ past. check_lines_from facts end (suc number) after rest past) joins
+    ∙ ap (λ n. check_lines_from facts end n after (drop n instrs) past) (sym next)
 
 -- at an instruction whose line is refused
-pub walked_refused : (facts : Facts) (end number : ℕ) (edges : List Edge) (instrs : List Instr) (instr : Instr) (taken : Taken) (fault : Fault) → slice_get instrs number ≡ Some instr →
-    instruction_taken facts end taken.known instr taken.rest ≡ Err fault → walked facts end number edges (drop number instrs) taken ≡ Err fault
-unfolding walked
+pub walked_refused : (facts : Facts) (end number : ℕ) (edges : List Edge) (instrs : List Instr) (instr : Instr) (taken : WalkState) (fault : Fault) → slice_get instrs number ≡ Some instr →
+    instruction_taken facts end taken.known instr taken.rest ≡ Err fault → check_lines_from facts end number edges (drop number instrs) taken ≡ Err fault
+unfolding check_lines_from
 walked_refused facts end number edges instrs instr taken fault there line =
     let after : List Edge = with_edge edges (edge_of taken.known instr) in
-    ap (λ is. walked facts end number edges is taken) (drop_at instrs number instr there)
-    ∙ ap (λ t. t >>= λ through. joined facts end (suc number) (edges_into (suc number) after) through >>= λ past. walked facts end (suc number) after (drop (suc number) instrs) past) line
+    ap (λ is. check_lines_from facts end number edges is taken) (drop_at instrs number instr there)
+    ∙ ap (λ t. t >>= λ through. apply_join facts end (suc number) (edges_into (suc number) after) through >>= λ past. check_lines_from facts end (suc number) after (drop (suc number) instrs) past) line
 
 -- after one whose join is refused
-pub join_refused : (facts : Facts) (end number place : ℕ) (edges into : List Edge) (instrs : List Instr) (instr : Instr) (taken through : Taken) (fault : Fault) → slice_get instrs number ≡ Some instr →
-    instruction_taken facts end taken.known instr taken.rest ≡ Ok through → place ≡ suc number → into ≡ edges_into place (with_edge edges (edge_of taken.known instr)) → joined facts end place into through ≡ Err fault →
-    walked facts end number edges (drop number instrs) taken ≡ Err fault
-unfolding walked
+pub join_refused : (facts : Facts) (end number place : ℕ) (edges into : List Edge) (instrs : List Instr) (instr : Instr) (taken through : WalkState) (fault : Fault) → slice_get instrs number ≡ Some instr →
+    instruction_taken facts end taken.known instr taken.rest ≡ Ok through → place ≡ suc number → into ≡ edges_into place (with_edge edges (edge_of taken.known instr)) → apply_join facts end place into through ≡ Err fault →
+    check_lines_from facts end number edges (drop number instrs) taken ≡ Err fault
+unfolding check_lines_from
 join_refused facts end number place edges into instrs instr taken through fault there line next all join =
     let after : List Edge = with_edge edges (edge_of taken.known instr) in
     let rest : List Instr = drop (suc number) instrs in
-    let joins : joined facts end (suc number) (edges_into (suc number) after) through ≡ Err fault = ap (λ n. joined facts end n (edges_into n after) through) (sym next) ∙ ap (λ es. joined facts end place es through) (sym all) ∙ join in
-    ap (λ is. walked facts end number edges is taken) (drop_at instrs number instr there)
-    ∙ ap (λ t. t >>= λ through. joined facts end (suc number) (edges_into (suc number) after) through >>= λ past. walked facts end (suc number) after rest past) line
-    ∙ ap (λ t. t >>= λ past. walked facts end (suc number) after rest past) joins
+    let joins : apply_join facts end (suc number) (edges_into (suc number) after) through ≡ Err fault = ap (λ n. apply_join facts end n (edges_into n after) through) (sym next) ∙ ap (λ es. apply_join facts end place es through) (sym all) ∙ join in
+    ap (λ is. check_lines_from facts end number edges is taken) (drop_at instrs number instr there)
+    ∙ ap (λ t. t >>= λ through. apply_join facts end (suc number) (edges_into (suc number) after) through >>= λ past. check_lines_from facts end (suc number) after rest past) line
+    ∙ ap (λ t. t >>= λ past. check_lines_from facts end (suc number) after rest past) joins
 
 -- at the end
-pub walked_end : (facts : Facts) (end number : ℕ) (edges : List Edge) (instrs : List Instr) (taken : Taken) → length instrs ≤ number → walked facts end number edges (drop number instrs) taken ≡ Ok taken
-unfolding walked
-walked_end facts end number edges instrs taken long = ap (λ is. walked facts end number edges is taken) (none instrs number long)
+pub walked_end : (facts : Facts) (end number : ℕ) (edges : List Edge) (instrs : List Instr) (taken : WalkState) → length instrs ≤ number → check_lines_from facts end number edges (drop number instrs) taken ≡ Ok taken
+unfolding check_lines_from
+walked_end facts end number edges instrs taken long = ap (λ is. check_lines_from facts end number edges is taken) (none instrs number long)
   where
     none : {A : Type 0} (xs : List A) (n : ℕ) → length xs ≤ n → drop n xs ≡ []
     none [] n le = drop-nil n

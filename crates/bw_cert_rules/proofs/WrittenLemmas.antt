@@ -7,10 +7,10 @@ use Rattle.bw_diagram.specs.Facts.{Facts}
 use Rattle.bw_program.specs.declared.instr.Instr.{Instr}
 use Rattle.bw_cert_text.specs.declared.lines.BodyLine.{BodyLine}
 use Rattle.bw_cert_rules.specs.declared.edge.Edge.{Edge}
-use Rattle.bw_cert_rules.specs.Accepted.{KeepLine, JoinLines, Part, keep_line, join_lines, lines_of, before, edges_before, edge_at, fallen, past, known_past, kept_by, are_kept, obeys_join, Obeys}
-use Rattle.bw_cert_rules.specs.Join.{edge_of, with_edge, edges_into, is_kept}
+use Rattle.bw_cert_rules.specs.Accepted.{KeepLine, JoinLines, Part, keep_line, join_lines, lines_of, known_before, edges_before, edge_at, known_on_fallthrough, known_after_join, known_past, kept_by, are_kept, is_valid_join, Obeys}
+use Rattle.bw_cert_rules.specs.Join.{edge_of, with_edge, edges_into, is_valid_keep}
 use Rattle.bw_cert_rules.specs.Known.{Known, nothing_known, with_node}
-use Rattle.bw_cert_rules.specs.Walk.{keep_in, by_keep, keeps_taken, instruction_taken, joined, walked, judged}
+use Rattle.bw_cert_rules.specs.Walk.{keep_in, by_keep, keeps_taken, instruction_taken, apply_join, check_lines_from, check_lines}
 use Rattle.bw_cert_rules.proofs.AcceptLemmas.{drop_stands}
 use Rattle.bw_cert_rules.proofs.JoinLemmas.{keep_on}
 
@@ -28,7 +28,7 @@ keeps_end : (facts : Facts) (through : Known) (edges : List Edge) (least : ℕ) 
 unfolding keeps_taken NoKeep
 keeps_end facts through edges least kept [] none = refl
 keeps_end facts through edges least kept (line ∷ lines) none =
-    ap (λ k. by_keep k (Ok (record { known = kept; rest = line ∷ lines })) (λ keep. refused_if (not (is_kept facts through edges least keep)) (at_line 608 line.line)
+    ap (λ k. by_keep k (Ok (record { known = kept; rest = line ∷ lines })) (λ keep. refused_if (not (is_valid_keep facts through edges least keep)) (at_line 608 line.line)
     (keeps_taken facts through edges (suc keep.register) (with_node kept keep.register keep.node) lines))) none
 
 -- lines KEEP that are kept
@@ -42,8 +42,8 @@ keeps_written facts through edges least kept (k ∷ keeps) rest none are =
     ∙ keeps_written facts through edges (suc k.keep.register) (with_node kept k.keep.register k.keep.node) keeps rest none now.1
 
 -- a join that obeys
-join_written : (facts : Facts) (end place : ℕ) (edges : List Edge) (through : Known) (join : Option JoinLines) (rest : List BodyLine) → NoKeep rest → obeys_join facts through edges join ≡ true →
-    joined facts end place edges (record { known = through; rest = join_lines place join ++ rest }) ≡ Ok (record { known = past through join; rest = rest })
+join_written : (facts : Facts) (end place : ℕ) (edges : List Edge) (through : Known) (join : Option JoinLines) (rest : List BodyLine) → NoKeep rest → is_valid_join facts through edges join ≡ true →
+    apply_join facts end place edges (record { known = through; rest = join_lines place join ++ rest }) ≡ Ok (record { known = known_after_join through join; rest = rest })
 join_written facts end place [] through None rest none obeys = refl
 join_written facts end place [] through (Some join) rest none obeys = cc
 join_written facts end place (edge ∷ edges) through None rest none obeys = cc
@@ -54,34 +54,34 @@ join_written facts end place (edge ∷ edges) through (Some join) rest none obey
 
 -- the lines of parts from a place on
 walk_written : (facts : Facts) (all : List Instr) (every : List Part) (end place : ℕ) (instrs : List Instr) (parts : List Part) → Obeys facts all every → drop place all ≡ instrs → drop place every ≡ parts → length parts ≡ length instrs →
-    walked facts end place (edges_before facts all every place) instrs (record { known = before facts all every place; rest = lines_of place parts })
-    ≡ Ok (record { known = before facts all every (place + length instrs); rest = [] })
-unfolding walked lines_of before edges_before
-walk_written facts all every end place [] [] obeys instrs_are parts_are count = ap (λ n. Ok (record { known = before facts all every n; rest = [] })) (sym (add-zero place))
+    check_lines_from facts end place (edges_before facts all every place) instrs (record { known = known_before facts all every place; rest = lines_of place parts })
+    ≡ Ok (record { known = known_before facts all every (place + length instrs); rest = [] })
+unfolding check_lines_from lines_of known_before edges_before
+walk_written facts all every end place [] [] obeys instrs_are parts_are count = ap (λ n. Ok (record { known = known_before facts all every n; rest = [] })) (sym (add-zero place))
 walk_written facts all every end place [] (part ∷ parts) obeys instrs_are parts_are count = cc
 walk_written facts all every end place (instr ∷ instrs) [] obeys instrs_are parts_are count = cc
 walk_written facts all every end place (instr ∷ instrs) (part ∷ parts) obeys instrs_are parts_are count =
     let instr_there = drop_stands all instrs place instr instrs_are in
     let part_there = drop_stands every parts place part parts_are in
-    let known : Known = before facts all every place in
-    let through : Known = fallen facts known instr part in
+    let known : Known = known_before facts all every place in
+    let through : Known = known_on_fallthrough facts known instr part in
     let own : List BodyLine = join_lines (suc place) part.join ++ lines_of (suc place) parts in
     let edges : List Edge = with_edge (edges_before facts all every place) (edge_of known instr) in
     let edges_are : edges ≡ edges_before facts all every (suc place) = ap (λ i. with_edge (edges_before facts all every place) (edge_at known i)) (sym instr_there.0) in
-    let next : before facts all every (suc place) ≡ past through part.join = ap₂ (known_past facts known) instr_there.0 part_there.0 in
+    let next : known_before facts all every (suc place) ≡ known_after_join through part.join = ap₂ (known_past facts known) instr_there.0 part_there.0 in
     let says : instruction_taken facts end known instr (lines_of place (part ∷ parts)) ≡ Ok (record { known = through; rest = own }) =
     ap (λ r. r >>= λ k. Ok (record { known = k; rest = own })) (obeys.instruction place instr part instr_there.0 part_there.0) in
-    let joins : joined facts end (suc place) (edges_into (suc place) edges) (record { known = through; rest = own }) ≡ Ok (record { known = before facts all every (suc place); rest = lines_of (suc place) parts }) =
-    ap (λ es. joined facts end (suc place) (edges_into (suc place) es) (record { known = through; rest = own })) edges_are
+    let joins : apply_join facts end (suc place) (edges_into (suc place) edges) (record { known = through; rest = own }) ≡ Ok (record { known = known_before facts all every (suc place); rest = lines_of (suc place) parts }) =
+    ap (λ es. apply_join facts end (suc place) (edges_into (suc place) es) (record { known = through; rest = own })) edges_are
     ∙ join_written facts end (suc place) _ through part.join (lines_of (suc place) parts) (no_keep (suc place) parts) (obeys.join place instr part instr_there.0 part_there.0)
     ∙ ap (λ k. Ok (record { known = k; rest = lines_of (suc place) parts })) (sym next) in
-    ap (λ t. t >>= λ through. joined facts end (suc place) (edges_into (suc place) edges) through >>= λ taken. walked facts end (suc place) edges instrs taken) says
-    ∙ ap (λ t. t >>= λ taken. walked facts end (suc place) edges instrs taken) joins
-    ∙ ap (λ es. walked facts end (suc place) es instrs (record { known = before facts all every (suc place); rest = lines_of (suc place) parts })) edges_are
+    ap (λ t. t >>= λ through. apply_join facts end (suc place) (edges_into (suc place) edges) through >>= λ taken. check_lines_from facts end (suc place) edges instrs taken) says
+    ∙ ap (λ t. t >>= λ taken. check_lines_from facts end (suc place) edges instrs taken) joins
+    ∙ ap (λ es. check_lines_from facts end (suc place) es instrs (record { known = known_before facts all every (suc place); rest = lines_of (suc place) parts })) edges_are
     ∙ walk_written facts all every end (suc place) instrs parts obeys instr_there.1 part_there.1 (omega (arith, count))
-    ∙ ap (λ n. Ok (record { known = before facts all every n; rest = [] })) (omega arith)
+    ∙ ap (λ n. Ok (record { known = known_before facts all every n; rest = [] })) (omega arith)
 
-pub judged_written : (facts : Facts) (instrs : List Instr) (parts : List Part) (end : ℕ) → Obeys facts instrs parts → judged facts instrs end (lines_of 0 parts) ≡ Ok (record { known = before facts instrs parts (length instrs); rest = [] })
-unfolding before edges_before
+pub judged_written : (facts : Facts) (instrs : List Instr) (parts : List Part) (end : ℕ) → Obeys facts instrs parts → check_lines facts instrs end (lines_of 0 parts) ≡ Ok (record { known = known_before facts instrs parts (length instrs); rest = [] })
+unfolding known_before edges_before
 judged_written facts instrs parts end obeys =
-    walk_written facts instrs parts end 0 instrs parts obeys refl refl obeys.counted ∙ ap (λ n. Ok (record { known = before facts instrs parts n; rest = [] })) (omega arith)
+    walk_written facts instrs parts end 0 instrs parts obeys refl refl obeys.counted ∙ ap (λ n. Ok (record { known = known_before facts instrs parts n; rest = [] })) (omega arith)

@@ -10,9 +10,9 @@ use Rattle.bw_cert_text.specs.declared.lines.InstructionEntry.{InstructionEntry}
 use Rattle.bw_cert_text.specs.declared.lines.Keep.{Keep}
 use Rattle.bw_cert_rules.specs.declared.edge.Edge.{Edge}
 use Rattle.bw_cert_rules.specs.Known.{Known, nothing_known, with_node}
-use Rattle.bw_cert_rules.specs.Instruction.{after}
-use Rattle.bw_cert_rules.specs.Walk.{Taken}
-use Rattle.bw_cert_rules.specs.Join.{edge_of, with_edge, edges_into, is_kept}
+use Rattle.bw_cert_rules.specs.Instruction.{check_instruction_line}
+use Rattle.bw_cert_rules.specs.Walk.{WalkState}
+use Rattle.bw_cert_rules.specs.Join.{edge_of, with_edge, edges_into, is_valid_keep}
 
 -- a line KEEP with its number
 pub record KeepLine : Type 0 where
@@ -56,25 +56,27 @@ abbrev pub known_or_nothing : Result Known Fault → Known
 known_or_nothing (Ok known) = known
 known_or_nothing (Err fault) = nothing_known
 
-abbrev pub fallen : Facts → Known → Instr → Part → Known
-fallen facts known instr part = known_or_nothing (after facts known part.line instr part.entry)
+abbrev pub known_on_fallthrough : Facts → Known → Instr → Part → Known
+known_on_fallthrough facts known instr part = known_or_nothing
+    (check_instruction_line facts known part.line instr part.entry)
 
 -- what is known after an instruction: what its join keeps, or what falls through if there is no
 -- join
-abbrev pub past : Known → Option JoinLines → Known
-past through None = through
-past through (Some join) = kept_by nothing_known join.keeps
+abbrev pub known_after_join : Known → Option JoinLines → Known
+known_after_join through None = through
+known_after_join through (Some join) = kept_by nothing_known join.keeps
 
 abbrev pub known_past : Facts → Known → Option Instr → Option Part → Known
-known_past facts known (Some instr) (Some part) = past (fallen facts known instr part) part.join
+known_past facts known (Some instr) (Some part) = known_after_join
+    (known_on_fallthrough facts known instr part) part.join
 known_past facts known (Some instr) None = nothing_known
 known_past facts known None part = nothing_known
 
 -- What is known before each place.
-unfoldable pub before : Facts → List Instr → List Part → ℕ → Known
-before facts instrs parts zero = nothing_known
-before facts instrs parts (suc place) =
-    known_past facts (before facts instrs parts place) (slice_get instrs place)
+unfoldable pub known_before : Facts → List Instr → List Part → ℕ → Known
+known_before facts instrs parts zero = nothing_known
+known_before facts instrs parts (suc place) =
+    known_past facts (known_before facts instrs parts place) (slice_get instrs place)
     (slice_get parts place)
 
 -- the edge of the skip at a place, if there is one
@@ -86,23 +88,24 @@ edge_at known (Some instr) = edge_of known instr
 unfoldable pub edges_before : Facts → List Instr → List Part → ℕ → List Edge
 edges_before facts instrs parts zero = []
 edges_before facts instrs parts (suc place) =
-    with_edge (edges_before facts instrs parts place) (edge_at (before facts instrs parts place)
+    with_edge (edges_before facts instrs parts place)
+    (edge_at (known_before facts instrs parts place)
     (slice_get instrs place))
 
 -- the lines KEEP are of ascending registers, from the least on, and each is true
 unfoldable pub are_kept : Facts → Known → List Edge → ℕ → List KeepLine → Bool
 are_kept facts through edges least [] = true
 are_kept facts through edges least (k ∷ keeps) =
-    is_kept facts through edges least k.keep
+    is_valid_keep facts through edges least k.keep
     && are_kept facts through edges (suc k.keep.register) keeps
 
 -- There is a join exactly if skips lead to the place, and what it keeps is true on fall-through and
 -- by each skip.
-abbrev pub obeys_join : Facts → Known → List Edge → Option JoinLines → Bool
-obeys_join facts through [] None = true
-obeys_join facts through [] (Some join) = false
-obeys_join facts through (edge ∷ edges) None = false
-obeys_join facts through (edge ∷ edges) (Some join) = are_kept facts through
+abbrev pub is_valid_join : Facts → Known → List Edge → Option JoinLines → Bool
+is_valid_join facts through [] None = true
+is_valid_join facts through [] (Some join) = false
+is_valid_join facts through (edge ∷ edges) None = false
+is_valid_join facts through (edge ∷ edges) (Some join) = are_kept facts through
     (edge ∷ edges) 0 join.keeps
 
 -- Parts, one for each instruction, satisfy their rules: each instruction's line its own, and each
@@ -111,19 +114,21 @@ pub record Obeys (facts : Facts) (instrs : List Instr) (parts : List Part) : Typ
   pub counted : length parts ≡ length instrs
   pub instruction : (place : ℕ) (instr : Instr) (part : Part) → slice_get instrs place ≡ Some instr
       → slice_get parts place ≡ Some part
-      → after facts (before facts instrs parts place) part.line instr part.entry
-      ≡ Ok (fallen facts (before facts instrs parts place) instr part)
+      → check_instruction_line facts (known_before facts instrs parts place) part.line instr
+      part.entry
+      ≡ Ok (known_on_fallthrough facts (known_before facts instrs parts place) instr part)
   pub join : (place : ℕ) (instr : Instr) (part : Part) → slice_get instrs place ≡ Some instr
       → slice_get parts place
       ≡ Some part
-      → IsTrue (obeys_join facts (fallen facts (before facts instrs parts place) instr part)
+      → IsTrue (is_valid_join facts
+      (known_on_fallthrough facts (known_before facts instrs parts place) instr part)
       (edges_into (suc place) (edges_before facts instrs parts (suc place))) part.join)
 
 -- The lines state what is known at the end of a program, and others follow: they are those of parts
 -- that satisfy their rules.
 pub record Accepts (facts : Facts) (instrs : List Instr) (lines : List BodyLine)
-    (taken : Taken) : Type 0 where
+    (taken : WalkState) : Type 0 where
   pub parts : List Part
   pub obeys : Obeys facts instrs parts
   pub spelled : lines ≡ lines_of 0 parts ++ taken.rest
-  pub known : taken.known ≡ before facts instrs parts (length instrs)
+  pub known : taken.known ≡ known_before facts instrs parts (length instrs)

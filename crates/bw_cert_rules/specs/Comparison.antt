@@ -11,46 +11,47 @@ use Rattle.bw_model.specs.declared.cond.Operand.TheVariants.{Col, Lit}
 use Rattle.bw_model.specs.declared.cond.Truth.{Truth}
 use Rattle.bw_model.specs.declared.cond.Truth.TheVariants.{No, Unknown, Yes}
 use Rattle.bw_model.specs.Code.{width_at}
-use Rattle.bw_model.specs.Truth.{truth_from, holds, turned}
+use Rattle.bw_model.specs.Truth.{truth_from, holds, swap_operands}
 use Rattle.bw_model.specs.Variable.{null_variable}
 use Rattle.bw_diagram.specs.declared.chain.ChainKind.{ChainKind}
 use Rattle.bw_diagram.specs.declared.chain.ChainKind.TheVariants.{Less, Equal}
 use Rattle.bw_diagram.specs.declared.product.Connective.TheVariants.{And, Diff}
 use Rattle.bw_diagram.specs.Chain.{first_node}
-use Rattle.bw_diagram.specs.Cited.{cited, chain_cited, two_cited}
+use Rattle.bw_diagram.specs.Cited.{product_node, comparison_node, two_column_node}
 use Rattle.bw_diagram.specs.Facts.{Facts}
 use Rattle.bw_cert_text.specs.declared.lines.ConditionEntry.{ConditionEntry}
 use Rattle.bw_cert_text.specs.declared.lines.ConditionEntry.TheVariants.{Compare, CompareColumns, Fixed}
-use Rattle.bw_cert_rules.specs.declared.nodes.Pair.{Pair}
+use Rattle.bw_cert_rules.specs.declared.nodes.TruthPair.{TruthPair}
 use Rattle.bw_cert_rules.specs.declared.comparison.Bound.{Bound}
 use Rattle.bw_cert_rules.specs.declared.comparison.Order.{Order}
-use Rattle.bw_cert_rules.specs.Rows.{pair_of_nodes, if_both, exchanged, value_node}
+use Rattle.bw_cert_rules.specs.Rows.{pair_of_nodes, if_both, exchange_nodes, value_node}
 
 -- the minimum of the column of this number
 abbrev pub lo_at : List Column → ℕ → ℤ
 lo_at columns column = slice_index_or (map (λ c. c.lo) columns) column (pos 0)
 
 -- the truth pair of a step with the same truth on every row
-abbrev pub constant_pair : Truth → Pair
+abbrev pub constant_pair : Truth → TruthPair
 constant_pair Yes = pair_of_nodes 1 0
 constant_pair No = pair_of_nodes 0 1
 constant_pair Unknown = pair_of_nodes 0 0
 
 -- FIXED: a step with the same truth on every row
-abbrev pub fixed : Truth → ConditionEntry → Option Pair
-fixed truth Fixed = Some (constant_pair truth)
-fixed truth _ = None
+abbrev pub fixed_pair : Truth → ConditionEntry → Option TruthPair
+fixed_pair truth Fixed = Some (constant_pair truth)
+fixed_pair truth _ = None
 
 -- The truth pair of a comparison that is UNKNOWN unless node m is 1, and is then TRUE if node e is
 -- 1: p is the product row of m AND e, and q that of "m and not e".
-abbrev pub split : Facts → Option ℕ → Option ℕ → ℕ → ℕ → Option Pair
-split facts (Some m) (Some e) p q = if_both (cited facts And m e p) (cited facts Diff m e q)
-split facts _ _ p q = None
+abbrev pub pair_if_known : Facts → Option ℕ → Option ℕ → ℕ → ℕ → Option TruthPair
+pair_if_known facts (Some m) (Some e) p q = if_both (product_node facts And m e p)
+    (product_node facts Diff m e q)
+pair_if_known facts _ _ p q = None
 
 -- if it is negated, the comparison is FALSE if node e is 1
-abbrev pub turned_if : Bool → Option Pair → Option Pair
-turned_if true pair = option_map exchanged pair
-turned_if false pair = pair
+abbrev pub exchange_if : Bool → Option TruthPair → Option TruthPair
+exchange_if true pair = option_map exchange_nodes pair
+exchange_if false pair = pair
 
 -- A comparison of a column with a literal that is d above the column's minimum means that the
 -- column's code is less than (equal to) a bound, or isn't.
@@ -82,17 +83,18 @@ abbrev pub bound_node : List Column → Facts → ℕ → Bound → Option ℕ �
 bound_node columns facts col bound chain =
     let width = width_at columns col in
     let terminal = terminal_of bound.kind bound.limit width in
-    terminal_or_cited terminal (chain_cited facts bound.kind col 0 width (unsigned_abs bound.limit))
+    terminal_or_cited terminal
+    (comparison_node facts bound.kind col 0 width (unsigned_abs bound.limit))
     chain
 
 -- CMP: a column and a literal, which compares the column's code with the literal's distance from
 -- the column's minimum
-unfoldable pub with_literal : List Column → Facts → Op → ℕ → ℤ → ConditionEntry → Option Pair
+unfoldable pub with_literal : List Column → Facts → Op → ℕ → ℤ → ConditionEntry → Option TruthPair
 with_literal columns facts op col n (Compare chain value p q) =
     let bound = bound_of op (n -ℤ lo_at columns col) in
     let m = value_node facts (null_variable columns col) value in
     let e = bound_node columns facts col bound chain in
-    turned_if bound.negated (split facts m e p q)
+    exchange_if bound.negated (pair_if_known facts m e p q)
 with_literal columns facts op col n _ = None
 
 -- A comparison of two columns of the same minimum means that the code of `left` is less than (equal
@@ -111,32 +113,34 @@ abbrev pub order_node : List Column → Facts → Order → Option ℕ → Optio
 order_node columns facts order chain =
     let len = max (width_at columns order.left) (width_at columns order.right) in
     let terminal = if order.left == order.right then Some (first_node order.kind) else None in
-    terminal_or_cited terminal (two_cited facts order.kind order.left order.right len) chain
+    terminal_or_cited terminal (two_column_node facts order.kind order.left order.right len) chain
 
 -- the node that is 1 if two columns have values: that of a product row that combines the nodes of
 -- both by AND
 abbrev pub both_node : Facts → Option ℕ → Option ℕ → ℕ → Option ℕ
-both_node facts (Some m) (Some n) number = cited facts And m n number
+both_node facts (Some m) (Some n) number = product_node facts And m n number
 both_node facts _ _ number = None
 
 -- CMP2: two columns of the same minimum, which compares their codes. Columns of different minimums
 -- have no line.
-unfoldable pub with_column : List Column → Facts → Op → ℕ → ℕ → ConditionEntry → Option Pair
+unfoldable pub with_column : List Column → Facts → Op → ℕ → ℕ → ConditionEntry → Option TruthPair
 with_column columns facts op c d (CompareColumns chain left right both p q) =
     let order = order_of op c d in
     let left_value = value_node facts (null_variable columns c) left in
     let right_value = value_node facts (null_variable columns d) right in
     let m = both_node facts left_value right_value both in
     let e = order_node columns facts order chain in
-    if int_eq (lo_at columns c) (lo_at columns d) then turned_if order.negated (split facts m e p q)
+    if int_eq (lo_at columns c) (lo_at columns d)
+    then exchange_if order.negated (pair_if_known facts m e p q)
     else None
 with_column columns facts op c d _ = None
 
 -- The truth pair of a comparison by its line. A comparison with NULL is UNKNOWN on every row.
 unfoldable pub comparison : List Column → Facts → Op → Operand → Operand → ConditionEntry
-    → Option Pair
+    → Option TruthPair
 comparison columns facts op (Col c) (Lit n) entry = with_literal columns facts op c n entry
-comparison columns facts op (Lit n) (Col c) entry = with_literal columns facts (turned op) c n entry
+comparison columns facts op (Lit n) (Col c) entry = with_literal columns facts
+    (swap_operands op) c n entry
 comparison columns facts op (Col c) (Col d) entry = with_column columns facts op c d entry
-comparison columns facts op (Lit m) (Lit n) entry = fixed (truth_from (holds op m n)) entry
-comparison columns facts op _ _ entry = fixed Unknown entry
+comparison columns facts op (Lit m) (Lit n) entry = fixed_pair (truth_from (holds op m n)) entry
+comparison columns facts op _ _ entry = fixed_pair Unknown entry

@@ -11,7 +11,7 @@ use Rattle.bw_diagram.specs.declared.chain.ChainKind.TheVariants.{Less, Equal}
 use Rattle.bw_diagram.specs.declared.product.Connective.{Connective}
 use Rattle.bw_diagram.specs.declared.product.Connective.TheVariants as connective
 use Rattle.bw_diagram.specs.Facts.{Facts}
-use Rattle.bw_diagram.specs.Cited.{cited, chain_cited, variable_cited}
+use Rattle.bw_diagram.specs.Cited.{product_node, comparison_node, variable_node}
 use Rattle.bw_program.specs.declared.instr.Instr.{Instr}
 use Rattle.bw_program.specs.declared.instr.Instr.TheVariants.{Load, Nulls, Fill, And, Or, Xor, Not, ByteLt, ByteEq, Skip}
 use Rattle.bw_program.specs.Program.{instr_fits}
@@ -68,12 +68,12 @@ abbrev pub plane_on : Facts → ℕ → Bool → ℕ → InstructionEntry → Re
 plane_on facts line there variable given =
     found_on INSTRUCTION_LINE line (loaded_node given) >>= λ node.
     refused_if (not there) (at_line INSTRUCTION_LINE line)
-    (found_on INSTRUCTION_LINE line (variable_cited facts variable node))
+    (found_on INSTRUCTION_LINE line (variable_node facts variable node))
 
 -- An operation on two nodes has the third node of the product row that its line names, if that is
 -- the row of these nodes.
 abbrev pub operation_on : Facts → ℕ → Connective → ℕ → ℕ → ℕ → Result ℕ Fault
-operation_on facts line op a b row = found_on INSTRUCTION_LINE line (cited facts op a b row)
+operation_on facts line op a b row = found_on INSTRUCTION_LINE line (product_node facts op a b row)
 
 -- the node of a register that is read, which must be known (609)
 abbrev pub read_on : Known → ℕ → ℕ → Result ℕ Fault
@@ -103,7 +103,7 @@ byte_node facts kind column slice k None =
     if nat_le (2 ^ bits_in_slice facts.columns column slice) k then Some (past_node kind) else None
 byte_node facts kind column slice k (Some chain) =
     if nat_le (2 ^ bits_in_slice facts.columns column slice) k then None
-    else chain_cited facts kind column (8 * slice) (bits_in_slice facts.columns column slice) k
+    else comparison_node facts kind column (8 * slice) (bits_in_slice facts.columns column slice) k
     chain
 
 -- a byte comparison, of a slice that exists
@@ -124,33 +124,35 @@ fill known line register bit given = refused_if (not (is_fill given))
     (Ok (with_node known register (terminal bit)))
 
 -- the register that a skip reads must have a node, and the line must be a skip's
-abbrev pub look : Known → ℕ → ℕ → InstructionEntry → Result Known Fault
-look known line register given = refused_if (not (is_skip_line given))
+abbrev pub check_skip : Known → ℕ → ℕ → InstructionEntry → Result Known Fault
+check_skip known line register given = refused_if (not (is_skip_line given))
     (at_line INSTRUCTION_LINE line)
     (read_on known line register >>= λ node. Ok known)
 
 -- What is known after an instruction, by its line: the register that it writes has the node that
 -- the line shows. A line of another kind, or one that doesn't show it, is 607. A line of the right
 -- kind is 609 if the instruction reads a register without a node. A skip changes nothing.
-unfoldable pub after : Facts → Known → ℕ → Instr → InstructionEntry → Result Known Fault
-after facts known line (Load r column bit) given =
+unfoldable pub check_instruction_line : Facts → Known → ℕ → Instr → InstructionEntry
+    → Result Known Fault
+check_instruction_line facts known line (Load r column bit) given =
     put known r (plane_on facts line (instr_fits facts.columns (Load r column bit))
     (bit_variable facts.columns column bit) given)
-after facts known line (Nulls r column) given =
+check_instruction_line facts known line (Nulls r column) given =
     put known r (plane_on facts line (instr_fits facts.columns (Nulls r column))
     (first_variable facts.columns column) given)
-after facts known line (Fill r bit) given = fill known line r bit given
-after facts known line (And r x y) given = put known r
+check_instruction_line facts known line (Fill r bit) given = fill known line r bit given
+check_instruction_line facts known line (And r x y) given = put known r
     (joined_on facts known line connective.And x y given)
-after facts known line (Or r x y) given = put known r
+check_instruction_line facts known line (Or r x y) given = put known r
     (joined_on facts known line connective.Or x y given)
-after facts known line (Xor r x y) given = put known r
+check_instruction_line facts known line (Xor r x y) given = put known r
     (joined_on facts known line connective.Xor x y given)
-after facts known line (Not r x) given = put known r (opposite_on facts known line x given)
-after facts known line (ByteLt r column slice k) given =
+check_instruction_line facts known line (Not r x) given = put known r
+    (opposite_on facts known line x given)
+check_instruction_line facts known line (ByteLt r column slice k) given =
     put known r (byte_on facts line Less (instr_fits facts.columns (ByteLt r column slice k)) column
     slice k given)
-after facts known line (ByteEq r column slice k) given =
+check_instruction_line facts known line (ByteEq r column slice k) given =
     put known r (byte_on facts line Equal (instr_fits facts.columns (ByteEq r column slice k))
     column slice k given)
-after facts known line (Skip x target) given = look known line x given
+check_instruction_line facts known line (Skip x target) given = check_skip known line x given

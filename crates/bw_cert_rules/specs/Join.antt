@@ -3,7 +3,7 @@ use Rattle.std.specs.Prelude.{ℕ, Bool, true, false, ◌&&◌, ◌==◌, if◌t
 use Rattle.std.specs.Option.{option_and_then}
 use Rattle.bw_diagram.specs.declared.product.Connective.TheVariants as connective
 use Rattle.bw_diagram.specs.Facts.{Facts}
-use Rattle.bw_diagram.specs.Cited.{cited}
+use Rattle.bw_diagram.specs.Cited.{product_node}
 use Rattle.bw_cert_text.specs.declared.lines.EdgeProducts.{EdgeProducts}
 use Rattle.bw_cert_text.specs.declared.lines.Keep.{Keep}
 use Rattle.bw_program.specs.declared.instr.Instr.{Instr}
@@ -43,7 +43,7 @@ is_zero (Some node) = node == 0
 -- On fall-through, the register's node equals the kept one: their XOR is 0 by the product row.
 abbrev pub keeps_through : Facts → Known → Keep → Bool
 keeps_through facts through keep = is_zero
-    (option_and_then (λ f. cited facts connective.Xor f keep.node keep.through)
+    (option_and_then (λ f. product_node facts connective.Xor f keep.node keep.through)
     (node_of through keep.register))
 
 -- By a skip, the register's node there differs from the kept one only if the skip's register is 1:
@@ -52,8 +52,9 @@ keeps_through facts through keep = is_zero
 abbrev pub keeps_by_skip : Facts → Keep → Edge → EdgeProducts → Bool
 keeps_by_skip facts keep edge rows =
     is_zero (option_and_then (λ differs. option_and_then (λ skipped.
-    cited facts connective.Diff differs skipped rows.within) (node_of edge.known edge.register))
-    (option_and_then (λ g. cited facts connective.Xor g keep.node rows.differs)
+    product_node facts connective.Diff differs skipped rows.within)
+    (node_of edge.known edge.register))
+    (option_and_then (λ g. product_node facts connective.Xor g keep.node rows.differs)
     (node_of edge.known keep.register)))
 
 -- so it is by each skip, with one pair of product rows each
@@ -66,7 +67,7 @@ keeps_by_skips facts keep (edge ∷ edges) (rows ∷ more) = keeps_by_skip facts
 
 -- The register isn't below the least, and has the node that its line names on every way to the
 -- join.
-unfoldable pub is_kept : Facts → Known → List Edge → ℕ → Keep → Bool
-is_kept facts through edges least keep =
+unfoldable pub is_valid_keep : Facts → Known → List Edge → ℕ → Keep → Bool
+is_valid_keep facts through edges least keep =
     nat_le least keep.register && is_register keep.register && keeps_through facts through keep
     && keeps_by_skips facts keep edges keep.edges

@@ -6,11 +6,11 @@ use Rattle.bw_model.specs.Truth.{is_truth}
 use Rattle.bw_model.specs.Variable.{Assignment}
 use Rattle.bw_diagram.specs.declared.node.Node.{Node}
 use Rattle.bw_diagram.specs.Node.{IsNode, node_value}
-use Rattle.bw_cert_rules.specs.declared.nodes.Pair.{Pair}
+use Rattle.bw_cert_rules.specs.declared.nodes.TruthPair.{TruthPair}
 
 -- The pair is two of these nodes, and under every assignment the first is 1 exactly if the truth is
 -- TRUE, and the second exactly if it is FALSE.
-pub record Tells (nodes : List Node) (truth : Assignment → Truth) (pair : Pair) : Type 0 where
+pub record Tells (nodes : List Node) (truth : Assignment → Truth) (pair : TruthPair) : Type 0 where
   pub yes_node : IsNode nodes pair.yes
   pub no_node : IsNode nodes pair.no
   pub yes : (assignment : Assignment) → node_value nodes assignment pair.yes

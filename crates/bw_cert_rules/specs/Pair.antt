@@ -15,7 +15,7 @@ use Rattle.bw_model.specs.declared.fault.Fault.{Fault}
 use Rattle.bw_model.specs.Fault.{at_line, ◌>>=◌}
 use Rattle.bw_model.specs.Variable.{null_variable}
 use Rattle.bw_diagram.specs.declared.product.Connective.TheVariants as connective
-use Rattle.bw_diagram.specs.Cited.{cited}
+use Rattle.bw_diagram.specs.Cited.{product_node}
 use Rattle.bw_diagram.specs.Facts.{Facts}
 use Rattle.bw_cert_text.specs.declared.body.BodyLines.{BodyLines}
 use Rattle.bw_cert_text.specs.declared.lines.BodyLine.{BodyLine}
@@ -25,25 +25,25 @@ use Rattle.bw_cert_text.specs.declared.lines.ConditionEntry.{ConditionEntry}
 use Rattle.bw_cert_text.specs.BodyLines.{body_lines}
 use Rattle.bw_cert_text.specs.CertificateFields.{BodyFields, body_fields}
 use Rattle.bw_cert_text.specs.declared.lines.ConditionEntry.TheVariants.{NullTest, And, Or, Not, Is, IsUnknown}
-use Rattle.bw_cert_rules.specs.declared.nodes.Pair.{Pair}
+use Rattle.bw_cert_rules.specs.declared.nodes.TruthPair.{TruthPair}
 use Rattle.bw_cert_rules.specs.declared.steps.Junction.{Junction}
 use Rattle.bw_cert_rules.specs.declared.steps.Junction.TheVariants.{All, Any}
-use Rattle.bw_cert_rules.specs.Rows.{if_both, exchanged, null_cited}
-use Rattle.bw_cert_rules.specs.Comparison.{fixed, comparison}
+use Rattle.bw_cert_rules.specs.Rows.{if_both, exchange_nodes, null_pair}
+use Rattle.bw_cert_rules.specs.Comparison.{fixed_pair, comparison}
 
 -- The result of reading a certificate's lines: a truth pair and the lines after those that made it,
 -- or the first error.
 abbrev pub Reading : Type 0
-Reading = Result (Pair × List BodyLine) Fault
+Reading = Result (TruthPair × List BodyLine) Fault
 
 -- The same result with each line replaced by its fields, so that equal lines at different addresses
 -- compare equal.
-abbrev pub told : Reading → Result (Pair × List BodyFields) Fault
-told (Ok read) = Ok (read.0, map body_fields read.1)
-told (Err fault) = Err fault
+abbrev pub line_fields : Reading → Result (TruthPair × List BodyFields) Fault
+line_fields (Ok read) = Ok (read.0, map body_fields read.1)
+line_fields (Err fault) = Err fault
 
 -- what a reader returned is this reading
-abbrev pub Answers : Result (Pair × BodyLines) Fault → Reading → Type 0
+abbrev pub Answers : Result (TruthPair × BodyLines) Fault → Reading → Type 0
 Answers (Ok read) reading = reading ≡ Ok (read.0, body_lines read.1)
 Answers (Err fault) reading = reading ≡ Err fault
 
@@ -64,73 +64,78 @@ next_number end (line ∷ rest) = line.line
 
 -- the truth pair that the next line makes, and the lines after it; or 606 at that line, or at END
 -- if there is none
-abbrev pub taken : ℕ → Option Pair → List BodyLine → Reading
-taken end (Some pair) (line ∷ rest) = Ok (pair, rest)
-taken end _ lines = Err (at_line CONDITION_LINE (next_number end lines))
+abbrev pub expect_line : ℕ → Option TruthPair → List BodyLine → Reading
+expect_line end (Some pair) (line ∷ rest) = Ok (pair, rest)
+expect_line end _ lines = Err (at_line CONDITION_LINE (next_number end lines))
 
 -- the truth pair that this rule makes of the next line's fields, and the lines after it
-unfoldable pub by_line : ℕ → (ConditionEntry → Option Pair) → List BodyLine → Reading
-by_line end rule lines = taken end (option_and_then rule (next_entry lines)) lines
+unfoldable pub by_line : ℕ → (ConditionEntry → Option TruthPair) → List BodyLine → Reading
+by_line end rule lines = expect_line end (option_and_then rule (next_entry lines)) lines
 
 -- IS NULL of a column that has this null variable, or none
-abbrev pub null_test : Facts → Option ℕ → ConditionEntry → Option Pair
-null_test facts None entry = fixed truth.No entry
-null_test facts (Some variable) (NullTest number) = null_cited facts variable number
+abbrev pub null_test : Facts → Option ℕ → ConditionEntry → Option TruthPair
+null_test facts None entry = fixed_pair truth.No entry
+null_test facts (Some variable) (NullTest number) = null_pair facts variable number
 null_test facts (Some variable) _ = None
 
 -- IS NULL
-unfoldable pub is_null_test : List Column → Facts → Operand → ConditionEntry → Option Pair
+unfoldable pub is_null_test : List Column → Facts → Operand → ConditionEntry → Option TruthPair
 is_null_test columns facts (Col column) entry = null_test facts (null_variable columns column) entry
-is_null_test columns facts (Lit n) entry = fixed truth.No entry
-is_null_test columns facts Null entry = fixed truth.Yes entry
+is_null_test columns facts (Lit n) entry = fixed_pair truth.No entry
+is_null_test columns facts Null entry = fixed_pair truth.Yes entry
 
 -- AND is TRUE if both parts are, and FALSE if one of them is. OR is TRUE if one part is, and FALSE
 -- if both are.
-unfoldable pub joined_pair : Facts → Junction → Pair → Pair → ConditionEntry → Option Pair
+unfoldable pub joined_pair : Facts → Junction → TruthPair → TruthPair → ConditionEntry
+    → Option TruthPair
 joined_pair facts All a b (And i j) =
-    if_both (cited facts connective.And a.yes b.yes i) (cited facts connective.Or a.no b.no j)
+    if_both (product_node facts connective.And a.yes b.yes i)
+    (product_node facts connective.Or a.no b.no j)
 joined_pair facts Any a b (Or i j) =
-    if_both (cited facts connective.Or a.yes b.yes i) (cited facts connective.And a.no b.no j)
+    if_both (product_node facts connective.Or a.yes b.yes i)
+    (product_node facts connective.And a.no b.no j)
 joined_pair facts _ a b _ = None
 
 -- NOT
-unfoldable pub negated_pair : Pair → ConditionEntry → Option Pair
-negated_pair pair Not = Some (exchanged pair)
+unfoldable pub negated_pair : TruthPair → ConditionEntry → Option TruthPair
+negated_pair pair Not = Some (exchange_nodes pair)
 negated_pair pair _ = None
 
 -- a node, and that of a product row "1 and not the node"
-abbrev pub with_opposite : Facts → ℕ → ℕ → Option Pair
-with_opposite facts node number = if_both (Some node) (cited facts connective.Diff 1 node number)
+abbrev pub with_opposite : Facts → ℕ → ℕ → Option TruthPair
+with_opposite facts node number = if_both (Some node)
+    (product_node facts connective.Diff 1 node number)
 
 -- a part is UNKNOWN if neither of its nodes is 1
-abbrev pub unknown_pair : Facts → Option ℕ → ℕ → Option Pair
-unknown_pair facts (Some known) number = if_both (cited facts connective.Diff 1 known number)
+abbrev pub unknown_pair : Facts → Option ℕ → ℕ → Option TruthPair
+unknown_pair facts (Some known) number = if_both (product_node facts connective.Diff 1 known number)
     (Some known)
 unknown_pair facts None number = None
 
 -- IS TRUE, IS FALSE and IS UNKNOWN
-unfoldable pub tested_pair : Facts → Truth → Pair → ConditionEntry → Option Pair
+unfoldable pub tested_pair : Facts → Truth → TruthPair → ConditionEntry → Option TruthPair
 tested_pair facts truth.Yes pair (Is i) = with_opposite facts pair.yes i
 tested_pair facts truth.No pair (Is i) = with_opposite facts pair.no i
 tested_pair facts truth.Unknown pair (IsUnknown i j) =
-    unknown_pair facts (cited facts connective.Or pair.yes pair.no i) j
+    unknown_pair facts (product_node facts connective.Or pair.yes pair.no i) j
 tested_pair facts _ pair _ = None
 
 module _ (columns : List Column) (facts : Facts) (end : ℕ) where
   -- the lines of a further part, and then the line that combines it with the parts before it
-  abbrev pub one_more : Junction → (List BodyLine → Reading) → Pair × List BodyLine → Reading
+  abbrev pub one_more : Junction → (List BodyLine → Reading) → TruthPair × List BodyLine → Reading
   one_more junction part before =
       part before.1 >>= λ next. by_line end (joined_pair facts junction before.0 next.0) next.1
 
   -- the lines of all further parts, in order
-  abbrev pub more_parts : Junction → List (List BodyLine → Reading) → Pair × List BodyLine → Reading
+  abbrev pub more_parts : Junction → List (List BodyLine → Reading) → TruthPair × List BodyLine
+      → Reading
   more_parts junction [] before = Ok before
   more_parts junction (part ∷ parts) before =
       one_more junction part before >>= λ next. more_parts junction parts next
 
   -- the lines of one or more parts that are combined by AND or OR
   abbrev pub joined_parts : Junction → List (List BodyLine → Reading) → List BodyLine → Reading
-  joined_parts junction [] lines = taken end None lines
+  joined_parts junction [] lines = expect_line end None lines
   joined_parts junction (part ∷ parts) lines = part lines
       >>= λ first. more_parts junction parts first
 
@@ -140,7 +145,7 @@ module _ (columns : List Column) (facts : Facts) (end : ℕ) where
 
   -- the lines of a condition, from those of its parts
   abbrev pub pair_step : Cond-F (List BodyLine → Reading) → List BodyLine → Reading
-  pair_step layer.Always lines = by_line end (fixed truth.Yes) lines
+  pair_step layer.Always lines = by_line end (fixed_pair truth.Yes) lines
   pair_step (layer.Cmp op x y) lines = by_line end (comparison columns facts op x y) lines
   pair_step (layer.Between x y z) lines =
       let low = by_line end (comparison columns facts Ge x y) in

@@ -3,29 +3,29 @@
 use Rattle.std.specs.Prelude.{ℕ, Option, Some, None, slice_get}
 use Rattle.std.specs.Option.{option_and_then, option_map}
 use Rattle.bw_diagram.specs.declared.product.Connective.TheVariants.{Diff}
-use Rattle.bw_diagram.specs.Cited.{cited, variable_cited}
+use Rattle.bw_diagram.specs.Cited.{product_node, variable_node}
 use Rattle.bw_diagram.specs.Facts.{Facts}
-use Rattle.bw_cert_rules.specs.declared.nodes.Pair.{Pair}
+use Rattle.bw_cert_rules.specs.declared.nodes.TruthPair.{TruthPair}
 
 -- the truth pair of two nodes: one is 1 if a condition is TRUE, the other if it is FALSE
-abbrev pub pair_of_nodes : ℕ → ℕ → Pair
+abbrev pub pair_of_nodes : ℕ → ℕ → TruthPair
 pair_of_nodes t f = record { yes = t; no = f }
 
 -- the truth pair of two nodes, if there are both
-abbrev pub if_both : Option ℕ → Option ℕ → Option Pair
+abbrev pub if_both : Option ℕ → Option ℕ → Option TruthPair
 if_both (Some t) (Some f) = Some (pair_of_nodes t f)
 if_both _ _ = None
 
 -- NOT exchanges the nodes
-abbrev pub exchanged : Pair → Pair
-exchanged pair = pair_of_nodes pair.no pair.yes
+abbrev pub exchange_nodes : TruthPair → TruthPair
+exchange_nodes pair = pair_of_nodes pair.no pair.yes
 
 -- The null test of a column: the product row of this number is "1 and not z", and z's value is that
 -- of the column's null variable. Its truth pair is z, which is 1 if the column is null, and the
 -- row's third node, which is 1 if it isn't.
-abbrev pub null_cited : Facts → ℕ → ℕ → Option Pair
-null_cited facts variable number = option_and_then
-    (λ row. if_both (variable_cited facts variable row.b) (cited facts Diff 1 row.b number))
+abbrev pub null_pair : Facts → ℕ → ℕ → Option TruthPair
+null_pair facts variable number = option_and_then
+    (λ row. if_both (variable_node facts variable row.b) (product_node facts Diff 1 row.b number))
     (slice_get facts.products number)
 
 -- The node that is 1 if a column has a value: 1 if it has no null variable and the line has `-`;
@@ -33,5 +33,5 @@ null_cited facts variable number = option_and_then
 abbrev pub value_node : Facts → Option ℕ → Option ℕ → Option ℕ
 value_node facts None None = Some 1
 value_node facts (Some variable) (Some number) = option_map (λ pair. pair.no)
-    (null_cited facts variable number)
+    (null_pair facts variable number)
 value_node facts _ _ = None

@@ -13,24 +13,25 @@ use Rattle.bw_cert_text.specs.declared.lines.Keep.{Keep}
 use Rattle.bw_cert_text.specs.CertificateFields.{BodyFields, body_fields}
 use Rattle.bw_cert_rules.specs.declared.edge.Edge.{Edge}
 use Rattle.bw_cert_rules.specs.Known.{Known, with_node, nothing_known}
-use Rattle.bw_cert_rules.specs.Instruction.{after}
-use Rattle.bw_cert_rules.specs.Join.{edge_of, with_edge, edges_into, is_kept}
+use Rattle.bw_cert_rules.specs.Instruction.{check_instruction_line}
+use Rattle.bw_cert_rules.specs.Join.{edge_of, with_edge, edges_into, is_valid_keep}
 
 -- what is known after the lines that were consumed, and the other lines
-pub record Taken : Type 0 where
+pub record WalkState : Type 0 where
   pub known : Known
   pub rest : List BodyLine
 
 -- The same result with each line replaced by its fields, so that equal lines at different addresses
 -- compare equal.
-abbrev pub told : Result Taken Fault → Result (Known × List BodyFields) Fault
-told (Ok taken) = Ok (taken.known, map body_fields taken.rest)
-told (Err fault) = Err fault
+abbrev pub line_fields : Result WalkState Fault → Result (Known × List BodyFields) Fault
+line_fields (Ok taken) = Ok (taken.known, map body_fields taken.rest)
+line_fields (Err fault) = Err fault
 
 -- the line of an instruction is expected: any other is wrong (607), and if the lines have run out,
 -- END is
 abbrev pub instruction_on : Facts → Known → Instr → BodyLine → Entry → Result Known Fault
-instruction_on facts known instr line (line_of.Instruction given) = after facts known line.line
+instruction_on facts known instr line (line_of.Instruction given) = check_instruction_line facts
+    known line.line
     instr given
 instruction_on facts known instr line (line_of.Condition given) = Err
     (at_line INSTRUCTION_LINE line.line)
@@ -38,7 +39,7 @@ instruction_on facts known instr line (line_of.Join place) = Err
     (at_line INSTRUCTION_LINE line.line)
 instruction_on facts known instr line (line_of.Keep keep) = Err (at_line INSTRUCTION_LINE line.line)
 
-abbrev pub instruction_taken : Facts → ℕ → Known → Instr → List BodyLine → Result Taken Fault
+abbrev pub instruction_taken : Facts → ℕ → Known → Instr → List BodyLine → Result WalkState Fault
 instruction_taken facts end known instr [] = Err (at_line INSTRUCTION_LINE end)
 instruction_taken facts end known instr (line ∷ lines) =
     instruction_on facts known instr line line.entry
@@ -70,33 +71,36 @@ by_keep (Some keep) other kept = kept keep
 -- All KEEP lines that follow, of ascending registers from the least on: only those registers then
 -- have nodes. A line that breaks its rule is 608.
 unfoldable pub keeps_taken : Facts → Known → List Edge → ℕ → Known → List BodyLine
-    → Result Taken Fault
+    → Result WalkState Fault
 keeps_taken facts through edges least kept [] = Ok (record { known = kept; rest = [] })
 keeps_taken facts through edges least kept (line ∷ lines) =
     by_keep (keep_in line.entry) (Ok (record { known = kept; rest = line ∷ lines }))
-    (λ keep. refused_if (not (is_kept facts through edges least keep)) (at_line JOIN line.line)
+    (λ keep. refused_if (not (is_valid_keep facts through edges least keep))
+    (at_line JOIN line.line)
     (keeps_taken facts through edges (suc keep.register) (with_node kept keep.register keep.node)
     lines))
 
 -- if skips lead to a place, its join is expected; else what falls through is known
-abbrev pub joined : Facts → ℕ → ℕ → List Edge → Taken → Result Taken Fault
-joined facts end place [] taken = Ok taken
-joined facts end place (edge ∷ edges) taken =
+abbrev pub apply_join : Facts → ℕ → ℕ → List Edge → WalkState → Result WalkState Fault
+apply_join facts end place [] taken = Ok taken
+apply_join facts end place (edge ∷ edges) taken =
     join_taken end place taken.rest >>= λ lines. keeps_taken facts taken.known
     (edge ∷ edges) 0 nothing_known lines
 
 -- the lines of instructions from a place on, to which these edges lead from before it, with what is
 -- known there
-unfoldable pub walked : Facts → ℕ → ℕ → List Edge → List Instr → Taken → Result Taken Fault
-walked facts end place edges [] taken = Ok taken
-walked facts end place edges (instr ∷ instrs) taken =
+unfoldable pub check_lines_from : Facts → ℕ → ℕ → List Edge → List Instr → WalkState
+    → Result WalkState Fault
+check_lines_from facts end place edges [] taken = Ok taken
+check_lines_from facts end place edges (instr ∷ instrs) taken =
     instruction_taken facts end taken.known instr taken.rest >>= λ through.
-    joined facts end (suc place)
+    apply_join facts end (suc place)
     (edges_into (suc place) (with_edge edges (edge_of taken.known instr))) through
-    >>= λ joined.
-    walked facts end (suc place) (with_edge edges (edge_of taken.known instr)) instrs joined
+    >>= λ apply_join.
+    check_lines_from facts end (suc place) (with_edge edges (edge_of taken.known instr)) instrs
+    apply_join
 
 -- the lines of all of a program's instructions; END has the number `end`
-abbrev pub judged : Facts → List Instr → ℕ → List BodyLine → Result Taken Fault
-judged facts instrs end lines = walked facts end 0 [] instrs
+abbrev pub check_lines : Facts → List Instr → ℕ → List BodyLine → Result WalkState Fault
+check_lines facts instrs end lines = check_lines_from facts end 0 [] instrs
     (record { known = nothing_known; rest = lines })

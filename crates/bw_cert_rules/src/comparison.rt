@@ -5,9 +5,9 @@ ghost use Rattle.bw_model.specs.Cond.{is_within};
 ghost use Rattle.bw_model.specs.Code.{width_at};
 ghost use Rattle.bw_model.specs.Variable.{null_variable};
 ghost use Rattle.bw_diagram.specs.Chain.{first_node};
-ghost use Rattle.bw_cert_rules.specs.Comparison.{lo_at, fixed, split, turned_if, bound_of, terminal_of, bound_node, with_literal, order_of, order_node, both_node, with_column, comparison};
+ghost use Rattle.bw_cert_rules.specs.Comparison.{lo_at, fixed_pair, pair_if_known, exchange_if, bound_of, terminal_of, bound_node, with_literal, order_of, order_node, both_node, with_column, comparison};
 
-use crate::nodes::{Pair, value_node};
+use crate::nodes::{TruthPair, value_node};
 use bw_cert_text::ConditionEntry;
 use bw_diagram::{ChainKind, Connective, Diagram};
 use bw_model::{Op, Operand, Schema, Truth};
@@ -41,7 +41,7 @@ pub fn comparison(
     x: Operand,
     y: Operand,
     entry: ConditionEntry,
-) -> Option<Pair>
+) -> Option<TruthPair>
     requires left { IsTrue (is_within (length schema.now.columns.items) x) }
     requires right { IsTrue (is_within (length schema.now.columns.items) y) }
     ensures { result ≡ comparison schema.now.columns.items diagram.now op x y entry }
@@ -51,22 +51,22 @@ pub fn comparison(
             with_literal(schema, diagram, op, column, n, entry)
         }
         (Operand::Lit(n), Operand::Col(column)) => {
-            with_literal(schema, diagram, op.turned(), column, n, entry)
+            with_literal(schema, diagram, op.swap_operands(), column, n, entry)
         }
         (Operand::Col(left), Operand::Col(right)) => {
             with_column(schema, diagram, op, left, right, entry)
         }
-        (Operand::Lit(m), Operand::Lit(n)) => fixed(Truth::of(op.holds(m, n)), entry),
-        _ => fixed(Truth::Unknown, entry),
+        (Operand::Lit(m), Operand::Lit(n)) => fixed_pair(Truth::of(op.holds(m, n)), entry),
+        _ => fixed_pair(Truth::Unknown, entry),
     }
 }
 
 /// Returns the truth pair of a step with the same truth on every row, by its line `FIXED`.
-pub fn fixed(truth: Truth, entry: ConditionEntry) -> Option<Pair>
-    ensures { result ≡ fixed truth entry }
+pub fn fixed_pair(truth: Truth, entry: ConditionEntry) -> Option<TruthPair>
+    ensures { result ≡ fixed_pair truth entry }
 {
     match entry {
-        ConditionEntry::Fixed => Some(Pair::constant(truth)),
+        ConditionEntry::Fixed => Some(TruthPair::constant(truth)),
         _ => None,
     }
 }
@@ -74,23 +74,23 @@ pub fn fixed(truth: Truth, entry: ConditionEntry) -> Option<Pair>
 /// Returns the truth pair of a comparison that is UNKNOWN unless node `m` is 1. If it is, the
 /// comparison is TRUE if node `e` is 1, or 0 if it is negated. The line references a product row
 /// for each.
-fn split(
+fn pair_if_known(
     diagram: &Diagram<'_>,
     m: Option<u64>,
     e: Option<u64>,
     negated: bool,
     yes: u64,
     no: u64,
-) -> Option<Pair>
-    ensures { result ≡ turned_if negated (split diagram.now m e yes no) }
+) -> Option<TruthPair>
+    ensures { result ≡ exchange_if negated (pair_if_known diagram.now m e yes no) }
 {
     let m = m?;
     let e = e?;
-    let pair = Pair::of_both(
-        diagram.cited(Connective::And, m, e, yes),
-        diagram.cited(Connective::Diff, m, e, no),
+    let pair = TruthPair::of_both(
+        diagram.product_node(Connective::And, m, e, yes),
+        diagram.product_node(Connective::Diff, m, e, no),
     )?;
-    Some(if negated { pair.exchanged() } else { pair })
+    Some(if negated { pair.exchange_nodes() } else { pair })
 }
 
 /// Returns the truth pair of a column and a literal, by their line `CMP`.
@@ -102,7 +102,7 @@ fn with_literal(
     column: usize,
     n: i64,
     entry: ConditionEntry,
-) -> Option<Pair>
+) -> Option<TruthPair>
     requires { column < length schema.now.columns.items }
     ensures { result ≡ with_literal schema.now.columns.items diagram.now op column n entry }
 {
@@ -118,7 +118,7 @@ fn with_literal(
     let bound = literal_bound(schema, op, column, n);
     let m = value_node(diagram, schema.var_null(column), value);
     let e = bound_node(schema, diagram, column, bound, chain);
-    split(diagram, m, e, bound.negated, yes, no)
+    pair_if_known(diagram, m, e, bound.negated, yes, no)
 }
 
 /// Returns the minimum of a column.
@@ -179,7 +179,7 @@ fn bound_node(
         (Some(terminal), None) => Some(terminal),
         (None, Some(number)) => {
             let limit = bound.limit.unsigned_abs() as u64;
-            diagram.chain_cited(bound.kind, column as u32, 0, width, limit, number)
+            diagram.comparison_node(bound.kind, column as u32, 0, width, limit, number)
         }
         _ => None,
     }
@@ -222,7 +222,7 @@ fn with_column(
     c: usize,
     d: usize,
     entry: ConditionEntry,
-) -> Option<Pair>
+) -> Option<TruthPair>
     requires left { c < length schema.now.columns.items }
     requires right { d < length schema.now.columns.items }
     ensures { result ≡ with_column schema.now.columns.items diagram.now op c d entry }
@@ -249,7 +249,7 @@ fn with_column(
         both,
     );
     let e = order_node(schema, diagram, order, chain);
-    split(diagram, m, e, order.negated, yes, no)
+    pair_if_known(diagram, m, e, order.negated, yes, no)
 }
 
 /// Returns the comparison of their codes that a comparison of two columns of the same minimum
@@ -284,7 +284,7 @@ fn both_node(
     ensures { result ≡ both_node diagram.now left right number }
 {
     match (left, right) {
-        (Some(left), Some(right)) => diagram.cited(Connective::And, left, right, number),
+        (Some(left), Some(right)) => diagram.product_node(Connective::And, left, right, number),
         _ => None,
     }
 }
@@ -306,7 +306,7 @@ fn order_node(
         (Some(terminal), None) => Some(terminal),
         (None, Some(number)) => {
             let (left, right) = (order.left as u32, order.right as u32);
-            diagram.two_cited(order.kind, left, right, len, number)
+            diagram.two_column_node(order.kind, left, right, len, number)
         }
         _ => None,
     }

@@ -53,7 +53,7 @@ impl Edges {
         requires { edge.target < length self.old }
         ensures holds { OnOk result ((edges : List Edge) → Holds self.old edges
             → Holds self.new (edges ++ edge ∷ [])) }
-        ensures room { length self.new ≡ length self.old }
+        ensures capacity { length self.new ≡ length self.old }
     {
         self.by_target[edge.target].push(edge)?;
         Ok(())
@@ -61,11 +61,11 @@ impl Edges {
 
     /// Adds the edge of an instruction, if it is a skip, with what is known before it.
     pub(crate) fn add(&mut self, known: &Known, instr: Instr) -> Result<(), AllocError>
-        requires some { 1 ≤ length self.old }
+        requires nonempty { 1 ≤ length self.old }
         requires within { goes_past (length self.old - 1) instr ≡ false }
         ensures holds { OnOk result ((edges : List Edge) → Holds self.old edges
             → Holds self.new (with_edge edges (edge_of known.now instr))) }
-        ensures room { length self.new ≡ length self.old }
+        ensures capacity { length self.new ≡ length self.old }
     {
         match instr {
             Instr::Skip(register, target) => self.push(Edge {

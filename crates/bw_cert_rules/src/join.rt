@@ -1,18 +1,18 @@
 //! The lines of joins, each checked by its rule.
 ghost use Rattle.std.specs.Prelude.{◌≡◌, ◌<◌, true, IsTrue, IfOk, IfErr, Ok, Err};
 ghost use Rattle.bw_cert_text.specs.BodyLines.{body_lines};
-ghost use Rattle.bw_cert_rules.specs.Join.{is_zero, is_kept, keeps_through, keeps_by_skip, keeps_by_skips};
+ghost use Rattle.bw_cert_rules.specs.Join.{is_zero, is_valid_keep, keeps_through, keeps_by_skip, keeps_by_skips};
 ghost use Rattle.bw_cert_rules.specs.Known.{is_known_fault, nothing_known};
-ghost use Rattle.bw_cert_rules.specs.Walk.{is_join, joined, keeps_taken};
+ghost use Rattle.bw_cert_rules.specs.Walk.{is_join, apply_join, keeps_taken};
 
 use crate::edge::Edge;
-use crate::judge::Judge;
+use crate::judge::LineChecker;
 use crate::known::Known;
 use bw_cert_text::{BodyLines, EdgeProducts, Entry, Keep};
 use bw_diagram::Connective;
 use bw_model::{Fault, code};
 
-impl Judge<'_> {
+impl LineChecker<'_> {
     /// Consumes the lines of a place's join, if skips lead there, and returns the lines that
     /// follow. `known` is what is known on fall-through before the call, and what the join keeps
     /// after it.
@@ -24,10 +24,10 @@ impl Judge<'_> {
         lines: BodyLines<'a>,
         end: u64,
     ) -> Result<BodyLines<'a>, Fault>
-        ensures taken { IfOk result (λ rest. joined self.entry.diagram.now end place edges.now
+        ensures taken { IfOk result (λ rest. apply_join self.entry.diagram.now end place edges.now
             (record { known = known.old; rest = body_lines lines.entry })
             ≡ Ok (record { known = known.new; rest = body_lines rest })) }
-        ensures fault { IfErr result (λ fault. joined self.entry.diagram.now end place edges.now
+        ensures fault { IfErr result (λ fault. apply_join self.entry.diagram.now end place edges.now
             (record { known = known.old; rest = body_lines lines.entry }) ≡ Err fault) }
         ensures code { IfErr result (λ fault. IsTrue (is_known_fault fault)) }
     {
@@ -67,7 +67,7 @@ impl Judge<'_> {
             let Entry::Keep(keep) = &line.entry else {
                 break;
             };
-            if !self.is_kept(&through, edges, least, keep) {
+            if !self.is_valid_keep(&through, edges, least, keep) {
                 return Err(Fault::at_line(code::JOIN, line.line));
             }
             kept[keep.register as usize] = Some(keep.node);
@@ -80,10 +80,10 @@ impl Judge<'_> {
 
     /// Returns whether a register, which isn't below the least, has the node that its line names,
     /// on every way to the join.
-    #[tactic(auto, unfolding(crate::specs::Join::is_kept))]
-    fn is_kept(self, through: &Known, edges: &[Edge], least: u8, keep: &Keep<'_>) -> bool
+    #[tactic(auto, unfolding(crate::specs::Join::is_valid_keep))]
+    fn is_valid_keep(self, through: &Known, edges: &[Edge], least: u8, keep: &Keep<'_>) -> bool
         ensures kept { result
-            ≡ is_kept self.entry.diagram.now through.now edges.now least keep.now }
+            ≡ is_valid_keep self.entry.diagram.now through.now edges.now least keep.now }
         ensures register { result ≡ true → keep.now.register < 64 }
     {
         keep.register >= least
@@ -101,7 +101,7 @@ impl Judge<'_> {
             return false;
         };
         self.diagram
-            .cited(Connective::Xor, node, keep.node, keep.through)
+            .product_node(Connective::Xor, node, keep.node, keep.through)
             == Some(0)
     }
 
@@ -136,7 +136,7 @@ impl Judge<'_> {
         };
         let Some(differs) = self
             .diagram
-            .cited(Connective::Xor, node, keep.node, rows.differs)
+            .product_node(Connective::Xor, node, keep.node, rows.differs)
         else {
             return false;
         };
@@ -144,7 +144,7 @@ impl Judge<'_> {
             return false;
         };
         self.diagram
-            .cited(Connective::Diff, differs, skipped, rows.within)
+            .product_node(Connective::Diff, differs, skipped, rows.within)
             == Some(0)
     }
 }

@@ -6,7 +6,7 @@ ghost use Rattle.bw_model.specs.Fault.{at_line};
 ghost use Rattle.bw_model.specs.Variable.{first_variable, bit_variable, is_nullable};
 ghost use Rattle.bw_program.specs.Program.{named_by};
 ghost use Rattle.bw_text.specs.Register.{register_count};
-ghost use Rattle.bw_cert_rules.specs.Instruction.{after, put, fill, look, plane_on, read_on, joined_on, opposite_on, operation_on, byte_on, byte_node, past_node};
+ghost use Rattle.bw_cert_rules.specs.Instruction.{check_instruction_line, put, fill, check_skip, plane_on, read_on, joined_on, opposite_on, operation_on, byte_on, byte_node, past_node};
 ghost use Rattle.bw_cert_rules.specs.Known.{is_known_fault};
 
 use crate::known::Known;
@@ -18,7 +18,7 @@ use bw_program::{BitIndex, ColumnIndex, Instr, Register, SliceIndex};
 /// What lines are checked against: a schema, and the nodes, chains and product rows that a
 /// certificate states under it.
 #[derive(Clone, Copy)]
-pub(crate) struct Judge<'a> {
+pub(crate) struct LineChecker<'a> {
     pub(crate) schema: &'a Schema,
     pub(crate) diagram: &'a Diagram<'a>,
 }
@@ -63,10 +63,15 @@ fn fill(
 }
 
 /// Checks that the register which a skip reads has a node; nothing new is known after it.
-fn look(known: &Known, line: u64, register: Register, given: InstructionEntry) -> Result<(), Fault>
+fn check_skip(
+    known: &Known,
+    line: u64,
+    register: Register,
+    given: InstructionEntry,
+) -> Result<(), Fault>
     requires register { register < 64 }
-    ensures known { IfOk result (λ _. look known.now line register given ≡ Ok known.now) }
-    ensures fault { IfErr result (λ fault. look known.now line register given ≡ Err fault) }
+    ensures known { IfOk result (λ _. check_skip known.now line register given ≡ Ok known.now) }
+    ensures fault { IfErr result (λ fault. check_skip known.now line register given ≡ Err fault) }
     ensures code { IfErr result (λ fault. IsTrue (is_known_fault fault)) }
 {
     if given != InstructionEntry::Skip {
@@ -76,11 +81,11 @@ fn look(known: &Known, line: u64, register: Register, given: InstructionEntry) -
     Ok(())
 }
 
-impl Judge<'_> {
+impl LineChecker<'_> {
     /// Updates what is known by an instruction and its line. If it fails, `known` may be changed or
     /// not.
-    #[tactic(auto, unfolding(crate::specs::Instruction::after))]
-    pub(crate) fn after(
+    #[tactic(auto, unfolding(crate::specs::Instruction::check_instruction_line))]
+    pub(crate) fn check_instruction_line(
         self,
         known: &mut Known,
         line: u64,
@@ -90,9 +95,10 @@ impl Judge<'_> {
         requires columns { self.diagram.now.columns ≡ self.schema.now.columns.items }
         requires registers { named_by instr ≤ register_count }
         ensures known { IfOk result (λ _.
-            after self.entry.diagram.now known.old line instr given ≡ Ok known.new) }
+            check_instruction_line self.entry.diagram.now known.old line instr given
+            ≡ Ok known.new) }
         ensures fault { IfErr result (λ fault.
-            after self.entry.diagram.now known.old line instr given ≡ Err fault) }
+            check_instruction_line self.entry.diagram.now known.old line instr given ≡ Err fault) }
         ensures code { IfErr result (λ fault. IsTrue (is_known_fault fault)) }
     {
         match instr {
@@ -100,15 +106,15 @@ impl Judge<'_> {
             Instr::Nulls(r, col) => put(known, r, self.nulls(line, col, given)),
             Instr::Fill(r, bit) => fill(known, line, r, bit, given),
             Instr::And(r, x, y) => {
-                let node = self.joined(known, line, Connective::And, x, y, given);
+                let node = self.operation_node(known, line, Connective::And, x, y, given);
                 put(known, r, node)
             }
             Instr::Or(r, x, y) => {
-                let node = self.joined(known, line, Connective::Or, x, y, given);
+                let node = self.operation_node(known, line, Connective::Or, x, y, given);
                 put(known, r, node)
             }
             Instr::Xor(r, x, y) => {
-                let node = self.joined(known, line, Connective::Xor, x, y, given);
+                let node = self.operation_node(known, line, Connective::Xor, x, y, given);
                 put(known, r, node)
             }
             Instr::Not(r, x) => {
@@ -123,7 +129,7 @@ impl Judge<'_> {
                 let node = self.byte(line, ChainKind::Equal, col, slice, k, given);
                 put(known, r, node)
             }
-            Instr::Skip(x, _) => look(known, line, x, given),
+            Instr::Skip(x, _) => check_skip(known, line, x, given),
         }
     }
 
@@ -151,7 +157,7 @@ impl Judge<'_> {
         }
         match self
             .diagram
-            .variable_cited(self.schema.var_bit(col, bit), node)
+            .variable_node(self.schema.var_bit(col, bit), node)
         {
             Some(node) => Ok(node),
             None => Err(unfit(line)),
@@ -177,14 +183,14 @@ impl Judge<'_> {
         let Some(variable) = self.schema.var_null(col) else {
             return Err(unfit(line));
         };
-        match self.diagram.variable_cited(variable, node) {
+        match self.diagram.variable_node(variable, node) {
             Some(node) => Ok(node),
             None => Err(unfit(line)),
         }
     }
 
     /// Returns the node of an operation on two registers.
-    fn joined(
+    fn operation_node(
         self,
         known: &Known,
         line: u64,
@@ -229,7 +235,7 @@ impl Judge<'_> {
         ensures node { result ≡ operation_on self.entry.diagram.now line op a b row }
         ensures code { IfErr result (λ fault. IsTrue (is_known_fault fault)) }
     {
-        match self.diagram.cited(op, a, b, row) {
+        match self.diagram.product_node(op, a, b, row) {
             Some(node) => Ok(node),
             None => Err(unfit(line)),
         }
@@ -285,7 +291,7 @@ impl Judge<'_> {
             None if past => Some(past_node(kind)),
             Some(chain) if !past => {
                 self.diagram
-                    .chain_cited(kind, col as u32, 8 * slice, bits, u64::from(k), chain)
+                    .comparison_node(kind, col as u32, 8 * slice, bits, u64::from(k), chain)
             }
             _ => None,
         }

@@ -34,7 +34,7 @@ pub use known::Known;
 pub use known_laws::{
     judged_lines_obey, lines_are_judged_by_what_they_say, obeying_lines_are_judged, skip_soundness,
 };
-pub use nodes::Pair;
+pub use nodes::TruthPair;
 pub use pair_laws::{pairs_are_of_trees, pairs_tell_truths};
 pub use steps::pair;
 pub use walk::{AtEnd, known_at_end};

@@ -1,7 +1,7 @@
 //! Truth pairs, and the nodes that a line takes from the product rows that it references.
 ghost use Rattle.std.specs.Prelude.{◌≡◌};
 ghost use Rattle.bw_cert_rules.specs.Comparison.{constant_pair};
-ghost use Rattle.bw_cert_rules.specs.Rows.{pair_of_nodes, if_both, exchanged, null_cited, value_node};
+ghost use Rattle.bw_cert_rules.specs.Rows.{pair_of_nodes, if_both, exchange_nodes, null_pair, value_node};
 
 use bw_diagram::{Connective, Diagram};
 use bw_model::Truth;
@@ -9,17 +9,17 @@ use bw_model::Truth;
 /// The truth pair of a condition: the node that is 1 if it is TRUE, and the node that is 1 if it is
 /// FALSE.
 #[derive(Clone, Copy)]
-pub struct Pair {
+pub struct TruthPair {
     pub yes: u64,
     pub no: u64,
 }
 
-impl Pair {
+impl TruthPair {
     /// Returns the truth pair of two nodes.
     pub(crate) const fn new(yes: u64, no: u64) -> Self
         ensures { result ≡ pair_of_nodes yes no }
     {
-        Pair { yes, no }
+        TruthPair { yes, no }
     }
 
     /// Returns the truth pair of a step with the same truth on every row.
@@ -27,9 +27,9 @@ impl Pair {
         ensures { result ≡ constant_pair truth }
     {
         match truth {
-            Truth::Yes => Pair::new(1, 0),
-            Truth::No => Pair::new(0, 1),
-            Truth::Unknown => Pair::new(0, 0),
+            Truth::Yes => TruthPair::new(1, 0),
+            Truth::No => TruthPair::new(0, 1),
+            Truth::Unknown => TruthPair::new(0, 0),
         }
     }
 
@@ -38,16 +38,16 @@ impl Pair {
         ensures { result ≡ if_both yes no }
     {
         match (yes, no) {
-            (Some(yes), Some(no)) => Some(Pair { yes, no }),
+            (Some(yes), Some(no)) => Some(TruthPair { yes, no }),
             _ => None,
         }
     }
 
     /// Returns the truth pair of the negated condition.
-    pub(crate) const fn exchanged(self) -> Self
-        ensures { result ≡ exchanged self }
+    pub(crate) const fn exchange_nodes(self) -> Self
+        ensures { result ≡ exchange_nodes self }
     {
-        Pair {
+        TruthPair {
             yes: self.no,
             no: self.yes,
         }
@@ -56,13 +56,13 @@ impl Pair {
 
 /// Returns the truth pair of a null test, from the product row of a number, if it is the null test
 /// of a column with this null variable.
-pub(crate) fn null_cited(diagram: &Diagram<'_>, variable: u32, number: u64) -> Option<Pair>
-    ensures { result ≡ null_cited diagram.now variable number }
+pub(crate) fn null_pair(diagram: &Diagram<'_>, variable: u32, number: u64) -> Option<TruthPair>
+    ensures { result ≡ null_pair diagram.now variable number }
 {
     let null = u64::from(diagram.row(number)?.b);
-    Pair::of_both(
-        diagram.variable_cited(variable, null),
-        diagram.cited(Connective::Diff, 1, null, number),
+    TruthPair::of_both(
+        diagram.variable_node(variable, null),
+        diagram.product_node(Connective::Diff, 1, null, number),
     )
 }
 
@@ -77,7 +77,7 @@ pub(crate) fn value_node(
 {
     match (variable, number) {
         (None, None) => Some(1),
-        (Some(variable), Some(number)) => match null_cited(diagram, variable, number) {
+        (Some(variable), Some(number)) => match null_pair(diagram, variable, number) {
             Some(pair) => Some(pair.no),
             None => None,
         },

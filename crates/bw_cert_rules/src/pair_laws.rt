@@ -8,9 +8,9 @@ ghost use Rattle.bw_model.specs.Variable.{Assignment, row_of};
 ghost use Rattle.bw_diagram.specs.Facts.{Facts, AreTrue};
 ghost use Rattle.bw_cert_text.specs.CertificateFields.{body_fields};
 ghost use Rattle.bw_cert_text.specs.declared.lines.BodyLine.{BodyLine};
-ghost use Rattle.bw_cert_rules.specs.declared.nodes.Pair.{Pair};
+ghost use Rattle.bw_cert_rules.specs.declared.nodes.Pair.{TruthPair};
 ghost use Rattle.bw_cert_rules.specs.Meaning.{Tells};
-ghost use Rattle.bw_cert_rules.specs.Pair.{pair_of, told};
+ghost use Rattle.bw_cert_rules.specs.Pair.{pair_of, line_fields};
 
 use bw_diagram::cited_nodes_are_worth;
 
@@ -19,7 +19,7 @@ use bw_diagram::cited_nodes_are_worth;
 /// and the second exactly if it is FALSE. The condition names only columns of the diagram.
 pub fn pairs_tell_truths()
     ensures { (columns : List Column) (facts : Facts) (end : ℕ) (cond : Cond)
-        (lines rest : List BodyLine) (pair : Pair)
+        (lines rest : List BodyLine) (pair : TruthPair)
         → facts.columns ≡ columns → AreTrue facts → IsTrue (names_within (length columns) cond)
         → pair_of columns facts end cond lines ≡ Ok (pair, rest)
         → Tells facts.nodes (λ assignment. truth_of (row_of columns assignment) cond) pair }
@@ -33,6 +33,6 @@ pub fn pairs_are_of_trees()
     ensures { (columns : List Column) (facts : Facts) (end : ℕ) (cond same : Cond)
         (lines others : List BodyLine)
         → tree_of cond ≡ tree_of same → map body_fields lines ≡ map body_fields others
-        → told (pair_of columns facts end cond lines)
-        ≡ told (pair_of columns facts end same others) }
+        → line_fields (pair_of columns facts end cond lines)
+        ≡ line_fields (pair_of columns facts end same others) }
 {}

@@ -7,17 +7,17 @@ ghost use Rattle.bw_model.specs.declared.cond.Op.TheVariants.{Eq, Le, Ge};
 ghost use Rattle.bw_model.specs.Fault.{at_line};
 ghost use Rattle.bw_cert_rules.specs.declared.steps.Junction.TheVariants.{All, Any};
 ghost use Rattle.bw_cert_text.specs.BodyLines.{body_lines};
-ghost use Rattle.bw_cert_rules.specs.Comparison.{fixed, comparison};
-ghost use Rattle.bw_cert_rules.specs.Pair.{Answers, next_entry, next_number, taken, by_line, null_test, is_null_test, joined_pair, negated_pair, with_opposite, tested_pair, joined_parts, one_more, equations, pair_of};
+ghost use Rattle.bw_cert_rules.specs.Comparison.{fixed_pair, comparison};
+ghost use Rattle.bw_cert_rules.specs.Pair.{Answers, next_entry, next_number, expect_line, by_line, null_test, is_null_test, joined_pair, negated_pair, with_opposite, tested_pair, joined_parts, one_more, equations, pair_of};
 
-use crate::comparison::{comparison, fixed};
-use crate::nodes::{Pair, null_cited};
+use crate::comparison::{comparison, fixed_pair};
+use crate::nodes::{TruthPair, null_pair};
 use bw_cert_text::{BodyLines, ConditionEntry, Entry};
 use bw_diagram::{Connective, Diagram};
 use bw_model::{Cond, Fault, Op, Operand, Schema, Truth, code};
 
 /// A truth pair and the lines after those that made it, or an error.
-type Read<'a> = Result<(Pair, BodyLines<'a>), Fault>;
+type Read<'a> = Result<(TruthPair, BodyLines<'a>), Fault>;
 
 /// The connective of a condition's parts: AND, or OR.
 #[derive(Clone, Copy)]
@@ -47,19 +47,19 @@ pub fn pair<'a>(
 {
     match cond {
         Cond::Always => constant(Truth::Yes, lines, end),
-        Cond::Cmp(op, x, y) => compared(schema, diagram, *op, *x, *y, lines, end),
+        Cond::Cmp(op, x, y) => read_comparison(schema, diagram, *op, *x, *y, lines, end),
         Cond::Between(x, y, z) => between(schema, diagram, *x, *y, *z, lines, end),
-        Cond::Among(x, items) => among(schema, diagram, *x, items, lines, end),
+        Cond::Among(x, items) => read_list(schema, diagram, *x, items, lines, end),
         Cond::IsNull(x) => null_tested(schema, diagram, *x, lines, end),
-        Cond::And(parts) => joined(schema, diagram, Junction::All, parts, lines, end),
-        Cond::Or(parts) => joined(schema, diagram, Junction::Any, parts, lines, end),
+        Cond::And(parts) => combine_parts(schema, diagram, Junction::All, parts, lines, end),
+        Cond::Or(parts) => combine_parts(schema, diagram, Junction::Any, parts, lines, end),
         Cond::Not(part) => {
             let (made, rest) = pair(schema, diagram, part, lines, end)?;
-            negated(made, rest, end)
+            read_negation(made, rest, end)
         }
         Cond::Test(part, wanted) => {
             let (made, rest) = pair(schema, diagram, part, lines, end)?;
-            tested(diagram, *wanted, made, rest, end)
+            read_truth_test(diagram, *wanted, made, rest, end)
         }
     }
 }
@@ -67,7 +67,7 @@ pub fn pair<'a>(
 /// Returns the truth pair of combined parts: the first part's lines, and then for each further part
 /// its lines and the line that combines it with those before.
 #[cycle(pair)]
-fn joined<'a>(
+fn combine_parts<'a>(
     schema: &Schema,
     diagram: &Diagram<'_>,
     junction: Junction,
@@ -82,7 +82,7 @@ fn joined<'a>(
     ensures code { IfErr result (λ fault. fault.code ≡ CONDITION_LINE) }
 {
     let Some((first, others)) = parts.split_first() else {
-        return Err(refused(lines, end));
+        return Err(next_line_fault(lines, end));
     };
     let (mut made, mut left) = pair(schema, diagram, first, lines, end)?;
     for part in others {
@@ -95,7 +95,7 @@ fn joined<'a>(
 }
 
 /// Returns the truth pair of equations with one operand, combined by OR.
-fn among<'a>(
+fn read_list<'a>(
     schema: &Schema,
     diagram: &Diagram<'_>,
     x: Operand,
@@ -110,9 +110,9 @@ fn among<'a>(
     ensures code { IfErr result (λ fault. fault.code ≡ CONDITION_LINE) }
 {
     let Some((first, others)) = items.split_first() else {
-        return Err(refused(lines, end));
+        return Err(next_line_fault(lines, end));
     };
-    let (mut made, mut left) = compared(schema, diagram, Op::Eq, x, *first, lines, end)?;
+    let (mut made, mut left) = read_comparison(schema, diagram, Op::Eq, x, *first, lines, end)?;
     for item in others {
         (made, left) = one_more(schema, diagram, x, *item, made, left, end)?;
     }
@@ -125,7 +125,7 @@ fn one_more<'a>(
     diagram: &Diagram<'_>,
     x: Operand,
     item: Operand,
-    made: Pair,
+    made: TruthPair,
     lines: BodyLines<'a>,
     end: u64,
 ) -> Read<'a>
@@ -136,7 +136,7 @@ fn one_more<'a>(
         (made, (body_lines lines.entry))) }
     ensures code { IfErr result (λ fault. fault.code ≡ CONDITION_LINE) }
 {
-    let (next, rest) = compared(schema, diagram, Op::Eq, x, item, lines, end)?;
+    let (next, rest) = read_comparison(schema, diagram, Op::Eq, x, item, lines, end)?;
     join(diagram, Junction::Any, made, next, rest, end)
 }
 
@@ -159,14 +159,14 @@ fn between<'a>(
         (body_lines lines.entry)) }
     ensures code { IfErr result (λ fault. fault.code ≡ CONDITION_LINE) }
 {
-    let (lower, rest) = compared(schema, diagram, Op::Ge, x, y, lines, end)?;
-    let (upper, rest) = compared(schema, diagram, Op::Le, x, z, rest, end)?;
+    let (lower, rest) = read_comparison(schema, diagram, Op::Ge, x, y, lines, end)?;
+    let (upper, rest) = read_comparison(schema, diagram, Op::Le, x, z, rest, end)?;
     join(diagram, Junction::All, lower, upper, rest, end)
 }
 
 /// Returns the truth pair of a comparison, by the next line.
-#[tactic(auto, unfolding(crate::specs::Pair::by_line))]
-fn compared<'a>(
+#[tactic(auto, unfolding(crate::specs::TruthPair::by_line))]
+fn read_comparison<'a>(
     schema: &Schema,
     diagram: &Diagram<'_>,
     op: Op,
@@ -186,24 +186,24 @@ fn compared<'a>(
         Some(entry) => comparison(schema, diagram, op, x, y, entry),
         None => None,
     };
-    taken(made, lines, end)
+    expect_line(made, lines, end)
 }
 
 /// Returns the truth pair of a step with the same truth on every row, by the next line.
-#[tactic(auto, unfolding(crate::specs::Pair::by_line))]
+#[tactic(auto, unfolding(crate::specs::TruthPair::by_line))]
 fn constant<'a>(truth: Truth, lines: BodyLines<'a>, end: u64) -> Read<'a>
-    ensures pair { Answers result (by_line end (fixed truth) (body_lines lines.entry)) }
+    ensures pair { Answers result (by_line end (fixed_pair truth) (body_lines lines.entry)) }
     ensures code { IfErr result (λ fault. fault.code ≡ CONDITION_LINE) }
 {
     let made = match next_entry(lines) {
-        Some(entry) => fixed(truth, entry),
+        Some(entry) => fixed_pair(truth, entry),
         None => None,
     };
-    taken(made, lines, end)
+    expect_line(made, lines, end)
 }
 
 /// Returns the truth pair of `IS NULL`, by the next line.
-#[tactic(auto, unfolding(crate::specs::Pair::by_line))]
+#[tactic(auto, unfolding(crate::specs::TruthPair::by_line))]
 fn null_tested<'a>(
     schema: &Schema,
     diagram: &Diagram<'_>,
@@ -221,47 +221,47 @@ fn null_tested<'a>(
         Some(entry) => is_null_test(schema, diagram, x, entry),
         None => None,
     };
-    taken(made, lines, end)
+    expect_line(made, lines, end)
 }
 
 /// Returns the truth pair of `IS NULL`, by this line.
-#[tactic(auto, unfolding(crate::specs::Pair::is_null_test))]
+#[tactic(auto, unfolding(crate::specs::TruthPair::is_null_test))]
 fn is_null_test(
     schema: &Schema,
     diagram: &Diagram<'_>,
     x: Operand,
     entry: ConditionEntry,
-) -> Option<Pair>
+) -> Option<TruthPair>
     requires { IsTrue (is_within (length schema.now.columns.items) x) }
     ensures { result ≡ is_null_test schema.now.columns.items diagram.now x entry }
 {
     match x {
         Operand::Col(column) => match schema.var_null(column) {
             Some(variable) => null_test(diagram, variable, entry),
-            None => fixed(Truth::No, entry),
+            None => fixed_pair(Truth::No, entry),
         },
-        Operand::Lit(_) => fixed(Truth::No, entry),
-        Operand::Null => fixed(Truth::Yes, entry),
+        Operand::Lit(_) => fixed_pair(Truth::No, entry),
+        Operand::Null => fixed_pair(Truth::Yes, entry),
     }
 }
 
 /// Returns the truth pair of `IS NULL` of a column with this null variable, by this line.
-fn null_test(diagram: &Diagram<'_>, variable: u32, entry: ConditionEntry) -> Option<Pair>
+fn null_test(diagram: &Diagram<'_>, variable: u32, entry: ConditionEntry) -> Option<TruthPair>
     ensures { result ≡ null_test diagram.now (Some variable) entry }
 {
     match entry {
-        ConditionEntry::NullTest(number) => null_cited(diagram, variable, number),
+        ConditionEntry::NullTest(number) => null_pair(diagram, variable, number),
         _ => None,
     }
 }
 
 /// Returns the truth pair of two parts combined, by the next line.
-#[tactic(auto, unfolding(crate::specs::Pair::by_line))]
+#[tactic(auto, unfolding(crate::specs::TruthPair::by_line))]
 fn join<'a>(
     diagram: &Diagram<'_>,
     junction: Junction,
-    a: Pair,
-    b: Pair,
+    a: TruthPair,
+    b: TruthPair,
     lines: BodyLines<'a>,
     end: u64,
 ) -> Read<'a>
@@ -273,52 +273,52 @@ fn join<'a>(
         Some(entry) => joined_pair(diagram, junction, a, b, entry),
         None => None,
     };
-    taken(made, lines, end)
+    expect_line(made, lines, end)
 }
 
 /// Returns the truth pair of two parts combined, by this line.
-#[tactic(auto, unfolding(crate::specs::Pair::joined_pair))]
+#[tactic(auto, unfolding(crate::specs::TruthPair::joined_pair))]
 fn joined_pair(
     diagram: &Diagram<'_>,
     junction: Junction,
-    a: Pair,
-    b: Pair,
+    a: TruthPair,
+    b: TruthPair,
     entry: ConditionEntry,
-) -> Option<Pair>
+) -> Option<TruthPair>
     ensures { result ≡ joined_pair diagram.now junction a b entry }
 {
     match (junction, entry) {
-        (Junction::All, ConditionEntry::And(i, j)) => Pair::of_both(
-            diagram.cited(Connective::And, a.yes, b.yes, i),
-            diagram.cited(Connective::Or, a.no, b.no, j),
+        (Junction::All, ConditionEntry::And(i, j)) => TruthPair::of_both(
+            diagram.product_node(Connective::And, a.yes, b.yes, i),
+            diagram.product_node(Connective::Or, a.no, b.no, j),
         ),
-        (Junction::Any, ConditionEntry::Or(i, j)) => Pair::of_both(
-            diagram.cited(Connective::Or, a.yes, b.yes, i),
-            diagram.cited(Connective::And, a.no, b.no, j),
+        (Junction::Any, ConditionEntry::Or(i, j)) => TruthPair::of_both(
+            diagram.product_node(Connective::Or, a.yes, b.yes, i),
+            diagram.product_node(Connective::And, a.no, b.no, j),
         ),
         _ => None,
     }
 }
 
 /// Returns the truth pair of NOT, by the next line.
-#[tactic(auto, unfolding(crate::specs::Pair::by_line, crate::specs::Pair::negated_pair))]
-fn negated<'a>(pair: Pair, lines: BodyLines<'a>, end: u64) -> Read<'a>
+#[tactic(auto, unfolding(crate::specs::TruthPair::by_line, crate::specs::TruthPair::negated_pair))]
+fn read_negation<'a>(pair: TruthPair, lines: BodyLines<'a>, end: u64) -> Read<'a>
     ensures pair { Answers result (by_line end (negated_pair pair) (body_lines lines.entry)) }
     ensures code { IfErr result (λ fault. fault.code ≡ CONDITION_LINE) }
 {
     let made = match next_entry(lines) {
-        Some(ConditionEntry::Not) => Some(pair.exchanged()),
+        Some(ConditionEntry::Not) => Some(pair.exchange_nodes()),
         _ => None,
     };
-    taken(made, lines, end)
+    expect_line(made, lines, end)
 }
 
 /// Returns the truth pair of `IS TRUE`, `IS FALSE` or `IS UNKNOWN`, by the next line.
-#[tactic(auto, unfolding(crate::specs::Pair::by_line))]
-fn tested<'a>(
+#[tactic(auto, unfolding(crate::specs::TruthPair::by_line))]
+fn read_truth_test<'a>(
     diagram: &Diagram<'_>,
     wanted: Truth,
-    pair: Pair,
+    pair: TruthPair,
     lines: BodyLines<'a>,
     end: u64,
 ) -> Read<'a>
@@ -330,35 +330,41 @@ fn tested<'a>(
         Some(entry) => tested_pair(diagram, wanted, pair, entry),
         None => None,
     };
-    taken(made, lines, end)
+    expect_line(made, lines, end)
 }
 
 /// Returns the truth pair of `IS TRUE`, `IS FALSE` or `IS UNKNOWN`, by this line.
-#[tactic(auto, unfolding(crate::specs::Pair::tested_pair))]
+#[tactic(auto, unfolding(crate::specs::TruthPair::tested_pair))]
 fn tested_pair(
     diagram: &Diagram<'_>,
     wanted: Truth,
-    pair: Pair,
+    pair: TruthPair,
     entry: ConditionEntry,
-) -> Option<Pair>
+) -> Option<TruthPair>
     ensures { result ≡ tested_pair diagram.now wanted pair entry }
 {
     match (wanted, entry) {
         (Truth::Yes, ConditionEntry::Is(i)) => with_opposite(diagram, pair.yes, i),
         (Truth::No, ConditionEntry::Is(i)) => with_opposite(diagram, pair.no, i),
         (Truth::Unknown, ConditionEntry::IsUnknown(i, j)) => {
-            let known = diagram.cited(Connective::Or, pair.yes, pair.no, i)?;
-            Pair::of_both(diagram.cited(Connective::Diff, 1, known, j), Some(known))
+            let known = diagram.product_node(Connective::Or, pair.yes, pair.no, i)?;
+            TruthPair::of_both(
+                diagram.product_node(Connective::Diff, 1, known, j),
+                Some(known),
+            )
         }
         _ => None,
     }
 }
 
 /// Returns a node and its complement, which the line references by the number of a product row.
-fn with_opposite(diagram: &Diagram<'_>, node: u64, number: u64) -> Option<Pair>
+fn with_opposite(diagram: &Diagram<'_>, node: u64, number: u64) -> Option<TruthPair>
     ensures { result ≡ with_opposite diagram.now node number }
 {
-    Pair::of_both(Some(node), diagram.cited(Connective::Diff, 1, node, number))
+    TruthPair::of_both(
+        Some(node),
+        diagram.product_node(Connective::Diff, 1, node, number),
+    )
 }
 
 /// Returns the fields of the next line, if there is one and it is a condition's.
@@ -376,18 +382,18 @@ fn next_entry(lines: BodyLines<'_>) -> Option<ConditionEntry>
 
 /// Returns the truth pair that the next line makes and the lines after it, or the error of that
 /// line.
-fn taken<'a>(made: Option<Pair>, lines: BodyLines<'a>, end: u64) -> Read<'a>
-    ensures pair { Answers result (taken end made (body_lines lines.entry)) }
+fn expect_line<'a>(made: Option<TruthPair>, lines: BodyLines<'a>, end: u64) -> Read<'a>
+    ensures pair { Answers result (expect_line end made (body_lines lines.entry)) }
     ensures code { IfErr result (λ fault. fault.code ≡ CONDITION_LINE) }
 {
     match (made, lines.next()) {
         (Some(pair), Some((_, rest))) => Ok((pair, rest)),
-        _ => Err(refused(lines, end)),
+        _ => Err(next_line_fault(lines, end)),
     }
 }
 
 /// Returns the error of the next line, or that of END if there is none.
-fn refused(lines: BodyLines<'_>, end: u64) -> Fault
+fn next_line_fault(lines: BodyLines<'_>, end: u64) -> Fault
     ensures { result ≡ at_line CONDITION_LINE (next_number end (body_lines lines.entry)) }
 {
     let line = match lines.next() {

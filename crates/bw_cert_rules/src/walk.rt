@@ -1,14 +1,14 @@
 //! The lines of a program's instructions and joins, consumed one after another.
 ghost use Rattle.std.specs.Prelude.{◌≡◌, ◌≤◌, IsTrue, IfOk, IfErr, Ok, Err};
-ghost use Rattle.bw_model.specs.Fault.{Gives};
+ghost use Rattle.bw_model.specs.Fault.{MatchesUnlessOom};
 ghost use Rattle.bw_program.specs.Program.{named_by};
 ghost use Rattle.bw_text.specs.Register.{register_count};
 ghost use Rattle.bw_cert_text.specs.BodyLines.{body_lines};
-ghost use Rattle.bw_cert_rules.specs.Walk.{judged, instruction_taken};
+ghost use Rattle.bw_cert_rules.specs.Walk.{check_lines, instruction_taken};
 ghost use Rattle.bw_cert_rules.specs.Known.{is_known_fault};
 
 use crate::edge::Edges;
-use crate::judge::Judge;
+use crate::judge::LineChecker;
 use crate::known::Known;
 use bw_cert_text::{BodyLines, Entry};
 use bw_diagram::Diagram;
@@ -45,11 +45,11 @@ pub fn known_at_end<'a>(
     end: u64,
 ) -> Result<AtEnd<'a>, Fault>
     requires { diagram.now.columns ≡ schema.now.columns.items }
-    ensures judged { Gives (λ at. record { known = at.known; rest = body_lines at.rest }) result
-        (judged diagram.now program.now.instrs end (body_lines lines.entry)) }
+    ensures judged { MatchesUnlessOom (λ at. record { known = at.known; rest = body_lines at.rest })
+        result (check_lines diagram.now program.now.instrs end (body_lines lines.entry)) }
     ensures code { IfErr result (λ fault. IsTrue (is_known_fault fault)) }
 {
-    let judge = Judge { schema, diagram };
+    let judge = LineChecker { schema, diagram };
     let mut known: Known = [None; 64];
     let mut edges = Edges::new(alloc, program.len())?;
     let mut rest = lines;
@@ -63,7 +63,7 @@ pub fn known_at_end<'a>(
     Ok(AtEnd { known, rest })
 }
 
-impl Judge<'_> {
+impl LineChecker<'_> {
     /// Consumes the line of an instruction, and returns those that follow.
     fn take_instruction<'a>(
         self,
@@ -88,7 +88,7 @@ impl Judge<'_> {
         let Entry::Instruction(given) = line.entry else {
             return Err(Fault::at_line(code::INSTRUCTION_LINE, line.line));
         };
-        self.after(known, line.line, instr, given)?;
+        self.check_instruction_line(known, line.line, instr, given)?;
         Ok(rest)
     }
 }

@@ -22,7 +22,7 @@ use Rattle.bw_cert_text.specs.declared.lines.InstructionEntry.{InstructionEntry}
 use Rattle.bw_cert_text.specs.declared.lines.InstructionEntry.TheVariants.{Load, Fill, Op, Byte, Skip}
 use Rattle.bw_cert_text.specs.declared.lines.EdgeProducts.{EdgeProducts}
 use Rattle.bw_cert_text.specs.CertificateFields.{ColumnFields, One, Two, ChainFields, KeepFields, Condition, Instruction, Join, Kept}
-use Rattle.bw_cert_text.specs.LineText.{Node, Chain, Row, Body, Said, Before, End, node_in, one_column_in, two_columns_in, columns_after, chain_in, reason_in, row_in, compare_in, compare_columns_in, is_in, condition_in, instruction_in, edges_in, keep_in, said_after, said_by}
+use Rattle.bw_cert_text.specs.LineText.{Node, Chain, Row, Body, ParsedLine, Before, End, node_in, one_column_in, two_columns_in, columns_after, chain_in, reason_in, row_in, compare_in, compare_columns_in, is_in, condition_in, instruction_in, edges_in, keep_in, parse_line_after, parse_line_by}
 use Rattle.bw_cert_text.specs.Operand.{◌>?◌, optional_of, nothing_in, number_in, two_in}
 use Rattle.bw_text.specs.Register.{register_of}
 use Rattle.bw_cert_text.specs.Token.{Number, IsSpelled, AreSpelled, one_key, two_key, none, next, column_tokens, reason_tokens, condition_tokens, instruction_tokens, edge_tokens, keep_tokens, end_tokens, part_tokens, part_line}
@@ -33,7 +33,7 @@ use Rattle.bw_cert_text.proofs.WordSpelling.{opened, connective_is, optional_rea
 use Rattle.bw_text.proofs.WordSpelling.{kind_is, form_is}
 
 -- a line says what was read, with its number
-abbrev pub IsSaid : Said → ℕ → List (List ℕ) → Type 0
+abbrev pub IsSaid : ParsedLine → ℕ → List (List ℕ) → Type 0
 IsSaid (Before part) line words = (line ≡ part_line part) × AreSpelled (part_tokens part) words
 IsSaid (End end) line words = (line ≡ end.line) × AreSpelled (end_tokens end) words
 
@@ -250,7 +250,7 @@ keep_read word [] x key e = absurd (cc e)
 keep_read word (w0 ∷ []) x key e = absurd (cc e)
 keep_read word (w0 ∷ w1 ∷ []) x key e = absurd (cc e)
 
-after_read : (line : ℕ) (k : LineKind) (word : List ℕ) (words : List (List ℕ)) (x : Said) → Begins k word → said_after line k words ≡ Some x → IsSaid x line (word ∷ words)
+after_read : (line : ℕ) (k : LineKind) (word : List ℕ) (words : List (List ℕ)) (x : ParsedLine) → Begins k word → parse_line_after line k words ≡ Some x → IsSaid x line (word ∷ words)
 after_read line kind.Node word words x key e =
     opened (node_in line words) _ x e λ node there e. let same : Before (Node node) ≡ x = cc e in rw (← same) (node_read line word words node key there)
 after_read line kind.Chain word words x key e =
@@ -272,6 +272,6 @@ after_read line kind.Keep word words x key e =
 after_read line kind.End word words x key e =
     opened (number_in words) _ x e λ row there e. let same : End (record { line = line; row = row }) ≡ x = cc e in rw (← same) (refl, next key (number_read words row there))
 
-pub line_read : (line : ℕ) (words : List (List ℕ)) (x : Said) → said_by line words ≡ Some x → IsSaid x line words
+pub line_read : (line : ℕ) (words : List (List ℕ)) (x : ParsedLine) → parse_line_by line words ≡ Some x → IsSaid x line words
 line_read line [] x e = absurd (cc e)
 line_read line (word ∷ words) x e = opened (kind_of word) _ x e λ k is e. after_read line k word words x (kind_is word k is) e

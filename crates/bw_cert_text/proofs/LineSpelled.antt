@@ -17,7 +17,7 @@ use Rattle.bw_cert_text.specs.declared.lines.InstructionEntry.{InstructionEntry}
 use Rattle.bw_cert_text.specs.declared.lines.InstructionEntry.TheVariants.{Load, Fill, Op, Byte, Skip}
 use Rattle.bw_cert_text.specs.declared.lines.EdgeProducts.{EdgeProducts}
 use Rattle.bw_cert_text.specs.CertificateFields.{ColumnFields, One, Two, ChainFields, EntryFields, Condition, Instruction, Join, Kept}
-use Rattle.bw_cert_text.specs.LineText.{Node, Chain, Row, Body, Said, Before, End, columns_after, reason_in, edges_in, said_by}
+use Rattle.bw_cert_text.specs.LineText.{Node, Chain, Row, Body, ParsedLine, Before, End, columns_after, reason_in, edges_in, parse_line_by}
 use Rattle.bw_cert_text.specs.Token.{AreSpelled, none, next, node_tokens, column_tokens, chain_tokens, reason_tokens, row_tokens, condition_tokens, instruction_tokens, edge_tokens, end_tokens, entry_tokens}
 use Rattle.bw_text.specs.LineKind.{kind_of}
 use Rattle.bw_text.specs.Form.{form_of}
@@ -25,10 +25,10 @@ use Rattle.bw_cert_text.proofs.WordSpelling.{is_connective, read_optional}
 use Rattle.bw_text.proofs.WordSpelling.{is_kind, is_form}
 use Rattle.bw_cert_text.proofs.LineRead.{IsSaid}
 
-abbrev body : ℕ → EntryFields → Said
+abbrev body : ℕ → EntryFields → ParsedLine
 body line entry = Before (Body (record { line = line; entry = entry }))
 
-spelled_node : (line : ℕ) (node : NodeLine) (words : List (List ℕ)) → line ≡ node.line → AreSpelled (node_tokens node) words → said_by line words ≡ Some (Before (Node node))
+spelled_node : (line : ℕ) (node : NodeLine) (words : List (List ℕ)) → line ≡ node.line → AreSpelled (node_tokens node) words → parse_line_by line words ≡ Some (Before (Node node))
 spelled_node line node _ same (next {word = word} key (next p0 (next p1 (next p2 (next p3 none))))) = rw (same, is_kind kind.Node word key, p0, p1, p2, p3) refl
 
 -- the form of a chain, and what it compares
@@ -48,7 +48,7 @@ spelled_columns (Two compared.Equal left right len node prev) word _ (next key (
     record { form = form.EqualTwo; form_is = is_form form.EqualTwo word key; columns_are = rw (p0, p1, p2, p3, read_optional last prev p4) refl }
 
 chain_from : (line : ℕ) (chain : ChainFields) (word : List ℕ) (w0 w1 : List ℕ) (words : List (List ℕ)) → line ≡ chain.line → kind_of word ≡ Some kind.Chain → natural_of w0 ≡ Some chain.n →
-    Compared w1 words chain.columns → said_by line (word ∷ w0 ∷ w1 ∷ words) ≡ Some (Before (Chain chain))
+    Compared w1 words chain.columns → parse_line_by line (word ∷ w0 ∷ w1 ∷ words) ≡ Some (Before (Chain chain))
 chain_from line chain word w0 w1 words same is p0 found = rw (same, is, p0, found.form_is, found.columns_are) refl
 
 no_columns : (x : ColumnFields) → AreSpelled (column_tokens x) [] → ⊥
@@ -56,11 +56,11 @@ no_columns (One k column start len bound node prev) rest = elim rest [ ]
 no_columns (Two k left right len node prev) rest = elim rest [ ]
 
 chain_after : (line : ℕ) (chain : ChainFields) (word w0 : List ℕ) (words : List (List ℕ)) → line ≡ chain.line → kind_of word ≡ Some kind.Chain → natural_of w0 ≡ Some chain.n →
-    AreSpelled (column_tokens chain.columns) words → said_by line (word ∷ w0 ∷ words) ≡ Some (Before (Chain chain))
+    AreSpelled (column_tokens chain.columns) words → parse_line_by line (word ∷ w0 ∷ words) ≡ Some (Before (Chain chain))
 chain_after line chain word w0 [] same is p0 rest = absurd (no_columns chain.columns rest)
 chain_after line chain word w0 (w1 ∷ words) same is p0 rest = chain_from line chain word w0 w1 words same is p0 (spelled_columns chain.columns w1 words rest)
 
-spelled_chain : (line : ℕ) (chain : ChainFields) (words : List (List ℕ)) → line ≡ chain.line → AreSpelled (chain_tokens chain) words → said_by line words ≡ Some (Before (Chain chain))
+spelled_chain : (line : ℕ) (chain : ChainFields) (words : List (List ℕ)) → line ≡ chain.line → AreSpelled (chain_tokens chain) words → parse_line_by line words ≡ Some (Before (Chain chain))
 spelled_chain line chain _ same (next {word = word} key (next {word = w0} {words = words} p0 rest)) =
     chain_after line chain word w0 words same (is_kind kind.Chain word key) p0 rest
 
@@ -68,11 +68,11 @@ spelled_reason : (r : Reason) (words : List (List ℕ)) → AreSpelled (reason_t
 spelled_reason Shortcut _ (next key none) = rw key refl
 spelled_reason (Cofactors v i j) _ (next key (next p1 (next p2 (next p3 none)))) = rw (key, p1, p2, p3) refl
 
-spelled_row : (line : ℕ) (row : ProductLine) (words : List (List ℕ)) → line ≡ row.line → AreSpelled (row_tokens row) words → said_by line words ≡ Some (Before (Row row))
+spelled_row : (line : ℕ) (row : ProductLine) (words : List (List ℕ)) → line ≡ row.line → AreSpelled (row_tokens row) words → parse_line_by line words ≡ Some (Before (Row row))
 spelled_row line row _ same (next {word = word} key (next p0 (next {word = op} q (next p2 (next p3 (next {words = words} p4 rest)))))) =
     rw (same, is_kind kind.Row word key, p0, is_connective row.op op q, p2, p3, p4, spelled_reason row.reason words rest) refl
 
-spelled_condition : (line : ℕ) (entry : ConditionEntry) (words : List (List ℕ)) → AreSpelled (condition_tokens entry) words → said_by line words ≡ Some (body line (Condition entry))
+spelled_condition : (line : ℕ) (entry : ConditionEntry) (words : List (List ℕ)) → AreSpelled (condition_tokens entry) words → parse_line_by line words ≡ Some (body line (Condition entry))
 spelled_condition line (Compare a b p q) _ (next {word = word} key (next {word = w0} p0 (next {word = w1} p1 (next p2 (next p3 none))))) =
     rw (is_kind (kind.Condition condition.Compare) word key, read_optional w0 a p0, read_optional w1 b p1, p2, p3) refl
 spelled_condition line (CompareColumns a b c d p q) _ (next {word = word} key (next {word = w0} p0 (next {word = w1} p1 (next {word = w2} p2 (next p3 (next p4 (next p5 none))))))) =
@@ -85,7 +85,7 @@ spelled_condition line Not _ (next {word = word} key none) = rw (is_kind (kind.C
 spelled_condition line (Is i) _ (next {word = word} key (next p0 none)) = rw (is_kind (kind.Condition condition.Is) word key, p0) refl
 spelled_condition line (IsUnknown i j) _ (next {word = word} key (next p0 (next p1 none))) = rw (is_kind (kind.Condition condition.Is) word key, p0, p1) refl
 
-spelled_instruction : (line : ℕ) (entry : InstructionEntry) (words : List (List ℕ)) → AreSpelled (instruction_tokens entry) words → said_by line words ≡ Some (body line (Instruction entry))
+spelled_instruction : (line : ℕ) (entry : InstructionEntry) (words : List (List ℕ)) → AreSpelled (instruction_tokens entry) words → parse_line_by line words ≡ Some (body line (Instruction entry))
 spelled_instruction line (Load n) _ (next {word = word} key (next p0 none)) = rw (is_kind (kind.Instruction instruction.Load) word key, p0) refl
 spelled_instruction line Fill _ (next {word = word} key none) = rw (is_kind (kind.Instruction instruction.Fill) word key) refl
 spelled_instruction line (Op i) _ (next {word = word} key (next p0 none)) = rw (is_kind (kind.Instruction instruction.Op) word key, p0) refl
@@ -98,19 +98,19 @@ unfolding edge_tokens edges_in
 spelled_edges [] _ none = refl
 spelled_edges (edge ∷ edges) _ (next p0 (next {words = words} p1 rest)) = rw (p0, p1, spelled_edges edges words rest) refl
 
-spelled_body : (line : ℕ) (entry : EntryFields) (words : List (List ℕ)) → AreSpelled (entry_tokens entry) words → said_by line words ≡ Some (body line entry)
+spelled_body : (line : ℕ) (entry : EntryFields) (words : List (List ℕ)) → AreSpelled (entry_tokens entry) words → parse_line_by line words ≡ Some (body line entry)
 spelled_body line (Condition entry) words is = spelled_condition line entry words is
 spelled_body line (Instruction entry) words is = spelled_instruction line entry words is
 spelled_body line (Join target) _ (next {word = word} key (next p0 none)) = rw (is_kind kind.Join word key, p0) refl
 spelled_body line (Kept keep) _ (next {word = word} key (next p0 (next p1 (next {words = words} p2 rest)))) =
     rw (is_kind kind.Keep word key, p0, p1, p2, spelled_edges keep.edges words rest) refl
 
-pub spelled_line : (line : ℕ) (words : List (List ℕ)) (x : Said) → IsSaid x line words → said_by line words ≡ Some x
+pub spelled_line : (line : ℕ) (words : List (List ℕ)) (x : ParsedLine) → IsSaid x line words → parse_line_by line words ≡ Some x
 spelled_line line words (Before (Node node)) is = spelled_node line node words is.0 is.1
 spelled_line line words (Before (Chain chain)) is = spelled_chain line chain words is.0 is.1
 spelled_line line words (Before (Row row)) is = spelled_row line row words is.0 is.1
 spelled_line line words (Before (Body x)) is = spelled_body line x.entry words is.1 ∙ ap (λ (l : ℕ). Some (body l x.entry)) is.0
 spelled_line line words (End end) is = ended words is.0 is.1
   where
-    ended : (words : List (List ℕ)) → line ≡ end.line → AreSpelled (end_tokens end) words → said_by line words ≡ Some (End end)
+    ended : (words : List (List ℕ)) → line ≡ end.line → AreSpelled (end_tokens end) words → parse_line_by line words ≡ Some (End end)
     ended _ same (next {word = word} key (next p0 none)) = rw (same, is_kind kind.End word key, p0) refl

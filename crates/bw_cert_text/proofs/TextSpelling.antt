@@ -3,12 +3,12 @@ use Rattle.std.proofs.Common.{◌≡◌, ◌∙◌, refl, sym, ℕ, ◌≤◌, B
 use Rattle.std.specs.Prelude.{IfOk, IsTrue}
 use Rattle.std.proofs.lemmas.Bool.{ltb-false, le-ltb}
 use Rattle.bw_model.specs.declared.fault.Fault.{Fault}
-use Rattle.bw_model.specs.Fault.{Gives, ◌>>=◌, refused_if}
+use Rattle.bw_model.specs.Fault.{MatchesUnlessOom, ◌>>=◌, refused_if}
 use Rattle.bw_text.specs.Lines.{NumberedWords, lines_in, end_in, from_line}
 use Rattle.bw_cert_text.specs.declared.lines.EndLine.{EndLine}
 use Rattle.bw_cert_text.specs.CertificateShape.{CertificateShape}
 use Rattle.bw_cert_text.specs.CertificateFields.{CertificateFields, certificate_fields}
-use Rattle.bw_cert_text.specs.LineText.{Part, Said, Before, End, said_in}
+use Rattle.bw_cert_text.specs.LineText.{Part, ParsedLine, Before, End, parse_line_in}
 use Rattle.bw_cert_text.specs.CertificateText.{section_of, with_part, end_alone, SpellsFrom, before_end, at_end, IsCertificateText, form_fault, is_before, ordered, last_line, followed, certificate_from, certificate_of}
 use Rattle.bw_cert_text.specs.Reprint.{numbers_fit}
 use Rattle.bw_cert_text.proofs.SpelledNumbers.{text_small}
@@ -21,27 +21,27 @@ Reading lines end section = certificate_from section lines end
 text_read : (section : ℕ) (lines : List NumberedWords) (end : ℕ) (c : CertificateFields) → certificate_from section lines end ≡ Ok c → SpellsFrom section lines c
 unfolding certificate_from
 text_read section [] end c e = absurd (cc e)
-text_read section (line ∷ lines) end c e = go (said_in line) refl e (λ s x h. text_read s lines end x h)
+text_read section (line ∷ lines) end c e = go (parse_line_in line) refl e (λ s x h. text_read s lines end x h)
   where
-    ended : (last : EndLine) → said_in line ≡ Some (End last) → (rest : List NumberedWords) → last_line rest (end_alone last) ≡ Ok c → SpellsFrom section (line ∷ rest) c
+    ended : (last : EndLine) → parse_line_in line ≡ Some (End last) → (rest : List NumberedWords) → last_line rest (end_alone last) ≡ Ok c → SpellsFrom section (line ∷ rest) c
     ended last is (l ∷ rest) e = absurd (cc e)
     ended last is [] e = let same : end_alone last ≡ c = cc e in rw (← same) (at_end last (line_read line.number line.words (End last) is))
 
-    put : (part : Part) → said_in line ≡ Some (Before part) → section ≤ section_of part → (r : Result CertificateFields Fault) → Reading lines end (section_of part) ≡ r →
+    put : (part : Part) → parse_line_in line ≡ Some (Before part) → section ≤ section_of part → (r : Result CertificateFields Fault) → Reading lines end (section_of part) ≡ r →
         (r >>= λ rest. Ok (with_part part rest)) ≡ Ok c → ((s : ℕ) (x : CertificateFields) → Reading lines end s ≡ Ok x → SpellsFrom s lines x) → SpellsFrom section (line ∷ lines) c
     put part is le (Err fault) read e more = absurd (cc e)
     put part is le (Ok rest) read e more =
         let same : with_part part rest ≡ c = cc e in
         rw (← same) (before_end part le (line_read line.number line.words (Before part) is) (more (section_of part) rest read))
 
-    tested : (said : Said) → said_in line ≡ Some said → (b : Bool) → is_before section said ≡ b →
+    tested : (said : ParsedLine) → parse_line_in line ≡ Some said → (b : Bool) → is_before section said ≡ b →
         (refused_if b (form_fault line.number) (Ok said) >>= λ said. followed lines (Reading lines end) said) ≡ Ok c →
         ((s : ℕ) (x : CertificateFields) → Reading lines end s ≡ Ok x → SpellsFrom s lines x) → SpellsFrom section (line ∷ lines) c
     tested said is true before e more = absurd (cc e)
     tested (Before part) is false before e more = put part is (ltb-false (section_of part) section before) (Reading lines end (section_of part)) refl e more
     tested (End last) is false before e more = ended last is lines e
 
-    go : (o : Option Said) → said_in line ≡ o → (ordered section line.number o >>= λ said. followed lines (Reading lines end) said) ≡ Ok c →
+    go : (o : Option ParsedLine) → parse_line_in line ≡ o → (ordered section line.number o >>= λ said. followed lines (Reading lines end) said) ≡ Ok c →
         ((s : ℕ) (x : CertificateFields) → Reading lines end s ≡ Ok x → SpellsFrom s lines x) → SpellsFrom section (line ∷ lines) c
     go None is e more = absurd (cc e)
     go (Some said) is e more = tested said is (is_before section said) refl e more
@@ -61,14 +61,14 @@ spelled_text first bytes c is = read_text 0 (lines_in (from_line first bytes)) (
 
 -- so a call that reads a text is exact
 abbrev Told : ℕ → List ℕ → Result CertificateShape Fault → Type 0
-Told first bytes result = Gives certificate_fields result (certificate_of first bytes)
+Told first bytes result = MatchesUnlessOom certificate_fields result (certificate_of first bytes)
 
 pub spelled_from : (first : ℕ) (bytes : List ℕ) (result : Result CertificateShape Fault) → Told first bytes result → IfOk result (λ c. IsCertificateText first bytes (certificate_fields c))
 spelled_from first bytes (Ok c) told = text_spelled first bytes (certificate_fields c) told
 spelled_from first bytes (Err fault) told = tt
 
 pub accepted_from : (first : ℕ) (bytes : List ℕ) (result : Result CertificateShape Fault) → Told first bytes result → (c : CertificateFields) → IsCertificateText first bytes c →
-    Gives certificate_fields result (Ok c)
+    MatchesUnlessOom certificate_fields result (Ok c)
 accepted_from first bytes (Ok shape) told c is = sym (spelled_text first bytes c is) ∙ told
 accepted_from first bytes (Err fault) told c is = λ aside. sym (spelled_text first bytes c is) ∙ told aside
 

@@ -53,11 +53,17 @@ pub record CertificateFields : Type 0 where
 
 -- the fields of the code's lines
 abbrev pub column_fields : ChainColumns → ColumnFields
-column_fields (columns.One kind column start len bound node prev) = One kind column.items start len bound node prev
-column_fields (columns.Two kind left right len node prev) = Two kind left.items right.items len node prev
+column_fields (columns.One kind column start len bound node prev) = One kind column.items start len
+    bound node prev
+column_fields (columns.Two kind left right len node prev) = Two kind left.items right.items len node
+    prev
 
 abbrev pub chain_fields : ChainLine → ChainFields
-chain_fields chain = record { line = chain.line; n = chain.n; columns = column_fields chain.columns }
+chain_fields chain = record {
+  line = chain.line;
+  n = chain.n;
+  columns = column_fields chain.columns;
+}
 
 abbrev pub keep_fields : Keep → KeepFields
 keep_fields keep = record {

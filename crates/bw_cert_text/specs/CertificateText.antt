@@ -6,7 +6,7 @@ use Rattle.bw_model.specs.Fault.{at_line, is_memory, ◌>>=◌, refused_if}
 use Rattle.bw_text.specs.Lines.{NumberedWords, lines_in, end_in, from_line}
 use Rattle.bw_cert_text.specs.declared.lines.EndLine.{EndLine}
 use Rattle.bw_cert_text.specs.CertificateFields.{CertificateFields}
-use Rattle.bw_cert_text.specs.LineText.{Part, Node, Chain, Row, Body, Said, Before, End, said_in}
+use Rattle.bw_cert_text.specs.LineText.{Part, Node, Chain, Row, Body, ParsedLine, Before, End, parse_line_in}
 use Rattle.bw_cert_text.specs.Token.{Says, part_line, part_tokens, end_tokens}
 
 -- the sections in their order: nodes, chains, product rows, and the lines after them
@@ -63,23 +63,24 @@ pub data SpellsFrom : ℕ → List NumberedWords → CertificateFields → Type 
 
 -- the lines of a text, the first of which has this number, spell a certificate
 abbrev pub IsCertificateText : ℕ → List ℕ → CertificateFields → Type 0
-IsCertificateText first text certificate = SpellsFrom 0 (lines_in (from_line first text)) certificate
+IsCertificateText first text certificate = SpellsFrom 0 (lines_in (from_line first text))
+    certificate
 
 -- the line has another form, which is the only error of a certificate text
 abbrev pub form_fault : ℕ → Fault
 form_fault line = at_line CERTIFICATE_FORM line
 
 -- the fields of a line, which must not be of a section before this one
-abbrev pub is_before : ℕ → Said → Bool
+abbrev pub is_before : ℕ → ParsedLine → Bool
 is_before section (Before part) = nat_lt (section_of part) section
 is_before section (End end) = false
 
-abbrev pub ordered : ℕ → ℕ → Option Said → Result Said Fault
+abbrev pub ordered : ℕ → ℕ → Option ParsedLine → Result ParsedLine Fault
 ordered section line None = Err (form_fault line)
 ordered section line (Some said) = refused_if (is_before section said) (form_fault line) (Ok said)
 
-abbrev pub said_on : ℕ → NumberedWords → Result Said Fault
-said_on section line = ordered section line.number (said_in line)
+abbrev pub parse_line_on : ℕ → NumberedWords → Result ParsedLine Fault
+parse_line_on section line = ordered section line.number (parse_line_in line)
 
 -- no line may follow END
 abbrev pub last_line : {A : Type 0} → List NumberedWords → A → Result A Fault
@@ -87,7 +88,8 @@ last_line [] x = Ok x
 last_line (line ∷ lines) x = Err (form_fault line.number)
 
 -- the certificate of a line and the lines after it, given that of the lines after a section
-abbrev pub followed : List NumberedWords → (ℕ → Result CertificateFields Fault) → Said → Result CertificateFields Fault
+abbrev pub followed : List NumberedWords → (ℕ → Result CertificateFields Fault) → ParsedLine
+    → Result CertificateFields Fault
 followed lines after (Before part) = after (section_of part) >>= λ rest. Ok (with_part part rest)
 followed lines after (End end) = last_line lines (end_alone end)
 
@@ -96,11 +98,12 @@ followed lines after (End end) = last_line lines (end_alone end)
 unfoldable pub certificate_from : ℕ → List NumberedWords → ℕ → Result CertificateFields Fault
 certificate_from section [] end = Err (form_fault end)
 certificate_from section (line ∷ lines) end =
-    said_on section line >>= λ said. followed lines (λ s. certificate_from s lines end) said
+    parse_line_on section line >>= λ said. followed lines (λ s. certificate_from s lines end) said
 
 -- the certificate of a text, the first line of which has this number, or the text's first error
 abbrev pub certificate_of : ℕ → List ℕ → Result CertificateFields Fault
-certificate_of first text = certificate_from 0 (lines_in (from_line first text)) (end_in (from_line first text))
+certificate_of first text = certificate_from 0 (lines_in (from_line first text))
+    (end_in (from_line first text))
 
 -- the error is 605, or out of memory
 abbrev pub is_certificate_fault : Fault → Bool

@@ -16,8 +16,10 @@ is_column columns word = is_found (column_named columns word)
 -- each word of a chain's columns names one of these columns
 abbrev pub are_columns : List Column → ColumnFields → Bool
 are_columns columns (One kind word start len bound node prev) = is_column columns word
-are_columns columns (Two kind left right len node prev) = is_column columns left && is_column columns right
+are_columns columns (Two kind left right len node prev) = is_column columns left
+    && is_column columns right
 
 -- each word of a certificate's chains names one of these columns
 abbrev pub has_columns : List Column → CertificateFields → Bool
-has_columns columns certificate = list_all (λ chain. are_columns columns chain.columns) certificate.chains
+has_columns columns certificate = list_all (λ chain. are_columns columns chain.columns)
+    certificate.chains

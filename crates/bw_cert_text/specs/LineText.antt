@@ -37,9 +37,9 @@ pub data Part : Type 0 where
   Row : ProductLine → Part
   Body : BodyFields → Part
 
-pub data Said : Type 0 where
-  Before : Part → Said
-  End : EndLine → Said
+pub data ParsedLine : Type 0 where
+  Before : Part → ParsedLine
+  End : EndLine → ParsedLine
 
 -- n v low high
 abbrev pub node_in : ℕ → List (List ℕ) → Option NodeLine
@@ -51,7 +51,8 @@ node_in line words = None
 -- column start len const node prev, and left right len node prev
 abbrev pub one_column_in : ChainKind → List (List ℕ) → Option ColumnFields
 one_column_in kind (column ∷ start ∷ len ∷ bound ∷ node ∷ prev ∷ []) =
-    natural_of start >? λ start. natural_of len >? λ len. natural_of bound >? λ bound. natural_of node >? λ node.
+    natural_of start >? λ start. natural_of len >? λ len. natural_of bound >? λ bound. natural_of
+    node >? λ node.
     optional_of prev >? λ prev. Some (One kind column start len bound node prev)
 one_column_in kind words = None
 
@@ -86,20 +87,24 @@ reason_in words = None
 -- n, a connective, a b c, and the reason
 abbrev pub row_in : ℕ → List (List ℕ) → Option ProductLine
 row_in line (n ∷ word ∷ a ∷ b ∷ c ∷ words) =
-    natural_of n >? λ n. connective_of word >? λ op. natural_of a >? λ a. natural_of b >? λ b. natural_of c >? λ c.
-    reason_in words >? λ reason. Some (record { line = line; n = n; op = op; a = a; b = b; c = c; reason = reason })
+    natural_of n >? λ n. connective_of word >? λ op. natural_of a >? λ a. natural_of b >?
+    λ b. natural_of c >? λ c.
+    reason_in words >? λ reason. Some
+    (record { line = line; n = n; op = op; a = a; b = b; c = c; reason = reason })
 row_in line words = None
 
 -- chain rn rp rq, and chain rc rd rm rp rq
 abbrev pub compare_in : List (List ℕ) → Option ConditionEntry
 compare_in (chain ∷ value ∷ p ∷ q ∷ []) =
-    optional_of chain >? λ chain. optional_of value >? λ value. natural_of p >? λ p. natural_of q >? λ q.
+    optional_of chain >? λ chain. optional_of value >? λ value. natural_of p >? λ p. natural_of q >?
+    λ q.
     Some (Compare chain value p q)
 compare_in words = None
 
 abbrev pub compare_columns_in : List (List ℕ) → Option ConditionEntry
 compare_columns_in (chain ∷ left ∷ right ∷ both ∷ p ∷ q ∷ []) =
-    optional_of chain >? λ chain. optional_of left >? λ left. optional_of right >? λ right. natural_of both >? λ both.
+    optional_of chain >? λ chain. optional_of left >? λ left. optional_of right >?
+    λ right. natural_of both >? λ both.
     natural_of p >? λ p. natural_of q >? λ q. Some (CompareColumns chain left right both p q)
 compare_columns_in words = None
 
@@ -148,24 +153,27 @@ keep_in (r ∷ h ∷ x ∷ words) =
 keep_in words = None
 
 -- the fields of a line of each kind, from the words after the first one
-abbrev pub body_at : ℕ → EntryFields → Said
+abbrev pub body_at : ℕ → EntryFields → ParsedLine
 body_at line entry = Before (Body (record { line = line; entry = entry }))
 
-abbrev pub said_after : ℕ → LineKind → List (List ℕ) → Option Said
-said_after line kind.Node words = node_in line words >? λ node. Some (Before (Node node))
-said_after line kind.Chain words = chain_in line words >? λ chain. Some (Before (Chain chain))
-said_after line kind.Row words = row_in line words >? λ row. Some (Before (Row row))
-said_after line (kind.Condition kind) words = condition_in kind words >? λ entry. Some (body_at line (Condition entry))
-said_after line (kind.Instruction kind) words = instruction_in kind words
+abbrev pub parse_line_after : ℕ → LineKind → List (List ℕ) → Option ParsedLine
+parse_line_after line kind.Node words = node_in line words >? λ node. Some (Before (Node node))
+parse_line_after line kind.Chain words = chain_in line words >? λ chain. Some (Before (Chain chain))
+parse_line_after line kind.Row words = row_in line words >? λ row. Some (Before (Row row))
+parse_line_after line (kind.Condition kind) words = condition_in kind words >? λ entry. Some
+    (body_at line (Condition entry))
+parse_line_after line (kind.Instruction kind) words = instruction_in kind words
     >? λ entry. Some (body_at line (Instruction entry))
-said_after line kind.Join words = number_in words >? λ target. Some (body_at line (Join target))
-said_after line kind.Keep words = keep_in words >? λ keep. Some (body_at line (Kept keep))
-said_after line kind.End words = number_in words >? λ row. Some (End (record { line = line; row = row }))
+parse_line_after line kind.Join words = number_in words >? λ target. Some
+    (body_at line (Join target))
+parse_line_after line kind.Keep words = keep_in words >? λ keep. Some (body_at line (Kept keep))
+parse_line_after line kind.End words = number_in words >? λ row. Some
+    (End (record { line = line; row = row }))
 
 -- the fields of a line, if its words have one of the forms
-abbrev pub said_by : ℕ → List (List ℕ) → Option Said
-said_by line [] = None
-said_by line (word ∷ words) = kind_of word >? λ kind. said_after line kind words
+abbrev pub parse_line_by : ℕ → List (List ℕ) → Option ParsedLine
+parse_line_by line [] = None
+parse_line_by line (word ∷ words) = kind_of word >? λ kind. parse_line_after line kind words
 
-abbrev pub said_in : NumberedWords → Option Said
-said_in line = said_by line.number line.words
+abbrev pub parse_line_in : NumberedWords → Option ParsedLine
+parse_line_in line = parse_line_by line.number line.words

@@ -36,7 +36,8 @@ body_tokens body = entry_tokens body.entry
 
 abbrev pub certificate_text : CertificateFields → List ℕ
 certificate_text c =
-    lines_text node_tokens c.nodes ++ (lines_text chain_tokens c.chains ++ (lines_text row_tokens c.products
+    lines_text node_tokens c.nodes
+    ++ (lines_text chain_tokens c.chains ++ (lines_text row_tokens c.products
     ++ (lines_text body_tokens c.body ++ token_line (end_tokens c.end))))
 
 -- a word in the spelling of the column that it names, or the word itself if it names none

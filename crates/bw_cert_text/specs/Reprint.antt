@@ -16,7 +16,15 @@ abbrev pub chain_at : ℕ → ChainFields → ChainFields
 chain_at line chain = record { line = line; n = chain.n; columns = chain.columns }
 
 abbrev pub row_at : ℕ → ProductLine → ProductLine
-row_at line row = record { line = line; n = row.n; op = row.op; a = row.a; b = row.b; c = row.c; reason = row.reason }
+row_at line row = record {
+  line = line;
+  n = row.n;
+  op = row.op;
+  a = row.a;
+  b = row.b;
+  c = row.c;
+  reason = row.reason;
+}
 
 abbrev pub body_at : ℕ → BodyFields → BodyFields
 body_at line body = record { line = line; entry = body.entry }

@@ -42,7 +42,8 @@ number_if false number = None
 
 -- the fields of a condition's step, from the numbers after the line's own
 abbrev pub condition_of : Kind → List ℕ → ConditionEntry
-condition_of (kind.Compare c v) (chain ∷ value ∷ p ∷ q ∷ []) = Compare (number_if c chain) (number_if v value) p q
+condition_of (kind.Compare c v) (chain ∷ value ∷ p ∷ q ∷ []) = Compare (number_if c chain)
+    (number_if v value) p q
 condition_of (kind.CompareColumns c l r) (chain ∷ left ∷ right ∷ both ∷ p ∷ q ∷ []) =
     CompareColumns (number_if c chain) (number_if l left) (number_if r right) both p q
 condition_of kind.NullTest (i ∷ []) = NullTest i
@@ -62,7 +63,13 @@ entry_of (kind.Byte c) (chain ∷ []) pairs = Instruction (Byte (number_if c cha
 entry_of kind.Skip [] pairs = Instruction Skip
 entry_of kind.Join (target ∷ []) pairs = Join target
 entry_of (kind.Keep r) (node ∷ through ∷ count ∷ []) pairs =
-    Keep (record { register = r.register; node = node; through = through; edges = pairs; in_range = r.in_range })
+    Keep (record {
+      register = r.register;
+      node = node;
+      through = through;
+      edges = pairs;
+      in_range = r.in_range;
+    })
 entry_of kind numbers pairs = Condition (condition_of kind numbers)
 
 abbrev pub line_of : Kind → List ℕ → List EdgeProducts → BodyLine
@@ -90,4 +97,5 @@ are_all [] [] [] = true
 are_all [] numbers pairs = false
 are_all (kind ∷ kinds) numbers pairs =
     is_there kind numbers pairs
-    && are_all kinds (drop (size kind) numbers) (drop (pairs_of kind (take (size kind) numbers)) pairs)
+    && are_all kinds (drop (size kind) numbers)
+    (drop (pairs_of kind (take (size kind) numbers)) pairs)

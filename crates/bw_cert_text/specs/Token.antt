@@ -50,7 +50,8 @@ Says line number tokens = (line.number ≡ number) × AreSpelled tokens line.wor
 
 -- NODE n v low high
 abbrev pub node_tokens : NodeLine → List Token
-node_tokens node = Key (codes "NODE") ∷ Number node.n ∷ Number node.v ∷ Number node.low ∷ Number node.high ∷ []
+node_tokens node = Key (codes "NODE") ∷ Number node.n ∷ Number node.v ∷ Number node.low
+    ∷ Number node.high ∷ []
 
 -- CHAIN n LT|EQ column start len const node prev, and CHAIN n LT2|EQ2 left right len node prev
 abbrev pub one_key : ChainKind → Token
@@ -63,7 +64,8 @@ two_key compared.Equal = Key (codes "EQ2")
 
 abbrev pub column_tokens : ColumnFields → List Token
 column_tokens (One kind column start len bound node prev) =
-    one_key kind ∷ Column column ∷ Number start ∷ Number len ∷ Number bound ∷ Number node ∷ Perhaps prev ∷ []
+    one_key kind ∷ Column column ∷ Number start ∷ Number len ∷ Number bound ∷ Number node
+    ∷ Perhaps prev ∷ []
 column_tokens (Two kind left right len node prev) =
     two_key kind ∷ Column left ∷ Column right ∷ Number len ∷ Number node ∷ Perhaps prev ∷ []
 
@@ -77,7 +79,8 @@ reason_tokens (Cofactors v i j) = Key (codes "V") ∷ Number v ∷ Number i ∷ 
 
 abbrev pub row_tokens : ProductLine → List Token
 row_tokens row =
-    Key (codes "ROW") ∷ Number row.n ∷ Key (connective_spelling row.op) ∷ Number row.a ∷ Number row.b ∷ Number row.c
+    Key (codes "ROW") ∷ Number row.n ∷ Key (connective_spelling row.op) ∷ Number row.a
+    ∷ Number row.b ∷ Number row.c
     ∷ reason_tokens row.reason
 
 -- a step of the condition
@@ -85,7 +88,8 @@ abbrev pub condition_tokens : ConditionEntry → List Token
 condition_tokens (Compare chain value p q) =
     Key (codes "CMP") ∷ Perhaps chain ∷ Perhaps value ∷ Number p ∷ Number q ∷ []
 condition_tokens (CompareColumns chain left right both p q) =
-    Key (codes "CMP2") ∷ Perhaps chain ∷ Perhaps left ∷ Perhaps right ∷ Number both ∷ Number p ∷ Number q ∷ []
+    Key (codes "CMP2") ∷ Perhaps chain ∷ Perhaps left ∷ Perhaps right ∷ Number both ∷ Number p
+    ∷ Number q ∷ []
 condition_tokens Fixed = Key (codes "FIXED") ∷ []
 condition_tokens (NullTest i) = Key (codes "NULLTEST") ∷ Number i ∷ []
 condition_tokens (And i j) = Key (codes "AND") ∷ Number i ∷ Number j ∷ []
@@ -109,7 +113,8 @@ edge_tokens (edge ∷ edges) = Number edge.differs ∷ Number edge.within ∷ ed
 
 abbrev pub keep_tokens : KeepFields → List Token
 keep_tokens keep =
-    Key (codes "KEEP") ∷ Register keep.register ∷ Number keep.node ∷ Number keep.through ∷ edge_tokens keep.edges
+    Key (codes "KEEP") ∷ Register keep.register ∷ Number keep.node ∷ Number keep.through
+    ∷ edge_tokens keep.edges
 
 abbrev pub entry_tokens : EntryFields → List Token
 entry_tokens (Condition condition) = condition_tokens condition

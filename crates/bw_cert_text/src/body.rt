@@ -32,7 +32,8 @@ impl Model for Body {
 
     ghost view = { λ body. lines_of body.kinds.items body.numbers.items body.pairs.items };
 
-    ghost invariant = { λ body. IsTrue (are_all body.kinds.items body.numbers.items body.pairs.items) };
+    ghost invariant = { λ body. IsTrue
+        (are_all body.kinds.items body.numbers.items body.pairs.items) };
 }
 
 impl Body {

@@ -2,9 +2,9 @@
 ghost use Rattle.std.specs.Prelude.{◌≡◌, List, ℕ, map, option_map, IfOk};
 ghost use Rattle.bw_text.specs.Lines.{line_of};
 ghost use Rattle.bw_cert_text.specs.CertificateFields.{column_fields, chain_fields, keep_fields, entry_fields};
-ghost use Rattle.bw_cert_text.specs.LineText.{node_in, one_column_in, two_columns_in, columns_after, chain_in, reason_in, row_in, compare_in, compare_columns_in, is_in, condition_in, byte_in, instruction_in, edges_in, keep_in, body_at, said_after, said_in};
+ghost use Rattle.bw_cert_text.specs.LineText.{node_in, one_column_in, two_columns_in, columns_after, chain_in, reason_in, row_in, compare_in, compare_columns_in, is_in, condition_in, byte_in, instruction_in, edges_in, keep_in, body_at, parse_line_after, parse_line_in};
 ghost use Rattle.bw_text.specs.declared.line_kind.LineKind.TheVariants as kinds;
-ghost use Rattle.bw_cert_text.specs.SaidFields.{part_fields, said_fields};
+ghost use Rattle.bw_cert_text.specs.SaidFields.{part_fields, parsed_fields};
 
 use crate::connective::connective_of;
 use crate::edge_pairs::EdgePairs;
@@ -30,7 +30,7 @@ pub(crate) enum Part<'a> {
 
 /// A line.
 #[derive(Drop)]
-pub(crate) enum Said<'a> {
+pub(crate) enum ParsedLine<'a> {
     Before(Part<'a>),
     End(EndLine),
 }
@@ -140,7 +140,8 @@ fn columns_after(
 /// Returns a chain's number, its form and what it compares.
 fn chain_in(alloc: Global, line: u64, words: &[&[u8]]) -> Result<Option<ChainLine>, AllocError>
     ensures { IfOk result
-        (λ chain. option_map chain_fields chain ≡ chain_in line (map (λ word. word.now) words.now)) }
+        (λ chain. option_map chain_fields chain
+        ≡ chain_in line (map (λ word. word.now) words.now)) }
 {
     let [n, word, rest @ ..] = words else {
         return Ok(None);
@@ -328,7 +329,8 @@ fn instruction_in(kind: InstructionKind, words: &[&[u8]]) -> Option<InstructionE
 /// Returns complete pairs of numbers.
 fn edges_in(alloc: Global, words: &[&[u8]]) -> Result<Option<Vec<EdgeProducts>>, AllocError>
     ensures { IfOk result
-        (λ edges. option_map (λ edges. edges.items) edges ≡ edges_in (map (λ word. word.now) words.now)) }
+        (λ edges. option_map (λ edges. edges.items) edges
+        ≡ edges_in (map (λ word. word.now) words.now)) }
 {
     let mut edges = Vec::new(alloc);
     let mut rest = words;
@@ -355,7 +357,8 @@ fn keep_in<'a>(
     words: &[&[u8]],
     pairs: &'a mut Vec<EdgeProducts>,
 ) -> Result<Option<Keep<'a>>, AllocError>
-    ensures { IfOk result (λ keep. option_map keep_fields keep ≡ keep_in (map (λ word. word.now) words.now)) }
+    ensures { IfOk result (λ keep. option_map keep_fields keep
+        ≡ keep_in (map (λ word. word.now) words.now)) }
 {
     let [register, node, through, rest @ ..] = words else {
         return Ok(None);
@@ -382,12 +385,13 @@ fn keep_in<'a>(
 }
 
 /// Returns the fields of a line of any form. Its pairs are stored in `pairs`.
-pub(crate) fn said_in<'a>(
+pub(crate) fn parse_line_in<'a>(
     alloc: Global,
     line: &Line<'_>,
     pairs: &'a mut Vec<EdgeProducts>,
-) -> Result<Option<Said<'a>>, AllocError>
-    ensures { IfOk result (λ said. option_map said_fields said ≡ said_in (line_of line.now)) }
+) -> Result<Option<ParsedLine<'a>>, AllocError>
+    ensures { IfOk result (λ said. option_map parsed_fields said
+        ≡ parse_line_in (line_of line.now)) }
 {
     let Some((word, rest)) = line.words.as_slice().split_first() else {
         return Ok(None);
@@ -395,19 +399,20 @@ pub(crate) fn said_in<'a>(
     let Some(kind) = LineKind::of(word) else {
         return Ok(None);
     };
-    said_after(alloc, line.number, kind, rest, pairs)
+    parse_line_after(alloc, line.number, kind, rest, pairs)
 }
 
 /// Returns the fields of a line of this kind, from the words after the first one.
-fn said_after<'a>(
+fn parse_line_after<'a>(
     alloc: Global,
     line: u64,
     kind: LineKind,
     words: &[&[u8]],
     pairs: &'a mut Vec<EdgeProducts>,
-) -> Result<Option<Said<'a>>, AllocError>
+) -> Result<Option<ParsedLine<'a>>, AllocError>
     ensures { IfOk result
-        (λ said. option_map said_fields said ≡ said_after line kind (map (λ word. word.now) words.now)) }
+        (λ said. option_map parsed_fields said
+        ≡ parse_line_after line kind (map (λ word. word.now) words.now)) }
 {
     match kind {
         LineKind::Node => Ok(node_said(line, words)),
@@ -415,7 +420,7 @@ fn said_after<'a>(
             let Some(chain) = chain_in(alloc, line, words)? else {
                 return Ok(None);
             };
-            Ok(Some(Said::Before(Part::Chain(chain))))
+            Ok(Some(ParsedLine::Before(Part::Chain(chain))))
         }
         LineKind::Row => Ok(row_said(line, words)),
         LineKind::Condition(kind) => Ok(condition_said(line, kind, words)),
@@ -432,58 +437,62 @@ fn said_after<'a>(
 }
 
 /// Returns the fields in the words after `NODE`.
-fn node_said<'a>(line: u64, words: &[&[u8]]) -> Option<Said<'a>>
-    ensures { option_map said_fields result ≡ said_after line kinds.Node (map (λ word. word.now) words.now) }
+fn node_said<'a>(line: u64, words: &[&[u8]]) -> Option<ParsedLine<'a>>
+    ensures { option_map parsed_fields result
+        ≡ parse_line_after line kinds.Node (map (λ word. word.now) words.now) }
 {
     let node = node_in(line, words)?;
-    Some(Said::Before(Part::Node(node)))
+    Some(ParsedLine::Before(Part::Node(node)))
 }
 
 /// Returns the fields in the words after `ROW`.
-fn row_said<'a>(line: u64, words: &[&[u8]]) -> Option<Said<'a>>
-    ensures { option_map said_fields result ≡ said_after line kinds.Row (map (λ word. word.now) words.now) }
+fn row_said<'a>(line: u64, words: &[&[u8]]) -> Option<ParsedLine<'a>>
+    ensures { option_map parsed_fields result
+        ≡ parse_line_after line kinds.Row (map (λ word. word.now) words.now) }
 {
     let row = row_in(line, words)?;
-    Some(Said::Before(Part::Row(row)))
+    Some(ParsedLine::Before(Part::Row(row)))
 }
 
 /// Returns the fields in the line of a condition's step.
-fn condition_said<'a>(line: u64, kind: ConditionKind, words: &[&[u8]]) -> Option<Said<'a>>
-    ensures { option_map said_fields result
-        ≡ said_after line (kinds.Condition kind) (map (λ word. word.now) words.now) }
+fn condition_said<'a>(line: u64, kind: ConditionKind, words: &[&[u8]]) -> Option<ParsedLine<'a>>
+    ensures { option_map parsed_fields result
+        ≡ parse_line_after line (kinds.Condition kind) (map (λ word. word.now) words.now) }
 {
     let entry = condition_in(kind, words)?;
     Some(in_body(line, Entry::Condition(entry)))
 }
 
 /// Returns the fields in the line of an instruction.
-fn instruction_said<'a>(line: u64, kind: InstructionKind, words: &[&[u8]]) -> Option<Said<'a>>
-    ensures { option_map said_fields result
-        ≡ said_after line (kinds.Instruction kind) (map (λ word. word.now) words.now) }
+fn instruction_said<'a>(line: u64, kind: InstructionKind, words: &[&[u8]]) -> Option<ParsedLine<'a>>
+    ensures { option_map parsed_fields result
+        ≡ parse_line_after line (kinds.Instruction kind) (map (λ word. word.now) words.now) }
 {
     let entry = instruction_in(kind, words)?;
     Some(in_body(line, Entry::Instruction(entry)))
 }
 
 /// Returns the fields in the words after `JOIN`.
-fn join_said<'a>(line: u64, words: &[&[u8]]) -> Option<Said<'a>>
-    ensures { option_map said_fields result ≡ said_after line kinds.Join (map (λ word. word.now) words.now) }
+fn join_said<'a>(line: u64, words: &[&[u8]]) -> Option<ParsedLine<'a>>
+    ensures { option_map parsed_fields result
+        ≡ parse_line_after line kinds.Join (map (λ word. word.now) words.now) }
 {
     let target = number_in(words)?;
     Some(in_body(line, Entry::Join(target)))
 }
 
 /// Returns the fields in the words after `END`.
-fn end_said<'a>(line: u64, words: &[&[u8]]) -> Option<Said<'a>>
-    ensures { option_map said_fields result ≡ said_after line kinds.End (map (λ word. word.now) words.now) }
+fn end_said<'a>(line: u64, words: &[&[u8]]) -> Option<ParsedLine<'a>>
+    ensures { option_map parsed_fields result
+        ≡ parse_line_after line kinds.End (map (λ word. word.now) words.now) }
 {
     let row = number_in(words)?;
-    Some(Said::End(EndLine { line, row }))
+    Some(ParsedLine::End(EndLine { line, row }))
 }
 
 /// Returns a line after the product rows.
-fn in_body<'a>(line: u64, entry: Entry<'a>) -> Said<'a>
-    ensures { said_fields result ≡ body_at line (entry_fields entry.entry) }
+fn in_body<'a>(line: u64, entry: Entry<'a>) -> ParsedLine<'a>
+    ensures { parsed_fields result ≡ body_at line (entry_fields entry.entry) }
 {
-    Said::Before(Part::Body(BodyLine { line, entry }))
+    ParsedLine::Before(Part::Body(BodyLine { line, entry }))
 }

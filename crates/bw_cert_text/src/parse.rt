@@ -1,17 +1,17 @@
 //! Certificate texts, read line by line: nodes, chains and product rows, the lines after them, and
 //! `END`.
 ghost use Rattle.std.specs.Prelude.{◌≡◌, ◌≤◌, ◌^◌, ℕ, List, Ok, Err, false, option_map, IfOk, IfErr, OnOk, IsTrue};
-ghost use Rattle.bw_model.specs.Fault.{Gives, is_memory};
+ghost use Rattle.bw_model.specs.Fault.{MatchesUnlessOom, is_memory};
 ghost use Rattle.bw_text.specs.Lines.{lines_in, end_in, line_of};
 ghost use Rattle.bw_cert_text.specs.CertificateFields.{CertificateFields, certificate_fields};
-ghost use Rattle.bw_cert_text.specs.CertificateText.{certificate_of, certificate_from, said_on, section_of, with_part, end_alone, last_line, is_before, IsCertificateText, IsCertificateFault};
-ghost use Rattle.bw_cert_text.specs.Parts.{joined};
+ghost use Rattle.bw_cert_text.specs.CertificateText.{certificate_of, certificate_from, parse_line_on, section_of, with_part, end_alone, last_line, is_before, IsCertificateText, IsCertificateFault};
+ghost use Rattle.bw_cert_text.specs.Parts.{append_fields};
 ghost use Rattle.bw_cert_text.specs.Reprint.{numbers_fit};
-ghost use Rattle.bw_cert_text.specs.SaidFields.{part_fields, said_fields};
+ghost use Rattle.bw_cert_text.specs.SaidFields.{part_fields, parsed_fields};
 
 use crate::body::Body;
 use crate::certificate::Certificate;
-use crate::line::{Part, Said, said_in};
+use crate::line::{ParsedLine, Part, parse_line_in};
 use crate::lines::{ChainLine, EdgeProducts, EndLine, NodeLine, ProductLine};
 use bw_model::{Fault, code};
 use bw_text::{Line, Lines};
@@ -25,19 +25,23 @@ impl Certificate {
     /// end of the text, one line after the last. 801 if memory is refused.
     pub fn parse(alloc: Global, first_line: u64, text: &[u8]) -> Result<Self, Fault>
         requires numbered { 1 ≤ first_line }
-        requires few { first_line ≤ 2 ^ 32 }
+        requires within_limit { first_line ≤ 2 ^ 32 }
         // A text that is read spells the certificate, and every text that spells one is read.
         ensures spelled { IfOk result
-            (λ certificate. IsCertificateText first_line text.now (certificate_fields certificate)) }
-        ensures accepted { (certificate : CertificateFields) → IsCertificateText first_line text.now certificate
-            → Gives certificate_fields result (Ok certificate) }
+            (λ certificate. IsCertificateText first_line text.now
+            (certificate_fields certificate)) }
+        ensures accepted { (certificate : CertificateFields)
+            → IsCertificateText first_line text.now certificate
+            → MatchesUnlessOom certificate_fields result (Ok certificate) }
 
         // A failed call returns the first error of the text.
-        ensures fault { Gives certificate_fields result (certificate_of first_line text.now) }
+        ensures fault { MatchesUnlessOom certificate_fields result
+            (certificate_of first_line text.now) }
         ensures code { IfErr result IsCertificateFault }
 
         // Its numbers are below 2^64, and its registers r0 to r63.
-        ensures fits { IfOk result (λ certificate. IsTrue (numbers_fit (certificate_fields certificate))) }
+        ensures fits { IfOk result
+            (λ certificate. IsTrue (numbers_fit (certificate_fields certificate))) }
     {
         read_certificate(alloc, first_line, text)
     }
@@ -64,8 +68,8 @@ pub(crate) struct Parts {
 impl Parts {
     /// Adds a line to those of its section.
     fn push(&mut self, part: Part<'_>) -> Result<(), AllocError>
-        ensures { OnOk result ((rest : CertificateFields) → joined self.new rest
-            ≡ joined self.old (with_part (part_fields part.entry) rest)) }
+        ensures { OnOk result ((rest : CertificateFields) → append_fields self.new rest
+            ≡ append_fields self.old (with_part (part_fields part.entry) rest)) }
     {
         match part {
             Part::Node(node) => self.nodes.push(node)?,
@@ -93,7 +97,7 @@ fn section_of(part: &Part<'_>) -> u8
 /// Reads a certificate text line by line.
 fn read_certificate(alloc: Global, first_line: u64, text: &[u8]) -> Result<Certificate, Fault>
     requires { first_line ≤ 2 ^ 32 }
-    ensures read { Gives certificate_fields result (certificate_of first_line text.now) }
+    ensures read { MatchesUnlessOom certificate_fields result (certificate_of first_line text.now) }
     ensures code { IfErr result IsCertificateFault }
 {
     let mut lines = Lines::from_line(first_line, text);
@@ -116,9 +120,9 @@ fn read_certificate(alloc: Global, first_line: u64, text: &[u8]) -> Result<Certi
 
 /// Reads the lines up to `END`, and returns that.
 fn read_parts(alloc: Global, lines: &mut Lines<'_>, parts: &mut Parts) -> Result<EndLine, Fault>
-    requires { (rest : CertificateFields) → joined parts.old rest ≡ rest }
+    requires { (rest : CertificateFields) → append_fields parts.old rest ≡ rest }
     ensures read { IfOk result (λ end. certificate_from 0 (lines_in lines.old) (end_in lines.old)
-        ≡ last_line (lines_in lines.new) (joined parts.new (end_alone end))) }
+        ≡ last_line (lines_in lines.new) (append_fields parts.new (end_alone end))) }
     ensures fault { IfErr result (λ fault. is_memory fault ≡ false
         → certificate_from 0 (lines_in lines.old) (end_in lines.old) ≡ Err fault) }
     ensures code { IfErr result IsCertificateFault }
@@ -126,12 +130,12 @@ fn read_parts(alloc: Global, lines: &mut Lines<'_>, parts: &mut Parts) -> Result
     let mut section = 0;
     let mut pairs = Vec::new(alloc);
     while let Some(line) = lines.next_line(alloc)? {
-        match said_on(alloc, section, &line, &mut pairs)? {
-            Said::Before(part) => {
+        match parse_line_on(alloc, section, &line, &mut pairs)? {
+            ParsedLine::Before(part) => {
                 section = section_of(&part);
                 parts.push(part)?;
             }
-            Said::End(end) => return Ok(end),
+            ParsedLine::End(end) => return Ok(end),
         }
     }
     Err(Fault::at_line(code::CERTIFICATE_FORM, lines.number()))
@@ -139,16 +143,17 @@ fn read_parts(alloc: Global, lines: &mut Lines<'_>, parts: &mut Parts) -> Result
 
 /// Returns the fields of a line, which must not be of a section before this one. Its pairs are
 /// stored in `pairs`.
-fn said_on<'a>(
+fn parse_line_on<'a>(
     alloc: Global,
     section: u8,
     line: &Line<'_>,
     pairs: &'a mut Vec<EdgeProducts>,
-) -> Result<Said<'a>, Fault>
-    ensures said { Gives said_fields result (said_on section (line_of line.now)) }
+) -> Result<ParsedLine<'a>, Fault>
+    ensures parsed { MatchesUnlessOom parsed_fields result
+        (parse_line_on section (line_of line.now)) }
     ensures code { IfErr result IsCertificateFault }
 {
-    let Some(said) = said_in(alloc, line, pairs)? else {
+    let Some(said) = parse_line_in(alloc, line, pairs)? else {
         return Err(Fault::at_line(code::CERTIFICATE_FORM, line.number));
     };
     if is_before(section, &said) {
@@ -158,19 +163,20 @@ fn said_on<'a>(
 }
 
 /// Returns whether a line is of a section before this one.
-fn is_before(section: u8, said: &Said<'_>) -> bool
-    ensures { result ≡ is_before section (said_fields said.now) }
+fn is_before(section: u8, said: &ParsedLine<'_>) -> bool
+    ensures { result ≡ is_before section (parsed_fields said.now) }
 {
     match said {
-        Said::Before(part) => section_of(part) < section,
-        Said::End(_) => false,
+        ParsedLine::Before(part) => section_of(part) < section,
+        ParsedLine::End(_) => false,
     }
 }
 
 /// Fails if a line follows `END`.
 fn refuse_more(alloc: Global, mut lines: Lines<'_>) -> Result<(), Fault>
-    ensures none { OnOk result ((x : CertificateFields) → last_line (lines_in lines.entry) x ≡ Ok x) }
-    ensures some { IfErr result (λ fault. is_memory fault ≡ false
+    ensures none { OnOk result ((x : CertificateFields) → last_line (lines_in lines.entry) x
+        ≡ Ok x) }
+    ensures nonempty { IfErr result (λ fault. is_memory fault ≡ false
         → (x : CertificateFields) → last_line (lines_in lines.entry) x ≡ Err fault) }
     ensures code { IfErr result IsCertificateFault }
 {

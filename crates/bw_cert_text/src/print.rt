@@ -36,10 +36,11 @@ impl Certificate {
     pub fn print(&self, alloc: Global, schema: &Schema) -> Result<Vec<u8>, Fault>
         requires { IsTrue (has_columns schema.now.columns.items (certificate_fields self.now)) }
         ensures text { IfOk result
-            (λ text. text.items ≡ print_text schema.now.columns.items (certificate_fields self.now)) }
+            (λ text. text.items ≡ print_text schema.now.columns.items
+            (certificate_fields self.now)) }
         ensures spelled { IfOk result (λ text. (first : ℕ) → IsCertificateText first text.items
             (renumbered first (respelled schema.now.columns.items (certificate_fields self.now)))) }
-        ensures only_memory { IsOkUnless result no_memory }
+        ensures only_oom { IsOkUnless result no_memory }
     {
         schema.has_names_and_bounds();
         let mut text = Vec::new(alloc);
@@ -99,7 +100,8 @@ pub fn spelled_numbers_fit()
 
 /// Appends the lines of nodes.
 fn put_nodes(alloc: Global, nodes: &[NodeLine], text: &mut Vec<u8>) -> Result<(), AllocError>
-    ensures text { OnOk result (text.new.items ≡ text.old.items ++ lines_text node_tokens nodes.now) }
+    ensures text { OnOk result (text.new.items ≡ text.old.items
+        ++ lines_text node_tokens nodes.now) }
     ensures fit { OnOk result (IsTrue (list_all (λ node. are_small (node_tokens node)) nodes.now)) }
 {
     for node in nodes {
@@ -150,7 +152,8 @@ fn put_chain<'a>(
     text: &mut Vec<u8>,
 ) -> Result<(), AllocError>
     ensures text { OnOk result (text.new.items ≡ text.old.items
-        ++ token_line (chain_tokens (respelled_chain schema.now.columns.items (chain_fields chain.now)))) }
+        ++ token_line (chain_tokens
+        (respelled_chain schema.now.columns.items (chain_fields chain.now)))) }
     ensures fit { IsTrue (are_small (chain_tokens (chain_fields chain.now))) }
 {
     match &chain.columns {
@@ -283,7 +286,8 @@ fn put_body(alloc: Global, body: BodyLines<'_>, text: &mut Vec<u8>) -> Result<()
     ensures text { OnOk result (text.new.items ≡ text.old.items
         ++ lines_text (λ line. body_tokens (body_fields line)) (body_lines body.entry)) }
     ensures fit { OnOk result
-        (IsTrue (list_all (λ line. are_small (body_tokens (body_fields line))) (body_lines body.entry))) }
+        (IsTrue (list_all (λ line. are_small (body_tokens (body_fields line)))
+        (body_lines body.entry))) }
 {
     let mut rest = body;
     while let Some((line, more)) = rest.next() {
@@ -313,7 +317,8 @@ fn put_entry(alloc: Global, entry: &Entry<'_>, text: &mut Vec<u8>) -> Result<(),
 
 /// Appends the line of a condition's step.
 fn put_condition(alloc: Global, entry: ConditionEntry, text: &mut Vec<u8>) -> Result<(), AllocError>
-    ensures text { OnOk result (text.new.items ≡ text.old.items ++ token_line (condition_tokens entry)) }
+    ensures text { OnOk result (text.new.items ≡ text.old.items
+        ++ token_line (condition_tokens entry)) }
     ensures fit { IsTrue (are_small (condition_tokens entry)) }
 {
     use Piece::{Number, Word};
@@ -367,7 +372,8 @@ fn put_instruction(
     entry: InstructionEntry,
     text: &mut Vec<u8>,
 ) -> Result<(), AllocError>
-    ensures text { OnOk result (text.new.items ≡ text.old.items ++ token_line (instruction_tokens entry)) }
+    ensures text { OnOk result (text.new.items ≡ text.old.items
+        ++ token_line (instruction_tokens entry)) }
     ensures fit { IsTrue (are_small (instruction_tokens entry)) }
 {
     use Piece::{Number, Word};
@@ -400,7 +406,8 @@ fn put_keep(alloc: Global, keep: &Keep<'_>, text: &mut Vec<u8>) -> Result<(), Al
 
 /// Appends pairs of numbers, each number after a blank.
 fn put_edges(alloc: Global, edges: &[EdgeProducts], text: &mut Vec<u8>) -> Result<(), AllocError>
-    ensures text { OnOk result (text.new.items ≡ text.old.items ++ spaced (token_words (edge_tokens edges.now))) }
+    ensures text { OnOk result (text.new.items ≡ text.old.items
+        ++ spaced (token_words (edge_tokens edges.now))) }
     ensures fit { OnOk result (IsTrue (are_small (edge_tokens edges.now))) }
 {
     for edge in edges {

@@ -2,7 +2,7 @@
 //! `bw load [--layout planes|slices] SCHEMA CSV OUT`, `bw query [--program FILE] [--stats] TABLE SQL`,
 //! `bw session [--program FILE]... [--stats] TABLE`, `bw plan SCHEMA SQL`, `bw check SCHEMA SQL FILE`, `bw info TABLE` or
 //! `bw dump TABLE`, each with `--explain` before the command or after it.
-use crate::words::Words;
+use crate::words::CommandArgs;
 use bw_file::Layout;
 use clap::{Arg, ArgAction, ArgMatches, Command, Error};
 use std::alloc::{AllocError, Global};
@@ -12,7 +12,7 @@ const VERSION: &str = "0.2.0\nRattle logic dac8208d650f15bf";
 
 /// A word or an option that a command takes.
 #[derive(Clone, Copy)]
-enum Taken {
+enum ArgSpec {
     /// A name of a file, and what the file is.
     File(&'static str, &'static str),
     Statement,
@@ -24,35 +24,28 @@ enum Taken {
     Stats,
 }
 
-const SCHEMA: Taken = Taken::File(
-    "SCHEMA",
-    "A schema file, as written by `bw infer`",
-);
+const SCHEMA: ArgSpec = ArgSpec::File("SCHEMA", "A schema file, as written by `bw infer`");
 
-const CSV: Taken = Taken::File(
+const CSV: ArgSpec = ArgSpec::File(
     "CSV",
     "A CSV file of whole numbers with a heading; an empty field is null",
 );
 
-const TABLE: Taken = Taken::File("TABLE", "A table file, as written by `bw load`");
+const TABLE: ArgSpec = ArgSpec::File("TABLE", "A table file, as written by `bw load`");
 
-const OUT: Taken = Taken::File("OUT", "The table file to create or replace");
+const OUT: ArgSpec = ArgSpec::File("OUT", "The table file to create or replace");
 
-const FILE: Taken = Taken::File("FILE", "A program file, as written by `bw plan`");
+const FILE: ArgSpec = ArgSpec::File("FILE", "A program file, as written by `bw plan`");
 
-const NAME: Taken = Taken::Valued(
-    "table",
-    "NAME",
-    "The table's name (default: t)",
-);
+const NAME: ArgSpec = ArgSpec::Valued("table", "NAME", "The table's name (default: t)");
 
-const PROGRAM: Taken = Taken::Valued(
+const PROGRAM: ArgSpec = ArgSpec::Valued(
     "program",
     "FILE",
     "Scan by this program file instead of the planner's program",
 );
 
-const PROGRAMS: Taken = Taken::Repeated(
+const PROGRAMS: ArgSpec = ArgSpec::Repeated(
     "program",
     "FILE",
     "A program file to scan by if it's accepted for a statement; may be given again",
@@ -60,64 +53,64 @@ const PROGRAMS: Taken = Taken::Repeated(
 
 /// A command: its name, what it does, an example of it, and what it takes.
 #[derive(Clone, Copy)]
-struct Told {
+struct CommandSpec {
     name: &'static str,
     about: &'static str,
     example: &'static str,
-    takes: &'static [Taken],
+    takes: &'static [ArgSpec],
 }
 
 /// The commands, in the order of the help.
-const COMMANDS: [Told; 9] = [
-    Told {
+const COMMANDS: [CommandSpec; 9] = [
+    CommandSpec {
         name: "direct",
         about: "Run a statement over a CSV file",
         example: "Example: bw direct trips.schema trips.csv 'SELECT COUNT(*) FROM trips WHERE cents > 2000'",
-        takes: &[SCHEMA, CSV, Taken::Statement],
+        takes: &[SCHEMA, CSV, ArgSpec::Statement],
     },
-    Told {
+    CommandSpec {
         name: "infer",
         about: "Write a schema for a CSV file",
         example: "Example: bw infer --table trips trips.csv > trips.schema",
         takes: &[NAME, CSV],
     },
-    Told {
+    CommandSpec {
         name: "load",
         about: "Load a CSV file into a table file",
         example: "Example: bw load trips.schema trips.csv trips.bw",
-        takes: &[Taken::Layout, SCHEMA, CSV, OUT],
+        takes: &[ArgSpec::Layout, SCHEMA, CSV, OUT],
     },
-    Told {
+    CommandSpec {
         name: "query",
         about: "Run a statement over a table file",
         example: "Example: bw query --stats trips.bw 'SELECT MAX(cents) FROM trips WHERE minutes < 10'",
-        takes: &[PROGRAM, Taken::Stats, TABLE, Taken::Statement],
+        takes: &[PROGRAM, ArgSpec::Stats, TABLE, ArgSpec::Statement],
     },
-    Told {
+    CommandSpec {
         name: "session",
         about: "Read a table file once, and run the statements on standard input",
         example: "Example: bw session trips.bw < statements.sql",
-        takes: &[PROGRAMS, Taken::Stats, TABLE],
+        takes: &[PROGRAMS, ArgSpec::Stats, TABLE],
     },
-    Told {
+    CommandSpec {
         name: "plan",
         about: "Write a scan program and its certificate for a statement's condition",
         example: "Example: bw plan trips.schema 'SELECT COUNT(*) FROM trips WHERE cents > 2000' > cents.prog",
-        takes: &[SCHEMA, Taken::Statement],
+        takes: &[SCHEMA, ArgSpec::Statement],
     },
-    Told {
+    CommandSpec {
         name: "check",
         about: "Check a scan program and its certificate for a statement's condition",
         example: "Example: bw check trips.schema 'SELECT COUNT(*) FROM trips WHERE cents > 2000' cents.prog",
-        takes: &[SCHEMA, Taken::Statement, FILE],
+        takes: &[SCHEMA, ArgSpec::Statement, FILE],
     },
-    Told {
+    CommandSpec {
         name: "info",
         about: "Print the schema of a table file, with its sizes as comments",
         example: "Example: bw info trips.bw",
         takes: &[TABLE],
     },
-    Told {
+    CommandSpec {
         name: "dump",
         about: "Print all rows of a table file as CSV",
         example: "Example: bw dump trips.bw > trips.csv",
@@ -161,7 +154,7 @@ fn program<'a>(alloc: Global) -> Command<'a> {
         .disable_help_subcommand(true)
 }
 
-fn command<'a>(alloc: Global, told: &Told) -> Result<Command<'a>, AllocError> {
+fn command<'a>(alloc: Global, told: &CommandSpec) -> Result<Command<'a>, AllocError> {
     let mut command = Command::new(alloc, told.name)
         .about(told.about)
         .after_help(told.example);
@@ -171,14 +164,14 @@ fn command<'a>(alloc: Global, told: &Told) -> Result<Command<'a>, AllocError> {
     Ok(command)
 }
 
-fn argument<'a>(alloc: Global, taken: Taken) -> Arg<'a> {
+fn argument<'a>(alloc: Global, taken: ArgSpec) -> Arg<'a> {
     match taken {
-        Taken::File(name, help) => Arg::new(alloc, name).required(true).help(help),
-        Taken::Statement => statement(alloc),
-        Taken::Valued(name, value, help) => valued(alloc, ArgAction::Set, name, value, help),
-        Taken::Repeated(name, value, help) => valued(alloc, ArgAction::Append, name, value, help),
-        Taken::Layout => layout(alloc),
-        Taken::Stats => stats(alloc),
+        ArgSpec::File(name, help) => Arg::new(alloc, name).required(true).help(help),
+        ArgSpec::Statement => statement(alloc),
+        ArgSpec::Valued(name, value, help) => valued(alloc, ArgAction::Set, name, value, help),
+        ArgSpec::Repeated(name, value, help) => valued(alloc, ArgAction::Append, name, value, help),
+        ArgSpec::Layout => layout(alloc),
+        ArgSpec::Stats => stats(alloc),
     }
 }
 
@@ -217,7 +210,7 @@ pub(crate) fn is_explained(matches: &ArgMatches<'_>) -> bool {
 }
 
 /// The words of the command that the command line has.
-pub(crate) fn words_of<'a>(matches: &ArgMatches<'a>) -> Option<Words<'a>> {
+pub(crate) fn words_of<'a>(matches: &ArgMatches<'a>) -> Option<CommandArgs<'a>> {
     let (name, found) = matches.subcommand()?;
     match name {
         "direct" => direct_words(found),
@@ -233,23 +226,23 @@ pub(crate) fn words_of<'a>(matches: &ArgMatches<'a>) -> Option<Words<'a>> {
     }
 }
 
-fn direct_words<'a>(found: &ArgMatches<'a>) -> Option<Words<'a>> {
-    Some(Words::Direct {
+fn direct_words<'a>(found: &ArgMatches<'a>) -> Option<CommandArgs<'a>> {
+    Some(CommandArgs::Direct {
         schema: found.get_str("SCHEMA")?,
         csv: found.get_str("CSV")?,
         sql: found.get_str("SQL")?,
     })
 }
 
-fn infer_words<'a>(found: &ArgMatches<'a>) -> Option<Words<'a>> {
-    Some(Words::Infer {
+fn infer_words<'a>(found: &ArgMatches<'a>) -> Option<CommandArgs<'a>> {
+    Some(CommandArgs::Infer {
         name: found.get_str("table"),
         csv: found.get_str("CSV")?,
     })
 }
 
-fn load_words<'a>(found: &ArgMatches<'a>) -> Option<Words<'a>> {
-    Some(Words::Load {
+fn load_words<'a>(found: &ArgMatches<'a>) -> Option<CommandArgs<'a>> {
+    Some(CommandArgs::Load {
         layout: layout_of(found),
         schema: found.get_str("SCHEMA")?,
         csv: found.get_str("CSV")?,
@@ -257,8 +250,8 @@ fn load_words<'a>(found: &ArgMatches<'a>) -> Option<Words<'a>> {
     })
 }
 
-fn query_words<'a>(found: &ArgMatches<'a>) -> Option<Words<'a>> {
-    Some(Words::Query {
+fn query_words<'a>(found: &ArgMatches<'a>) -> Option<CommandArgs<'a>> {
+    Some(CommandArgs::Query {
         program: found.get_str("program"),
         stats: found.get_flag("stats"),
         table: found.get_str("TABLE")?,
@@ -266,34 +259,34 @@ fn query_words<'a>(found: &ArgMatches<'a>) -> Option<Words<'a>> {
     })
 }
 
-fn session_words<'a>(found: &ArgMatches<'a>) -> Option<Words<'a>> {
-    Some(Words::Session {
+fn session_words<'a>(found: &ArgMatches<'a>) -> Option<CommandArgs<'a>> {
+    Some(CommandArgs::Session {
         stats: found.get_flag("stats"),
         table: found.get_str("TABLE")?,
     })
 }
 
-fn info_words<'a>(found: &ArgMatches<'a>) -> Option<Words<'a>> {
-    Some(Words::Info {
+fn info_words<'a>(found: &ArgMatches<'a>) -> Option<CommandArgs<'a>> {
+    Some(CommandArgs::Info {
         table: found.get_str("TABLE")?,
     })
 }
 
-fn dump_words<'a>(found: &ArgMatches<'a>) -> Option<Words<'a>> {
-    Some(Words::Dump {
+fn dump_words<'a>(found: &ArgMatches<'a>) -> Option<CommandArgs<'a>> {
+    Some(CommandArgs::Dump {
         table: found.get_str("TABLE")?,
     })
 }
 
-fn plan_words<'a>(found: &ArgMatches<'a>) -> Option<Words<'a>> {
-    Some(Words::Plan {
+fn plan_words<'a>(found: &ArgMatches<'a>) -> Option<CommandArgs<'a>> {
+    Some(CommandArgs::Plan {
         schema: found.get_str("SCHEMA")?,
         sql: found.get_str("SQL")?,
     })
 }
 
-fn check_words<'a>(found: &ArgMatches<'a>) -> Option<Words<'a>> {
-    Some(Words::Check {
+fn check_words<'a>(found: &ArgMatches<'a>) -> Option<CommandArgs<'a>> {
+    Some(CommandArgs::Check {
         schema: found.get_str("SCHEMA")?,
         sql: found.get_str("SQL")?,
         file: found.get_str("FILE")?,

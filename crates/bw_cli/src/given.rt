@@ -2,7 +2,7 @@
 ghost use Rattle.std.specs.Prelude.{◌≡◌};
 
 use crate::commands::{is_explained, matches_of, programs_of, words_of};
-use crate::words::Words;
+use crate::words::CommandArgs;
 use bw_io::ToWrite;
 use bw_model::{Fault, code};
 use bw_report::report;
@@ -15,8 +15,8 @@ pub const USAGE: u8 = 2;
 
 /// A command with its words, the program files of a session, and whether explanations are asked for.
 #[derive(Drop)]
-pub struct Asked<'a> {
-    pub words: Words<'a>,
+pub struct Invocation<'a> {
+    pub words: CommandArgs<'a>,
     pub programs: Vec<&'a str>,
     pub is_explained: bool,
 }
@@ -35,7 +35,7 @@ pub fn words_given(rt: &HostRuntime) -> Result<Vec<String>, u8> {
 
 /// The command of a command line, whose first word is the program's name; or the status without one, once what the
 /// command line asked for in place of it was written.
-pub fn asked_by<'a>(rt: &HostRuntime, words: &'a [String]) -> Result<Asked<'a>, u8> {
+pub fn asked_by<'a>(rt: &HostRuntime, words: &'a [String]) -> Result<Invocation<'a>, u8> {
     match matches_of(rt.alloc(), words) {
         Ok(matches) => asked_in(rt, &matches),
         Err(error) => Err(tell(rt, &error)),
@@ -43,10 +43,10 @@ pub fn asked_by<'a>(rt: &HostRuntime, words: &'a [String]) -> Result<Asked<'a>, 
 }
 
 /// The command that was found.
-fn asked_in<'a>(rt: &HostRuntime, matches: &ArgMatches<'a>) -> Result<Asked<'a>, u8> {
+fn asked_in<'a>(rt: &HostRuntime, matches: &ArgMatches<'a>) -> Result<Invocation<'a>, u8> {
     let words = words_of(matches).ok_or(USAGE)?;
     match programs_of(rt.alloc(), matches) {
-        Ok(programs) => Ok(Asked {
+        Ok(programs) => Ok(Invocation {
             words,
             programs,
             is_explained: is_explained(matches),

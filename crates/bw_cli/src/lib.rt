@@ -9,5 +9,5 @@ mod commands;
 mod given;
 mod words;
 
-pub use given::{Asked, USAGE, asked_by, words_given};
-pub use words::Words;
+pub use given::{Invocation, USAGE, asked_by, words_given};
+pub use words::CommandArgs;

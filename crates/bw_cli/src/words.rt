@@ -3,7 +3,7 @@ use bw_file::Layout;
 
 /// A command and its words. All but SQL and the name of a table are names of files.
 #[derive(Clone, Copy)]
-pub enum Words<'a> {
+pub enum CommandArgs<'a> {
     Direct {
         schema: &'a str,
         csv: &'a str,
@@ -47,14 +47,14 @@ pub enum Words<'a> {
     },
 }
 
-impl<'a> Words<'a> {
+impl<'a> CommandArgs<'a> {
     /// The file of the schema.
     pub fn schema(self) -> Option<&'a str> {
         match self {
-            Words::Direct { schema, .. }
-            | Words::Load { schema, .. }
-            | Words::Plan { schema, .. }
-            | Words::Check { schema, .. } => Some(schema),
+            CommandArgs::Direct { schema, .. }
+            | CommandArgs::Load { schema, .. }
+            | CommandArgs::Plan { schema, .. }
+            | CommandArgs::Check { schema, .. } => Some(schema),
             _ => None,
         }
     }
@@ -62,9 +62,9 @@ impl<'a> Words<'a> {
     /// The CSV file.
     pub fn csv(self) -> Option<&'a str> {
         match self {
-            Words::Direct { csv, .. } | Words::Infer { csv, .. } | Words::Load { csv, .. } => {
-                Some(csv)
-            }
+            CommandArgs::Direct { csv, .. }
+            | CommandArgs::Infer { csv, .. }
+            | CommandArgs::Load { csv, .. } => { Some(csv) }
             _ => None,
         }
     }
@@ -72,10 +72,10 @@ impl<'a> Words<'a> {
     /// The table file that is read.
     pub fn table(self) -> Option<&'a str> {
         match self {
-            Words::Query { table, .. }
-            | Words::Session { table, .. }
-            | Words::Info { table }
-            | Words::Dump { table } => Some(table),
+            CommandArgs::Query { table, .. }
+            | CommandArgs::Session { table, .. }
+            | CommandArgs::Info { table }
+            | CommandArgs::Dump { table } => Some(table),
             _ => None,
         }
     }
@@ -83,8 +83,8 @@ impl<'a> Words<'a> {
     /// The program file.
     pub fn program(self) -> Option<&'a str> {
         match self {
-            Words::Query { program, .. } => program,
-            Words::Check { file, .. } => Some(file),
+            CommandArgs::Query { program, .. } => program,
+            CommandArgs::Check { file, .. } => Some(file),
             _ => None,
         }
     }
@@ -92,10 +92,10 @@ impl<'a> Words<'a> {
     /// The statement.
     pub fn sql(self) -> Option<&'a str> {
         match self {
-            Words::Direct { sql, .. }
-            | Words::Query { sql, .. }
-            | Words::Plan { sql, .. }
-            | Words::Check { sql, .. } => Some(sql),
+            CommandArgs::Direct { sql, .. }
+            | CommandArgs::Query { sql, .. }
+            | CommandArgs::Plan { sql, .. }
+            | CommandArgs::Check { sql, .. } => Some(sql),
             _ => None,
         }
     }
@@ -103,7 +103,7 @@ impl<'a> Words<'a> {
     /// The name of the table that the command line gives.
     pub fn name(self) -> Option<&'a str> {
         match self {
-            Words::Infer { name, .. } => name,
+            CommandArgs::Infer { name, .. } => name,
             _ => None,
         }
     }
@@ -111,22 +111,22 @@ impl<'a> Words<'a> {
     /// The command with what it takes, in order.
     pub fn usage(self) -> &'static str {
         match self {
-            Words::Direct { .. } => "bw direct SCHEMA CSV SQL",
-            Words::Infer { .. } => "bw infer [--table NAME] CSV",
-            Words::Load { .. } => "bw load [--layout planes|slices] SCHEMA CSV OUT",
-            Words::Query { .. } => "bw query [--program FILE] [--stats] TABLE SQL",
-            Words::Session { .. } => "bw session [--program FILE]... [--stats] TABLE",
-            Words::Info { .. } => "bw info TABLE",
-            Words::Dump { .. } => "bw dump TABLE",
-            Words::Plan { .. } => "bw plan SCHEMA SQL",
-            Words::Check { .. } => "bw check SCHEMA SQL FILE",
+            CommandArgs::Direct { .. } => "bw direct SCHEMA CSV SQL",
+            CommandArgs::Infer { .. } => "bw infer [--table NAME] CSV",
+            CommandArgs::Load { .. } => "bw load [--layout planes|slices] SCHEMA CSV OUT",
+            CommandArgs::Query { .. } => "bw query [--program FILE] [--stats] TABLE SQL",
+            CommandArgs::Session { .. } => "bw session [--program FILE]... [--stats] TABLE",
+            CommandArgs::Info { .. } => "bw info TABLE",
+            CommandArgs::Dump { .. } => "bw dump TABLE",
+            CommandArgs::Plan { .. } => "bw plan SCHEMA SQL",
+            CommandArgs::Check { .. } => "bw check SCHEMA SQL FILE",
         }
     }
 
     /// The file that is written.
     pub fn out(self) -> Option<&'a str> {
         match self {
-            Words::Load { out, .. } => Some(out),
+            CommandArgs::Load { out, .. } => Some(out),
             _ => None,
         }
     }

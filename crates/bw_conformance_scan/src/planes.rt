@@ -75,7 +75,7 @@ fn judged(
     let mut block = Vec::from_slice(alloc, &bytes[start..start + size])?;
     block[first] = a;
     block[second] = b;
-    Ok(PlaneSegment::judge(placement, col, segment.rows_in(), &block))
+    Ok(PlaneSegment::find_fault(placement, col, segment.rows_in(), &block))
 }
 
 #[test]

@@ -71,7 +71,7 @@ fn judged(
     let mut block = Vec::from_slice(alloc, &bytes[start..start + size])?;
     block[first] = a;
     block[second] = b;
-    Ok(SliceSegment::judge(placement, col, segment.rows_in(), &block))
+    Ok(SliceSegment::find_fault(placement, col, segment.rows_in(), &block))
 }
 
 #[test]

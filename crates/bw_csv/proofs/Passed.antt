@@ -7,7 +7,7 @@ use Rattle.bw_model.specs.declared.fault.Place.{Place}
 use Rattle.bw_model.specs.declared.fault.Place.TheVariants.{Nowhere, Byte, Line, Rec}
 use Rattle.bw_model.specs.Fault.{at_record}
 use Rattle.bw_model.specs.Row.{Value}
-use Rattle.bw_csv.specs.Rows.{StopsAfter, is_any_record, is_reader_fault, is_record, stands_at, with_row}
+use Rattle.bw_csv.specs.Rows.{StopsAfter, is_any_record, is_reader_fault, is_record, located_at, with_row}
 use Rattle.bw_csv.proofs.FieldLemmas.{after, after-cons, after-nothing}
 
 abbrev pub Records : Type 0
@@ -54,7 +54,7 @@ reader_place number (Byte n) any at = absurd (cc any)
 reader_place number (Line n) any at = absurd (cc any)
 reader_place number (Rec n) any at = ap (λ (m : ℕ). Rec m) (eqb-true n number at)
 
-pub reader_fault : (number : ℕ) (fault : Fault) → stands_at number fault ≡ true → is_reader_fault fault ≡ true → fault ≡ at_record 209 number
+pub reader_fault : (number : ℕ) (fault : Fault) → located_at number fault ≡ true → is_reader_fault fault ≡ true → fault ≡ at_record 209 number
 reader_fault number fault at own = by (eqb fault.code 209) refl at own
   where
     by : (is : Bool) → eqb fault.code 209 ≡ is → (not is || is_record number fault.place) ≡ true → (is && is_any_record fault.place) ≡ true → fault ≡ at_record 209 number
@@ -66,7 +66,7 @@ reader_fault number fault at own = by (eqb fault.code 209) refl at own
     by false e at own = absurd (cc own)
 
 pub passed-stops : (rows_at : ℕ → Records → Result Rows Fault) (first : Records) (before : Rows) (number : ℕ) (records : Records) (fault : Fault) → Passed rows_at first before number records
-    → rows_at number [] ≡ Ok [] → stands_at number fault ≡ true → is_reader_fault fault ≡ true → StopsAfter rows_at first fault
+    → rows_at number [] ≡ Ok [] → located_at number fault ≡ true → is_reader_fault fault ≡ true → StopsAfter rows_at first fault
 passed-stops rows_at first before number records fault p none at own =
     let good : rows_at 1 p.done ≡ Ok before =
     ap (λ (l : Records). rows_at 1 l) (sym (append-nil p.done)) ∙ p.on [] ∙ ap (after before) none ∙ ap (λ (l : Rows). Ok l) (append-nil before) in

@@ -11,7 +11,7 @@ use Rattle.bw_model.specs.Fault.{◌>>=◌, at_record, refused_if}
 use Rattle.bw_model.specs.Column.{admits_value, admits_values}
 use Rattle.bw_text.specs.Number.{are_digits, number_of}
 use Rattle.bw_model.specs.Row.{Value}
-use Rattle.bw_csv.specs.Rows.{StopsAfter, is_reader_fault, stands_at, is_heading, is_minus, is_null_text, number_value, row_of_record, rows_from, rows_after, unsigned, value_of_field, values_of_fields, with_row, within_bounds, without_blanks}
+use Rattle.bw_csv.specs.Rows.{StopsAfter, is_reader_fault, located_at, is_heading, is_minus, is_null_text, number_value, row_of_record, rows_from, rows_after, unsigned, value_of_field, values_of_fields, with_row, within_bounds, without_blanks}
 use Rattle.bw_csv.proofs.FieldLemmas.{after}
 use Rattle.bw_csv.proofs.Passed.{Passed, passed-nothing, passed-next, passed-on, passed-stops}
 
@@ -125,7 +125,7 @@ led-all led start now columns first number records h e = rw (passed-on (rows_fro
 
 -- where the reader has an error of its own, it's after those
 pub led-stops : {K : Type 0} (led : K → List (List Value) → K → Type 0) (start now : K) (columns : List Column) (first : List (List (List ℕ))) (number : ℕ) (records : List (List (List ℕ))) (fault : Fault)
-    → LedSoFar led start now columns first number records → stands_at number fault ≡ true → is_reader_fault fault ≡ true → StopsAfter (rows_from columns) first fault
+    → LedSoFar led start now columns first number records → located_at number fault ≡ true → is_reader_fault fault ≡ true → StopsAfter (rows_from columns) first fault
 unfolding LedSoFar
 led-stops led start now columns first number records fault h place own =
     passed-stops (rows_from columns) first h.0 number records fault h.2 (rows_from-end columns number [] refl) place own

@@ -23,8 +23,8 @@ abbrev pub left_in : Reader (Bor (List ℕ)) → List (List (List ℕ))
 left_in reader = records_in reader.state (source_of bytes_under reader)
 
 -- the records that are still unread
-unfoldable pub coming : Records → List (List (List ℕ))
-coming records = left_in records.reader
+unfoldable pub remaining_records : Records → List (List (List ℕ))
+remaining_records records = left_in records.reader
 
 -- a reader with the crate's default settings, which takes no record as a heading of its own, and
 -- hasn't failed or ended

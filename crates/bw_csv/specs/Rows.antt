@@ -138,25 +138,25 @@ abbrev pub is_reader_fault : Fault → Bool
 is_reader_fault fault = (fault.code == CSV_FAULT) && is_any_record fault.place
 
 -- the error is exempt: out of memory, or one of the reader's own
-abbrev pub is_aside : Fault → Bool
-is_aside fault = is_memory fault || is_reader_fault fault
+abbrev pub is_exempt : Fault → Bool
+is_exempt fault = is_memory fault || is_reader_fault fault
 
 -- the error is one of 201 to 208, or exempt
 abbrev pub is_rows_fault : Fault → Bool
 is_rows_fault fault = (nat_le NO_HEADING fault.code && nat_le fault.code CSV_TOO_LONG)
-    || is_aside fault
+    || is_exempt fault
 
 abbrev pub IsRowsFault : Fault → Type 0
 IsRowsFault fault = IsTrue (is_rows_fault fault)
 
 -- an error of the reader's own is at the record of this number
-abbrev pub stands_at : ℕ → Fault → Bool
-stands_at number fault = not (fault.code == CSV_FAULT) || is_record number fault.place
+abbrev pub located_at : ℕ → Fault → Bool
+located_at number fault = not (fault.code == CSV_FAULT) || is_record number fault.place
 
 -- an error of the reader's own is at the heading, or at the record after those whose rows were
 -- delivered
 abbrev pub stands_after : ℕ → Fault → Bool
-stands_after rows fault = stands_at 0 fault || stands_at (rows + 1) fault
+stands_after rows fault = located_at 0 fault || located_at (rows + 1) fault
 
 -- The records begin with some that have rows, the first of which has number 1. The error is one of
 -- the reader's own, at the record after them.
@@ -184,13 +184,13 @@ StopsUnder columns = Stops (λ heading more fault. (is_heading columns heading �
     × StopsAfter (rows_from columns) more fault)
 
 -- What a call returned is what is expected, except for exempt errors.
-abbrev pub GivesButAside : {A B : Type 0} → (A → B) → Result A Fault → Result B Fault → Type 0
-GivesButAside view (Ok x) expected = expected ≡ Ok (view x)
-GivesButAside view (Err fault) expected = is_aside fault ≡ false → expected ≡ Err fault
+abbrev pub MatchesUnlessExempt : {A B : Type 0} → (A → B) → Result A Fault → Result B Fault → Type 0
+MatchesUnlessExempt view (Ok x) expected = expected ≡ Ok (view x)
+MatchesUnlessExempt view (Err fault) expected = is_exempt fault ≡ false → expected ≡ Err fault
 
 -- A consumer was led through the expected rows; or the call failed by the expected error, except
 -- for exempt errors.
-abbrev pub Hands : {K : Type 0} → (K → List (List Value) → K → Type 0)
+abbrev pub DeliversRows : {K : Type 0} → (K → List (List Value) → K → Type 0)
     → Result (List (List Value)) Fault → K → K → Result (Unit {0}) Fault → Type 0
-Hands led expected old new (Ok x) = IsOkAnd expected (λ rows. led old rows new)
-Hands led expected old new (Err fault) = is_aside fault ≡ false → expected ≡ Err fault
+DeliversRows led expected old new (Ok x) = IsOkAnd expected (λ rows. led old rows new)
+DeliversRows led expected old new (Err fault) = is_exempt fault ≡ false → expected ≡ Err fault

@@ -7,8 +7,8 @@ ghost use Rattle.bw_model.specs.Column.{admits_values};
 ghost use Rattle.bw_model.specs.Limits.{most_rows};
 ghost use Rattle.bw_model.specs.Row.{Value, values_of};
 ghost use Rattle.bw_csv.specs.Bare.{bare_number, bare_row, bare_rows, bare_text, bare_value, bare_values, within_64_bits};
-ghost use Rattle.bw_csv.specs.Records.{IsOpen, coming};
-ghost use Rattle.bw_csv.specs.Rows.{is_aside, rows_from, GivesButAside, IsRowsFault, stands_at};
+ghost use Rattle.bw_csv.specs.Records.{IsOpen, remaining_records};
+ghost use Rattle.bw_csv.specs.Rows.{is_exempt, rows_from, MatchesUnlessExempt, IsRowsFault, located_at};
 
 use crate::field::{is_minus, is_null_text, unsigned, without_blanks};
 use crate::records::Records;
@@ -30,17 +30,17 @@ pub fn read_bare_row(
     row: &mut Row,
 ) -> Result<bool, Fault>
     requires { IsOpen records.old }
-    ensures some { IfOk result (λ found. found ≡ true → (fields : List (List ℕ))
-        × (coming records.old ≡ fields ∷ coming records.new)
+    ensures nonempty { IfOk result (λ found. found ≡ true → (fields : List (List ℕ))
+        × (remaining_records records.old ≡ fields ∷ remaining_records records.new)
         × (bare_row number width fields ≡ Ok (values_of row.new))) }
     ensures open { IfOk result (λ found. found ≡ true → IsOpen records.new × (number ≤ most_rows)
         × (length (values_of row.new) ≡ width)) }
-    ensures none { IfOk result (λ found. found ≡ false → bare_rows width number (coming records.old)
-        ≡ Ok []) }
-    ensures row { IfErr result (λ fault. is_aside fault ≡ false
-        → bare_rows width number (coming records.old) ≡ Err fault) }
+    ensures none { IfOk result (λ found. found ≡ false
+        → bare_rows width number (remaining_records records.old) ≡ Ok []) }
+    ensures row { IfErr result (λ fault. is_exempt fault ≡ false
+        → bare_rows width number (remaining_records records.old) ≡ Err fault) }
     ensures fault { IfErr result IsRowsFault }
-    ensures place { IfErr result (λ fault. IsTrue (stands_at number fault)) }
+    ensures place { IfErr result (λ fault. IsTrue (located_at number fault)) }
 {
     if records.is_longer(width) {
         return Err(Fault::at_record(code::RECORD_LENGTH, number));
@@ -57,11 +57,11 @@ pub fn read_bare_row(
 fn read_record(fields: &ByteRecord, width: usize, number: u32, row: &mut Row) -> Result<(), Fault>
     ensures row { OnOk result (bare_row number width (fields_of fields.now)
         ≡ Ok (values_of row.new)) }
-    ensures first { IfErr result (λ fault. is_aside fault ≡ false
+    ensures first { IfErr result (λ fault. is_exempt fault ≡ false
         → bare_row number width (fields_of fields.now) ≡ Err fault) }
     ensures within { OnOk result ((number ≤ most_rows) × (length (values_of row.new) ≡ width)) }
     ensures fault { IfErr result IsRowsFault }
-    ensures place { IfErr result (λ fault. IsTrue (stands_at number fault)) }
+    ensures place { IfErr result (λ fault. IsTrue (located_at number fault)) }
 {
     if fields.len() != width {
         return Err(Fault::at_record(code::RECORD_LENGTH, number));
@@ -74,11 +74,11 @@ fn read_record(fields: &ByteRecord, width: usize, number: u32, row: &mut Row) ->
 
 /// Writes the values of the fields into `row`.
 fn read_values(fields: &ByteRecord, number: u32, row: &mut Row) -> Result<(), Fault>
-    ensures values { GivesButAside (λ _. values_of row.new) result
+    ensures values { MatchesUnlessExempt (λ _. values_of row.new) result
         (bare_values number (fields_of fields.now)) }
     ensures many { OnOk result (length (values_of row.new) ≡ length (fields_of fields.now)) }
     ensures fault { IfErr result IsRowsFault }
-    ensures place { IfErr result (λ fault. IsTrue (stands_at number fault)) }
+    ensures place { IfErr result (λ fault. IsTrue (located_at number fault)) }
 {
     row.values.clear();
     for i in 0..fields.len() {
@@ -95,9 +95,9 @@ fn read_values(fields: &ByteRecord, number: u32, row: &mut Row) -> Result<(), Fa
 /// this number: 204 if it isn't a whole number, 205 if it doesn't fit 64 bits.
 #[tactic(auto, unfolding(crate::specs::Bare::bare_value))]
 pub fn bare_value_of(field: &[u8], number: u32) -> Result<Value, Fault>
-    ensures value { GivesButAside (λ value. value) result (bare_value number field.now) }
+    ensures value { MatchesUnlessExempt (λ value. value) result (bare_value number field.now) }
     ensures fault { IfErr result IsRowsFault }
-    ensures place { IfErr result (λ fault. IsTrue (stands_at number fault)) }
+    ensures place { IfErr result (λ fault. IsTrue (located_at number fault)) }
 {
     let text = without_blanks(field);
     if is_null_text(text) {

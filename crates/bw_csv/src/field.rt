@@ -1,7 +1,7 @@
 //! The value that a field spells.
 ghost use Rattle.std.specs.Prelude.{◌≡◌, ℕ, ◌<◌, ◌≤◌, length, IfErr, IsTrue};
 ghost use Rattle.bw_model.specs.Row.{Value};
-ghost use Rattle.bw_csv.specs.Rows.{is_blank, without_front_blanks, without_end_blanks, without_blanks, is_null_text, is_minus, after_minus, unsigned, number_value, text_value, within_bounds, value_of_field, GivesButAside, IsRowsFault, stands_at};
+ghost use Rattle.bw_csv.specs.Rows.{is_blank, without_front_blanks, without_end_blanks, without_blanks, is_null_text, is_minus, after_minus, unsigned, number_value, text_value, within_bounds, value_of_field, MatchesUnlessExempt, IsRowsFault, located_at};
 
 use bw_model::{Column, Fault, Value, code};
 use bw_text::{is_same_text, number_in};
@@ -13,10 +13,10 @@ use bw_text::{is_same_text, number_in};
 /// column isn't nullable, 205 if the number is outside the column's bounds.
 #[tactic(auto, unfolding(crate::specs::Rows::value_of_field))]
 pub fn value_of(column: &Column, field: &[u8], number: u32) -> Result<Value, Fault>
-    ensures value { GivesButAside (λ value. value) result
+    ensures value { MatchesUnlessExempt (λ value. value) result
         (value_of_field number column.now field.now) }
     ensures fault { IfErr result IsRowsFault }
-    ensures place { IfErr result (λ fault. IsTrue (stands_at number fault)) }
+    ensures place { IfErr result (λ fault. IsTrue (located_at number fault)) }
 {
     match number_in(is_minus(field), after_minus(field)) {
         Some(n) => within_bounds(column, n, number),
@@ -26,9 +26,10 @@ pub fn value_of(column: &Column, field: &[u8], number: u32) -> Result<Value, Fau
 
 /// Returns the value that a text without blanks at its ends spells.
 fn value_of_text(column: &Column, text: &[u8], number: u32) -> Result<Value, Fault>
-    ensures value { GivesButAside (λ value. value) result (text_value number column.now text.now) }
+    ensures value { MatchesUnlessExempt (λ value. value) result
+        (text_value number column.now text.now) }
     ensures fault { IfErr result IsRowsFault }
-    ensures place { IfErr result (λ fault. IsTrue (stands_at number fault)) }
+    ensures place { IfErr result (λ fault. IsTrue (located_at number fault)) }
 {
     if !is_null_text(text) {
         return number_of(column, is_minus(text), unsigned(text), number);
@@ -42,10 +43,10 @@ fn value_of_text(column: &Column, text: &[u8], number: u32) -> Result<Value, Fau
 
 /// Returns the number that a sign and digits spell in a column.
 fn number_of(column: &Column, is_negative: bool, digits: &[u8], number: u32) -> Result<Value, Fault>
-    ensures value { GivesButAside (λ value. value) result
+    ensures value { MatchesUnlessExempt (λ value. value) result
         (number_value number column.now is_negative digits.now) }
     ensures fault { IfErr result IsRowsFault }
-    ensures place { IfErr result (λ fault. IsTrue (stands_at number fault)) }
+    ensures place { IfErr result (λ fault. IsTrue (located_at number fault)) }
 {
     match number_in(is_negative, digits) {
         Some(n) => within_bounds(column, n, number),
@@ -55,10 +56,10 @@ fn number_of(column: &Column, is_negative: bool, digits: &[u8], number: u32) -> 
 
 /// Returns a number if it fits 64 bits and is within the column's bounds.
 fn within_bounds(column: &Column, spelled: Option<i64>, number: u32) -> Result<Value, Fault>
-    ensures value { GivesButAside (λ value. value) result
+    ensures value { MatchesUnlessExempt (λ value. value) result
         (within_bounds number column.now spelled) }
     ensures fault { IfErr result IsRowsFault }
-    ensures place { IfErr result (λ fault. IsTrue (stands_at number fault)) }
+    ensures place { IfErr result (λ fault. IsTrue (located_at number fault)) }
 {
     match spelled {
         Some(n) if column.lo <= n && n <= column.hi => Ok(Some(n)),

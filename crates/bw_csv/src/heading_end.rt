@@ -6,7 +6,7 @@ ghost use Rattle.csv.specs.declared.parser.State.TheVariants as st;
 ghost use Rattle.bw_csv.specs.Plain.{ends_line, is_line_end, state_of};
 ghost use Rattle.bw_csv.specs.Records.{records_in};
 
-use crate::marks::{after, ends_line};
+use crate::marks::{ends_line, skip_bytes};
 
 /// The place of a byte in a record: before the record, at the start of a field, in an unquoted
 /// field, within quotation marks, or after a quotation mark that may be the last one.
@@ -29,7 +29,7 @@ pub(crate) fn after_record(text: &[u8]) -> &[u8]
     let mut inside = Inside::Before;
     for (i, c) in text.iter().enumerate() {
         if ends_record(inside, *c) {
-            return after(text, i);
+            return skip_bytes(text, i);
         }
         inside = inside_after(inside, *c);
     }
@@ -72,7 +72,7 @@ pub(crate) fn after_byte_order_mark(text: &[u8]) -> &[u8]
         return text;
     }
     if is_byte_order_mark(text[0], text[1], text[2]) {
-        after(text, 3)
+        skip_bytes(text, 3)
     } else {
         text
     }

@@ -3,7 +3,7 @@ ghost use Rattle.std.specs.Prelude.{◌≡◌, ◌+◌, ◌-◌, ◌^◌, ◌<�
 ghost use Rattle.bw_csv.specs.Rows.{is_reader_fault};
 ghost use Rattle.bw_io.specs.Sink.{is_write_fault};
 ghost use Rattle.bw_model.specs.Limits.{longest_csv};
-ghost use Rattle.bw_io.specs.Source.{Arrival, Came, LeavesSource};
+ghost use Rattle.bw_io.specs.Source.{Arrival, ReadOutcome, SourceEffect};
 ghost use Rattle.bw_csv.specs.Input.{is_csv_input_fault, CsvAnswered};
 
 use bw_io::{Input, Source, read_limited};
@@ -18,13 +18,13 @@ use std::alloc::Global;
 pub fn read_csv<C: Source>(alloc: Global, source: &mut C) -> Result<Vec<u8>, Fault>
     requires { C.failures source.old < 2 ^ 64 - 1 }
     ensures answered { (came : Arrival)
-        × Came longest_csv (C.to_come source.old) (C.to_come source.new) (C.failures source.old)
-        (C.failures source.new) came
+        × ReadOutcome longest_csv (C.to_come source.old) (C.to_come source.new)
+        (C.failures source.old) (C.failures source.new) came
         × CsvAnswered came result }
-    ensures source { LeavesSource (longest_csv + 1) (C.to_come source.old) (C.to_come source.new)
+    ensures source { SourceEffect (longest_csv + 1) (C.to_come source.old) (C.to_come source.new)
         (C.failures source.old) (C.failures source.new) result }
     ensures fault { IfErr result (λ fault. is_write_fault fault ≡ false) }
-    ensures own { IfErr result (λ fault. is_reader_fault fault ≡ false) }
+    ensures not_reader { IfErr result (λ fault. is_reader_fault fault ≡ false) }
     ensures input { IfErr result (λ fault. IsTrue (is_csv_input_fault fault)) }
 {
     match read_limited(alloc, source, MAX_CSV_LEN)? {

@@ -4,7 +4,7 @@ ghost use Rattle.bw_csv.specs.Plain.{ends_field, ends_line, is_field_end, is_lin
 
 /// Returns a text without its first `count` bytes.
 #[inline(always)]
-pub(crate) fn after(text: &[u8], count: usize) -> &[u8]
+pub(crate) fn skip_bytes(text: &[u8], count: usize) -> &[u8]
     requires { count ≤ length text.now }
     ensures { result.now ≡ drop count text.now }
 {

@@ -9,7 +9,7 @@ ghost use Rattle.bw_csv.specs.Plain.{IsPlainField, is_plain};
 ghost use Rattle.bw_csv.specs.Rows.{after_minus, is_minus, value_of_field};
 
 use crate::field::{after_minus, is_minus, value_of};
-use crate::marks::{after, is_field_end, is_plain};
+use crate::marks::{is_field_end, is_plain, skip_bytes};
 use bw_model::{Column, Value};
 use bw_text::with_sign;
 
@@ -58,7 +58,7 @@ fn number_at(column: &Column, text: &[u8]) -> Option<Found>
     let Some(spelled) = spelled_at(text) else {
         return None;
     };
-    if is_field_end(after(text, spelled.len)) && is_within(column, spelled.number) {
+    if is_field_end(skip_bytes(text, spelled.len)) && is_within(column, spelled.number) {
         Some(Found {
             value: Some(spelled.number),
             len: spelled.len,
@@ -77,7 +77,7 @@ fn other_at(column: &Column, text: &[u8], number: u32) -> Option<Found>
         (λ found. value_of_field number column.now (take found.len text.now) ≡ Ok found.value) }
 {
     let len = plain_len(text);
-    if !is_field_end(after(text, len)) {
+    if !is_field_end(skip_bytes(text, len)) {
         return None;
     }
     match value_of(column, &text[..len], number) {

@@ -6,7 +6,7 @@ ghost use Rattle.bw_model.specs.Row.{values_of};
 ghost use Rattle.bw_csv.specs.Plain.{HasRow, is_line_end};
 ghost use Rattle.bw_csv.specs.Records.{records_in};
 
-use crate::marks::{after, ends_line, is_line_end};
+use crate::marks::{ends_line, is_line_end, skip_bytes};
 use crate::plain_field::value_at;
 use bw_model::{Column, MAX_ROWS, Row};
 
@@ -39,7 +39,7 @@ fn after_line_ends(text: &[u8]) -> &[u8]
 {
     let mut rest = text;
     while !rest.is_empty() && ends_line(rest[0]) {
-        rest = after(rest, 1);
+        rest = skip_bytes(rest, 1);
     }
     rest
 }
@@ -47,7 +47,7 @@ fn after_line_ends(text: &[u8]) -> &[u8]
 /// Returns the same for a text that begins with a record.
 #[inline(always)]
 fn row_at<'a>(columns: &[Column], text: &'a [u8], number: u32, row: &mut Row) -> Option<&'a [u8]>
-    requires few { number ≤ most_rows }
+    requires within_limit { number ≤ most_rows }
     requires record { is_line_end text.now ≡ false }
     ensures row { IfSome result
         (λ rest. HasRow number columns.now text.now rest.now (values_of row.new)) }
@@ -62,7 +62,7 @@ fn row_at<'a>(columns: &[Column], text: &'a [u8], number: u32, row: &mut Row) ->
         let Ok(()) = row.values.push(found.value) else {
             return None;
         };
-        let left = after(rest, found.len);
+        let left = skip_bytes(rest, found.len);
         if is_line_end(left) {
             return if i + 1 == columns.len() {
                 Some(left)
@@ -70,7 +70,7 @@ fn row_at<'a>(columns: &[Column], text: &'a [u8], number: u32, row: &mut Row) ->
                 None
             };
         }
-        rest = after(left, 1);
+        rest = skip_bytes(left, 1);
     }
     None
 }

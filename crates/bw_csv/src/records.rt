@@ -4,8 +4,8 @@ ghost use Rattle.csv.specs.Reading.{records, strip_bom, default_config};
 ghost use Rattle.csv.specs.Records.{fields_of};
 ghost use Rattle.csv.specs.declared.parser.State.TheVariants as st;
 ghost use Rattle.bw_csv.specs.Fields.{IsLonger};
-ghost use Rattle.bw_csv.specs.Records.{IsOpen, IsOpenReader, coming, fields_in, left_in, records_in};
-ghost use Rattle.bw_csv.specs.Rows.{IsRowsFault, is_aside, stands_at, without_blanks};
+ghost use Rattle.bw_csv.specs.Records.{IsOpen, IsOpenReader, remaining_records, fields_in, left_in, records_in};
+ghost use Rattle.bw_csv.specs.Rows.{IsRowsFault, is_exempt, located_at, without_blanks};
 
 use crate::field::without_blanks;
 use crate::heading_end::{after_byte_order_mark, after_record};
@@ -31,10 +31,10 @@ pub struct Records<'a> {
 impl<'a> Records<'a> {
     /// Returns the records of a whole text, without the byte order mark at its start, if it has
     /// one.
-    #[tactic(auto, unfolding(crate::specs::Records::coming, crate::specs::Records::IsOpen))]
+    #[tactic(auto, unfolding(crate::specs::Records::remaining_records, crate::specs::Records::IsOpen))]
     pub fn new(alloc: Global, text: &'a [u8]) -> Self
         ensures open { IsOpen result }
-        ensures coming { coming result ≡ records default_config (strip_bom text.now) }
+        ensures coming { remaining_records result ≡ records default_config (strip_bom text.now) }
     {
         Records {
             reader: reader_of(alloc, text),
@@ -52,18 +52,18 @@ impl<'a> Records<'a> {
     /// read.
     pub fn next(&mut self, number: u32) -> Result<bool, Fault>
         requires { IsOpen self.old }
-        ensures some { IfOk result (λ found. found ≡ true → coming self.old ≡ fields_in self.new
-            ∷ coming self.new) }
+        ensures nonempty { IfOk result (λ found. found ≡ true → remaining_records self.old
+            ≡ fields_in self.new ∷ remaining_records self.new) }
         ensures open { IfOk result (λ found. found ≡ true → IsOpen self.new) }
-        ensures none { IfOk result (λ found. found ≡ false → coming self.old ≡ []) }
-        ensures aside { IfErr result (λ fault. is_aside fault ≡ true) }
+        ensures none { IfOk result (λ found. found ≡ false → remaining_records self.old ≡ []) }
+        ensures aside { IfErr result (λ fault. is_exempt fault ≡ true) }
         ensures fault { IfErr result IsRowsFault }
-        ensures place { IfErr result (λ fault. IsTrue (stands_at number fault)) }
+        ensures place { IfErr result (λ fault. IsTrue (located_at number fault)) }
     {
         if !read_fields(&mut self.reader, &mut self.fields, number)? {
             return Ok(false);
         }
-        self.text = followed(self.is_followed, self.text);
+        self.text = text_after_record(self.is_followed, self.text);
         self.is_followed = goes_on(self.is_followed, self.has_long_line);
         Ok(true)
     }
@@ -73,7 +73,7 @@ impl<'a> Records<'a> {
     /// for its fields.
     pub(crate) fn is_longer(&self, most: usize) -> bool
         requires { IsOpen self.now }
-        ensures { result ≡ true → IsLonger most (coming self.now) }
+        ensures { result ≡ true → IsLonger most (remaining_records self.now) }
     {
         self.is_followed && after_fields(self.text, most).is_some()
     }
@@ -123,7 +123,7 @@ fn other_reader_of<'a>(alloc: Global, text: &'a [u8]) -> Reader<&'a [u8]>
 }
 
 /// Returns the text after its first record, if the text is followed.
-fn followed(is_followed: bool, text: &[u8]) -> &[u8]
+fn text_after_record(is_followed: bool, text: &[u8]) -> &[u8]
     ensures { is_followed ≡ true → (fields : List (List ℕ)) → (more : List (List (List ℕ)))
         → records_in st.StartRecord (Some text.now) ≡ fields ∷ more
         → records_in st.StartRecord (Some result.now) ≡ more }
@@ -151,13 +151,13 @@ fn read_fields(
     number: u32,
 ) -> Result<bool, Fault>
     requires { IsOpenReader reader.old }
-    ensures some { IfOk result (λ found. found ≡ true → left_in reader.old ≡ fields_of fields.new
-        ∷ left_in reader.new) }
+    ensures nonempty { IfOk result (λ found. found ≡ true → left_in reader.old
+        ≡ fields_of fields.new ∷ left_in reader.new) }
     ensures open { IfOk result (λ found. found ≡ true → IsOpenReader reader.new) }
     ensures none { IfOk result (λ found. found ≡ false → left_in reader.old ≡ []) }
-    ensures aside { IfErr result (λ fault. is_aside fault ≡ true) }
+    ensures aside { IfErr result (λ fault. is_exempt fault ≡ true) }
     ensures fault { IfErr result IsRowsFault }
-    ensures place { IfErr result (λ fault. IsTrue (stands_at number fault)) }
+    ensures place { IfErr result (λ fault. IsTrue (located_at number fault)) }
 {
     match reader.read_byte_record(fields) {
         Ok(found) => Ok(found),

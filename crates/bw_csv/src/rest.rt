@@ -4,9 +4,9 @@ ghost use Rattle.bw_model.specs.Column.{admits_values};
 ghost use Rattle.bw_model.specs.Limits.{most_rows};
 ghost use Rattle.bw_model.specs.Row.{values_of};
 ghost use Rattle.bw_csv.specs.Bare.{records_of};
-ghost use Rattle.bw_csv.specs.Records.{coming};
+ghost use Rattle.bw_csv.specs.Records.{remaining_records};
 ghost use Rattle.bw_csv.specs.Rest.{IsReadable, to_come};
-ghost use Rattle.bw_csv.specs.Rows.{is_aside, row_of_record, rows_from, IsRowsFault, stands_at};
+ghost use Rattle.bw_csv.specs.Rows.{is_exempt, row_of_record, rows_from, IsRowsFault, located_at};
 
 use crate::heading_end::{after_byte_order_mark, after_record};
 use crate::plain_row::plain_row;
@@ -32,9 +32,10 @@ pub(crate) struct Rest<'a> {
 impl<'a> Rest<'a> {
     /// Returns the records of a text after the first one, which `records` has read.
     pub(crate) fn new(alloc: Global, text: &'a [u8], records: Records<'a>) -> Self
-        requires { (heading : List (List ℕ)) × (records_of text.now ≡ heading ∷ coming records) }
+        requires { (heading : List (List ℕ))
+            × (records_of text.now ≡ heading ∷ remaining_records records) }
         ensures readable { IsReadable result }
-        ensures to_come { to_come result ≡ coming records.entry }
+        ensures to_come { to_come result ≡ remaining_records records.entry }
     {
         Rest {
             alloc,
@@ -54,17 +55,17 @@ impl<'a> Rest<'a> {
         row: &mut Row,
     ) -> Result<bool, Fault>
         requires { IsReadable self.old }
-        ensures some { IfOk result (λ found. found ≡ true → (fields : List (List ℕ))
+        ensures nonempty { IfOk result (λ found. found ≡ true → (fields : List (List ℕ))
             × (to_come self.old ≡ fields ∷ to_come self.new)
             × (row_of_record number columns.now fields ≡ Ok (values_of row.new))) }
         ensures readable { IfOk result (λ found. found ≡ true → IsReadable self.new
             × (number ≤ most_rows) × IsTrue (admits_values columns.now (values_of row.new))) }
         ensures none { IfOk result (λ found. found ≡ false
             → rows_from columns.now number (to_come self.old) ≡ Ok []) }
-        ensures row { IfErr result (λ fault. is_aside fault ≡ false
+        ensures row { IfErr result (λ fault. is_exempt fault ≡ false
             → rows_from columns.now number (to_come self.old) ≡ Err fault) }
         ensures fault { IfErr result IsRowsFault }
-        ensures place { IfErr result (λ fault. IsTrue (stands_at number fault)) }
+        ensures place { IfErr result (λ fault. IsTrue (located_at number fault)) }
     {
         if self.reads_text {
             if let Some(left) = plain_row(columns, self.text, number, row) {

@@ -4,8 +4,8 @@ ghost use Rattle.csv.specs.Records.{fields_of};
 ghost use Rattle.bw_model.specs.Column.{admits_values};
 ghost use Rattle.bw_model.specs.Limits.{most_rows};
 ghost use Rattle.bw_model.specs.Row.{values_of};
-ghost use Rattle.bw_csv.specs.Records.{IsOpen, coming};
-ghost use Rattle.bw_csv.specs.Rows.{is_aside, is_heading, row_of_record, rows_after, rows_from, values_of_fields, GivesButAside, IsRowsFault, stands_at};
+ghost use Rattle.bw_csv.specs.Records.{IsOpen, remaining_records};
+ghost use Rattle.bw_csv.specs.Rows.{is_exempt, is_heading, row_of_record, rows_after, rows_from, values_of_fields, MatchesUnlessExempt, IsRowsFault, located_at};
 
 use crate::field::{value_of, without_blanks};
 use crate::records::Records;
@@ -19,12 +19,12 @@ pub(crate) fn read_heading(columns: &[Column], records: &mut Records<'_>) -> Res
     requires { IsOpen records.old }
     ensures open { OnOk result (IsOpen records.new) }
     ensures heading_read { OnOk result ((heading : List (List ℕ))
-        × (coming records.old ≡ heading ∷ coming records.new)
+        × (remaining_records records.old ≡ heading ∷ remaining_records records.new)
         × (is_heading columns.now heading ≡ true)) }
-    ensures heading { IfErr result (λ fault. is_aside fault ≡ false
-        → rows_after columns.now (coming records.old) ≡ Err fault) }
+    ensures heading { IfErr result (λ fault. is_exempt fault ≡ false
+        → rows_after columns.now (remaining_records records.old) ≡ Err fault) }
     ensures fault { IfErr result IsRowsFault }
-    ensures place { IfErr result (λ fault. IsTrue (stands_at 0 fault)) }
+    ensures place { IfErr result (λ fault. IsTrue (located_at 0 fault)) }
 {
     if records.is_longer(columns.len()) {
         return Err(Fault::at_record(code::HEADING, 0));
@@ -66,17 +66,17 @@ pub(crate) fn read_row(
     row: &mut Row,
 ) -> Result<bool, Fault>
     requires { IsOpen records.old }
-    ensures some { IfOk result (λ found. found ≡ true → (fields : List (List ℕ))
-        × (coming records.old ≡ fields ∷ coming records.new)
+    ensures nonempty { IfOk result (λ found. found ≡ true → (fields : List (List ℕ))
+        × (remaining_records records.old ≡ fields ∷ remaining_records records.new)
         × (row_of_record number columns.now fields ≡ Ok (values_of row.new))) }
     ensures open { IfOk result (λ found. found ≡ true → IsOpen records.new × (number ≤ most_rows)
         × IsTrue (admits_values columns.now (values_of row.new))) }
     ensures none { IfOk result (λ found. found ≡ false
-        → rows_from columns.now number (coming records.old) ≡ Ok []) }
-    ensures row { IfErr result (λ fault. is_aside fault ≡ false
-        → rows_from columns.now number (coming records.old) ≡ Err fault) }
+        → rows_from columns.now number (remaining_records records.old) ≡ Ok []) }
+    ensures row { IfErr result (λ fault. is_exempt fault ≡ false
+        → rows_from columns.now number (remaining_records records.old) ≡ Err fault) }
     ensures fault { IfErr result IsRowsFault }
-    ensures place { IfErr result (λ fault. IsTrue (stands_at number fault)) }
+    ensures place { IfErr result (λ fault. IsTrue (located_at number fault)) }
 {
     if records.is_longer(columns.len()) {
         return Err(Fault::at_record(code::RECORD_LENGTH, number));
@@ -98,11 +98,11 @@ fn read_record(
 ) -> Result<(), Fault>
     ensures row { OnOk result (row_of_record number columns.now (fields_of fields.now)
         ≡ Ok (values_of row.new)) }
-    ensures first { IfErr result (λ fault. is_aside fault ≡ false
+    ensures first { IfErr result (λ fault. is_exempt fault ≡ false
         → row_of_record number columns.now (fields_of fields.now) ≡ Err fault) }
     ensures within { OnOk result (number ≤ most_rows) }
     ensures fault { IfErr result IsRowsFault }
-    ensures place { IfErr result (λ fault. IsTrue (stands_at number fault)) }
+    ensures place { IfErr result (λ fault. IsTrue (located_at number fault)) }
 {
     if fields.len() != columns.len() {
         return Err(Fault::at_record(code::RECORD_LENGTH, number));
@@ -120,10 +120,10 @@ fn read_values(
     number: u32,
     row: &mut Row,
 ) -> Result<(), Fault>
-    ensures values { GivesButAside (λ _. values_of row.new) result
+    ensures values { MatchesUnlessExempt (λ _. values_of row.new) result
         (values_of_fields number columns.now (fields_of fields.now)) }
     ensures fault { IfErr result IsRowsFault }
-    ensures place { IfErr result (λ fault. IsTrue (stands_at number fault)) }
+    ensures place { IfErr result (λ fault. IsTrue (located_at number fault)) }
 {
     row.values.clear();
     for (i, column) in columns.iter().enumerate() {

@@ -16,7 +16,7 @@ ghost use Rattle.bw_model.specs.Row.{Value, values_of};
 ghost use Rattle.bw_model.specs.Standing.{StandsAsListed};
 ghost use Rattle.bw_csv.specs.Rest.{IsReadable, to_come};
 ghost use Rattle.bw_csv.specs.Bare.{records_of};
-ghost use Rattle.bw_csv.specs.Rows.{rows_of, rows_from, is_reader_fault, Hands, IsRowsFault, StopsAfter, StopsUnder, stands_at, stands_after};
+ghost use Rattle.bw_csv.specs.Rows.{rows_of, rows_from, is_reader_fault, DeliversRows, IsRowsFault, StopsAfter, StopsUnder, located_at, stands_after};
 
 use crate::records::Records;
 use crate::rest::Rest;
@@ -47,8 +47,8 @@ pub fn read_rows<K: RowTaker>(
         → IsTrue (K.takes taker.old row) }
     requires fresh { K.rows taker.old ≡ 0 }
     requires starts { K.led taker.old [] taker.old }
-    ensures handed { Hands K.led (rows_of schema.now.columns.items text.now) taker.old taker.new
-        result }
+    ensures handed { DeliversRows K.led (rows_of schema.now.columns.items text.now) taker.old
+        taker.new result }
     ensures fault { IfErr result IsRowsFault }
     ensures place { IfErr result (λ fault. IsTrue (stands_after (K.rows taker.new) fault)) }
     // An error of the reader's own is at the heading, or at the record after those that have rows.
@@ -78,10 +78,10 @@ fn hand_rows<K: RowTaker>(
         → IsTrue (K.takes taker.old row) }
     requires fresh { K.rows taker.old ≡ 0 }
     requires starts { K.led taker.old [] taker.old }
-    ensures handed { Hands K.led (rows_from columns.now 1 (to_come rest.old)) taker.old taker.new
-        result }
+    ensures handed { DeliversRows K.led (rows_from columns.now 1 (to_come rest.old)) taker.old
+        taker.new result }
     ensures fault { IfErr result IsRowsFault }
-    ensures place { IfErr result (λ fault. IsTrue (stands_at (K.rows taker.new + 1) fault)) }
+    ensures place { IfErr result (λ fault. IsTrue (located_at (K.rows taker.new + 1) fault)) }
     ensures reader { IfErr result (λ fault. is_reader_fault fault ≡ true
         → StopsAfter (rows_from columns.now) (to_come rest.old) fault) }
 {
@@ -97,7 +97,7 @@ fn hand_rows<K: RowTaker>(
 pub fn rows_are_admitted()
     ensures admitted { (columns : List Column) (text : List ℕ)
         → IfOk (rows_of columns text) (λ rows. IsTrue (list_all (admits_values columns) rows)) }
-    ensures few { (columns : List Column) (text : List ℕ) → IfOk (rows_of columns text)
+    ensures within_limit { (columns : List Column) (text : List ℕ) → IfOk (rows_of columns text)
         (λ rows. length rows ≤ most_rows) }
 {}
 

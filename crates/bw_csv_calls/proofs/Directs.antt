@@ -2,18 +2,18 @@
 use Rattle.std.proofs.Common.{◌≡◌, ℕ, List, Bool, true, false, Option, Result, Ok, Err, IfOk, refl, ap}
 use Rattle.bw_model.specs.declared.fault.Fault.{Fault}
 use Rattle.bw_model.specs.declared.schema.Schema.{Schema}
-use Rattle.bw_model.specs.Fault.{Gives, no_memory, is_memory}
+use Rattle.bw_model.specs.Fault.{MatchesUnlessOom, no_memory, is_memory}
 use Rattle.bw_model.specs.SchemaText.{schema_of, schema_shape, IsSchemaText}
-use Rattle.bw_io.specs.Source.{Arrival, Whole, Failed, Came}
+use Rattle.bw_io.specs.Source.{Arrival, Whole, Failed, ReadOutcome}
 use Rattle.bw_csv_calls.specs.Arrived.{IsSchemaFrom}
 use Rattle.bw_csv_calls.proofs.Exits.{memory_is}
 
 -- what came of a source of which this was read
 abbrev CameAs : ℕ → Option (List ℕ) → Option (List ℕ) → ℕ → ℕ → Result Schema Fault → Type 0
-CameAs limit old new before after result = (came : Arrival) × Came limit old new before after came × IsSchemaFrom came result
+CameAs limit old new before after result = (came : Arrival) × ReadOutcome limit old new before after came × IsSchemaFrom came result
 
 schema_refused : (limit : ℕ) (old new : Option (List ℕ)) (before after : ℕ) (bytes : List ℕ) (fault : Fault) (memory : Bool) → is_memory fault ≡ memory
-    → Came limit old new before after (Whole bytes) → (is_memory fault ≡ false → schema_of bytes ≡ Err fault) → CameAs limit old new before after (Err fault)
+    → ReadOutcome limit old new before after (Whole bytes) → (is_memory fault ≡ false → schema_of bytes ≡ Err fault) → CameAs limit old new before after (Err fault)
 schema_refused limit old new before after bytes fault true m came gives =
     let same : no_memory ≡ no_memory = refl in
     let is : ◌≡◌ {A = Result Schema Fault} (Err fault) (Err no_memory) = ap Err (memory_is fault m) in
@@ -22,7 +22,7 @@ schema_refused limit old new before after bytes fault false m came gives = (Whol
 
 -- the schema that bytes spell, or their fault
 pub schema_answered : (limit : ℕ) (old new : Option (List ℕ)) (before after : ℕ) (bytes : List ℕ) (result : Result Schema Fault)
-    → Came limit old new before after (Whole bytes) → IfOk result (λ schema. IsSchemaText bytes (schema_shape schema)) → Gives schema_shape result (schema_of bytes)
+    → ReadOutcome limit old new before after (Whole bytes) → IfOk result (λ schema. IsSchemaText bytes (schema_shape schema)) → MatchesUnlessOom schema_shape result (schema_of bytes)
     → CameAs limit old new before after result
 schema_answered limit old new before after bytes (Ok schema) came spelled gives = (Whole bytes, came, spelled)
 schema_answered limit old new before after bytes (Err fault) came spelled gives = schema_refused limit old new before after bytes fault (is_memory fault) refl came gives

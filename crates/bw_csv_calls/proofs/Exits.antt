@@ -9,10 +9,10 @@ use Rattle.bw_model.specs.declared.schema.Schema.{Schema}
 use Rattle.bw_model.specs.Fault.{no_memory, nowhere, is_memory}
 use Rattle.bw_model.proofs.BitsLemmas.{both}
 use Rattle.bw_csv.specs.Bare.{records_of}
-use Rattle.bw_csv.specs.Rows.{StopsUnder, is_aside}
-use Rattle.bw_io.specs.Sink.{is_write_fault, GoesOut, Wrote}
+use Rattle.bw_csv.specs.Rows.{StopsUnder, is_exempt}
+use Rattle.bw_io.specs.Sink.{is_write_fault, GoesOut, WriteOutcome}
 use Rattle.bw_io.proofs.SinkLemmas.{wrote_nothing, wrote_text}
-use Rattle.bw_io.specs.Source.{Arrival, NotReached, Whole, TooLong, Failed, Came}
+use Rattle.bw_io.specs.Source.{Arrival, NotReached, Whole, TooLong, Failed, ReadOutcome}
 use Rattle.bw_csv_calls.specs.Arrived.{CsvStopped, SchemaCame, IsSchemaFrom}
 
 -- the text that goes out, or a fault
@@ -25,7 +25,7 @@ Ends P Q Is W = (schema csv : Arrival) × (given : Given) × P schema × Q csv �
 
 -- a fault was answered that is the one of what was given, but for those set aside
 abbrev pub IsFaultOf : Fault → Given → Type 0
-IsFaultOf fault given = is_aside fault ≡ false → given ≡ Err fault
+IsFaultOf fault given = is_exempt fault ≡ false → given ≡ Err fault
 
 -- out of memory is one fault
 memory_at : (code : ℕ) (place : Place) → is_memory (record { code = code; place = place }) ≡ true → ◌≡◌ {A = Fault} (record { code = code; place = place }) no_memory
@@ -39,7 +39,7 @@ memory_is fault is = memory_at fault.code fault.place is
 
 -- a source that gave its bytes has failed no more than one that found no memory
 pub none_understood : (limit : ℕ) (old new : Option (List ℕ)) (before after : ℕ) (came : Arrival) (schema : Schema)
-    → Came limit old new before after came → IsSchemaFrom came (Ok schema) → Came limit old new before after (Failed no_memory)
+    → ReadOutcome limit old new before after came → IsSchemaFrom came (Ok schema) → ReadOutcome limit old new before after (Failed no_memory)
 none_understood limit old new before after NotReached schema came from = absurd from
 none_understood limit old new before after (Whole text) schema came from =
     let same : no_memory ≡ no_memory = refl in
@@ -47,7 +47,7 @@ none_understood limit old new before after (Whole text) schema came from =
 none_understood limit old new before after TooLong schema came from = absurd (cc from)
 none_understood limit old new before after (Failed fault) schema came from = absurd (cc from)
 
-pub not_reached : (limit : ℕ) (old : Option (List ℕ)) (count : ℕ) → Came limit old old count count NotReached
+pub not_reached : (limit : ℕ) (old : Option (List ℕ)) (count : ℕ) → ReadOutcome limit old old count count NotReached
 not_reached limit old count =
     let same : old ≡ old = refl in
     let kept : count ≡ count = refl in
@@ -68,12 +68,12 @@ text_exit P Q Is W came csv make bytes is p q told w = (came, Whole bytes, make 
 
 -- what was given went out, or a fault was, and nothing went
 pub went_on : (P Q : Arrival → Type 0) (Is : Arrival → Arrival → Given → Type 0) (old new : Option (List ℕ)) (before after : ℕ) (text : List ℕ) (result : Result (Unit {0}) Fault)
-    → Ends P Q Is (λ given. given ≡ Ok text) → GoesOut old new before after text result → Ends P Q Is (λ given. Wrote is_aside old new before after given result)
-went_on P Q Is old new before after text result e goes = (e.0, e.1, e.2, e.3, e.4, e.5, wrote_text (Unit {0}) is_aside old new before after text e.2 result e.6 goes)
+    → Ends P Q Is (λ given. given ≡ Ok text) → GoesOut old new before after text result → Ends P Q Is (λ given. WriteOutcome is_exempt old new before after given result)
+went_on P Q Is old new before after text result e goes = (e.0, e.1, e.2, e.3, e.4, e.5, wrote_text (Unit {0}) is_exempt old new before after text e.2 result e.6 goes)
 
 pub went_nowhere : (P Q : Arrival → Type 0) (Is : Arrival → Arrival → Given → Type 0) (old : Option (List ℕ)) (count : ℕ) (fault : Fault) → is_write_fault fault ≡ false
-    → Ends P Q Is (IsFaultOf fault) → Ends P Q Is (λ given. Wrote {T = Unit {0}} is_aside old old count count given (Err fault))
-went_nowhere P Q Is old count fault other e = (e.0, e.1, e.2, e.3, e.4, e.5, wrote_nothing (Unit {0}) is_aside old count fault e.2 other e.6)
+    → Ends P Q Is (IsFaultOf fault) → Ends P Q Is (λ given. WriteOutcome {T = Unit {0}} is_exempt old old count count given (Err fault))
+went_nowhere P Q Is old count fault other e = (e.0, e.1, e.2, e.3, e.4, e.5, wrote_nothing (Unit {0}) is_exempt old count fault e.2 other e.6)
 
 -- a schema that was read came of a text that came whole
 pub came_of : (came : Arrival → Type 0) (schema : Schema) → ((arrived : Arrival) × came arrived × IsSchemaFrom arrived (Ok schema)) → SchemaCame came schema

@@ -4,15 +4,15 @@ ghost use Rattle.std.specs.List.{list_all};
 ghost use Rattle.bw_model.specs.declared.fault.Fault.{Fault};
 ghost use Rattle.bw_model.specs.declared.query.Query.{Query};
 ghost use Rattle.bw_model.specs.declared.schema.Schema.{Schema};
-ghost use Rattle.bw_io.specs.Sink.{Wrote, is_write_fault};
+ghost use Rattle.bw_io.specs.Sink.{WriteOutcome, is_write_fault};
 ghost use Rattle.bw_model.specs.Limits.{longest_schema, longest_csv};
-ghost use Rattle.bw_io.specs.Source.{Arrival, Came, TellsFailureOfEither, TookAtMost};
+ghost use Rattle.bw_io.specs.Source.{Arrival, ReadOutcome, TellsFailureOfEither, TookAtMost};
 ghost use Rattle.bw_model.specs.Total.{item_within};
 ghost use Rattle.bw_sql.specs.Items.{AreOfOneKind};
 ghost use Rattle.bw_sql.specs.Statement.{IsReadAs};
 ghost use Rattle.bw_csv_calls.specs.Arrived.{CsvStopped, SchemaCame};
 ghost use Rattle.bw_csv.specs.Bare.{records_of};
-ghost use Rattle.bw_csv.specs.Rows.{is_aside, is_reader_fault, GivesButAside, IsRowsFault, StopsUnder};
+ghost use Rattle.bw_csv.specs.Rows.{is_exempt, is_reader_fault, MatchesUnlessExempt, IsRowsFault, StopsUnder};
 ghost use Rattle.bw_csv_calls.specs.Direct.{IsAnswer, answer_of, is_before_csv};
 
 use crate::inputs::read_schema;
@@ -46,12 +46,12 @@ pub fn direct<S: Source, C: Source, K: Sink>(
     // an error. If memory runs out while the schema or the statement is read, the schema's source
     // counts as one that found no memory, and the CSV's as not reached.
     ensures answer { (schema csv : Arrival) × (given : Result (List ℕ) Fault)
-        × Came longest_schema (S.to_come schema_source.old) (S.to_come schema_source.new)
+        × ReadOutcome longest_schema (S.to_come schema_source.old) (S.to_come schema_source.new)
         (S.failures schema_source.old) (S.failures schema_source.new) schema
-        × Came longest_csv (C.to_come csv_source.old) (C.to_come csv_source.new)
+        × ReadOutcome longest_csv (C.to_come csv_source.old) (C.to_come csv_source.new)
         (C.failures csv_source.old) (C.failures csv_source.new) csv
         × IsAnswer schema sql.now csv given
-        × Wrote is_aside (K.taken sink.old) (K.taken sink.new) (K.failures sink.old)
+        × WriteOutcome is_exempt (K.taken sink.old) (K.taken sink.new) (K.failures sink.old)
         (K.failures sink.new) given result }
 
     // If the CSV's reader has an error of its own, the schema and the statement were accepted, the
@@ -59,11 +59,11 @@ pub fn direct<S: Source, C: Source, K: Sink>(
     // have rows.
     ensures reader { IfErr result (λ fault. is_reader_fault fault ≡ true → (schema : Schema)
         × (query : Query)
-        × SchemaCame (Came longest_schema (S.to_come schema_source.old)
+        × SchemaCame (ReadOutcome longest_schema (S.to_come schema_source.old)
         (S.to_come schema_source.new)
         (S.failures schema_source.old) (S.failures schema_source.new)) schema
         × IsReadAs schema sql.now (Ok query)
-        × CsvStopped (Came longest_csv (C.to_come csv_source.old) (C.to_come csv_source.new)
+        × CsvStopped (ReadOutcome longest_csv (C.to_come csv_source.old) (C.to_come csv_source.new)
         (C.failures csv_source.old) (C.failures csv_source.new)) schema fault) }
 
     // Of a source at most one byte past its limit is read. The call fails by a failed read if and
@@ -98,20 +98,20 @@ fn direct_text<S: Source, C: Source>(
     requires schema { S.failures schema_source.old < 2 ^ 64 - 1 }
     requires csv { C.failures csv_source.old < 2 ^ 64 - 1 }
     ensures answer { (schema csv : Arrival) × (given : Result (List ℕ) Fault)
-        × Came longest_schema (S.to_come schema_source.old) (S.to_come schema_source.new)
+        × ReadOutcome longest_schema (S.to_come schema_source.old) (S.to_come schema_source.new)
         (S.failures schema_source.old) (S.failures schema_source.new) schema
-        × Came longest_csv (C.to_come csv_source.old) (C.to_come csv_source.new)
+        × ReadOutcome longest_csv (C.to_come csv_source.old) (C.to_come csv_source.new)
         (C.failures csv_source.old) (C.failures csv_source.new) csv
         × IsAnswer schema sql.now csv given
-        × GivesButAside (λ text. text.items) result given }
+        × MatchesUnlessExempt (λ text. text.items) result given }
     ensures fault { IfErr result (λ fault. is_write_fault fault ≡ false) }
     ensures reader { IfErr result (λ fault. is_reader_fault fault ≡ true → (schema : Schema)
         × (query : Query)
-        × SchemaCame (Came longest_schema (S.to_come schema_source.old)
+        × SchemaCame (ReadOutcome longest_schema (S.to_come schema_source.old)
         (S.to_come schema_source.new)
         (S.failures schema_source.old) (S.failures schema_source.new)) schema
         × IsReadAs schema sql.now (Ok query)
-        × CsvStopped (Came longest_csv (C.to_come csv_source.old) (C.to_come csv_source.new)
+        × CsvStopped (ReadOutcome longest_csv (C.to_come csv_source.old) (C.to_come csv_source.new)
         (C.failures csv_source.old) (C.failures csv_source.new)) schema fault) }
     ensures schema { TookAtMost (longest_schema + 1) (S.to_come schema_source.old)
         (S.to_come schema_source.new) }
@@ -135,9 +135,9 @@ fn direct_text<S: Source, C: Source>(
 fn answer_text(alloc: Global, schema: &Schema, query: &Query, csv: &[u8]) -> Result<Vec<u8>, Fault>
     requires items { IsTrue (list_all (item_within (vec_len schema.now.columns))
         query.now.items.items) }
-    requires some { 1 ≤ length query.now.items.items }
+    requires nonempty { 1 ≤ length query.now.items.items }
     requires kinds { AreOfOneKind query.now.items.items }
-    ensures text { GivesButAside (λ text. text.items) result
+    ensures text { MatchesUnlessExempt (λ text. text.items) result
         (answer_of schema.now.columns.items query.now csv.now) }
     ensures fault { IfErr result IsRowsFault }
     ensures reader { IfErr result (λ fault. is_reader_fault fault ≡ true

@@ -3,7 +3,7 @@ ghost use Rattle.std.specs.Prelude.{◌≡◌, ◌+◌, ◌-◌, ◌^◌, ◌<�
 ghost use Rattle.bw_csv.specs.Rows.{is_reader_fault};
 ghost use Rattle.bw_io.specs.Sink.{is_write_fault};
 ghost use Rattle.bw_model.specs.Limits.{longest_schema};
-ghost use Rattle.bw_io.specs.Source.{Arrival, Came, LeavesSource};
+ghost use Rattle.bw_io.specs.Source.{Arrival, ReadOutcome, SourceEffect};
 ghost use Rattle.bw_csv_calls.specs.Arrived.{IsSchemaFrom};
 
 use bw_io::{Input, Source, read_limited};
@@ -15,13 +15,13 @@ use std::alloc::Global;
 pub(crate) fn read_schema<S: Source>(alloc: Global, source: &mut S) -> Result<Schema, Fault>
     requires { S.failures source.old < 2 ^ 64 - 1 }
     ensures answered { (came : Arrival)
-        × Came longest_schema (S.to_come source.old) (S.to_come source.new) (S.failures source.old)
-        (S.failures source.new) came
+        × ReadOutcome longest_schema (S.to_come source.old) (S.to_come source.new)
+        (S.failures source.old) (S.failures source.new) came
         × IsSchemaFrom came result }
-    ensures source { LeavesSource (longest_schema + 1) (S.to_come source.old) (S.to_come source.new)
+    ensures source { SourceEffect (longest_schema + 1) (S.to_come source.old) (S.to_come source.new)
         (S.failures source.old) (S.failures source.new) result }
     ensures fault { IfErr result (λ fault. is_write_fault fault ≡ false) }
-    ensures own { IfErr result (λ fault. is_reader_fault fault ≡ false) }
+    ensures not_reader { IfErr result (λ fault. is_reader_fault fault ≡ false) }
 {
     match read_limited(alloc, source, MAX_SCHEMA_LEN as u64)? {
         Input::Whole(text) => Schema::parse(alloc, &text),

@@ -3,10 +3,10 @@ ghost use Rattle.std.specs.Prelude.{◌≡◌, ◌+◌, ◌-◌, ◌^◌, ◌<�
 ghost use Rattle.bw_model.specs.declared.fault.Fault.{Fault};
 ghost use Rattle.bw_model.specs.declared.schema.Schema.{Schema};
 ghost use Rattle.bw_model.specs.Limits.{longest_schema, longest_csv};
-ghost use Rattle.bw_io.specs.Sink.{Wrote, is_write_fault};
-ghost use Rattle.bw_io.specs.Source.{Arrival, Came, TellsFailureOfEither, TookAtMost};
+ghost use Rattle.bw_io.specs.Sink.{WriteOutcome, is_write_fault};
+ghost use Rattle.bw_io.specs.Source.{Arrival, ReadOutcome, TellsFailureOfEither, TookAtMost};
 ghost use Rattle.bw_csv.specs.Bare.{records_of};
-ghost use Rattle.bw_csv.specs.Rows.{is_aside, is_reader_fault, GivesButAside, IsRowsFault, StopsUnder};
+ghost use Rattle.bw_csv.specs.Rows.{is_exempt, is_reader_fault, MatchesUnlessExempt, IsRowsFault, StopsUnder};
 ghost use Rattle.bw_csv_calls.specs.Arrived.{CsvStopped, SchemaCame};
 ghost use Rattle.bw_csv_calls.specs.Direct.{is_before_csv};
 ghost use Rattle.bw_csv_calls.specs.Load.{IsFile, file_of};
@@ -39,21 +39,21 @@ pub fn load<S: Source, C: Source, K: Sink>(
     // error. If memory runs out while the schema is read, its source counts as one that found no
     // memory, and the CSV's as not reached.
     ensures file { (schema csv : Arrival) × (given : Result (List ℕ) Fault)
-        × Came longest_schema (S.to_come schema_source.old) (S.to_come schema_source.new)
+        × ReadOutcome longest_schema (S.to_come schema_source.old) (S.to_come schema_source.new)
         (S.failures schema_source.old) (S.failures schema_source.new) schema
-        × Came longest_csv (C.to_come csv_source.old) (C.to_come csv_source.new)
+        × ReadOutcome longest_csv (C.to_come csv_source.old) (C.to_come csv_source.new)
         (C.failures csv_source.old) (C.failures csv_source.new) csv
         × IsFile layout schema csv given
-        × Wrote is_aside (K.taken sink.old) (K.taken sink.new) (K.failures sink.old)
+        × WriteOutcome is_exempt (K.taken sink.old) (K.taken sink.new) (K.failures sink.old)
         (K.failures sink.new) given result }
 
     // If the CSV's reader has an error of its own, the schema was accepted, the CSV was read
     // completely, and the error is at the heading, or at the record after those that have rows.
     ensures reader { IfErr result (λ fault. is_reader_fault fault ≡ true → (schema : Schema)
-        × SchemaCame (Came longest_schema (S.to_come schema_source.old)
+        × SchemaCame (ReadOutcome longest_schema (S.to_come schema_source.old)
         (S.to_come schema_source.new)
         (S.failures schema_source.old) (S.failures schema_source.new)) schema
-        × CsvStopped (Came longest_csv (C.to_come csv_source.old) (C.to_come csv_source.new)
+        × CsvStopped (ReadOutcome longest_csv (C.to_come csv_source.old) (C.to_come csv_source.new)
         (C.failures csv_source.old) (C.failures csv_source.new)) schema fault) }
 
     // Of a source at most one byte past its limit is read. The call fails by a failed read if and
@@ -72,13 +72,13 @@ pub fn load<S: Source, C: Source, K: Sink>(
     ensures unneeded { IfErr result (λ fault. IsTrue (is_before_csv fault) → csv_source.new
         ≡ csv_source.old) }
 {
-    let file = loaded(alloc, schema_source, csv_source, layout)?;
+    let file = build_table(alloc, schema_source, csv_source, layout)?;
     write_whole(sink, &file)
 }
 
 /// Returns the table file of the rows of a CSV text, under the schema of a schema text. Errors:
 /// those of [`load`], except for the sink's.
-fn loaded<S: Source, C: Source>(
+fn build_table<S: Source, C: Source>(
     alloc: Global,
     schema_source: &mut S,
     csv_source: &mut C,
@@ -87,18 +87,18 @@ fn loaded<S: Source, C: Source>(
     requires schema { S.failures schema_source.old < 2 ^ 64 - 1 }
     requires csv { C.failures csv_source.old < 2 ^ 64 - 1 }
     ensures file { (schema csv : Arrival) × (given : Result (List ℕ) Fault)
-        × Came longest_schema (S.to_come schema_source.old) (S.to_come schema_source.new)
+        × ReadOutcome longest_schema (S.to_come schema_source.old) (S.to_come schema_source.new)
         (S.failures schema_source.old) (S.failures schema_source.new) schema
-        × Came longest_csv (C.to_come csv_source.old) (C.to_come csv_source.new)
+        × ReadOutcome longest_csv (C.to_come csv_source.old) (C.to_come csv_source.new)
         (C.failures csv_source.old) (C.failures csv_source.new) csv
         × IsFile layout schema csv given
-        × GivesButAside (λ file. file.items) result given }
+        × MatchesUnlessExempt (λ file. file.items) result given }
     ensures fault { IfErr result (λ fault. is_write_fault fault ≡ false) }
     ensures reader { IfErr result (λ fault. is_reader_fault fault ≡ true → (schema : Schema)
-        × SchemaCame (Came longest_schema (S.to_come schema_source.old)
+        × SchemaCame (ReadOutcome longest_schema (S.to_come schema_source.old)
         (S.to_come schema_source.new)
         (S.failures schema_source.old) (S.failures schema_source.new)) schema
-        × CsvStopped (Came longest_csv (C.to_come csv_source.old) (C.to_come csv_source.new)
+        × CsvStopped (ReadOutcome longest_csv (C.to_come csv_source.old) (C.to_come csv_source.new)
         (C.failures csv_source.old) (C.failures csv_source.new)) schema fault) }
     ensures schema { TookAtMost (longest_schema + 1) (S.to_come schema_source.old)
         (S.to_come schema_source.new) }
@@ -119,7 +119,8 @@ fn loaded<S: Source, C: Source>(
 
 /// Returns the table file of the rows of a CSV text. Errors: those of [`read_rows`].
 fn file_bytes(alloc: Global, layout: Layout, schema: &Schema, csv: &[u8]) -> Result<Vec<u8>, Fault>
-    ensures bytes { GivesButAside (λ file. file.items) result (file_of layout schema.now csv.now) }
+    ensures bytes { MatchesUnlessExempt (λ file. file.items) result
+        (file_of layout schema.now csv.now) }
     ensures fault { IfErr result IsRowsFault }
     ensures reader { IfErr result (λ fault. is_reader_fault fault ≡ true
         → StopsUnder schema.now.columns.items (records_of csv.now) fault) }

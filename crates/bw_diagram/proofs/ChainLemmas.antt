@@ -21,7 +21,7 @@ use Rattle.bw_diagram.specs.declared.chain.ChainKind.TheVariants.{Less, Equal}
 use Rattle.bw_diagram.specs.declared.chain.Chain.{Chain}
 use Rattle.bw_diagram.specs.declared.chain.Chain.TheVariants.{One, Two}
 use Rattle.bw_diagram.specs.Node.{IsNode, child, AreOrdered, node_at, node_value}
-use Rattle.bw_diagram.specs.Chain.{compares, padded_number, variable_at, comparison, IsChain, outcome, first_node, same_kind, node_of_one, node_of_two, node_before, tests, is_choice, occurs, step, leads, leads_always, chooses, chooses_from, is_step, is_within, is_in_range, obeys_chain, kind_of, length_of, node_of, prev_of}
+use Rattle.bw_diagram.specs.Chain.{compares, padded_number, variable_at, comparison, IsChain, outcome, first_node, same_kind, node_of_one, node_of_two, node_before, tests, is_choice, occurs, step, leads, leads_always, chooses, chooses_from, is_step, is_within, is_in_range, is_valid_chain, kind_of, length_of, node_of, prev_of}
 use Rattle.bw_diagram.proofs.ProductLemmas.{either}
 use Rattle.bw_diagram.proofs.NodeLemmas.{node_value-zero, node_value-one, node_value-node_at, node_value-cofactor, node_value-append}
 
@@ -349,8 +349,8 @@ some-claim columns nodes chains (Two kind left right len node prev) lower (Some 
     two-claim columns nodes chains kind left right len node prev lower e ordered before (ltb-true left (length columns) there.0) (ltb-true right (length columns) there.1) longer found chosen assignment
 
 -- a chain that obeys its rule is true, where the chains before it are
-pub obeys_chain-chain : (columns : List Column) (nodes : List Node) (chains : List Chain) (number : ℕ) (chain : Chain) → AreOrdered nodes → AllChains columns nodes chains → obeys_chain columns nodes chains number chain ≡ true → IsChain columns nodes chain
-unfolding obeys_chain is_step
+pub obeys_chain-chain : (columns : List Column) (nodes : List Node) (chains : List Chain) (number : ℕ) (chain : Chain) → AreOrdered nodes → AllChains columns nodes chains → is_valid_chain columns nodes chains number chain ≡ true → IsChain columns nodes chain
+unfolding is_valid_chain is_step
 obeys_chain-chain columns nodes chains number chain ordered before is =
     let stepped = both _ _ is in
     let range = is_in_range-is columns nodes chains chain (both _ _ stepped.0).1 in

@@ -15,9 +15,9 @@ use Rattle.bw_diagram.specs.declared.product.Connective.{Connective}
 use Rattle.bw_diagram.specs.declared.product.Product.{Product}
 use Rattle.bw_diagram.specs.Node.{IsNode, node_at, node_value, child}
 use Rattle.bw_diagram.specs.Chain.{compares, node_of_one, node_of_two, node_of, padded_number, same_kind, tests}
-use Rattle.bw_diagram.specs.Product.{joined, same_connective}
+use Rattle.bw_diagram.specs.Product.{apply_connective, same_connective}
 use Rattle.bw_diagram.specs.Facts.{Facts, AreTrue}
-use Rattle.bw_diagram.specs.Cited.{third_node, cited, chain_cited, two_cited, is_variable, AreWorth}
+use Rattle.bw_diagram.specs.Cited.{third_node, product_node, comparison_node, two_column_node, is_variable, AreWorth}
 use Rattle.bw_diagram.proofs.ChainLemmas.{node_of_one-claim, node_of_two-claim}
 use Rattle.bw_diagram.proofs.NodeLemmas.{node_value-zero, node_value-one, node_value-node_at, node_at-some}
 use Rattle.bw_diagram.proofs.ProductLemmas.{same_connective-true}
@@ -58,13 +58,13 @@ variable_worth facts v n true_facts is = at (node_at facts.nodes n) refl is
               ∙ ap assignment v_is,
         )
 
-row_worth : (facts : Facts) (op : Connective) (a b number c : ℕ) → AreTrue facts → cited facts op a b number ≡ Some c →
-    Worth facts (λ assignment. joined op (node_value facts.nodes assignment a) (node_value facts.nodes assignment b)) c
-unfolding cited
+row_worth : (facts : Facts) (op : Connective) (a b number c : ℕ) → AreTrue facts → product_node facts op a b number ≡ Some c →
+    Worth facts (λ assignment. apply_connective op (node_value facts.nodes assignment a) (node_value facts.nodes assignment b)) c
+unfolding product_node
 row_worth facts op a b number c true_facts is = at (slice_get facts.products number) refl is
   where
     at : (found : Option Product) → slice_get facts.products number ≡ found → option_and_then (third_node op a b) found ≡ Some c →
-        Worth facts (λ assignment. joined op (node_value facts.nodes assignment a) (node_value facts.nodes assignment b)) c
+        Worth facts (λ assignment. apply_connective op (node_value facts.nodes assignment a) (node_value facts.nodes assignment b)) c
     at None there is = cc
     at (Some row) there is =
         let fields = given (same_connective row.op op && eqb row.a a && eqb row.b b) row.c c is in
@@ -74,9 +74,9 @@ row_worth facts op a b number c true_facts is = at (slice_get facts.products num
           subst (IsNode facts.nodes) fields.1 claim.c_node,
           λ assignment. ap (node_value facts.nodes assignment) (sym fields.1)
               ∙ claim.joins assignment
-              ∙ ap (λ o. joined o (node_value facts.nodes assignment row.a) (node_value facts.nodes assignment row.b)) (same_connective-true row.op op a_is.0)
-              ∙ ap (λ x. joined op (node_value facts.nodes assignment x) (node_value facts.nodes assignment row.b)) (eqb-true row.a a a_is.1)
-              ∙ ap (λ y. joined op (node_value facts.nodes assignment a) (node_value facts.nodes assignment y)) (eqb-true row.b b b_is.1),
+              ∙ ap (λ o. apply_connective o (node_value facts.nodes assignment row.a) (node_value facts.nodes assignment row.b)) (same_connective-true row.op op a_is.0)
+              ∙ ap (λ x. apply_connective op (node_value facts.nodes assignment x) (node_value facts.nodes assignment row.b)) (eqb-true row.a a a_is.1)
+              ∙ ap (λ y. apply_connective op (node_value facts.nodes assignment a) (node_value facts.nodes assignment y)) (eqb-true row.b b b_is.1),
         )
 
 one_node : (chain : Chain) (kind : ChainKind) (col start len bound n : ℕ) → node_of_one kind col start len bound chain ≡ Some n → node_of chain ≡ n
@@ -87,9 +87,9 @@ two_node : (chain : Chain) (kind : ChainKind) (left right len n : ℕ) → node_
 two_node (One k c s l b node prev) kind left right len n is = cc
 two_node (Two k l r m node prev) kind left right len n is = (given (same_kind k kind && eqb l left && eqb r right && eqb m len) node n is).1
 
-chain_worth : (facts : Facts) (kind : ChainKind) (col start len bound number n : ℕ) → AreTrue facts → chain_cited facts kind col start len bound number ≡ Some n →
+chain_worth : (facts : Facts) (kind : ChainKind) (col start len bound number n : ℕ) → AreTrue facts → comparison_node facts kind col start len bound number ≡ Some n →
     Worth facts (λ assignment. compares kind (number_spelled facts.columns col start len assignment) bound) n
-unfolding chain_cited
+unfolding comparison_node
 chain_worth facts kind col start len bound number n true_facts is =
     option_and_then_some (node_of_one kind col start len bound) (slice_get facts.chains number) n is
     (λ chain there found. let claim = true_facts.chains number chain there in (
@@ -97,9 +97,9 @@ chain_worth facts kind col start len bound number n true_facts is =
       λ assignment. node_of_one-claim facts.columns facts.nodes assignment chain kind col start len bound n claim found,
     ))
 
-two_worth : (facts : Facts) (kind : ChainKind) (left right len number n : ℕ) → AreTrue facts → two_cited facts kind left right len number ≡ Some n →
+two_worth : (facts : Facts) (kind : ChainKind) (left right len number n : ℕ) → AreTrue facts → two_column_node facts kind left right len number ≡ Some n →
     Worth facts (λ assignment. compares kind (padded_number facts.columns left len assignment) (padded_number facts.columns right len assignment)) n
-unfolding two_cited
+unfolding two_column_node
 two_worth facts kind left right len number n true_facts is =
     option_and_then_some (node_of_two kind left right len) (slice_get facts.chains number) n is
     (λ chain there found. let claim = true_facts.chains number chain there in (

@@ -9,10 +9,10 @@ use Rattle.bw_model.proofs.BitsLemmas.{both}
 use Rattle.bw_diagram.specs.declared.node.Node.{Node}
 use Rattle.bw_diagram.specs.declared.product.Product.{Product}
 use Rattle.bw_diagram.specs.declared.product.Reason.{Reason}
-use Rattle.bw_diagram.specs.Node.{child, obeys_node}
+use Rattle.bw_diagram.specs.Node.{child, is_valid_node}
 use Rattle.bw_diagram.specs.declared.chain.Chain.{Chain}
-use Rattle.bw_diagram.specs.Chain.{IsChain, obeys_chain}
-use Rattle.bw_diagram.specs.Product.{joined, IsProduct}
+use Rattle.bw_diagram.specs.Chain.{IsChain, is_valid_chain}
+use Rattle.bw_diagram.specs.Product.{apply_connective, IsProduct}
 use Rattle.bw_diagram.specs.Facts.{Facts, AreTrue, with_node, with_chain, with_product, judged_node, judged_chain, judged_if_named, judged_product, most_nodes, most_chains}
 use Rattle.bw_diagram.proofs.NodeLemmas.{node_value-append}
 use Rattle.bw_diagram.proofs.ChainLemmas.{IsChain-append, obeys_chain-chain}
@@ -33,8 +33,8 @@ pub record Obeys (variables : ℕ) (nodes : List Node) (number : ℕ) (node : No
   pub low : node.low < number
   pub high : node.high < number
 
-pub obeys_node-is : (variables : ℕ) (nodes : List Node) (number : ℕ) (node : Node) → obeys_node variables nodes number node ≡ true → Obeys variables nodes number node
-unfolding obeys_node
+pub obeys_node-is : (variables : ℕ) (nodes : List Node) (number : ℕ) (node : Node) → is_valid_node variables nodes number node ≡ true → Obeys variables nodes number node
+unfolding is_valid_node
 obeys_node-is variables nodes number node is =
     let upper = both _ _ is in
     let middle = both _ _ upper.0 in
@@ -53,7 +53,7 @@ IsProduct-append nodes more row product = record {
   c_node = omega (arith, length-append nodes more, product.c_node);
   joins = λ assignment. node_value-append nodes more assignment row.c product.c_node
       ∙ product.joins assignment
-      ∙ sym (ap₂ (joined row.op) (node_value-append nodes more assignment row.a product.a_node) (node_value-append nodes more assignment row.b product.b_node));
+      ∙ sym (ap₂ (apply_connective row.op) (node_value-append nodes more assignment row.a product.a_node) (node_value-append nodes more assignment row.b product.b_node));
 }
 
 -- what isn't refused by a test is what comes next
@@ -129,8 +129,8 @@ judged_chain-true facts number named accepted is true_before =
     if_named : (named : Option Chain) → judged_if_named facts number named ≡ Ok accepted → AreTrue (record facts { chains = facts.chains ++ accepted ∷ [] })
     if_named None is = cc
     if_named (Some chain) is =
-        let judged = judged-ok false (not (obeys_chain facts.columns facts.nodes facts.chains number chain)) (nowhere 604) (nowhere 603) chain accepted is in
-        let claimed = obeys_chain-chain facts.columns facts.nodes facts.chains number chain true_before.ordered true_before.chains (not-false (obeys_chain facts.columns facts.nodes facts.chains number chain) judged.1) in
+        let judged = judged-ok false (not (is_valid_chain facts.columns facts.nodes facts.chains number chain)) (nowhere 604) (nowhere 603) chain accepted is in
+        let claimed = obeys_chain-chain facts.columns facts.nodes facts.chains number chain true_before.ordered true_before.chains (not-false (is_valid_chain facts.columns facts.nodes facts.chains number chain) judged.1) in
         let P : Chain → Type 0 = λ c. AreTrue (record facts { chains = facts.chains ++ c ∷ [] }) in
         subst P judged.2 (record {
           ordered = true_before.ordered;

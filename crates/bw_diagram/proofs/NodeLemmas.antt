@@ -7,23 +7,23 @@ use Rattle.std.proofs.Math.ListN.{get_or-append}
 use Rattle.std.proofs.Math.Seq.{get_or-append_seam}
 use Rattle.bw_model.specs.Variable.{Assignment}
 use Rattle.bw_diagram.specs.declared.node.Node.{Node}
-use Rattle.bw_diagram.specs.Node.{IsNode, node_at, child, chosen, values_from, node_value, child_if_tested, cofactor, AreOrdered}
+use Rattle.bw_diagram.specs.Node.{IsNode, node_at, child, child_value, values_from, node_value, child_if_tested, cofactor, AreOrdered}
 
 pub length-values_from : (assignment : Assignment) (before : List Bool) (nodes : List Node) → length (values_from assignment before nodes) ≡ length before + length nodes
 length-values_from assignment before [] = omega arith
 length-values_from assignment before (node ∷ nodes) =
-    omega (arith, length-values_from assignment (before ++ chosen assignment before node ∷ []) nodes, length-append before (chosen assignment before node ∷ []))
+    omega (arith, length-values_from assignment (before ++ child_value assignment before node ∷ []) nodes, length-append before (child_value assignment before node ∷ []))
 
 -- later nodes leave what comes before them
 pub values_from-before : (assignment : Assignment) (before : List Bool) (nodes : List Node) (n : ℕ) → n < length before → get_or (values_from assignment before nodes) n false ≡ get_or before n false
 values_from-before assignment before [] n lt = refl
 values_from-before assignment before (node ∷ nodes) n lt =
-    let c : List Bool = chosen assignment before node ∷ [] in
+    let c : List Bool = child_value assignment before node ∷ [] in
     values_from-before assignment (before ++ c) nodes n (omega (arith, length-append before c)) ∙ get_or-append before c false n lt
 
 pub values_from-append : (assignment : Assignment) (before : List Bool) (xs ys : List Node) → values_from assignment before (xs ++ ys) ≡ values_from assignment (values_from assignment before xs) ys
 values_from-append assignment before [] ys = refl
-values_from-append assignment before (x ∷ xs) ys = values_from-append assignment (before ++ chosen assignment before x ∷ []) xs ys
+values_from-append assignment before (x ∷ xs) ys = values_from-append assignment (before ++ child_value assignment before x ∷ []) xs ys
 
 -- a node has its child's value, where the child comes before it
 values_from-at : (assignment : Assignment) (before : List Bool) (nodes : List Node) (k : ℕ) (node : Node) → slice_get nodes k ≡ Some node → child (assignment node.v) node < length before + k →
@@ -36,17 +36,17 @@ values_from-at assignment before (x ∷ nodes) zero node is lt =
   where
     first : (x : Node) → child (assignment x.v) x < length before + 0 → get_or (values_from assignment before (x ∷ nodes)) (length before + 0) false ≡ get_or (values_from assignment before (x ∷ nodes)) (child (assignment x.v) x) false
     first x lt =
-        let c : List Bool = chosen assignment before x ∷ [] in
+        let c : List Bool = child_value assignment before x ∷ [] in
         let n : ℕ = child (assignment x.v) x in
         let longer : length (before ++ c) ≡ length before + 1 = length-append before c in
         let here : length before + 0 ≡ length before = add-zero (length before) in
         ap (λ i. get_or (values_from assignment (before ++ c) nodes) i false) here
         ∙ values_from-before assignment (before ++ c) nodes (length before) (omega arith)
-        ∙ get_or-append_seam before (chosen assignment before x) [] false
+        ∙ get_or-append_seam before (child_value assignment before x) [] false
         ∙ sym (get_or-append before c false n (omega arith))
         ∙ sym (values_from-before assignment (before ++ c) nodes n (omega arith))
 values_from-at assignment before (x ∷ nodes) (suc k) node is lt =
-    let c : List Bool = chosen assignment before x ∷ [] in
+    let c : List Bool = child_value assignment before x ∷ [] in
     let here : length (before ++ c) + k ≡ length before + suc k = omega (arith, length-append before c) in
     ap (λ i. get_or (values_from assignment (before ++ c) nodes) i false) (sym here)
     ∙ values_from-at assignment (before ++ c) nodes k node is (omega arith)

@@ -11,7 +11,7 @@ use Rattle.bw_diagram.specs.declared.product.Reason.TheVariants.{Shortcut, Cofac
 use Rattle.bw_diagram.specs.declared.node.Node.{Node}
 use Rattle.bw_model.specs.Variable.{Assignment}
 use Rattle.bw_diagram.specs.Node.{AreOrdered, node_value}
-use Rattle.bw_diagram.specs.Product.{joined, is_shortcut, same_connective, same_product, is_product, cofactor_product, follows, obeys_product, IsProduct}
+use Rattle.bw_diagram.specs.Product.{apply_connective, is_shortcut, same_connective, same_product, is_product, cofactor_product, follows, is_valid_product, IsProduct}
 use Rattle.bw_diagram.proofs.NodeLemmas.{node_value-zero, node_value-one, node_value-cofactor}
 
 -- what follows from each of two tests follows from either
@@ -48,11 +48,11 @@ or_same : (p : Bool) → p ≡ (p || p)
 or_same true = refl
 or_same false = refl
 
-xor_false : (p : Bool) → p ≡ joined Xor false p
+xor_false : (p : Bool) → p ≡ apply_connective Xor false p
 xor_false true = refl
 xor_false false = refl
 
-xor_same : (p : Bool) → false ≡ joined Xor p p
+xor_same : (p : Bool) → false ≡ apply_connective Xor p p
 xor_same true = refl
 xor_same false = refl
 
@@ -61,11 +61,11 @@ diff_same true = refl
 diff_same false = refl
 
 -- from three values to the claim of a row
-claim : (op : Connective) (f : ℕ → Bool) (a b c : ℕ) (p q r : Bool) → f a ≡ p → f b ≡ q → f c ≡ r → r ≡ joined op p q → f c ≡ joined op (f a) (f b)
-claim op f a b c p q r fa fb fc is = fc ∙ is ∙ ap₂ (joined op) (sym fa) (sym fb)
+claim : (op : Connective) (f : ℕ → Bool) (a b c : ℕ) (p q r : Bool) → f a ≡ p → f b ≡ q → f c ≡ r → r ≡ apply_connective op p q → f c ≡ apply_connective op (f a) (f b)
+claim op f a b c p q r fa fb fc is = fc ∙ is ∙ ap₂ (apply_connective op) (sym fa) (sym fb)
 
 -- each shortcut is true of any values that 0 and 1 have at the terminals
-pub shortcut_joins : (f : ℕ → Bool) → f 0 ≡ false → f 1 ≡ true → (op : Connective) (a b c : ℕ) → is_shortcut op a b c ≡ true → f c ≡ joined op (f a) (f b)
+pub shortcut_joins : (f : ℕ → Bool) → f 0 ≡ false → f 1 ≡ true → (op : Connective) (a b c : ℕ) → is_shortcut op a b c ≡ true → f c ≡ apply_connective op (f a) (f b)
 unfolding is_shortcut
 shortcut_joins f zero one And a b c =
     either _ _ (either _ _ (either _ _ (either _ _
@@ -129,23 +129,23 @@ is_product-some row (Some other) is = ap Some (same_product-true other row is)
 
 -- the claims of the rows of its cofactors give the claim of a row
 cofactors_join : (nodes : List Node) (v : ℕ) (row : Product) → AreOrdered nodes → IsProduct nodes (cofactor_product nodes v false row) → IsProduct nodes (cofactor_product nodes v true row) → (assignment : Assignment) →
-    node_value nodes assignment row.c ≡ joined row.op (node_value nodes assignment row.a) (node_value nodes assignment row.b)
+    node_value nodes assignment row.c ≡ apply_connective row.op (node_value nodes assignment row.a) (node_value nodes assignment row.b)
 cofactors_join nodes v row ordered low high assignment = by_side (assignment v) refl
   where
-    from : (bit : Bool) → assignment v ≡ bit → IsProduct nodes (cofactor_product nodes v bit row) → node_value nodes assignment row.c ≡ joined row.op (node_value nodes assignment row.a) (node_value nodes assignment row.b)
+    from : (bit : Bool) → assignment v ≡ bit → IsProduct nodes (cofactor_product nodes v bit row) → node_value nodes assignment row.c ≡ apply_connective row.op (node_value nodes assignment row.a) (node_value nodes assignment row.b)
     from bit side product =
         sym (node_value-cofactor nodes assignment v bit row.c ordered side)
         ∙ product.joins assignment
-        ∙ ap₂ (joined row.op) (node_value-cofactor nodes assignment v bit row.a ordered side) (node_value-cofactor nodes assignment v bit row.b ordered side)
+        ∙ ap₂ (apply_connective row.op) (node_value-cofactor nodes assignment v bit row.a ordered side) (node_value-cofactor nodes assignment v bit row.b ordered side)
 
-    by_side : (bit : Bool) → assignment v ≡ bit → node_value nodes assignment row.c ≡ joined row.op (node_value nodes assignment row.a) (node_value nodes assignment row.b)
+    by_side : (bit : Bool) → assignment v ≡ bit → node_value nodes assignment row.c ≡ apply_connective row.op (node_value nodes assignment row.a) (node_value nodes assignment row.b)
     by_side true side = from true side high
     by_side false side = from false side low
 
 -- a row that obeys its rule is true, where the rows before it are
 pub obeys_product-product : (variables : ℕ) (nodes : List Node) (rows : List Product) (number : ℕ) (row : Product) (reason : Reason) → AreOrdered nodes →
-    ((k : ℕ) (row : Product) → slice_get rows k ≡ Some row → IsProduct nodes row) → obeys_product variables nodes rows number row reason ≡ true → IsProduct nodes row
-unfolding obeys_product
+    ((k : ℕ) (row : Product) → slice_get rows k ≡ Some row → IsProduct nodes row) → is_valid_product variables nodes rows number row reason ≡ true → IsProduct nodes row
+unfolding is_valid_product
 obeys_product-product variables nodes rows number row reason ordered before is =
     let reasoned = both _ _ is in
     let c = both _ _ reasoned.0 in
@@ -159,7 +159,7 @@ obeys_product-product variables nodes rows number row reason ordered before is =
     }
   where
     by_reason : (reason : Reason) → follows variables nodes rows row reason ≡ true → (assignment : Assignment) →
-        node_value nodes assignment row.c ≡ joined row.op (node_value nodes assignment row.a) (node_value nodes assignment row.b)
+        node_value nodes assignment row.c ≡ apply_connective row.op (node_value nodes assignment row.a) (node_value nodes assignment row.b)
     by_reason Shortcut is assignment =
         shortcut_joins (node_value nodes assignment) (node_value-zero nodes assignment) (node_value-one nodes assignment) row.op row.a row.b row.c is
     by_reason (Cofactors v i j) is assignment =

@@ -203,8 +203,8 @@ in_range columns nodes chains (Some chain) = if_in_range (is_in_range columns no
     chain
 
 -- A chain of this number is valid as the next one.
-unfoldable pub obeys_chain : List Column → List Node → List Chain → ℕ → Chain → Bool
-obeys_chain columns nodes chains number chain =
+unfoldable pub is_valid_chain : List Column → List Node → List Chain → ℕ → Chain → Bool
+is_valid_chain columns nodes chains number chain =
     (number == length chains) && is_in_range columns nodes chains chain
     && is_step columns nodes chains chain
 

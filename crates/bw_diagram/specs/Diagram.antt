@@ -4,8 +4,8 @@ use Rattle.bw_model.specs.Variable.{variables_of}
 use Rattle.bw_diagram.specs.declared.diagram.Diagram.TheInside.{Inside}
 use Rattle.bw_diagram.specs.Facts.{Facts, AreTrue, most_nodes, most_chains}
 
-abbrev pub held : Inside → Facts
-held diagram = record {
+abbrev pub facts_of : Inside → Facts
+facts_of diagram = record {
   columns = diagram.schema.now.columns.items;
   nodes = diagram.nodes.items;
   chains = diagram.chains.items;
@@ -17,4 +17,4 @@ pub record IsKept (diagram : Inside) : Type 0 where
   pub variable_count : diagram.variables ≡ variables_of diagram.schema.now.columns.items
   pub few_nodes : length diagram.nodes.items ≤ most_nodes
   pub few_chains : length diagram.chains.items ≤ most_chains
-  pub are_true : AreTrue (held diagram)
+  pub are_true : AreTrue (facts_of diagram)

@@ -9,9 +9,9 @@ use Rattle.bw_diagram.specs.declared.node.Node.{Node}
 use Rattle.bw_diagram.specs.declared.chain.Chain.{Chain}
 use Rattle.bw_diagram.specs.declared.product.Product.{Product}
 use Rattle.bw_diagram.specs.declared.product.Reason.{Reason}
-use Rattle.bw_diagram.specs.Node.{AreOrdered, obeys_node}
-use Rattle.bw_diagram.specs.Chain.{IsChain, obeys_chain}
-use Rattle.bw_diagram.specs.Product.{IsProduct, obeys_product}
+use Rattle.bw_diagram.specs.Node.{AreOrdered, is_valid_node}
+use Rattle.bw_diagram.specs.Chain.{IsChain, is_valid_chain}
+use Rattle.bw_diagram.specs.Product.{IsProduct, is_valid_product}
 
 -- the columns of a diagram, and its nodes, chains and product rows, each in the order of their
 -- numbers
@@ -49,7 +49,7 @@ no_facts columns = record { columns = columns; nodes = []; chains = []; products
 unfoldable pub judged_node : Facts → ℕ → Node → Result Node Fault
 judged_node facts number node =
     refused_if (nat_le most_nodes (length facts.nodes)) (nowhere LIMIT)
-    (refused_if (not (obeys_node (variables_of facts.columns) facts.nodes number node))
+    (refused_if (not (is_valid_node (variables_of facts.columns) facts.nodes number node))
     (nowhere NODE) (Ok node))
 
 -- the facts after the line of a node
@@ -62,7 +62,7 @@ with_node facts number node =
 abbrev pub judged_if_named : Facts → ℕ → Option Chain → Result Chain Fault
 judged_if_named facts number None = Err (nowhere CHAIN_ROW)
 judged_if_named facts number (Some chain) =
-    refused_if (not (obeys_chain facts.columns facts.nodes facts.chains number chain))
+    refused_if (not (is_valid_chain facts.columns facts.nodes facts.chains number chain))
     (nowhere CHAIN_ROW) (Ok chain)
 
 unfoldable pub judged_chain : Facts → ℕ → Option Chain → Result Chain Fault
@@ -81,7 +81,8 @@ with_chain facts number named =
 unfoldable pub judged_product : Facts → ℕ → Product → Reason → Result Product Fault
 judged_product facts number row reason =
     refused_if (nat_le most_products (length facts.products)) (nowhere LIMIT)
-    (refused_if (not (obeys_product (variables_of facts.columns) facts.nodes facts.products number
+    (refused_if (not (is_valid_product (variables_of facts.columns) facts.nodes facts.products
+    number
     row reason))
     (nowhere PRODUCT_ROW) (Ok row))
 

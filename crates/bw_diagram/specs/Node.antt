@@ -21,14 +21,14 @@ child false node = node.low
 
 -- the value of a node, from the values of all nodes before it: that of its high child if its
 -- variable is 1, else that of its low child
-abbrev pub chosen : Assignment → List Bool → Node → Bool
-chosen assignment before node = slice_index_or before (child (assignment node.v) node) false
+abbrev pub child_value : Assignment → List Bool → Node → Bool
+child_value assignment before node = slice_index_or before (child (assignment node.v) node) false
 
 -- these values, followed by those of the next nodes
 abbrev pub values_from : Assignment → List Bool → List Node → List Bool
 values_from assignment before [] = before
 values_from assignment before (node ∷ nodes) = values_from assignment
-    (before ++ chosen assignment before node
+    (before ++ child_value assignment before node
     ∷ []) nodes
 
 -- The value of a node under an assignment. The terminals have the values 0 and 1.
@@ -46,8 +46,8 @@ cofactor nodes v bit number = child_if_tested v bit number (node_at nodes number
 
 -- A node of this number is valid as the next one: it tests one of the variables, and its children
 -- have smaller numbers.
-unfoldable pub obeys_node : ℕ → List Node → ℕ → Node → Bool
-obeys_node variables nodes number node =
+unfoldable pub is_valid_node : ℕ → List Node → ℕ → Node → Bool
+is_valid_node variables nodes number node =
     (number == 2 + length nodes) && nat_lt node.v variables && nat_lt node.low number
     && nat_lt node.high number
 

@@ -10,12 +10,12 @@ use Rattle.bw_diagram.specs.declared.product.Reason.TheVariants.{Shortcut, Cofac
 use Rattle.bw_diagram.specs.Node.{is_node, IsNode, node_value, cofactor}
 
 -- a connective of two bits; Diff is "and not"
-abbrev pub joined : Connective → Bool → Bool → Bool
-joined And a b = a && b
-joined Or a b = a || b
-joined Xor a true = not a
-joined Xor a false = a
-joined Diff a b = a && not b
+abbrev pub apply_connective : Connective → Bool → Bool → Bool
+apply_connective And a b = a && b
+apply_connective Or a b = a || b
+apply_connective Xor a true = not a
+apply_connective Xor a false = a
+apply_connective Diff a b = a && not b
 
 -- What a product row claims: its nodes are nodes, and under every assignment c is the connective of
 -- a and b.
@@ -24,7 +24,8 @@ pub record IsProduct (nodes : List Node) (row : Product) : Type 0 where
   pub b_node : IsNode nodes row.b
   pub c_node : IsNode nodes row.c
   pub joins : (assignment : Assignment) → node_value nodes assignment row.c
-      ≡ joined row.op (node_value nodes assignment row.a) (node_value nodes assignment row.b)
+      ≡ apply_connective row.op (node_value nodes assignment row.a)
+      (node_value nodes assignment row.b)
 
 -- The shortcuts, in which x is any node: for AND (0,x,0) (x,0,0) (1,x,x) (x,1,x) (x,x,x), for OR
 -- (0,x,x) (x,0,x) (1,x,1) (x,1,1) (x,x,x), for XOR (0,x,x) (x,0,x) (x,x,0), for DIFF (0,x,0)
@@ -84,7 +85,7 @@ follows variables nodes rows row (Cofactors v i j) =
     && is_product (cofactor_product nodes v true row) (slice_get rows j)
 
 -- A product row of this number is valid as the next one.
-unfoldable pub obeys_product : ℕ → List Node → List Product → ℕ → Product → Reason → Bool
-obeys_product variables nodes rows number row reason =
+unfoldable pub is_valid_product : ℕ → List Node → List Product → ℕ → Product → Reason → Bool
+is_valid_product variables nodes rows number row reason =
     (number == length rows) && is_node nodes row.a && is_node nodes row.b && is_node nodes row.c
     && follows variables nodes rows row reason

@@ -1,6 +1,6 @@
 //! The nodes that later lines reference, by the product rows and chains that state their values.
 ghost use Rattle.std.specs.Prelude.{◌≡◌};
-ghost use Rattle.bw_diagram.specs.Cited.{cited, chain_cited, two_cited, variable_cited, AreWorth};
+ghost use Rattle.bw_diagram.specs.Cited.{product_node, comparison_node, two_column_node, variable_node, AreWorth};
 ghost use Rattle.bw_diagram.specs.Facts.{Facts, AreTrue};
 
 use crate::chain::ChainKind;
@@ -10,9 +10,9 @@ use crate::product::Connective;
 impl Diagram<'_> {
     /// Returns the node that product row `number` states to be the connective of `a` and `b`, or
     /// None if it isn't a row of these.
-    #[tactic(auto, unfolding(crate::specs::Cited::cited))]
-    pub fn cited(&self, op: Connective, a: u64, b: u64, number: u64) -> Option<u64>
-        ensures { result ≡ cited self.now op a b number }
+    #[tactic(auto, unfolding(crate::specs::Cited::product_node))]
+    pub fn product_node(&self, op: Connective, a: u64, b: u64, number: u64) -> Option<u64>
+        ensures { result ≡ product_node self.now op a b number }
     {
         let row = self.row(number)?;
         if row.op == op && u64::from(row.a) == a && u64::from(row.b) == b {
@@ -24,8 +24,8 @@ impl Diagram<'_> {
 
     /// Returns the node by which chain `number` compares `len` bits of column `col`, from bit
     /// `start` upwards, with `bound`, or None if it isn't a chain of these.
-    #[tactic(auto, unfolding(crate::specs::Cited::chain_cited))]
-    pub fn chain_cited(
+    #[tactic(auto, unfolding(crate::specs::Cited::comparison_node))]
+    pub fn comparison_node(
         &self,
         kind: ChainKind,
         col: u32,
@@ -34,7 +34,7 @@ impl Diagram<'_> {
         bound: u64,
         number: u64,
     ) -> Option<u64>
-        ensures { result ≡ chain_cited self.now kind col start len bound number }
+        ensures { result ≡ comparison_node self.now kind col start len bound number }
     {
         self.chain(number)?
             .node_of_one(kind, col, start, len, bound)
@@ -43,8 +43,8 @@ impl Diagram<'_> {
 
     /// Returns the node by which chain `number` compares the low `len` bits of two columns, or None
     /// if it isn't a chain of these.
-    #[tactic(auto, unfolding(crate::specs::Cited::two_cited))]
-    pub fn two_cited(
+    #[tactic(auto, unfolding(crate::specs::Cited::two_column_node))]
+    pub fn two_column_node(
         &self,
         kind: ChainKind,
         left: u32,
@@ -52,7 +52,7 @@ impl Diagram<'_> {
         len: u32,
         number: u64,
     ) -> Option<u64>
-        ensures { result ≡ two_cited self.now kind left right len number }
+        ensures { result ≡ two_column_node self.now kind left right len number }
     {
         self.chain(number)?
             .node_of_two(kind, left, right, len)
@@ -62,8 +62,8 @@ impl Diagram<'_> {
     /// Returns `number`, or None if the node doesn't have the value of variable `v`: it must test
     /// `v`, with children 0 and 1.
     #[tactic(auto, unfolding(crate::specs::Cited::is_variable))]
-    pub fn variable_cited(&self, v: u32, number: u64) -> Option<u64>
-        ensures { result ≡ variable_cited self.now v number }
+    pub fn variable_node(&self, v: u32, number: u64) -> Option<u64>
+        ensures { result ≡ variable_node self.now v number }
     {
         let node = self.node(number)?;
         if node.v == v && node.low == 0 && node.high == 1 {

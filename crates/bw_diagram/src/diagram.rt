@@ -1,6 +1,6 @@
 //! A diagram: nodes, chains and product rows, all true of every assignment.
 ghost use Rattle.std.specs.Prelude.{◌≡◌, ℕ, Some, IfErr, OnErr, slice_get, IsTrue};
-ghost use Rattle.bw_model.specs.Fault.{Gives};
+ghost use Rattle.bw_model.specs.Fault.{MatchesUnlessOom};
 ghost use Rattle.bw_model.specs.Variable.{Assignment};
 ghost use Rattle.bw_diagram.specs.Node.{node_at, node_value};
 ghost use Rattle.bw_diagram.specs.Chain.{IsChain, chain_named};
@@ -43,9 +43,9 @@ impl<'a> Model for Diagram<'a> {
 
     ghost Value = { Facts };
 
-    ghost use Rattle.bw_diagram.specs.Diagram.{held, IsKept};
+    ghost use Rattle.bw_diagram.specs.Diagram.{facts_of, IsKept};
 
-    ghost view = { held };
+    ghost view = { facts_of };
 
     ghost invariant = { IsKept };
 }
@@ -67,7 +67,7 @@ impl<'a> Diagram<'a> {
     /// Adds node `n`, which tests variable `v`. Errors: 604 at the limit of nodes; 601 if `n` isn't
     /// the next number, `v` no variable, or a child not less than `n`; 801 if memory is refused.
     pub fn add_node(&mut self, n: u64, v: u64, low: u64, high: u64) -> Result<(), Fault>
-        ensures exact { Gives (λ _. self.new) result
+        ensures exact { MatchesUnlessOom (λ _. self.new) result
             (with_node self.old n (record { v = v; low = low; high = high })) }
         ensures refused { OnErr result (self.new ≡ self.old) }
         ensures code { IfErr result (λ fault. IsTrue (is_diagram_fault fault)) }
@@ -85,7 +85,7 @@ impl<'a> Diagram<'a> {
     /// - `prev` isn't the chain over the bits below the top bit, or
     /// - the node doesn't choose by the top bits between the nodes that follow from `prev`'s.
     pub fn add_chain(&mut self, n: u64, columns: &ChainColumns) -> Result<(), Fault>
-        ensures exact { Gives (λ _. self.new) result
+        ensures exact { MatchesUnlessOom (λ _. self.new) result
             (with_chain self.old n (chain_named self.old.columns columns.now)) }
         ensures refused { OnErr result (self.new ≡ self.old) }
         ensures code { IfErr result (λ fault. IsTrue (is_diagram_fault fault)) }
@@ -106,7 +106,7 @@ impl<'a> Diagram<'a> {
         c: u64,
         reason: Reason,
     ) -> Result<(), Fault>
-        ensures exact { Gives (λ _. self.new) result
+        ensures exact { MatchesUnlessOom (λ _. self.new) result
             (with_product self.old n (record { op = op; a = a; b = b; c = c }) reason) }
         ensures refused { OnErr result (self.new ≡ self.old) }
         ensures code { IfErr result (λ fault. IsTrue (is_diagram_fault fault)) }
@@ -117,7 +117,7 @@ impl<'a> Diagram<'a> {
     }
 
     /// Returns the node of these fields, if it is valid as the next one.
-    #[tactic(auto, unfolding(crate::specs::Facts::judged_node, crate::specs::Node::obeys_node))]
+    #[tactic(auto, unfolding(crate::specs::Facts::judged_node, crate::specs::Node::is_valid_node))]
     fn accepted_node(&self, n: u64, v: u64, low: u64, high: u64) -> Result<Node, Fault>
         ensures judged { result ≡ judged_node self.now n
             (record { v = v; low = low; high = high }) }
@@ -141,7 +141,7 @@ impl<'a> Diagram<'a> {
     }
 
     /// Returns the chain of a line, if it is valid as the next one.
-    #[tactic(auto, unfolding(crate::specs::Facts::judged_chain, crate::specs::Chain::obeys_chain))]
+    #[tactic(auto, unfolding(crate::specs::Facts::judged_chain, crate::specs::Chain::is_valid_chain))]
     fn accepted_chain(&self, n: u64, columns: &ChainColumns) -> Result<Chain, Fault>
         ensures judged { result ≡ judged_chain self.now n
             (chain_named self.now.columns columns.now) }
@@ -157,7 +157,7 @@ impl<'a> Diagram<'a> {
     }
 
     /// Returns the product row of these fields, if it is valid as the next one.
-    #[tactic(auto, unfolding(crate::specs::Facts::judged_product, crate::specs::Product::obeys_product))]
+    #[tactic(auto, unfolding(crate::specs::Facts::judged_product, crate::specs::Product::is_valid_product))]
     fn accepted_row(
         &self,
         n: u64,

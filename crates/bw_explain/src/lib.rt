@@ -27,4 +27,4 @@ mod tokens;
 mod told;
 mod unfit;
 
-pub use told::{Ended, Reads, explain, explain_rows, explain_statement};
+pub use told::{CommandFailure, Reads, explain, explain_rows, explain_statement};

@@ -6,7 +6,7 @@ use crate::heading::put_reason;
 use crate::kind::Kind;
 use crate::lines::of_program;
 use crate::shown::Shown;
-use bw_cli::Words;
+use bw_cli::CommandArgs;
 use bw_file::TableReader;
 use bw_io::{FromRead, Input, read_limited};
 use bw_model::{Fault, MAX_CSV_LEN, Place, Schema, code};
@@ -37,17 +37,17 @@ pub enum Reads {
 /// Why a command failed: its error; the program file that has it, if the command may have several;
 /// the file whose reads failed, if that is the error; and why a write failed, if that is.
 #[derive(Clone, Copy)]
-pub struct Ended<'a> {
+pub struct CommandFailure<'a> {
     pub fault: Fault,
     program: Option<&'a str>,
     unread: Option<(&'a str, Reads)>,
     unwritten: Option<io::Error>,
 }
 
-impl<'a> Ended<'a> {
+impl<'a> CommandFailure<'a> {
     /// Returns the failure of a command that couldn't open one of its files.
     pub fn unread(path: &'a str, error: io::Error) -> Self {
-        Ended {
+        CommandFailure {
             fault: Fault::new(code::READ_FAILED),
             program: None,
             unread: Some((path, Reads::Failed(error))),
@@ -61,7 +61,7 @@ impl<'a> Ended<'a> {
         let failed = files
             .iter()
             .find(|(_, reads)| !matches!(reads, Reads::Good));
-        Ended {
+        CommandFailure {
             fault,
             program: None,
             unread: failed.copied(),
@@ -71,7 +71,7 @@ impl<'a> Ended<'a> {
 
     /// Adds the program file with the error, of several.
     pub fn of_program(self, path: Option<&'a str>) -> Self {
-        Ended {
+        CommandFailure {
             program: path,
             ..self
         }
@@ -79,7 +79,7 @@ impl<'a> Ended<'a> {
 
     /// Adds the system's reason for a failed write.
     pub fn unwritten(self, error: Option<io::Error>) -> Self {
-        Ended {
+        CommandFailure {
             unwritten: error,
             ..self
         }
@@ -98,7 +98,7 @@ impl<'a> Ended<'a> {
 /// Prints on standard error what is wrong, if there is anything to add: the part of the statement
 /// with a caret under the byte, and what was expected; or the line of the file, its text, and what
 /// was expected; or else the file with the error.
-pub fn explain(rt: &HostRuntime, words: &Words<'_>, ended: &Ended<'_>) {
+pub fn explain(rt: &HostRuntime, words: &CommandArgs<'_>, ended: &CommandFailure<'_>) {
     let fault = &ended.fault;
     if let (400..500, Some(sql), Place::Byte(byte)) = (fault.code, words.sql(), fault.place) {
         explain_byte(rt, sql, byte);
@@ -127,7 +127,12 @@ fn said_of_name(rt: &HostRuntime, name: &str, fault: &Fault) -> Option<String> {
 }
 
 /// Returns what is wrong with a file that seems to be of another kind than the command expects.
-fn said_of_kind(rt: &HostRuntime, words: &Words<'_>, file: &str, fault: &Fault) -> Option<String> {
+fn said_of_kind(
+    rt: &HostRuntime,
+    words: &CommandArgs<'_>,
+    file: &str,
+    fault: &Fault,
+) -> Option<String> {
     let wanted = match fault.code {
         100..200 if words.schema() == Some(file) => Kind::Schema,
         200..300 if words.csv() == Some(file) => Kind::Csv,
@@ -197,7 +202,7 @@ fn say(rt: &HostRuntime, file: &str, said: Option<String>) -> bool {
 /// Returns the explanation of a statement's error.
 fn said_of_statement(
     rt: &HostRuntime,
-    words: &Words<'_>,
+    words: &CommandArgs<'_>,
     sql: &str,
     fault: &Fault,
 ) -> Option<String> {
@@ -212,7 +217,12 @@ fn said_of_statement(
 }
 
 /// Returns the explanation of a file's error.
-fn said_of_file(rt: &HostRuntime, words: &Words<'_>, file: &str, fault: &Fault) -> Option<String> {
+fn said_of_file(
+    rt: &HostRuntime,
+    words: &CommandArgs<'_>,
+    file: &str,
+    fault: &Fault,
+) -> Option<String> {
     match fault.code {
         500..651 => of_program(rt.alloc(), &read_again(rt, file)?, fault).ok(),
         100..300 if words.csv() == Some(file) => {
@@ -257,7 +267,7 @@ fn explain_byte(rt: &HostRuntime, sql: &str, byte: u64) {
 }
 
 /// Prints where in a file an error is, or why the system failed to read or to write it.
-fn explain_place(rt: &HostRuntime, ended: &Ended<'_>, file: &str) {
+fn explain_place(rt: &HostRuntime, ended: &CommandFailure<'_>, file: &str) {
     let _ = match (ended.fault.code, ended.fault.place) {
         (code::READ_FAILED, _) => return explain_read(rt, ended, file),
         (code::WRITE_FAILED, _) => return explain_failure(rt, file, "written", ended.unwritten),
@@ -275,7 +285,7 @@ fn explain_place(rt: &HostRuntime, ended: &Ended<'_>, file: &str) {
 }
 
 /// Prints why a file couldn't be read.
-fn explain_read(rt: &HostRuntime, ended: &Ended<'_>, file: &str) {
+fn explain_read(rt: &HostRuntime, ended: &CommandFailure<'_>, file: &str) {
     match ended.unread {
         Some((_, Reads::Changed)) => {
             let _ = eprintln!(rt; "    {} changed while it was read", file);
@@ -294,7 +304,7 @@ fn explain_failure(rt: &HostRuntime, file: &str, done: &str, error: Option<io::E
 }
 
 /// Returns the file with the error, among those that the command line names.
-fn file_of<'a>(words: &Words<'a>, ended: &Ended<'a>) -> Option<&'a str> {
+fn file_of<'a>(words: &CommandArgs<'a>, ended: &CommandFailure<'a>) -> Option<&'a str> {
     match ended.fault.code {
         // of `bw infer`: a name that the command line gave, or one of the heading
         100..200 if words.schema().is_none() => match ended.fault.place {

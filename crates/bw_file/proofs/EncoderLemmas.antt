@@ -90,7 +90,7 @@ bytes_flushed encoder rows bytes some holds added =
     let head = header_bytes (version_for columns) encoder.layout encoder.placement.schema.name columns 0 in
     let size = holds.filled in
     added ∙ ap (λ (front : List ℕ). front ++ segment_bytes encoder.layout columns holds.group) holds.text
-    ∙ segments_more encoder.layout columns holds.groups head holds.before holds.group holds.whole (omega (arith, size)) (omega (arith, size, encoder.few))
+    ∙ segments_more encoder.layout columns holds.groups head holds.before holds.group holds.whole (omega (arith, size)) (omega (arith, size, encoder.within_limit))
     ∙ ap (λ (all : List (List Value)). head ++ segments_bytes encoder.layout columns all) (sym holds.parts)
 
 -- how many rows an encoder was given, where its group is whole

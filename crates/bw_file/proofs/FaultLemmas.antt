@@ -13,8 +13,8 @@ use Rattle.bw_segment.specs.BlockFault as faults
 use Rattle.bw_file.specs.declared.layout.Layout.{Layout}
 use Rattle.bw_file.specs.declared.layout.Layout.TheVariants.{Planes, Slices}
 use Rattle.bw_file.specs.Blocks.{block_fault}
-use Rattle.bw_file.specs.Reading.{Tail, tail, Reading, passed, ◌>>=◌, field, said_at, judged, State, Fails, HasByteMore}
-use Rattle.bw_file.specs.TableReading.{magic_says, version_says, layout_says, count_says, rows_say, bounds_say, nullable_says, name_says, name, column, columns, front, header, fault_place, sound_at, one_block, blocks, segment, IsTableFault}
+use Rattle.bw_file.specs.Reading.{Tail, tail, Reading, passed, ◌>>=◌, field, parsed_at, read_field, State, Fails, HasByteMore}
+use Rattle.bw_file.specs.TableReading.{parse_magic, parse_version, parse_layout, parse_count, rows_say, bounds_say, parse_nullable, parse_name, name, column, columns, front, header, fault_place, sound_at, one_block, blocks, segment, IsTableFault}
 
 -- a number that is one of them wherever it stands, and reading that refuses by them alone
 abbrev IsOwn : ℕ → Type 0
@@ -39,34 +39,34 @@ field_own size t = refused_own (nat_lt _ size) _ _
     refused_own true at x = refl
     refused_own false at x = tt
 
-said_own : {A : Type 0} (at : ℕ) (said : Result A ℕ) → IfErr said IsOwn → RefusesOwn (said_at at said)
+said_own : {A : Type 0} (at : ℕ) (said : Result A ℕ) → IfErr said IsOwn → RefusesOwn (parsed_at at said)
 said_own at (Ok x) own t = tt
 said_own at (Err code) own t = own at
 
-judged_own : {A : Type 0} (size : ℕ) (says : List ℕ → Result A ℕ) → ((bytes : List ℕ) → IfErr (says bytes) IsOwn) → RefusesOwn (judged size says)
-unfolding judged
-judged_own size says own t = then_own (field size) (λ bytes. said_at t.at (says bytes)) (field_own size) (λ bytes. said_own t.at (says bytes) (own bytes)) t
+judged_own : {A : Type 0} (size : ℕ) (says : List ℕ → Result A ℕ) → ((bytes : List ℕ) → IfErr (says bytes) IsOwn) → RefusesOwn (read_field size says)
+unfolding read_field
+judged_own size says own t = then_own (field size) (λ bytes. parsed_at t.at (says bytes)) (field_own size) (λ bytes. said_own t.at (says bytes) (own bytes)) t
 
 -- one thing or another said
 if_own : {A : Type 0} (b : Bool) (first second : Result A ℕ) → IfErr first IsOwn → IfErr second IsOwn → IfErr (if b then first else second) IsOwn
 if_own true first second here there = here
 if_own false first second here there = there
 
-magic_own : (bytes : List ℕ) → IfErr (magic_says bytes) IsOwn
-unfolding magic_says
+magic_own : (bytes : List ℕ) → IfErr (parse_magic bytes) IsOwn
+unfolding parse_magic
 magic_own bytes = if_own _ (Ok _) (Err 301) tt (λ _. refl)
 
-version_own : (bytes : List ℕ) → IfErr (version_says bytes) IsOwn
-unfolding version_says
+version_own : (bytes : List ℕ) → IfErr (parse_version bytes) IsOwn
+unfolding parse_version
 version_own bytes = if_own _ (Ok _) (Err 302) tt (λ _. refl)
 
-layout_own : (bytes : List ℕ) → IfErr (layout_says bytes) IsOwn
-unfolding layout_says
+layout_own : (bytes : List ℕ) → IfErr (parse_layout bytes) IsOwn
+unfolding parse_layout
 layout_own bytes =
     if_own (slice_index bytes 0 == 0) (Ok Planes) (if slice_index bytes 0 == 1 then Ok Slices else Err 303) tt (if_own _ (Ok Slices) (Err 303) tt (λ _. refl))
 
-count_own : (bytes : List ℕ) → IfErr (count_says bytes) IsOwn
-unfolding count_says
+count_own : (bytes : List ℕ) → IfErr (parse_count bytes) IsOwn
+unfolding parse_count
 count_own bytes = if_own _ (Err 304) (Ok _) (λ _. refl) tt
 
 rows_own : (bytes : List ℕ) → IfErr (rows_say bytes) IsOwn
@@ -77,23 +77,23 @@ bounds_own : (version : ℕ) (bytes : List ℕ) → IfErr (bounds_say version by
 unfolding bounds_say
 bounds_own version bytes = if_own _ (Ok _) (Err 304) tt (λ _. refl)
 
-nullable_own : (bytes : List ℕ) → IfErr (nullable_says bytes) IsOwn
-unfolding nullable_says
+nullable_own : (bytes : List ℕ) → IfErr (parse_nullable bytes) IsOwn
+unfolding parse_nullable
 nullable_own bytes =
     if_own (slice_index bytes 0 == 0) (Ok false) (if slice_index bytes 0 == 1 then Ok true else Err 304) tt (if_own _ (Ok true) (Err 304) tt (λ _. refl))
 
-name_said : (before : List (List ℕ)) (text : List ℕ) → IfErr (name_says before text) IsOwn
-unfolding name_says
+name_said : (before : List (List ℕ)) (text : List ℕ) → IfErr (parse_name before text) IsOwn
+unfolding parse_name
 name_said before text = if_own _ (Err 304) (Ok _) (λ _. refl) tt
 
 name_own : (before : List (List ℕ)) → RefusesOwn (name before)
 unfolding name
-name_own before t = then_own _ _ (field_own 1) (λ size. then_own _ _ (field_own _) (λ text. said_own t.at (name_says before text) (name_said before text))) t
+name_own before t = then_own _ _ (field_own 1) (λ size. then_own _ _ (field_own _) (λ text. said_own t.at (parse_name before text) (name_said before text))) t
 
 column_own : (version : ℕ) (before : List (List ℕ)) → RefusesOwn (column version before)
 unfolding column
 column_own version before = then_own _ _ (name_own before) (λ text. then_own _ _ (judged_own 16 (bounds_say version) (bounds_own version))
-    (λ bounds. then_own _ _ (judged_own 1 nullable_says nullable_own) (λ nullable t. tt)))
+    (λ bounds. then_own _ _ (judged_own 1 parse_nullable nullable_own) (λ nullable t. tt)))
 
 columns_own : (version : ℕ) (before : List ColumnShape) (count : ℕ) → RefusesOwn (columns version before count)
 unfolding columns
@@ -102,8 +102,8 @@ columns_own version before (suc count) = then_own _ _ (column_own version (shape
 
 front_own : RefusesOwn front
 unfolding front
-front_own = then_own _ _ (judged_own 8 magic_says magic_own) (λ _. then_own _ _ (judged_own 1 version_says version_own)
-    (λ version. then_own _ _ (judged_own 1 layout_says layout_own) (λ layout. then_own _ _ (judged_own 2 count_says count_own)
+front_own = then_own _ _ (judged_own 8 parse_magic magic_own) (λ _. then_own _ _ (judged_own 1 parse_version version_own)
+    (λ version. then_own _ _ (judged_own 1 parse_layout layout_own) (λ layout. then_own _ _ (judged_own 2 parse_count count_own)
     (λ count. then_own _ _ (judged_own 4 rows_say rows_own) (λ rows t. tt)))))
 
 pub header_own : RefusesOwn header

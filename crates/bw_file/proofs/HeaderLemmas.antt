@@ -9,34 +9,34 @@ use Rattle.bw_model.specs.Fault.{at_byte}
 use Rattle.bw_model.specs.SchemaText.{ColumnShape, column_shape, shape, shape_names}
 use Rattle.bw_file.specs.declared.fields.Bounds.{Bounds}
 use Rattle.bw_file.specs.declared.layout.Layout.{Layout}
-use Rattle.bw_file.specs.Reading.{◌>>=◌, give, field, said_at, judged, State, GoesOn, Fails}
-use Rattle.bw_file.specs.TableReading.{name, name_says, column, columns, magic_says, version_says, layout_says, count_says, rows_say, bounds_say, nullable_says, FrontShape, front_of, front, header_of, header}
+use Rattle.bw_file.specs.Reading.{◌>>=◌, give, field, parsed_at, read_field, State, GoesOn, Fails}
+use Rattle.bw_file.specs.TableReading.{name, parse_name, column, columns, parse_magic, parse_version, parse_layout, parse_count, rows_say, bounds_say, parse_nullable, FrontShape, front_of, front, header_of, header}
 use Rattle.bw_file.proofs.ReadingLemmas.{took_nothing, needs_none, begins, passes, stops, refuses}
 
 -- a name begins with the byte for its length
 pub name_begins : (before : List (List ℕ)) (old : State)
-    → GoesOn (name before) old (field 1 >>= λ size. field (slice_index size 0) >>= λ text. said_at old.offset (name_says before text)) old
+    → GoesOn (name before) old (field 1 >>= λ size. field (slice_index size 0) >>= λ text. parsed_at old.offset (parse_name before text)) old
 unfolding name
 name_begins before old = record { bytes = []; took = took_nothing old.known old.offset old.failures; needed = needs_none (name before) old.offset; failures = refl; on = λ rest. refl }
 
 -- which is read, and then its text
 pub name_sized : (before : List (List ℕ)) (size : List ℕ) (old new : State) → GoesOn (field 1) old (give size) new
-    → GoesOn (name before) old (field (slice_index size 0) >>= λ text. said_at old.offset (name_says before text)) new
+    → GoesOn (name before) old (field (slice_index size 0) >>= λ text. parsed_at old.offset (parse_name before text)) new
 name_sized before size old new p = passes (name before) (field 1) _ size old old new (name_begins before old) p
 
 pub name_judged : (before : List (List ℕ)) (size text : List ℕ) (count : ℕ) (old mid new : State) → GoesOn (field 1) old (give size) mid
     → GoesOn (field count) mid (give text) new → count ≡ slice_index size 0
-    → GoesOn (name before) old (said_at old.offset (name_says before text)) new
+    → GoesOn (name before) old (parsed_at old.offset (parse_name before text)) new
 name_judged before size text count old mid new p q e =
     passes (name before) (field (slice_index size 0)) _ text old mid new (name_sized before size old mid p) (rw e at q)
 
-pub name_taken : (before : List (List ℕ)) (text : List ℕ) (old new : State) → GoesOn (name before) old (said_at old.offset (name_says before text)) new
-    → name_says before text ≡ Ok text → GoesOn (name before) old (give text) new
+pub name_taken : (before : List (List ℕ)) (text : List ℕ) (old new : State) → GoesOn (name before) old (parsed_at old.offset (parse_name before text)) new
+    → parse_name before text ≡ Ok text → GoesOn (name before) old (give text) new
 name_taken before text old new p e = rw e at p
 
-pub name_refused : (before : List (List ℕ)) (text : List ℕ) (old new : State) → GoesOn (name before) old (said_at old.offset (name_says before text)) new
-    → name_says before text ≡ Err 304 → Fails (name before) old new (at_byte 304 old.offset)
-name_refused before text old new p e = refuses (name before) (said_at old.offset (Err 304)) old new 304 old.offset (rw e at p) (λ rest. refl)
+pub name_refused : (before : List (List ℕ)) (text : List ℕ) (old new : State) → GoesOn (name before) old (parsed_at old.offset (parse_name before text)) new
+    → parse_name before text ≡ Err 304 → Fails (name before) old new (at_byte 304 old.offset)
+name_refused before text old new p e = refuses (name before) (parsed_at old.offset (Err 304)) old new 304 old.offset (rw e at p) (λ rest. refl)
 
 -- a name of some column is some column's name
 pub list_any_names : (columns : List Column) (text : List ℕ) → list_any (λ (other : List ℕ). same_text other text) (names_of columns) ≡ list_any (λ (c : Column). same_text c.name text) columns
@@ -46,7 +46,7 @@ list_any_names (c ∷ columns) text = ap (λ (b : Bool). same_text c.name text |
 pub name_stops : (before : List (List ℕ)) (size : List ℕ) (count : ℕ) (old mid new : State) (fault : Fault) → GoesOn (field 1) old (give size) mid
     → Fails (field count) mid new fault → count ≡ slice_index size 0 → Fails (name before) old new fault
 name_stops before size count old mid new fault p q e =
-    stops (name before) (field (slice_index size 0)) (λ text. said_at old.offset (name_says before text)) old mid new fault (name_sized before size old mid p) (rw e at q)
+    stops (name before) (field (slice_index size 0)) (λ text. parsed_at old.offset (parse_name before text)) old mid new fault (name_sized before size old mid p) (rw e at q)
 
 pub apart_from : (has : Bool) (columns : List Column) (text : List ℕ) → has ≡ list_any (λ (c : Column). same_text c.name text) columns → not has ≡ true
     → list_any (λ (other : List ℕ). same_text other text) (names_of columns) ≡ false
@@ -55,25 +55,25 @@ apart_from false columns text e h = list_any_names columns text ∙ sym e
 
 -- a column is its name, then its bounds, and then whether it takes null
 pub column_named : (version : ℕ) (before : List (List ℕ)) (text : List ℕ) (old mid : State) → GoesOn (name before) old (give text) mid
-    → GoesOn (column version before) old (judged 16 (bounds_say version) >>= λ bounds. judged 1 nullable_says >>= λ nullable. give (shape text bounds.lo bounds.hi nullable)) mid
+    → GoesOn (column version before) old (read_field 16 (bounds_say version) >>= λ bounds. read_field 1 parse_nullable >>= λ nullable. give (shape text bounds.lo bounds.hi nullable)) mid
 unfolding column
 column_named version before text old mid p =
-    passes (column version before) (name before) (λ text. judged 16 (bounds_say version) >>= λ bounds. judged 1 nullable_says >>= λ nullable. give (shape text bounds.lo bounds.hi nullable))
+    passes (column version before) (name before) (λ text. read_field 16 (bounds_say version) >>= λ bounds. read_field 1 parse_nullable >>= λ nullable. give (shape text bounds.lo bounds.hi nullable))
     text old old mid (begins (column version before) old) p
 
 pub column_bounded : (version : ℕ) (before : List (List ℕ)) (text : List ℕ) (bounds : Bounds) (old a b : State) → GoesOn (name before) old (give text) a
-    → GoesOn (judged 16 (bounds_say version)) a (give bounds) b
-    → GoesOn (column version before) old (judged 1 nullable_says >>= λ nullable. give (shape text bounds.lo bounds.hi nullable)) b
+    → GoesOn (read_field 16 (bounds_say version)) a (give bounds) b
+    → GoesOn (column version before) old (read_field 1 parse_nullable >>= λ nullable. give (shape text bounds.lo bounds.hi nullable)) b
 column_bounded version before text bounds old a b p q =
-    passes (column version before) (judged 16 (bounds_say version)) (λ bounds. judged 1 nullable_says >>= λ nullable. give (shape text bounds.lo bounds.hi nullable))
+    passes (column version before) (read_field 16 (bounds_say version)) (λ bounds. read_field 1 parse_nullable >>= λ nullable. give (shape text bounds.lo bounds.hi nullable))
     bounds old a b (column_named version before text old a p) q
 
 pub column_read : (version : ℕ) (before : List (List ℕ)) (text : List ℕ) (bounds : Bounds) (nullable : Bool) (lo hi : ℤ) (old a b new : State)
     → lo ≡ bounds.lo → hi ≡ bounds.hi → GoesOn (name before) old (give text) a
-    → GoesOn (judged 16 (bounds_say version)) a (give bounds) b → GoesOn (judged 1 nullable_says) b (give nullable) new
+    → GoesOn (read_field 16 (bounds_say version)) a (give bounds) b → GoesOn (read_field 1 parse_nullable) b (give nullable) new
     → GoesOn (column version before) old (give (shape text lo hi nullable)) new
 column_read version before text bounds nullable lo hi old a b new same_lo same_hi p q r =
-    rw (same_lo, same_hi) (passes (column version before) (judged 1 nullable_says) (λ nullable. give (shape text bounds.lo bounds.hi nullable))
+    rw (same_lo, same_hi) (passes (column version before) (read_field 1 parse_nullable) (λ nullable. give (shape text bounds.lo bounds.hi nullable))
     nullable old b new (column_bounded version before text bounds old a b p q) r)
 
 -- the columns of a header, one after another
@@ -113,32 +113,32 @@ pub names_in : (slice found : List Column) → slice ≡ found → names_of slic
 names_in slice found e = ap names_of e ∙ sym (shape_names-of found)
 
 -- the sixteen bytes of the front
-pub magic_read : (old a : State) → GoesOn (judged 8 magic_says) old (give tt) a
-    → GoesOn front old (judged 1 version_says >>= λ version. judged 1 layout_says >>= λ layout. judged 2 count_says >>= λ count. judged 4 rows_say >>= λ rows.
+pub magic_read : (old a : State) → GoesOn (read_field 8 parse_magic) old (give tt) a
+    → GoesOn front old (read_field 1 parse_version >>= λ version. read_field 1 parse_layout >>= λ layout. read_field 2 parse_count >>= λ count. read_field 4 rows_say >>= λ rows.
     give (front_of version layout count rows)) a
 unfolding front
 magic_read old a p =
-    passes front (judged 8 magic_says) (λ _. judged 1 version_says >>= λ version. judged 1 layout_says >>= λ layout. judged 2 count_says >>= λ count. judged 4 rows_say >>= λ rows.
+    passes front (read_field 8 parse_magic) (λ _. read_field 1 parse_version >>= λ version. read_field 1 parse_layout >>= λ layout. read_field 2 parse_count >>= λ count. read_field 4 rows_say >>= λ rows.
     give (front_of version layout count rows)) tt old old a (begins front old) p
 
-pub version_read : (version : ℕ) (old a b : State) → GoesOn (judged 8 magic_says) old (give tt) a → GoesOn (judged 1 version_says) a (give version) b
-    → GoesOn front old (judged 1 layout_says >>= λ layout. judged 2 count_says >>= λ count. judged 4 rows_say >>= λ rows. give (front_of version layout count rows)) b
-version_read version old a b p q = passes front (judged 1 version_says) _ version old a b (magic_read old a p) q
+pub version_read : (version : ℕ) (old a b : State) → GoesOn (read_field 8 parse_magic) old (give tt) a → GoesOn (read_field 1 parse_version) a (give version) b
+    → GoesOn front old (read_field 1 parse_layout >>= λ layout. read_field 2 parse_count >>= λ count. read_field 4 rows_say >>= λ rows. give (front_of version layout count rows)) b
+version_read version old a b p q = passes front (read_field 1 parse_version) _ version old a b (magic_read old a p) q
 
-pub layout_read : (version : ℕ) (layout : Layout) (old a b c : State) → GoesOn (judged 8 magic_says) old (give tt) a → GoesOn (judged 1 version_says) a (give version) b
-    → GoesOn (judged 1 layout_says) b (give layout) c
-    → GoesOn front old (judged 2 count_says >>= λ count. judged 4 rows_say >>= λ rows. give (front_of version layout count rows)) c
-layout_read version layout old a b c p q r = passes front (judged 1 layout_says) _ layout old b c (version_read version old a b p q) r
+pub layout_read : (version : ℕ) (layout : Layout) (old a b c : State) → GoesOn (read_field 8 parse_magic) old (give tt) a → GoesOn (read_field 1 parse_version) a (give version) b
+    → GoesOn (read_field 1 parse_layout) b (give layout) c
+    → GoesOn front old (read_field 2 parse_count >>= λ count. read_field 4 rows_say >>= λ rows. give (front_of version layout count rows)) c
+layout_read version layout old a b c p q r = passes front (read_field 1 parse_layout) _ layout old b c (version_read version old a b p q) r
 
-pub count_read : (version : ℕ) (layout : Layout) (count : ℕ) (old a b c d : State) → GoesOn (judged 8 magic_says) old (give tt) a
-    → GoesOn (judged 1 version_says) a (give version) b → GoesOn (judged 1 layout_says) b (give layout) c → GoesOn (judged 2 count_says) c (give count) d
-    → GoesOn front old (judged 4 rows_say >>= λ rows. give (front_of version layout count rows)) d
-count_read version layout count old a b c d p q r s = passes front (judged 2 count_says) _ count old c d (layout_read version layout old a b c p q r) s
+pub count_read : (version : ℕ) (layout : Layout) (count : ℕ) (old a b c d : State) → GoesOn (read_field 8 parse_magic) old (give tt) a
+    → GoesOn (read_field 1 parse_version) a (give version) b → GoesOn (read_field 1 parse_layout) b (give layout) c → GoesOn (read_field 2 parse_count) c (give count) d
+    → GoesOn front old (read_field 4 rows_say >>= λ rows. give (front_of version layout count rows)) d
+count_read version layout count old a b c d p q r s = passes front (read_field 2 parse_count) _ count old c d (layout_read version layout old a b c p q r) s
 
-pub front_read : (version : ℕ) (layout : Layout) (count rows : ℕ) (old a b c d e : State) → GoesOn (judged 8 magic_says) old (give tt) a
-    → GoesOn (judged 1 version_says) a (give version) b → GoesOn (judged 1 layout_says) b (give layout) c → GoesOn (judged 2 count_says) c (give count) d
-    → GoesOn (judged 4 rows_say) d (give rows) e → GoesOn front old (give (front_of version layout count rows)) e
-front_read version layout count rows old a b c d e p q r s t = passes front (judged 4 rows_say) _ rows old d e (count_read version layout count old a b c d p q r s) t
+pub front_read : (version : ℕ) (layout : Layout) (count rows : ℕ) (old a b c d e : State) → GoesOn (read_field 8 parse_magic) old (give tt) a
+    → GoesOn (read_field 1 parse_version) a (give version) b → GoesOn (read_field 1 parse_layout) b (give layout) c → GoesOn (read_field 2 parse_count) c (give count) d
+    → GoesOn (read_field 4 rows_say) d (give rows) e → GoesOn front old (give (front_of version layout count rows)) e
+front_read version layout count rows old a b c d e p q r s t = passes front (read_field 4 rows_say) _ rows old d e (count_read version layout count old a b c d p q r s) t
 
 -- the header: its front, the table's name, and the columns
 pub header_fronted : (first : FrontShape) (old a : State) → GoesOn front old (give first) a

@@ -9,13 +9,13 @@ use Rattle.bw_file.specs.declared.table_reader.TableReader.{TableReader}
 use Rattle.bw_file.specs.AnySegment.{any_layout, any_meaning}
 use Rattle.bw_file.specs.Reading.{tail, State, Took, GoesOn, NeedsMore, Fails, HasByteMore, give}
 use Rattle.bw_file.specs.TableReading.{segment, end, group_sizes, IsTableFault}
-use Rattle.bw_file.specs.TableReader.{settled, SoFar, SameTable, GaveSegment, EndedWhole, Refused, Repeats, GivesNext, gives, ends, refuses, repeats}
+use Rattle.bw_file.specs.TableReader.{final_result, ReadProgress, SameTable, GaveSegment, EndedWhole, Refused, Repeats, GivesNext, gives, ends, refuses, repeats}
 use Rattle.bw_file.proofs.BodySpelling.{groups_found}
 use Rattle.bw_file.proofs.FaultLemmas.{refused_by, segment_own, byte_own}
 use Rattle.bw_file.proofs.ReaderLemmas.{so_far_more, segment_refused, at_end, end_seen, end_missed}
 
 -- where all rows were given, the groups so far are the groups of all rows
-pub all_groups : (start now : State) (reader : TableReader) (groups : List (List (List Value))) → reader.given ≡ reader.rows → SoFar start now reader groups
+pub all_groups : (start now : State) (reader : TableReader) (groups : List (List (List Value))) → reader.given ≡ reader.rows → ReadProgress start now reader groups
     → groups ≡ groups_of (together groups)
 unfolding end
 all_groups start now reader groups all so_far =
@@ -24,7 +24,7 @@ all_groups start now reader groups all so_far =
     sym (subst (λ (l : List (List (List Value))). groups_of (together l) ≡ l) (sym same) found.cut)
 
 module _ {S : Type 0} (source next_source : S) (old now : State) (reader next : TableReader) (same : SameTable reader next) where
-  pub segment_given : (given : AnySegment) (size : ℕ) → settled next ≡ None → reader.given < reader.rows → settled reader ≡ None → size ≡ min group_size (reader.rows - reader.given)
+  pub segment_given : (given : AnySegment) (size : ℕ) → final_result next ≡ None → reader.given < reader.rows → final_result reader ≡ None → size ≡ min group_size (reader.rows - reader.given)
       → next.given ≡ reader.given + size → any_layout given ≡ reader.layout → (any_meaning given).name ≡ reader.placement.value.schema.name → (any_meaning given).columns ≡ reader.placement.value.schema.columns.items
       → length (any_meaning given).rows ≡ size → GoesOn (segment reader.layout reader.placement.value.schema.columns.items size) old (give (any_meaning given).rows) now
       → GivesNext source next_source old now reader next (Ok (Some given))
@@ -39,7 +39,7 @@ module _ {S : Type 0} (source next_source : S) (old now : State) (reader next : 
     same = same;
   })
 
-  pub segment_missed : (size : ℕ) (fault : Fault) → settled next ≡ Some (Err fault) → reader.given < reader.rows → settled reader ≡ None → size ≡ min group_size (reader.rows - reader.given)
+  pub segment_missed : (size : ℕ) (fault : Fault) → final_result next ≡ Some (Err fault) → reader.given < reader.rows → final_result reader ≡ None → size ≡ min group_size (reader.rows - reader.given)
       → Fails (segment reader.layout reader.placement.value.schema.columns.items size) old now fault → next.given ≡ reader.given → GivesNext source next_source old now reader next (Err fault)
   segment_missed size fault stopped left unsettled sized fails kept = refuses unsettled (record {
     answers = λ start groups so_far. segment_refused start old now reader groups size fault left sized so_far fails;
@@ -53,7 +53,7 @@ module _ {S : Type 0} (source next_source : S) (old now : State) (reader next : 
     same = same;
   })
 
-  pub end_given : settled next ≡ Some (Ok tt) → reader.given ≡ reader.rows → settled reader ≡ None → Took old now [] → now.failures ≡ old.failures → IsAtEnd now.known
+  pub end_given : final_result next ≡ Some (Ok tt) → reader.given ≡ reader.rows → final_result reader ≡ None → Took old now [] → now.failures ≡ old.failures → IsAtEnd now.known
       → next.given ≡ reader.given → GivesNext source next_source old now reader next (Ok None)
   end_given stopped all unsettled took failures ended kept = ends unsettled (record {
     whole = λ start groups so_far. end_seen start old now reader groups all so_far took failures ended;
@@ -65,7 +65,7 @@ module _ {S : Type 0} (source next_source : S) (old now : State) (reader next : 
     same = same;
   })
 
-  pub byte_given : (fault : Fault) → settled next ≡ Some (Err fault) → reader.given ≡ reader.rows → settled reader ≡ None → HasByteMore old now fault
+  pub byte_given : (fault : Fault) → final_result next ≡ Some (Err fault) → reader.given ≡ reader.rows → final_result reader ≡ None → HasByteMore old now fault
       → next.given ≡ reader.given → GivesNext source next_source old now reader next (Err fault)
   byte_given fault stopped all unsettled fails kept = refuses unsettled (record {
     answers = λ start groups so_far. end_missed start old now reader groups fault all so_far fails;
@@ -91,17 +91,17 @@ module _ {S : Type 0} {source next_source : S} {old now : State} {reader next : 
 
   -- where nothing was settled, None tells of a file that was read whole, and a fault is the first
   -- one
-  pub end_of : GivesNext source next_source old now reader next (Ok None) → settled reader ≡ None → EndedWhole old now reader next
+  pub end_of : GivesNext source next_source old now reader next (Ok None) → final_result reader ≡ None → EndedWhole old now reader next
   end_of (ends _ ended) unsettled = ended
   end_of (repeats again) unsettled = absurd (cc (again.was_settled, unsettled))
 
-  pub refusal_of : {fault : Fault} → GivesNext source next_source old now reader next (Err fault) → settled reader ≡ None → Refused old now reader next fault
+  pub refusal_of : {fault : Fault} → GivesNext source next_source old now reader next (Err fault) → final_result reader ≡ None → Refused old now reader next fault
   refusal_of (refuses _ refused) unsettled = refused
   refusal_of (repeats again) unsettled = absurd (cc (again.was_settled, unsettled))
 
   -- a call that finds an answer settled repeats it
-  pub ended_again : settled reader ≡ Some (Ok tt) → next ≡ reader → next_source ≡ source → GivesNext source next_source old now reader next (Ok None)
+  pub ended_again : final_result reader ≡ Some (Ok tt) → next ≡ reader → next_source ≡ source → GivesNext source next_source old now reader next (Ok None)
   ended_again stopped same_reader same_source = repeats (record { answer = Ok tt; was_settled = stopped; again = refl; same_reader = same_reader; same_source = same_source })
 
-  pub refused_again : (fault : Fault) → settled reader ≡ Some (Err fault) → IsTableFault fault → next ≡ reader → next_source ≡ source → GivesNext source next_source old now reader next (Err fault)
+  pub refused_again : (fault : Fault) → final_result reader ≡ Some (Err fault) → IsTableFault fault → next ≡ reader → next_source ≡ source → GivesNext source next_source old now reader next (Err fault)
   refused_again fault stopped own same_reader same_source = repeats (record { answer = Err fault; was_settled = stopped; again = (refl, own); same_reader = same_reader; same_source = same_source })

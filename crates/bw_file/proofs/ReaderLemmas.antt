@@ -15,7 +15,7 @@ use Rattle.bw_file.specs.declared.layout.Layout.{Layout}
 use Rattle.bw_file.specs.declared.table_reader.TableReader.{TableReader}
 use Rattle.bw_file.specs.Reading.{tail, Reading, ◌>>=◌, give, State, Took, GoesOn, NeedsEach, NeedsMore, HasFault, Fails, HasByteMore}
 use Rattle.bw_file.specs.TableReading.{HeaderShape, header, body, segment, end, sizes_within, group_sizes, found_in, IsReadAs}
-use Rattle.bw_file.specs.TableReader.{header_stated, SoFar, found_so_far, ReadWhole, FrontsEndEarly, NoneToSpare, HasFirstFault, AnswersFault}
+use Rattle.bw_file.specs.TableReader.{header_stated, ReadProgress, found_so_far, ReadWhole, FrontsEndEarly, NoneToSpare, HasFirstFault, AnswersFault}
 use Rattle.bw_file.proofs.ReadingLemmas.{passes, stops, took_more, coming_of, is_coming}
 
 -- the sizes of groups don't hang on how many groups there may be
@@ -57,8 +57,8 @@ body_more layout columns rows left groups group size after old new some sized p 
 pub so_far_more : (start old new : State) (reader next : TableReader) (groups : List (List (List Value))) (rows : List (List Value)) (size : ℕ)
     → next.version ≡ reader.version → next.layout ≡ reader.layout → next.placement.value.schema ≡ reader.placement.value.schema → next.rows ≡ reader.rows → next.given ≡ reader.given + size
     → reader.given < reader.rows → size ≡ min group_size (reader.rows - reader.given)
-    → SoFar start old reader groups → GoesOn (segment reader.layout reader.placement.value.schema.columns.items size) old (give rows) new
-    → SoFar start new next (groups ++ rows ∷ [])
+    → ReadProgress start old reader groups → GoesOn (segment reader.layout reader.placement.value.schema.columns.items size) old (give rows) new
+    → ReadProgress start new next (groups ++ rows ∷ [])
 so_far_more start old new reader next groups rows size same_version same_layout same_schema same_rows same_given left sized so_far more =
     let left_now : reader.rows - (reader.given + size) ≡ reader.rows - reader.given - size = omega arith in
     record {
@@ -106,7 +106,7 @@ pub head_at : (start after : State) (h : HeaderShape) (rest : List ℕ) → star
     → header (tail 0 (p.bytes ++ rest)) ≡ Ok (h, tail after.offset rest)
 head_at start after h rest first p = rw first at (p.on rest)
 
-module _ (start old : State) (reader : TableReader) (groups : List (List (List Value))) (so_far : SoFar start old reader groups) where
+module _ (start old : State) (reader : TableReader) (groups : List (List (List Value))) (so_far : ReadProgress start old reader groups) where
   abbrev whole_body : Reading (List (List (List Value)))
   whole_body = body reader.layout reader.placement.value.schema.columns.items (group_sizes reader.rows) []
 
@@ -158,7 +158,7 @@ module _ (start old : State) (reader : TableReader) (groups : List (List (List V
   }
 
 pub segment_refused : (start old new : State) (reader : TableReader) (groups : List (List (List Value))) (size : ℕ) (fault : Fault)
-    → reader.given < reader.rows → size ≡ min group_size (reader.rows - reader.given) → SoFar start old reader groups
+    → reader.given < reader.rows → size ≡ min group_size (reader.rows - reader.given) → ReadProgress start old reader groups
     → Fails (segment reader.layout reader.placement.value.schema.columns.items size) old new fault → AnswersFault start old new fault
 unfolding body
 segment_refused start old new reader groups size fault left sized so_far p =
@@ -171,7 +171,7 @@ segment_refused start old new reader groups size fault left sized so_far p =
     (stops (body layout columns (group_sizes reader.rows) []) (segment layout columns size) (λ group. body layout columns (group_sizes (rest - group_size)) (groups ++ group ∷ [])) so_far.after old new fault on p)
 
 -- where all groups were read, the end is wanted
-pub at_end : (start old : State) (reader : TableReader) (groups : List (List (List Value))) → reader.given ≡ reader.rows → (so_far : SoFar start old reader groups) → (rest : List ℕ)
+pub at_end : (start old : State) (reader : TableReader) (groups : List (List (List Value))) → reader.given ≡ reader.rows → (so_far : ReadProgress start old reader groups) → (rest : List ℕ)
     → body reader.layout reader.placement.value.schema.columns.items (group_sizes reader.rows) [] (tail so_far.after.offset (so_far.on.bytes ++ rest))
     ≡ (end >>= λ _. give groups) (tail old.offset rest)
 unfolding body
@@ -181,7 +181,7 @@ at_end start old reader groups all so_far rest =
     rw sizes at (so_far.on.on rest)
 
 -- and then, if the file ends there, it was read whole
-read_so_far : (start old : State) (reader : TableReader) (groups : List (List (List Value))) → reader.given ≡ reader.rows → (so_far : SoFar start old reader groups)
+read_so_far : (start old : State) (reader : TableReader) (groups : List (List (List Value))) → reader.given ≡ reader.rows → (so_far : ReadProgress start old reader groups)
     → IsReadAs (so_far.head.bytes ++ so_far.on.bytes) (Ok (found_so_far reader groups))
 unfolding end
 read_so_far start old reader groups all so_far =
@@ -197,7 +197,7 @@ byte_more groups at [] rest one = absurd (omega (arith, one))
 byte_more groups at (byte ∷ bytes) rest one = refl
 
 -- and no fewer bytes have it
-byte_needed : (start old : State) (reader : TableReader) (groups : List (List (List Value))) → reader.given ≡ reader.rows → (so_far : SoFar start old reader groups)
+byte_needed : (start old : State) (reader : TableReader) (groups : List (List (List Value))) → reader.given ≡ reader.rows → (so_far : ReadProgress start old reader groups)
     → (byte : List ℕ) → length byte ≡ 1 → NoneToSpare (so_far.head.bytes ++ (so_far.on.bytes ++ byte)) (at_byte 309 old.offset)
 byte_needed start old reader groups all so_far byte one n lt =
     let front = so_far.head.bytes ++ so_far.on.bytes in
@@ -213,7 +213,7 @@ byte_needed start old reader groups all so_far byte one n lt =
     ])
 
 -- no byte could be spared, whether a byte came after the groups or a read failed
-end_needed : (start old : State) (reader : TableReader) (groups : List (List (List Value))) (fault : Fault) → reader.given ≡ reader.rows → (so_far : SoFar start old reader groups)
+end_needed : (start old : State) (reader : TableReader) (groups : List (List (List Value))) (fault : Fault) → reader.given ≡ reader.rows → (so_far : ReadProgress start old reader groups)
     → (byte : List ℕ) (failed : Bool) → (failed ≡ true → byte ≡ []) → (failed ≡ false → (length byte ≡ 1) × (fault ≡ at_byte 309 old.offset))
     → NoneToSpare (so_far.head.bytes ++ (so_far.on.bytes ++ byte)) fault
 end_needed start old reader groups fault all so_far byte true none one =
@@ -230,7 +230,7 @@ own_fault fault own = either (is_memory fault) (is_read_fault fault) own
     either true b e = absurd (cc e)
     either false b e = e
 
-pub end_missed : (start old new : State) (reader : TableReader) (groups : List (List (List Value))) (fault : Fault) → reader.given ≡ reader.rows → SoFar start old reader groups
+pub end_missed : (start old new : State) (reader : TableReader) (groups : List (List (List Value))) (fault : Fault) → reader.given ≡ reader.rows → ReadProgress start old reader groups
     → HasByteMore old new fault → AnswersFault start old new fault
 end_missed start old new reader groups fault all so_far p = record {
   bytes = so_far.head.bytes ++ (so_far.on.bytes ++ p.bytes);
@@ -255,7 +255,7 @@ end_missed start old new reader groups fault all so_far p = record {
       rw has.1 (after_fault start old reader groups so_far new (so_far.on.bytes ++ p.bytes) (at_byte 309 old.offset) found);
 }
 
-pub end_seen : (start old new : State) (reader : TableReader) (groups : List (List (List Value))) → reader.given ≡ reader.rows → SoFar start old reader groups
+pub end_seen : (start old new : State) (reader : TableReader) (groups : List (List (List Value))) → reader.given ≡ reader.rows → ReadProgress start old reader groups
     → Took old new [] → new.failures ≡ old.failures → IsAtEnd new.known → ReadWhole start new (found_so_far reader groups)
 end_seen start old new reader groups all so_far took same ended = record {
   bytes = so_far.head.bytes ++ so_far.on.bytes;

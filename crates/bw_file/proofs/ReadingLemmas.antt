@@ -11,7 +11,7 @@ use Rattle.std.proofs.KnownBytes.{Consumes-trans}
 use Rattle.bw_model.specs.declared.fault.Fault.{Fault}
 use Rattle.bw_model.specs.Fault.{at_byte, no_memory, nowhere}
 use Rattle.bw_io.specs.Source.{is_read_fault}
-use Rattle.bw_file.specs.Reading.{AreBytes, Tail, tail, Reading, passed, placed, ◌>>=◌, give, field, said_at, judged, State, state, Took, GoesOn, NeedsEach, NeedsMore, HasFault, Fails, Reads}
+use Rattle.bw_file.specs.Reading.{AreBytes, Tail, tail, Reading, passed, at_offset, ◌>>=◌, give, field, parsed_at, read_field, State, state, Took, GoesOn, NeedsEach, NeedsMore, HasFault, Fails, Reads}
 
 -- the bytes of a buffer are bytes, and so are those in front, and those of several buffers
 no_bytes : AreBytes []
@@ -248,22 +248,22 @@ took_into a b c filled n xs ys within few p q =
 
 -- a field that is judged begins with its bytes, and goes on with what they say
 judged_begins : {A : Type 0} (size : ℕ) (says : List ℕ → Result A ℕ) (old : State)
-    → GoesOn (judged size says) old (field size >>= λ bytes. said_at old.offset (says bytes)) old
-unfolding judged
-judged_begins size says old = record { bytes = []; took = took_nothing old.known old.offset old.failures; needed = needs_none (judged size says) old.offset; failures = refl; on = λ rest. refl }
+    → GoesOn (read_field size says) old (field size >>= λ bytes. parsed_at old.offset (says bytes)) old
+unfolding read_field
+judged_begins size says old = record { bytes = []; took = took_nothing old.known old.offset old.failures; needed = needs_none (read_field size says) old.offset; failures = refl; on = λ rest. refl }
 
 pub judged_stops : {A : Type 0} (size : ℕ) (says : List ℕ → Result A ℕ) (old new : State) (fault : Fault) → Fails (field size) old new fault
-    → Fails (judged size says) old new fault
+    → Fails (read_field size says) old new fault
 judged_stops size says old new fault p =
-    stops (judged size says) (field size) (λ bytes. said_at old.offset (says bytes)) old old new fault (judged_begins size says old) p
+    stops (read_field size says) (field size) (λ bytes. parsed_at old.offset (says bytes)) old old new fault (judged_begins size says old) p
 
-said_of : {A : Type 0} (reading : Reading A) (old new : State) (at : ℕ) (said : Result A ℕ) → GoesOn reading old (said_at at said) new
-    → Reads (λ (x : A). x) reading old new (placed at said)
+said_of : {A : Type 0} (reading : Reading A) (old new : State) (at : ℕ) (said : Result A ℕ) → GoesOn reading old (parsed_at at said) new
+    → Reads (λ (x : A). x) reading old new (at_offset at said)
 said_of reading old new at (Ok x) p = p
-said_of reading old new at (Err code) p = refuses reading (said_at at (Err code)) old new code at p (λ rest. refl)
+said_of reading old new at (Err code) p = refuses reading (parsed_at at (Err code)) old new code at p (λ rest. refl)
 
 pub judged_done : {A : Type 0} (size : ℕ) (says : List ℕ → Result A ℕ) (bytes : List ℕ) (old new : State) → GoesOn (field size) old (give bytes) new
-    → Reads (λ (x : A). x) (judged size says) old new (placed old.offset (says bytes))
+    → Reads (λ (x : A). x) (read_field size says) old new (at_offset old.offset (says bytes))
 judged_done size says bytes old new p =
-    said_of (judged size says) old new old.offset (says bytes)
-    (passes (judged size says) (field size) (λ (b : List ℕ). said_at old.offset (says b)) bytes old old new (judged_begins size says old) p)
+    said_of (read_field size says) old new old.offset (says bytes)
+    (passes (read_field size says) (field size) (λ (b : List ℕ). parsed_at old.offset (says b)) bytes old old new (judged_begins size says old) p)

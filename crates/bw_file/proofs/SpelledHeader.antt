@@ -18,8 +18,8 @@ use Rattle.bw_model.proofs.BitsLemmas.{both}
 use Rattle.bw_file.specs.declared.layout.Layout.{Layout}
 use Rattle.bw_file.specs.declared.layout.Layout.TheVariants.{Planes, Slices}
 use Rattle.bw_file.specs.FileBytes.{magic, layout_byte, flag_byte, front_bytes, name_bytes, bound_bytes, column_bytes, are_bounds}
-use Rattle.bw_file.specs.Reading.{Tail, tail, Reading, passed, ◌>>=◌, give, field, said_at, judged}
-use Rattle.bw_file.specs.TableReading.{magic_says, version_says, layout_says, count_says, rows_say, bound_in, bounds_say, nullable_says, name_says, name, column, columns, front_of, front, HeaderShape, header_of, header}
+use Rattle.bw_file.specs.Reading.{Tail, tail, Reading, passed, ◌>>=◌, give, field, parsed_at, read_field}
+use Rattle.bw_file.specs.TableReading.{parse_magic, parse_version, parse_layout, parse_count, rows_say, bound_in, bounds_say, parse_nullable, parse_name, name, column, columns, front_of, front, HeaderShape, header_of, header}
 use Rattle.bw_file.proofs.SpellingLemmas.{schema_bytes, fits_version, head_bytes, IsHeader}
 
 -- reading gives this of a text, whatever stands after it
@@ -53,41 +53,41 @@ field_reads size text whole at rest =
 
 -- a field whose bytes say something
 said_reads : {A : Type 0} (at size : ℕ) (says : List ℕ → Result A ℕ) (text : List ℕ) (x : A) → length text ≡ size → says text ≡ Ok x
-    → ReadsText (field size >>= λ bytes. said_at at (says bytes)) text x
+    → ReadsText (field size >>= λ bytes. parsed_at at (says bytes)) text x
 said_reads {A = A} at size says text x whole said now rest =
-    ap (λ (r : Result (List ℕ × Tail) Fault). passed r (λ bytes. said_at at (says bytes))) (field_reads size text whole now rest)
-    ∙ ap (λ (r : Result A ℕ). said_at at r (tail (now + length text) rest)) said
+    ap (λ (r : Result (List ℕ × Tail) Fault). passed r (λ bytes. parsed_at at (says bytes))) (field_reads size text whole now rest)
+    ∙ ap (λ (r : Result A ℕ). parsed_at at r (tail (now + length text) rest)) said
 
-pub judged_reads : {A : Type 0} (size : ℕ) (says : List ℕ → Result A ℕ) (text : List ℕ) (x : A) → length text ≡ size → says text ≡ Ok x → ReadsText (judged size says) text x
-unfolding judged
+pub judged_reads : {A : Type 0} (size : ℕ) (says : List ℕ → Result A ℕ) (text : List ℕ) (x : A) → length text ≡ size → says text ≡ Ok x → ReadsText (read_field size says) text x
+unfolding read_field
 judged_reads size says text x whole said at rest = said_reads at size says text x whole said at rest
 
 -- what the fields of a header say
-magic_read : magic_says magic ≡ Ok tt
-unfolding magic_says magic
+magic_read : parse_magic magic ≡ Ok tt
+unfolding parse_magic magic
 magic_read = refl
 
 length-magic : length magic ≡ 8
 unfolding magic
 length-magic = refl
 
-version_read : (version : ℕ) → (version ≡ 1) ⊎ (version ≡ 2) → version_says (version ∷ []) ≡ Ok version
-unfolding version_says
+version_read : (version : ℕ) → (version ≡ 1) ⊎ (version ≡ 2) → parse_version (version ∷ []) ≡ Ok version
+unfolding parse_version
 version_read version (inl one) = rw one refl
 version_read version (inr two) = rw two refl
 
-layout_read : (layout : Layout) → layout_says (layout_byte layout ∷ []) ≡ Ok layout
-unfolding layout_says
+layout_read : (layout : Layout) → parse_layout (layout_byte layout ∷ []) ≡ Ok layout
+unfolding parse_layout
 layout_read Planes = refl
 layout_read Slices = refl
 
-nullable_read : (nullable : Bool) → nullable_says (flag_byte nullable ∷ []) ≡ Ok nullable
-unfolding nullable_says
+nullable_read : (nullable : Bool) → parse_nullable (flag_byte nullable ∷ []) ≡ Ok nullable
+unfolding parse_nullable
 nullable_read false = refl
 nullable_read true = refl
 
-count_read : (count : ℕ) → 1 ≤ count → count ≤ most_columns → count_says (to_le_bytes w16 count) ≡ Ok count
-unfolding count_says
+count_read : (count : ℕ) → 1 ≤ count → count ≤ most_columns → parse_count (to_le_bytes w16 count) ≡ Ok count
+unfolding parse_count
 count_read count some few =
     let back = from_le_bytes-to_le_bytes_2 count (omega (arith, few)) in
     let any : eqb count 0 ≡ false = ne_eqb count 0 (λ none. omega (arith, some, none)) in
@@ -119,15 +119,15 @@ bounds_read version lo hi low high ordered =
     ∙ ap bound_in (take_all 8 (bound_bytes hi) (omega (arith, length-bound_bytes hi))) ∙ bound_read hi high in
     rw (first, second, ordered) refl
 
-new_name : (before : List (List ℕ)) (text : List ℕ) → is_name text ≡ true → list_any (λ (other : List ℕ). same_text other text) before ≡ false → name_says before text ≡ Ok text
-unfolding name_says
+new_name : (before : List (List ℕ)) (text : List ℕ) → is_name text ≡ true → list_any (λ (other : List ℕ). same_text other text) before ≡ false → parse_name before text ≡ Ok text
+unfolding parse_name
 new_name before text is apart = rw (is, apart) refl
 
 name_reads : (before : List (List ℕ)) (text : List ℕ) → is_name text ≡ true → list_any (λ (other : List ℕ). same_text other text) before ≡ false → ReadsText (name before) (name_bytes text) text
 unfolding name
 name_reads before text is apart at rest =
-    text_then (field 1) (λ size. field (slice_index size 0) >>= λ bytes. said_at at (name_says before bytes)) (length text ∷ []) text (length text ∷ []) text
-    (field_reads 1 (length text ∷ []) refl) (said_reads at (length text) (name_says before) text text refl (new_name before text is apart)) at rest
+    text_then (field 1) (λ size. field (slice_index size 0) >>= λ bytes. parsed_at at (parse_name before bytes)) (length text ∷ []) text (length text ∷ []) text
+    (field_reads 1 (length text ∷ []) refl) (said_reads at (length text) (parse_name before) text text refl (new_name before text is apart)) at rest
 
 column_reads : (version : ℕ) (before : List (List ℕ)) (c : ColumnShape) → IsColumn c → fits_version version c ≡ true
     → list_any (λ (other : List ℕ). same_text other c.name) before ≡ false → ReadsText (column version before) (schema_bytes c) c
@@ -136,13 +136,13 @@ column_reads version before c is room apart =
     let bounds = bound_bytes c.lo ++ bound_bytes c.hi in
     let flag : List ℕ = flag_byte c.nullable ∷ [] in
     text_as (column version before) (name_bytes c.name ++ (bounds ++ flag)) (schema_bytes c) c (sym (append_assoc (name_bytes c.name) bounds flag))
-    (text_then (name before) (λ text. judged 16 (bounds_say version) >>= λ bounds. judged 1 nullable_says >>= λ nullable. give (shape text bounds.lo bounds.hi nullable))
+    (text_then (name before) (λ text. read_field 16 (bounds_say version) >>= λ bounds. read_field 1 parse_nullable >>= λ nullable. give (shape text bounds.lo bounds.hi nullable))
     (name_bytes c.name) (bounds ++ flag) c.name c (name_reads before c.name is.name apart)
-    (text_then (judged 16 (bounds_say version)) (λ bounds. judged 1 nullable_says >>= λ nullable. give (shape c.name bounds.lo bounds.hi nullable))
+    (text_then (read_field 16 (bounds_say version)) (λ bounds. read_field 1 parse_nullable >>= λ nullable. give (shape c.name bounds.lo bounds.hi nullable))
     bounds flag (record { lo = c.lo; hi = c.hi }) c
     (judged_reads 16 (bounds_say version) bounds (record { lo = c.lo; hi = c.hi }) refl (bounds_read version c.lo c.hi is.lo is.hi room))
-    (text_gives (judged 1 nullable_says) (λ nullable. shape c.name c.lo c.hi nullable) flag c.nullable
-    (judged_reads 1 nullable_says flag c.nullable refl (nullable_read c.nullable)))))
+    (text_gives (read_field 1 parse_nullable) (λ nullable. shape c.name c.lo c.hi nullable) flag c.nullable
+    (judged_reads 1 parse_nullable flag c.nullable refl (nullable_read c.nullable)))))
 
 -- a name among others that are apart is none of those before it
 not_any : (a b : Bool) → (not (a || b)) ≡ true → (a ≡ false) × (b ≡ false)
@@ -190,15 +190,15 @@ front_reads version layout count rows one_or_two some limited few =
     let found = front_of version layout count rows in
     text_as front (magic ++ (two ++ (counted ++ told))) (magic ++ two ++ counted ++ told) found
     (sym (append_assoc magic two (counted ++ told)) ∙ sym (append_assoc (magic ++ two) counted told))
-    (text_then (judged 8 magic_says) (λ _. judged 1 version_says >>= λ version. judged 1 layout_says >>= λ layout. judged 2 count_says >>= λ count. judged 4 rows_say >>= λ rows. give (front_of version layout count rows))
-    magic (two ++ (counted ++ told)) tt found (judged_reads 8 magic_says magic tt length-magic magic_read)
-    (text_then (judged 1 version_says) (λ version. judged 1 layout_says >>= λ layout. judged 2 count_says >>= λ count. judged 4 rows_say >>= λ rows. give (front_of version layout count rows))
-    (version ∷ []) (layout_byte layout ∷ (counted ++ told)) version found (judged_reads 1 version_says (version ∷ []) version refl (version_read version one_or_two))
-    (text_then (judged 1 layout_says) (λ layout. judged 2 count_says >>= λ count. judged 4 rows_say >>= λ rows. give (front_of version layout count rows))
-    (layout_byte layout ∷ []) (counted ++ told) layout found (judged_reads 1 layout_says (layout_byte layout ∷ []) layout refl (layout_read layout))
-    (text_then (judged 2 count_says) (λ count. judged 4 rows_say >>= λ rows. give (front_of version layout count rows))
-    counted told count found (judged_reads 2 count_says counted count refl (count_read count some limited))
-    (text_gives (judged 4 rows_say) (λ rows. front_of version layout count rows) told rows (judged_reads 4 rows_say told rows refl (rows_read rows few)))))))
+    (text_then (read_field 8 parse_magic) (λ _. read_field 1 parse_version >>= λ version. read_field 1 parse_layout >>= λ layout. read_field 2 parse_count >>= λ count. read_field 4 rows_say >>= λ rows. give (front_of version layout count rows))
+    magic (two ++ (counted ++ told)) tt found (judged_reads 8 parse_magic magic tt length-magic magic_read)
+    (text_then (read_field 1 parse_version) (λ version. read_field 1 parse_layout >>= λ layout. read_field 2 parse_count >>= λ count. read_field 4 rows_say >>= λ rows. give (front_of version layout count rows))
+    (version ∷ []) (layout_byte layout ∷ (counted ++ told)) version found (judged_reads 1 parse_version (version ∷ []) version refl (version_read version one_or_two))
+    (text_then (read_field 1 parse_layout) (λ layout. read_field 2 parse_count >>= λ count. read_field 4 rows_say >>= λ rows. give (front_of version layout count rows))
+    (layout_byte layout ∷ []) (counted ++ told) layout found (judged_reads 1 parse_layout (layout_byte layout ∷ []) layout refl (layout_read layout))
+    (text_then (read_field 2 parse_count) (λ count. read_field 4 rows_say >>= λ rows. give (front_of version layout count rows))
+    counted told count found (judged_reads 2 parse_count counted count refl (count_read count some limited))
+    (text_gives (read_field 4 rows_say) (λ rows. front_of version layout count rows) told rows (judged_reads 4 rows_say told rows refl (rows_read rows few)))))))
 
 -- a header, and what stands in a schema beside its shape
 pub record IsWhole (h : HeaderShape) : Type 0 where

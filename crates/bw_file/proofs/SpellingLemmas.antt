@@ -20,8 +20,8 @@ use Rattle.bw_file.specs.declared.fields.Bounds.{Bounds}
 use Rattle.bw_file.specs.declared.layout.Layout.{Layout}
 use Rattle.bw_file.specs.declared.layout.Layout.TheVariants.{Planes, Slices}
 use Rattle.bw_file.specs.FileBytes.{magic, layout_byte, flag_byte, front_bytes, name_bytes, bound_bytes, column_bytes, are_bounds}
-use Rattle.bw_file.specs.Reading.{Tail, tail, Reading, passed, ◌>>=◌, give, field, said_at, judged}
-use Rattle.bw_file.specs.TableReading.{magic_says, version_says, layout_says, count_says, rows_say, bound_in, bounds_say, nullable_says, name_says, name, column, columns, FrontShape, front_of, front, HeaderShape, header_of, header}
+use Rattle.bw_file.specs.Reading.{Tail, tail, Reading, passed, ◌>>=◌, give, field, parsed_at, read_field}
+use Rattle.bw_file.specs.TableReading.{parse_magic, parse_version, parse_layout, parse_count, rows_say, bound_in, bounds_say, parse_nullable, parse_name, name, column, columns, FrontShape, front_of, front, HeaderShape, header_of, header}
 
 abbrev pub IsBytes : List ℕ → Type 0
 IsBytes bytes = (i : ℕ) → get_or bytes i 0 < 256
@@ -71,7 +71,7 @@ field_takes size t x fits e =
     subst (λ (y : List ℕ × Tail). Takes t y.0 y.1 × (length y.0 ≡ size)) (ok_is taken x g.1)
     (record { parts = sym (take-append-drop size t.bytes); fits = IsBytes-take size t.bytes fits; rest = IsBytes-drop size t.bytes fits }, length-take-le size t.bytes long)
 
-said_ok : {A : Type 0} (at : ℕ) (said : Result A ℕ) (t : Tail) (x : A × Tail) → said_at at said t ≡ Ok x → (said ≡ Ok x.0) × (t ≡ x.1)
+said_ok : {A : Type 0} (at : ℕ) (said : Result A ℕ) (t : Tail) (x : A × Tail) → parsed_at at said t ≡ Ok x → (said ≡ Ok x.0) × (t ≡ x.1)
 said_ok {A = A} at (Ok y) t x e = let same = ok_is (y, t) x e in (ap (λ (z : A × Tail). Ok z.0) same, ap (λ (z : A × Tail). z.1) same)
 said_ok at (Err code) t x e = absurd cc
 
@@ -82,10 +82,10 @@ record Judged {A : Type 0} (size : ℕ) (says : List ℕ → Result A ℕ) (from
   long : length text ≡ size
   said : says text ≡ Ok x
 
-judged_takes : {A : Type 0} (size : ℕ) (says : List ℕ → Result A ℕ) (t : Tail) (x : A × Tail) → IsBytes t.bytes → judged size says t ≡ Ok x → Judged size says t x.0 x.1
-unfolding judged
+judged_takes : {A : Type 0} (size : ℕ) (says : List ℕ → Result A ℕ) (t : Tail) (x : A × Tail) → IsBytes t.bytes → read_field size says t ≡ Ok x → Judged size says t x.0 x.1
+unfolding read_field
 judged_takes size says t x fits e =
-    let b = bind_ok (field size t) (λ bytes. said_at t.at (says bytes)) x e in
+    let b = bind_ok (field size t) (λ bytes. parsed_at t.at (says bytes)) x e in
     let f = field_takes size t b.0 fits b.1 in
     let s = said_ok t.at (says b.0.0) b.0.1 x b.2 in
     record { text = b.0.0; takes = subst (λ (u : Tail). Takes t b.0.0 u) s.1 f.0; long = f.1; said = s.0 }
@@ -118,16 +118,16 @@ chosen_unit : (b : Bool) → cond b nothing_said (Err 301) ≡ nothing_said → 
 chosen_unit true e = refl
 chosen_unit false e = absurd cc
 
-magic_is : (text : List ℕ) → magic_says text ≡ nothing_said → text ≡ magic
-unfolding magic_says
+magic_is : (text : List ℕ) → parse_magic text ≡ nothing_said → text ≡ magic
+unfolding parse_magic
 magic_is text e = (bytes_eq-Decides text magic).0 (chosen_unit (bytes_eq text magic) e)
 
 either : (a b : Bool) → (a || b) ≡ true → (a ≡ true) ⊎ (b ≡ true)
 either true b e = inl refl
 either false b e = inr e
 
-version_is : (text : List ℕ) (version : ℕ) → length text ≡ 1 → version_says text ≡ Ok version → (text ≡ version ∷ []) × ((version ≡ 1) ⊎ (version ≡ 2))
-unfolding version_says
+version_is : (text : List ℕ) (version : ℕ) → length text ≡ 1 → parse_version text ≡ Ok version → (text ≡ version ∷ []) × ((version ≡ 1) ⊎ (version ≡ 2))
+unfolding parse_version
 version_is text version long e =
     let g = chosen (eqb (get_or text 0 0) 1 || eqb (get_or text 0 0) 2) (get_or text 0 0) version 302 e in
     (single text long ∙ ap (λ (b : ℕ). b ∷ []) g.1, elim (either _ _ g.0) [ inl a ↦ inl (sym g.1 ∙ eqb-true _ _ a) | inr b ↦ inr (sym g.1 ∙ eqb-true _ _ b) ])
@@ -138,8 +138,8 @@ two_layouts true one_is layout e = inl (refl, sym (said_is Planes layout e))
 two_layouts false true layout e = inr (refl, sym (said_is Slices layout e))
 two_layouts false false layout e = absurd cc
 
-layout_is : (text : List ℕ) (layout : Layout) → length text ≡ 1 → layout_says text ≡ Ok layout → text ≡ layout_byte layout ∷ []
-unfolding layout_says
+layout_is : (text : List ℕ) (layout : Layout) → length text ≡ 1 → parse_layout text ≡ Ok layout → text ≡ layout_byte layout ∷ []
+unfolding parse_layout
 layout_is text layout long e =
     elim (two_layouts (eqb (get_or text 0 0) 0) (eqb (get_or text 0 0) 1) layout e) [
       | inl a ↦ single text long ∙ rw (eqb-true _ _ a.0, a.1) refl
@@ -152,16 +152,16 @@ two_flags true one_is nullable e = inl (refl, sym (said_is false nullable e))
 two_flags false true nullable e = inr (refl, sym (said_is true nullable e))
 two_flags false false nullable e = absurd cc
 
-nullable_is : (text : List ℕ) (nullable : Bool) → length text ≡ 1 → nullable_says text ≡ Ok nullable → text ≡ flag_byte nullable ∷ []
-unfolding nullable_says
+nullable_is : (text : List ℕ) (nullable : Bool) → length text ≡ 1 → parse_nullable text ≡ Ok nullable → text ≡ flag_byte nullable ∷ []
+unfolding parse_nullable
 nullable_is text nullable long e =
     elim (two_flags (eqb (get_or text 0 0) 0) (eqb (get_or text 0 0) 1) nullable e) [
       | inl a ↦ single text long ∙ rw (eqb-true _ _ a.0, a.1) refl
       | inr b ↦ single text long ∙ rw (eqb-true _ _ b.0, b.1) refl
     ]
 
-count_is : (text : List ℕ) (count : ℕ) → length text ≡ 2 → IsBytes text → count_says text ≡ Ok count → text ≡ to_le_bytes w16 count
-unfolding count_says
+count_is : (text : List ℕ) (count : ℕ) → length text ≡ 2 → IsBytes text → parse_count text ≡ Ok count → text ≡ to_le_bytes w16 count
+unfolding parse_count
 count_is text count long fits e =
     let g = left (eqb (from_le_bytes w16 text) 0 || nat_lt most_columns (from_le_bytes w16 text)) (from_le_bytes w16 text) count 304 e in
     sym (le_bytes_2 text count long fits (sym g.1))
@@ -222,19 +222,19 @@ neither : (a b : Bool) → (not a || b) ≡ false → a ≡ true
 neither true b e = refl
 neither false b e = absurd cc
 
-named : (before : List (List ℕ)) (text found : List ℕ) → name_says before text ≡ Ok found → (text ≡ found) × (is_name found ≡ true)
-unfolding name_says
+named : (before : List (List ℕ)) (text found : List ℕ) → parse_name before text ≡ Ok found → (text ≡ found) × (is_name found ≡ true)
+unfolding parse_name
 named before text found e =
     let g = left _ text found 304 e in (g.1, ap is_name (sym g.1) ∙ neither _ _ g.0)
 
 name_takes : (before : List (List ℕ)) (t : Tail) (x : List ℕ × Tail) → IsBytes t.bytes → name before t ≡ Ok x → TakesBoth t (name_bytes x.0) x.1 × (is_name x.0 ≡ true)
 unfolding name
 name_takes before t x fits e =
-    let a = bind_ok (field 1 t) (λ size. field (slice_index size 0) >>= λ text. said_at t.at (name_says before text)) x e in
-    let b = bind_ok (field (slice_index a.0.0 0) a.0.1) (λ text. said_at t.at (name_says before text)) x a.2 in
+    let a = bind_ok (field 1 t) (λ size. field (slice_index size 0) >>= λ text. parsed_at t.at (parse_name before text)) x e in
+    let b = bind_ok (field (slice_index a.0.0 0) a.0.1) (λ text. parsed_at t.at (parse_name before text)) x a.2 in
     let fa = field_takes 1 t a.0 fits a.1 in
     let fb = field_takes (slice_index a.0.0 0) a.0.1 b.0 fa.0.rest b.1 in
-    let s = said_ok t.at (name_says before b.0.0) b.0.1 x b.2 in
+    let s = said_ok t.at (parse_name before b.0.0) b.0.1 x b.2 in
     let is = named before b.0.0 x.0 s.0 in
     let same : b.0.0 ≡ x.0 = is.0 in
     let size : a.0.0 ≡ length x.0 ∷ [] = single a.0.0 fa.1 ∙ ap (λ (n : ℕ). n ∷ []) (sym fb.1 ∙ ap length same) in
@@ -253,12 +253,12 @@ column_takes : (version : ℕ) (before : List (List ℕ)) (t : Tail) (x : Column
     → TakesBoth t (schema_bytes x.0) x.1 × (fits_version version x.0 ≡ true) × IsColumn x.0
 unfolding column column_bytes
 column_takes version before t x fits e =
-    let a = bind_ok (name before t) (λ text. judged 16 (bounds_say version) >>= λ bounds. judged 1 nullable_says >>= λ nullable. give (shape text bounds.lo bounds.hi nullable)) x e in
-    let b = bind_ok (judged 16 (bounds_say version) a.0.1) (λ bounds. judged 1 nullable_says >>= λ nullable. give (shape a.0.0 bounds.lo bounds.hi nullable)) x a.2 in
-    let c = bind_ok (judged 1 nullable_says b.0.1) (λ nullable. give (shape a.0.0 b.0.0.lo b.0.0.hi nullable)) x b.2 in
+    let a = bind_ok (name before t) (λ text. read_field 16 (bounds_say version) >>= λ bounds. read_field 1 parse_nullable >>= λ nullable. give (shape text bounds.lo bounds.hi nullable)) x e in
+    let b = bind_ok (read_field 16 (bounds_say version) a.0.1) (λ bounds. read_field 1 parse_nullable >>= λ nullable. give (shape a.0.0 bounds.lo bounds.hi nullable)) x a.2 in
+    let c = bind_ok (read_field 1 parse_nullable b.0.1) (λ nullable. give (shape a.0.0 b.0.0.lo b.0.0.hi nullable)) x b.2 in
     let ta = name_takes before t a.0 fits a.1 in
     let jb = judged_takes 16 (bounds_say version) a.0.1 b.0 ta.0.rest b.1 in
-    let jc = judged_takes 1 nullable_says b.0.1 c.0 jb.takes.rest c.1 in
+    let jc = judged_takes 1 parse_nullable b.0.1 c.0 jb.takes.rest c.1 in
     let bs = bounds_are version jb.text b.0.0 jb.long jb.takes.fits jb.said in
     let tb = takes_as a.0.1 b.0.1 jb.text _ jb.takes bs.spelled in
     let tc = takes_as b.0.1 c.0.1 jc.text _ jc.takes (nullable_is jc.text c.0.0 jc.long jc.said) in
@@ -296,15 +296,15 @@ front_takes : (t : Tail) (x : FrontShape × Tail) → IsBytes t.bytes → front 
     → TakesBoth t (front_bytes x.0.version x.0.layout x.0.columns x.0.rows) x.1 × IsFront x.0
 unfolding front front_bytes
 front_takes t x fits e =
-    let a = bind_ok (judged 8 magic_says t) (λ _. judged 1 version_says >>= λ version. judged 1 layout_says >>= λ layout. judged 2 count_says >>= λ count. judged 4 rows_say >>= λ rows. give (front_of version layout count rows)) x e in
-    let b = bind_ok (judged 1 version_says a.0.1) (λ version. judged 1 layout_says >>= λ layout. judged 2 count_says >>= λ count. judged 4 rows_say >>= λ rows. give (front_of version layout count rows)) x a.2 in
-    let c = bind_ok (judged 1 layout_says b.0.1) (λ layout. judged 2 count_says >>= λ count. judged 4 rows_say >>= λ rows. give (front_of b.0.0 layout count rows)) x b.2 in
-    let d = bind_ok (judged 2 count_says c.0.1) (λ count. judged 4 rows_say >>= λ rows. give (front_of b.0.0 c.0.0 count rows)) x c.2 in
-    let g = bind_ok (judged 4 rows_say d.0.1) (λ rows. give (front_of b.0.0 c.0.0 d.0.0 rows)) x d.2 in
-    let ja = judged_takes 8 magic_says t a.0 fits a.1 in
-    let jb = judged_takes 1 version_says a.0.1 b.0 ja.takes.rest b.1 in
-    let jc = judged_takes 1 layout_says b.0.1 c.0 jb.takes.rest c.1 in
-    let jd = judged_takes 2 count_says c.0.1 d.0 jc.takes.rest d.1 in
+    let a = bind_ok (read_field 8 parse_magic t) (λ _. read_field 1 parse_version >>= λ version. read_field 1 parse_layout >>= λ layout. read_field 2 parse_count >>= λ count. read_field 4 rows_say >>= λ rows. give (front_of version layout count rows)) x e in
+    let b = bind_ok (read_field 1 parse_version a.0.1) (λ version. read_field 1 parse_layout >>= λ layout. read_field 2 parse_count >>= λ count. read_field 4 rows_say >>= λ rows. give (front_of version layout count rows)) x a.2 in
+    let c = bind_ok (read_field 1 parse_layout b.0.1) (λ layout. read_field 2 parse_count >>= λ count. read_field 4 rows_say >>= λ rows. give (front_of b.0.0 layout count rows)) x b.2 in
+    let d = bind_ok (read_field 2 parse_count c.0.1) (λ count. read_field 4 rows_say >>= λ rows. give (front_of b.0.0 c.0.0 count rows)) x c.2 in
+    let g = bind_ok (read_field 4 rows_say d.0.1) (λ rows. give (front_of b.0.0 c.0.0 d.0.0 rows)) x d.2 in
+    let ja = judged_takes 8 parse_magic t a.0 fits a.1 in
+    let jb = judged_takes 1 parse_version a.0.1 b.0 ja.takes.rest b.1 in
+    let jc = judged_takes 1 parse_layout b.0.1 c.0 jb.takes.rest c.1 in
+    let jd = judged_takes 2 parse_count c.0.1 d.0 jc.takes.rest d.1 in
     let jg = judged_takes 4 rows_say d.0.1 g.0 jd.takes.rest g.1 in
     let vs = version_is jb.text b.0.0 jb.long jb.said in
     let rs = rows_are jg.text g.0.0 jg.long jg.takes.fits jg.said in

@@ -39,17 +39,17 @@ field size t =
     (Ok (take size t.bytes, tail (t.at + size) (drop size t.bytes)))
 
 -- the value of bytes, or their error at this byte
-abbrev pub placed : {A : Type 0} → ℕ → Result A ℕ → Result A Fault
-placed at (Ok x) = Ok x
-placed at (Err code) = Err (at_byte code at)
+abbrev pub at_offset : {A : Type 0} → ℕ → Result A ℕ → Result A Fault
+at_offset at (Ok x) = Ok x
+at_offset at (Err code) = Err (at_byte code at)
 
-abbrev pub said_at : {A : Type 0} → ℕ → Result A ℕ → Reading A
-said_at at (Ok x) t = Ok (x, t)
-said_at at (Err code) t = Err (at_byte code at)
+abbrev pub parsed_at : {A : Type 0} → ℕ → Result A ℕ → Reading A
+parsed_at at (Ok x) t = Ok (x, t)
+parsed_at at (Err code) t = Err (at_byte code at)
 
 -- the next `size` bytes and their value, or their error at the first of them
-unfoldable pub judged : {A : Type 0} → ℕ → (List ℕ → Result A ℕ) → Reading A
-judged size says t = (field size >>= λ bytes. said_at t.at (says bytes)) t
+unfoldable pub read_field : {A : Type 0} → ℕ → (List ℕ → Result A ℕ) → Reading A
+read_field size says t = (field size >>= λ bytes. parsed_at t.at (says bytes)) t
 
 -- A source before or after a call: the unread bytes, if they are known, how many bytes were read
 -- before them, and how many reads have failed.

@@ -45,8 +45,8 @@ settled_by Reading = None
 settled_by Ended = Some (Ok tt)
 settled_by (Failed fault) = Some (Err fault)
 
-abbrev pub settled : TableReader → Option (Result (Unit {0}) Fault)
-settled reader = settled_by reader.phase
+abbrev pub final_result : TableReader → Option (Result (Unit {0}) Fault)
+final_result reader = settled_by reader.phase
 
 -- the header that the reader read
 abbrev pub header_stated : ℕ → TableReader → HeaderShape
@@ -60,7 +60,7 @@ header_stated version reader =
 
 -- From the start of the file, the source yielded the header that the reader states, and then these
 -- groups of rows. Reading continues with the other groups, whatever follows.
-pub record SoFar (start now : State) (reader : TableReader)
+pub record ReadProgress (start now : State) (reader : TableReader)
     (groups : List (List (List Value))) : Type 0 where
   pub after : State
   pub first : start.offset ≡ 0
@@ -156,8 +156,9 @@ pub record GaveSegment (old now : State) (reader next : TableReader)
   -- it is a segment of the reader's table, of the next rows
   pub of_table : IsSegmentOf reader segment
   -- its rows follow the groups so far
-  pub after : (start : State) (groups : List (List (List Value))) → SoFar start old reader groups
-      → SoFar start now next (groups ++ (any_meaning segment).rows ∷ [])
+  pub after : (start : State) (groups : List (List (List Value)))
+      → ReadProgress start old reader groups
+      → ReadProgress start now next (groups ++ (any_meaning segment).rows ∷ [])
   -- its rows are counted
   pub counted : rows_given next ≡ rows_given reader + length (any_meaning segment).rows
   -- these bytes were read, and no read failed
@@ -165,25 +166,25 @@ pub record GaveSegment (old now : State) (reader next : TableReader)
   pub took : Took old now bytes
   pub failures : now.failures ≡ old.failures
   -- the reader continues
-  pub goes_on : settled next ≡ None
+  pub goes_on : final_result next ≡ None
   -- it states the same table
   pub same : SameTable reader next
 
 -- A call found that the file ends after the groups so far.
 pub record EndedWhole (old now : State) (reader next : TableReader) : Type 0 where
   -- the file was read completely, and spells a table of the rows of these groups
-  pub whole : (start : State) (groups : List (List (List Value))) → SoFar start old reader groups
-      → ReadWhole start now (found_so_far reader groups)
+  pub whole : (start : State) (groups : List (List (List Value)))
+      → ReadProgress start old reader groups → ReadWhole start now (found_so_far reader groups)
   -- these are the groups of all rows
-  pub groups : (start : State) (groups : List (List (List Value))) → SoFar start old reader groups
-      → groups ≡ groups_of (together groups)
+  pub groups : (start : State) (groups : List (List (List Value)))
+      → ReadProgress start old reader groups → groups ≡ groups_of (together groups)
   -- no row was counted
   pub counted : rows_given next ≡ rows_given reader
   -- no byte was read, and no read failed
   pub took : Took old now []
   pub failures : now.failures ≡ old.failures
   -- the reader returns from now on that nothing follows
-  pub settles : settled next ≡ Some (Ok tt)
+  pub settles : final_result next ≡ Some (Ok tt)
   -- it states the same table
   pub same : SameTable reader next
 
@@ -191,8 +192,8 @@ pub record EndedWhole (old now : State) (reader next : TableReader) : Type 0 whe
 pub record Refused (old now : State) (reader next : TableReader) (fault : Fault) : Type 0 where
   -- it is the file's first error, a failed read or out of memory, and reading depends on each byte
   -- that was read
-  pub answers : (start : State) (groups : List (List (List Value))) → SoFar start old reader groups
-      → AnswersFault start old now fault
+  pub answers : (start : State) (groups : List (List (List Value)))
+      → ReadProgress start old reader groups → AnswersFault start old now fault
   -- it is an error of table files
   pub own : IsTableFault fault
   -- no row was counted
@@ -204,7 +205,7 @@ pub record Refused (old now : State) (reader next : TableReader) (fault : Fault)
   -- if a read failed, more than these bytes was needed
   pub unfinished : is_read_fault fault ≡ true → WantsMore reader old.offset bytes
   -- the reader returns this error from now on
-  pub settles : settled next ≡ Some (Err fault)
+  pub settles : final_result next ≡ Some (Err fault)
   -- it states the same table
   pub same : SameTable reader next
 
@@ -218,7 +219,7 @@ pub record Repeated {S : Type 0} (source next_source : S) (reader next : TableRe
     (result : Result (Option AnySegment) Fault) : Type 0 where
   -- the settled result: that nothing follows, or an error
   pub answer : Result (Unit {0}) Fault
-  pub was_settled : settled reader ≡ Some answer
+  pub was_settled : final_result reader ≡ Some answer
   pub again : Repeats result answer
   -- neither the reader nor the source has changed
   pub same_reader : next ≡ reader
@@ -230,11 +231,12 @@ pub record Repeated {S : Type 0} (source next_source : S) (reader next : TableRe
 pub data GivesNext {S : Type 0} (source next_source : S) (old now : State)
     (reader next : TableReader) :
     Result (Option AnySegment) Fault → Type 0 where
-  gives : {segment : AnySegment} → settled reader ≡ None → GaveSegment old now reader next segment →
+  gives : {segment : AnySegment} → final_result reader ≡ None →
+      GaveSegment old now reader next segment →
       GivesNext source next_source old now reader next (Ok (Some segment))
-  ends : settled reader ≡ None → EndedWhole old now reader next →
+  ends : final_result reader ≡ None → EndedWhole old now reader next →
       GivesNext source next_source old now reader next (Ok None)
-  refuses : {fault : Fault} → settled reader ≡ None → Refused old now reader next fault →
+  refuses : {fault : Fault} → final_result reader ≡ None → Refused old now reader next fault →
       GivesNext source next_source old now reader next (Err fault)
   repeats : {result : Result (Option AnySegment) Fault} →
       Repeated source next_source reader next result →

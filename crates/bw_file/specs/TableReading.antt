@@ -22,27 +22,27 @@ use Rattle.bw_file.specs.declared.layout.Layout.{Layout}
 use Rattle.bw_file.specs.declared.layout.Layout.TheVariants.{Planes, Slices}
 use Rattle.bw_file.specs.Blocks.{block_size, block_fault, rows_spelled}
 use Rattle.bw_file.specs.FileBytes.{magic, are_bounds}
-use Rattle.bw_file.specs.Reading.{Tail, tail, Reading, ◌>>=◌, give, field, said_at, judged}
+use Rattle.bw_file.specs.Reading.{Tail, tail, Reading, ◌>>=◌, give, field, parsed_at, read_field}
 
 -- the magic; any other is 301
-unfoldable pub magic_says : List ℕ → Result (Unit {0}) ℕ
-magic_says bytes = if bytes_eq bytes magic then Ok tt else Err MAGIC
+unfoldable pub parse_magic : List ℕ → Result (Unit {0}) ℕ
+parse_magic bytes = if bytes_eq bytes magic then Ok tt else Err MAGIC
 
 -- the version, which is 1 or 2; any other is 302
-unfoldable pub version_says : List ℕ → Result ℕ ℕ
-version_says bytes =
+unfoldable pub parse_version : List ℕ → Result ℕ ℕ
+parse_version bytes =
     let version = slice_index bytes 0 in
     if (version == 1) || (version == 2) then Ok version else Err VERSION
 
 -- the layout; an unknown one is 303
-unfoldable pub layout_says : List ℕ → Result Layout ℕ
-layout_says bytes =
+unfoldable pub parse_layout : List ℕ → Result Layout ℕ
+parse_layout bytes =
     if slice_index bytes 0 == 0 then Ok Planes
     else (if slice_index bytes 0 == 1 then Ok Slices else Err LAYOUT)
 
 -- the number of columns; none, or more than 64, is 304
-unfoldable pub count_says : List ℕ → Result ℕ ℕ
-count_says bytes =
+unfoldable pub parse_count : List ℕ → Result ℕ ℕ
+parse_count bytes =
     let count = from_le_bytes w16 bytes in
     if (count == 0) || nat_lt most_columns count then Err HEADER else Ok count
 
@@ -62,14 +62,14 @@ bounds_say version bytes =
     if are_bounds version lo hi then Ok (record { lo = lo; hi = hi }) else Err HEADER
 
 -- whether a column is nullable; a byte other than 0 and 1 is 304
-unfoldable pub nullable_says : List ℕ → Result Bool ℕ
-nullable_says bytes =
+unfoldable pub parse_nullable : List ℕ → Result Bool ℕ
+parse_nullable bytes =
     if slice_index bytes 0 == 0 then Ok false
     else (if slice_index bytes 0 == 1 then Ok true else Err HEADER)
 
 -- a name that follows these; an invalid one, or one of these, ignoring case, is 304
-unfoldable pub name_says : List (List ℕ) → List ℕ → Result (List ℕ) ℕ
-name_says before text =
+unfoldable pub parse_name : List (List ℕ) → List ℕ → Result (List ℕ) ℕ
+parse_name before text =
     if not (is_name text) || list_any (λ name. same_text name text) before then Err HEADER
     else Ok text
 
@@ -78,14 +78,14 @@ unfoldable pub name : List (List ℕ) → Reading (List ℕ)
 name before t =
     (field 1 >>= λ size.
     field (slice_index size 0) >>= λ text.
-    said_at t.at (name_says before text)) t
+    parsed_at t.at (parse_name before text)) t
 
 -- a column that follows others of these names: its name, its bounds, and whether it is nullable
 unfoldable pub column : ℕ → List (List ℕ) → Reading ColumnShape
 column version before =
     name before >>= λ text.
-    judged 16 (bounds_say version) >>= λ bounds.
-    judged 1 nullable_says >>= λ nullable.
+    read_field 16 (bounds_say version) >>= λ bounds.
+    read_field 1 parse_nullable >>= λ nullable.
     give (shape text bounds.lo bounds.hi nullable)
 
 -- `count` columns more
@@ -107,11 +107,11 @@ front_of version layout columns rows =
 
 unfoldable pub front : Reading FrontShape
 front =
-    judged 8 magic_says >>= λ _.
-    judged 1 version_says >>= λ version.
-    judged 1 layout_says >>= λ layout.
-    judged 2 count_says >>= λ count.
-    judged 4 rows_say >>= λ rows.
+    read_field 8 parse_magic >>= λ _.
+    read_field 1 parse_version >>= λ version.
+    read_field 1 parse_layout >>= λ layout.
+    read_field 2 parse_count >>= λ count.
+    read_field 4 rows_say >>= λ rows.
     give (front_of version layout count rows)
 
 -- the fields of a header

@@ -33,16 +33,16 @@ pub(crate) fn read_segment<S: Source>(
     placement: &Rc<Placement>,
     rows: u32,
 ) -> Result<AnySegment, Fault>
-    requires countable { S.failures source.old < 2 ^ 64 - 1 }
-    requires room { offset.old < 2 ^ 62 }
+    requires counter_fits { S.failures source.old < 2 ^ 64 - 1 }
+    requires capacity { offset.old < 2 ^ 62 }
     requires placed { IsPlaced layout placement.now.value }
-    requires some { 1 ≤ rows }
-    requires few { rows ≤ group_size }
+    requires nonempty { 1 ≤ rows }
+    requires within_limit { rows ≤ group_size }
     ensures reads { Reads (λ found. (any_meaning found).rows)
         (segment layout placement.now.value.schema.columns.items rows)
         (state (S.to_come source.old) offset.old (S.failures source.old))
         (state (S.to_come source.new) offset.new (S.failures source.new)) result }
-    ensures counted { OnOk result (offset.new ≤ offset.old + 2 ^ 19) }
+    ensures advanced { OnOk result (offset.new ≤ offset.old + 2 ^ 19) }
     ensures layout { IfOk result (λ found. any_layout found ≡ layout) }
     ensures name { IfOk result (λ found. (any_meaning found).name
         ≡ placement.now.value.schema.name) }
@@ -66,8 +66,8 @@ fn read_blocks<S: Source>(
     rows: u32,
     bytes: &mut SegmentBytes,
 ) -> Result<(), Fault>
-    requires countable { S.failures source.old < 2 ^ 64 - 1 }
-    requires room { offset.old < 2 ^ 62 }
+    requires counter_fits { S.failures source.old < 2 ^ 64 - 1 }
+    requires capacity { offset.old < 2 ^ 62 }
     requires rows { rows ≤ group_size }
     requires size { length (bytes_held bytes.old)
         ≡ segment_size layout placement.now.schema.columns.items }
@@ -77,7 +77,7 @@ fn read_blocks<S: Source>(
         (length placement.now.schema.columns.items) [])
         (state (S.to_come source.old) offset.old (S.failures source.old))
         (state (S.to_come source.new) offset.new (S.failures source.new)) result }
-    ensures counted { OnOk result (offset.new ≤ offset.old + 2 ^ 19) }
+    ensures advanced { OnOk result (offset.new ≤ offset.old + 2 ^ 19) }
     ensures sound { OnOk result
         (IsSound layout placement.now.schema.columns.items rows (bytes_held bytes.new)) }
 {
@@ -109,8 +109,8 @@ fn read_block<S: Source>(
     bytes: &mut SegmentBytes,
     start: usize,
 ) -> Result<(), Fault>
-    requires countable { S.failures source.old < 2 ^ 64 - 1 }
-    requires room { offset.old < 2 ^ 63 }
+    requires counter_fits { S.failures source.old < 2 ^ 64 - 1 }
+    requires capacity { offset.old < 2 ^ 63 }
     requires column { col < length placement.now.schema.columns.items }
     requires rows { rows ≤ group_size }
     requires within { start + block_size layout placement.now.schema.columns.items col
@@ -120,7 +120,7 @@ fn read_block<S: Source>(
         (bytes_held bytes.new)) (one_block layout placement.now.schema.columns.items rows col)
         (state (S.to_come source.old) offset.old (S.failures source.old))
         (state (S.to_come source.new) offset.new (S.failures source.new)) result }
-    ensures counted { OnOk result
+    ensures advanced { OnOk result
         (offset.new ≡ offset.old + block_size layout placement.now.schema.columns.items col) }
     ensures good { OnOk result (block_fault layout placement.now.schema.columns.items col rows
         (block_from layout placement.now.schema.columns.items col start (bytes_held bytes.new))
@@ -232,8 +232,8 @@ fn plane_has_padding(rows: u32, at: usize, byte: u8) -> bool
 /// Checks that the source ends after the last block. Errors: 309 if another byte follows, 701 if a
 /// read fails.
 pub(crate) fn read_end<S: Source>(source: &mut S, offset: &mut u64) -> Result<(), Fault>
-    requires countable { S.failures source.old < 2 ^ 64 - 1 }
-    requires room { offset.old < 2 ^ 63 }
+    requires counter_fits { S.failures source.old < 2 ^ 64 - 1 }
+    requires capacity { offset.old < 2 ^ 63 }
     ensures ended { OnOk result (IsAtEnd (S.to_come source.new)) }
     ensures took { OnOk result (Took
         (state (S.to_come source.old) offset.old (S.failures source.old))

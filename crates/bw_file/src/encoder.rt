@@ -36,8 +36,8 @@ pub struct Encoder {
     ghost placed: { IsPlaced layout placement },
     ghost headed: { 16 ≤ length bytes.items },
     ghost all: { length kept.items ≡ length placement.schema.columns.items },
-    ghost few: { filled ≤ 512 },
-    ghost countable: { rows ≤ most_rows },
+    ghost within_limit: { filled ≤ 512 },
+    ghost counter_fits: { rows ≤ most_rows },
 }
 
 impl Encoder {
@@ -52,7 +52,7 @@ impl Encoder {
             (λ encoder. (encoder_schema encoder).columns.items ≡ schema.now.columns.items) }
         ensures rows { IfOk result (λ encoder. rows_in encoder ≡ 0) }
         ensures holds { IfOk result (λ encoder. Holds encoder []) }
-        ensures only_memory { IsOkUnless result no_memory }
+        ensures only_oom { IsOkUnless result no_memory }
     {
         let placement = placement_of(alloc, layout, schema)?;
         let mut bytes = Vec::new(alloc);
@@ -75,7 +75,7 @@ impl Encoder {
     pub fn add(&mut self, row: &Row) -> Result<(), Fault>
         requires admitted { admits_values (encoder_schema self.old).columns.items
             (values_of row.now) ≡ true }
-        requires room { rows_in self.old < most_rows }
+        requires capacity { rows_in self.old < most_rows }
         ensures holds { OnOk result ((rows : List (List Value)) → Holds self.old rows
             → Holds self.new (rows ++ values_of row.now ∷ [])) }
         ensures rows { OnOk result (rows_in self.new ≡ rows_in self.old + 1) }
@@ -83,7 +83,7 @@ impl Encoder {
             × ((rows : List (List Value)) → Holds self.old rows → Holds self.new rows)) }
         ensures same { (encoder_layout self.new ≡ encoder_layout self.old)
             × (encoder_schema self.new ≡ encoder_schema self.old) }
-        ensures only_memory { IsOkUnless result no_memory }
+        ensures only_oom { IsOkUnless result no_memory }
     {
         if self.filled == LANES {
             self.flush()?;
@@ -96,8 +96,8 @@ impl Encoder {
     fn keep(&mut self, row: &Row)
         requires admitted { admits_values (encoder_schema self.old).columns.items
             (values_of row.now) ≡ true }
-        requires room { rows_in self.old < most_rows }
-        requires few { self.old.filled < 512 }
+        requires capacity { rows_in self.old < most_rows }
+        requires within_limit { self.old.filled < 512 }
         ensures holds { (rows : List (List Value)) → Holds self.old rows
             → Holds self.new (rows ++ values_of row.now ∷ []) }
         ensures rows { rows_in self.new ≡ rows_in self.old + 1 }
@@ -123,7 +123,7 @@ impl Encoder {
         ensures refused { OnErr result (IsAsBefore self.old self.new) }
         ensures same { (encoder_layout self.new ≡ encoder_layout self.old)
             × (encoder_schema self.new ≡ encoder_schema self.old) }
-        ensures only_memory { IsOkUnless result no_memory }
+        ensures only_oom { IsOkUnless result no_memory }
     {
         append(
             self.alloc,
@@ -143,7 +143,7 @@ impl Encoder {
         ensures bytes { IfOk result
             (λ bytes. (rows : List (List Value)) → Holds self rows
             → bytes.items ≡ file_bytes (encoder_layout self) (encoder_schema self) rows) }
-        ensures only_memory { IsOkUnless result no_memory }
+        ensures only_oom { IsOkUnless result no_memory }
     {
         if self.filled > 0 {
             self.flush()?;
@@ -182,7 +182,7 @@ fn push_header(bytes: &mut Vec<u8>, layout: Layout, schema: &Schema) -> Result<(
     ensures header { OnOk result (bytes.new.items ≡ bytes.old.items
         ++ header_bytes (version_for schema.now.columns.items) layout
         schema.now.name schema.now.columns.items 0) }
-    ensures only_memory { IsOkUnless result no_memory }
+    ensures only_oom { IsOkUnless result no_memory }
 {
     push_front(
         bytes,
@@ -215,7 +215,7 @@ fn are_narrow(columns: &[Column]) -> bool
 fn push_front(bytes: &mut Vec<u8>, version: u8, layout: Layout, columns: u16) -> Result<(), Fault>
     ensures front { OnOk result (bytes.new.items ≡ bytes.old.items
         ++ front_bytes version layout columns 0) }
-    ensures only_memory { IsOkUnless result no_memory }
+    ensures only_oom { IsOkUnless result no_memory }
 {
     bytes.extend_from_slice(MAGIC)?;
     bytes.push(version)?;
@@ -241,7 +241,7 @@ fn byte_of(layout: Layout) -> u8
 #[tactic(auto, using(crate::proofs::EncoderLemmas::short_name))]
 fn push_name(bytes: &mut Vec<u8>, name: &Name) -> Result<(), Fault>
     ensures name { OnOk result (bytes.new.items ≡ bytes.old.items ++ name_bytes name.now) }
-    ensures only_memory { IsOkUnless result no_memory }
+    ensures only_oom { IsOkUnless result no_memory }
 {
     let text = name.as_bytes();
     bytes.push(text.len() as u8)?;
@@ -254,7 +254,7 @@ fn push_columns(bytes: &mut Vec<u8>, columns: &[Column]) -> Result<(), Fault>
     ensures columns { OnOk result (bytes.new.items ≡ bytes.old.items
         ++ flat_map (λ column. column_bytes column.name column.lo column.hi column.nullable)
         columns.now) }
-    ensures only_memory { IsOkUnless result no_memory }
+    ensures only_oom { IsOkUnless result no_memory }
 {
     for column in columns {
         push_column(bytes, column)?;
@@ -267,7 +267,7 @@ fn push_columns(bytes: &mut Vec<u8>, columns: &[Column]) -> Result<(), Fault>
 fn push_column(bytes: &mut Vec<u8>, column: &Column) -> Result<(), Fault>
     ensures column { OnOk result (bytes.new.items ≡ bytes.old.items
         ++ column_bytes column.now.name column.now.lo column.now.hi column.now.nullable) }
-    ensures only_memory { IsOkUnless result no_memory }
+    ensures only_oom { IsOkUnless result no_memory }
 {
     push_name(bytes, &column.name)?;
     push_bound(bytes, column.lo)?;
@@ -286,7 +286,7 @@ fn flag_of(nullable: bool) -> u8
 /// Adds a bound, in two's complement.
 fn push_bound(bytes: &mut Vec<u8>, bound: i64) -> Result<(), Fault>
     ensures bound { OnOk result (bytes.new.items ≡ bytes.old.items ++ bound_bytes bound) }
-    ensures only_memory { IsOkUnless result no_memory }
+    ensures only_oom { IsOkUnless result no_memory }
 {
     let mut number = [0; 8];
     LittleEndian::write_i64(&mut number, bound);

@@ -2,8 +2,8 @@
 ghost use Rattle.std.specs.Prelude.{◌≡◌, ◌≤◌, ◌^◌, ◌≤ℤ◌, ◌<ℤ◌, ◌-ℤ◌, pos, length, IfOk, IsTrue};
 ghost use Rattle.bw_model.specs.Limits.{most_rows};
 ghost use Rattle.bw_file.specs.FileBytes.{are_bounds};
-ghost use Rattle.bw_file.specs.Reading.{placed};
-ghost use Rattle.bw_file.specs.TableReading.{bound_in, magic_says, version_says, layout_says, count_says, rows_say, bounds_say, nullable_says, name_says};
+ghost use Rattle.bw_file.specs.Reading.{at_offset};
+ghost use Rattle.bw_file.specs.TableReading.{bound_in, parse_magic, parse_version, parse_layout, parse_count, rows_say, bounds_say, parse_nullable, parse_name};
 
 use crate::layout::Layout;
 use bw_model::{Column, Fault, MAX_ROWS, code, is_name};
@@ -12,8 +12,8 @@ use bw_model::{Column, Fault, MAX_ROWS, code, is_name};
 pub(crate) const MAGIC: &[u8; 8] = b"BWCOLUMN";
 
 /// Returns the value of a field, or its error at this byte.
-pub(crate) fn placed<T>(at: u64, said: Result<T, u16>) -> Result<T, Fault>
-    ensures { result ≡ placed at said }
+pub(crate) fn at_offset<T>(at: u64, said: Result<T, u16>) -> Result<T, Fault>
+    ensures { result ≡ at_offset at said }
 {
     match said {
         Ok(value) => Ok(value),
@@ -22,9 +22,9 @@ pub(crate) fn placed<T>(at: u64, said: Result<T, u16>) -> Result<T, Fault>
 }
 
 /// Checks the magic. Errors: 301.
-#[tactic(auto, unfolding(crate::specs::TableReading::magic_says, crate::specs::FileBytes::magic))]
-pub(crate) fn magic_says(bytes: &[u8; 8]) -> Result<(), u16>
-    ensures { result ≡ magic_says bytes.now }
+#[tactic(auto, unfolding(crate::specs::TableReading::parse_magic, crate::specs::FileBytes::magic))]
+pub(crate) fn parse_magic(bytes: &[u8; 8]) -> Result<(), u16>
+    ensures { result ≡ parse_magic bytes.now }
 {
     if bytes == MAGIC {
         Ok(())
@@ -34,9 +34,9 @@ pub(crate) fn magic_says(bytes: &[u8; 8]) -> Result<(), u16>
 }
 
 /// Returns the version, 1 or 2. Errors: 302.
-#[tactic(auto, unfolding(crate::specs::TableReading::version_says))]
-pub(crate) fn version_says(bytes: &[u8; 1]) -> Result<u8, u16>
-    ensures { result ≡ version_says bytes.now }
+#[tactic(auto, unfolding(crate::specs::TableReading::parse_version))]
+pub(crate) fn parse_version(bytes: &[u8; 1]) -> Result<u8, u16>
+    ensures { result ≡ parse_version bytes.now }
 {
     let version = bytes[0];
     if version == 1 || version == 2 {
@@ -47,9 +47,9 @@ pub(crate) fn version_says(bytes: &[u8; 1]) -> Result<u8, u16>
 }
 
 /// Returns the layout. Errors: 303.
-#[tactic(auto, unfolding(crate::specs::TableReading::layout_says))]
-pub(crate) fn layout_says(bytes: &[u8; 1]) -> Result<Layout, u16>
-    ensures { result ≡ layout_says bytes.now }
+#[tactic(auto, unfolding(crate::specs::TableReading::parse_layout))]
+pub(crate) fn parse_layout(bytes: &[u8; 1]) -> Result<Layout, u16>
+    ensures { result ≡ parse_layout bytes.now }
 {
     match bytes[0] {
         0 => Ok(Layout::Planes),
@@ -59,9 +59,9 @@ pub(crate) fn layout_says(bytes: &[u8; 1]) -> Result<Layout, u16>
 }
 
 /// Returns the number of columns, 1 to 64. Errors: 304.
-#[tactic(auto, unfolding(crate::specs::TableReading::count_says))]
-pub(crate) fn count_says(bytes: [u8; 2]) -> Result<u16, u16>
-    ensures count { result ≡ count_says bytes }
+#[tactic(auto, unfolding(crate::specs::TableReading::parse_count))]
+pub(crate) fn parse_count(bytes: [u8; 2]) -> Result<u16, u16>
+    ensures count { result ≡ parse_count bytes }
     ensures bounds { IfOk result (λ count. (1 ≤ count) × (count ≤ 64)) }
 {
     let count = u16::from_le_bytes(bytes);
@@ -76,7 +76,7 @@ pub(crate) fn count_says(bytes: [u8; 2]) -> Result<u16, u16>
 #[tactic(auto, unfolding(crate::specs::TableReading::rows_say))]
 pub(crate) fn rows_say(bytes: [u8; 4]) -> Result<u32, u16>
     ensures rows { result ≡ rows_say bytes }
-    ensures few { IfOk result (λ rows. rows ≤ most_rows) }
+    ensures within_limit { IfOk result (λ rows. rows ≤ most_rows) }
 {
     let rows = u32::from_le_bytes(bytes);
     if rows > MAX_ROWS {
@@ -140,9 +140,9 @@ pub(crate) fn are_bounds(version: u8, lo: i64, hi: i64) -> bool
 }
 
 /// Returns whether a column is nullable, from a byte that is 0 or 1. Errors: 304.
-#[tactic(auto, unfolding(crate::specs::TableReading::nullable_says))]
-pub(crate) fn nullable_says(bytes: &[u8; 1]) -> Result<bool, u16>
-    ensures { result ≡ nullable_says bytes.now }
+#[tactic(auto, unfolding(crate::specs::TableReading::parse_nullable))]
+pub(crate) fn parse_nullable(bytes: &[u8; 1]) -> Result<bool, u16>
+    ensures { result ≡ parse_nullable bytes.now }
 {
     match bytes[0] {
         0 => Ok(false),

@@ -8,12 +8,12 @@ ghost use Rattle.bw_model.specs.Name.{is_name, are_apart};
 ghost use Rattle.bw_model.specs.SchemaText.{column_shape};
 ghost use Rattle.bw_text.specs.Text.{same_text};
 ghost use Rattle.bw_file.specs.Header.{header_shape};
-ghost use Rattle.bw_file.specs.Reading.{Reads, state, judged};
-ghost use Rattle.bw_file.specs.TableReading.{magic_says, version_says, layout_says, count_says, rows_say, bounds_say, nullable_says, name_says, name, column, columns, front_of, front, header_of, header};
+ghost use Rattle.bw_file.specs.Reading.{Reads, state, read_field};
+ghost use Rattle.bw_file.specs.TableReading.{parse_magic, parse_version, parse_layout, parse_count, rows_say, bounds_say, parse_nullable, parse_name, name, column, columns, front_of, front, header_of, header};
 
 use crate::fields::{
-    Bounds, bounds_say, count_says, layout_says, magic_says, nullable_says, placed, rows_say,
-    version_says,
+    Bounds, at_offset, bounds_say, parse_count, parse_layout, parse_magic, parse_nullable,
+    parse_version, rows_say,
 };
 use crate::layout::Layout;
 use crate::take::take;
@@ -23,128 +23,128 @@ use std::alloc::Global;
 
 /// Reads the magic.
 fn read_magic<S: Source>(source: &mut S, offset: &mut u64) -> Result<(), Fault>
-    requires countable { S.failures source.old < 2 ^ 64 - 1 }
-    requires room { offset.old < 2 ^ 63 }
-    ensures reads { Reads (λ x. x) (judged 8 magic_says)
+    requires counter_fits { S.failures source.old < 2 ^ 64 - 1 }
+    requires capacity { offset.old < 2 ^ 63 }
+    ensures reads { Reads (λ x. x) (read_field 8 parse_magic)
         (state (S.to_come source.old) offset.old (S.failures source.old))
         (state (S.to_come source.new) offset.new (S.failures source.new)) result }
-    ensures counted { OnOk result (offset.new ≡ offset.old + 8) }
+    ensures advanced { OnOk result (offset.new ≡ offset.old + 8) }
 {
     let at = *offset;
     let mut bytes = [0; 8];
     take(source, offset, &mut bytes)?;
-    placed(at, magic_says(&bytes))
+    at_offset(at, parse_magic(&bytes))
 }
 
 /// Reads the version.
 fn read_version<S: Source>(source: &mut S, offset: &mut u64) -> Result<u8, Fault>
-    requires countable { S.failures source.old < 2 ^ 64 - 1 }
-    requires room { offset.old < 2 ^ 63 }
-    ensures reads { Reads (λ x. x) (judged 1 version_says)
+    requires counter_fits { S.failures source.old < 2 ^ 64 - 1 }
+    requires capacity { offset.old < 2 ^ 63 }
+    ensures reads { Reads (λ x. x) (read_field 1 parse_version)
         (state (S.to_come source.old) offset.old (S.failures source.old))
         (state (S.to_come source.new) offset.new (S.failures source.new)) result }
-    ensures counted { OnOk result (offset.new ≡ offset.old + 1) }
+    ensures advanced { OnOk result (offset.new ≡ offset.old + 1) }
 {
     let at = *offset;
     let mut bytes = [0; 1];
     take(source, offset, &mut bytes)?;
-    placed(at, version_says(&bytes))
+    at_offset(at, parse_version(&bytes))
 }
 
 /// Reads the layout.
 fn read_layout<S: Source>(source: &mut S, offset: &mut u64) -> Result<Layout, Fault>
-    requires countable { S.failures source.old < 2 ^ 64 - 1 }
-    requires room { offset.old < 2 ^ 63 }
-    ensures reads { Reads (λ x. x) (judged 1 layout_says)
+    requires counter_fits { S.failures source.old < 2 ^ 64 - 1 }
+    requires capacity { offset.old < 2 ^ 63 }
+    ensures reads { Reads (λ x. x) (read_field 1 parse_layout)
         (state (S.to_come source.old) offset.old (S.failures source.old))
         (state (S.to_come source.new) offset.new (S.failures source.new)) result }
-    ensures counted { OnOk result (offset.new ≡ offset.old + 1) }
+    ensures advanced { OnOk result (offset.new ≡ offset.old + 1) }
 {
     let at = *offset;
     let mut bytes = [0; 1];
     take(source, offset, &mut bytes)?;
-    placed(at, layout_says(&bytes))
+    at_offset(at, parse_layout(&bytes))
 }
 
 /// Reads the number of columns.
 fn read_count<S: Source>(source: &mut S, offset: &mut u64) -> Result<u16, Fault>
-    requires countable { S.failures source.old < 2 ^ 64 - 1 }
-    requires room { offset.old < 2 ^ 63 }
-    ensures reads { Reads (λ x. x) (judged 2 count_says)
+    requires counter_fits { S.failures source.old < 2 ^ 64 - 1 }
+    requires capacity { offset.old < 2 ^ 63 }
+    ensures reads { Reads (λ x. x) (read_field 2 parse_count)
         (state (S.to_come source.old) offset.old (S.failures source.old))
         (state (S.to_come source.new) offset.new (S.failures source.new)) result }
-    ensures counted { OnOk result (offset.new ≡ offset.old + 2) }
+    ensures advanced { OnOk result (offset.new ≡ offset.old + 2) }
     ensures bounds { IfOk result (λ count. (1 ≤ count) × (count ≤ 64)) }
 {
     let at = *offset;
     let mut bytes = [0; 2];
     take(source, offset, &mut bytes)?;
-    placed(at, count_says(bytes))
+    at_offset(at, parse_count(bytes))
 }
 
 /// Reads the number of rows.
 fn read_rows<S: Source>(source: &mut S, offset: &mut u64) -> Result<u32, Fault>
-    requires countable { S.failures source.old < 2 ^ 64 - 1 }
-    requires room { offset.old < 2 ^ 63 }
-    ensures reads { Reads (λ x. x) (judged 4 rows_say)
+    requires counter_fits { S.failures source.old < 2 ^ 64 - 1 }
+    requires capacity { offset.old < 2 ^ 63 }
+    ensures reads { Reads (λ x. x) (read_field 4 rows_say)
         (state (S.to_come source.old) offset.old (S.failures source.old))
         (state (S.to_come source.new) offset.new (S.failures source.new)) result }
-    ensures counted { OnOk result (offset.new ≡ offset.old + 4) }
-    ensures few { IfOk result (λ rows. rows ≤ most_rows) }
+    ensures advanced { OnOk result (offset.new ≡ offset.old + 4) }
+    ensures within_limit { IfOk result (λ rows. rows ≤ most_rows) }
 {
     let at = *offset;
     let mut bytes = [0; 4];
     take(source, offset, &mut bytes)?;
-    placed(at, rows_say(bytes))
+    at_offset(at, rows_say(bytes))
 }
 
 /// Reads the bounds of a column.
 fn read_bounds<S: Source>(version: u8, source: &mut S, offset: &mut u64) -> Result<Bounds, Fault>
-    requires countable { S.failures source.old < 2 ^ 64 - 1 }
-    requires room { offset.old < 2 ^ 63 }
-    ensures reads { Reads (λ x. x) (judged 16 (bounds_say version))
+    requires counter_fits { S.failures source.old < 2 ^ 64 - 1 }
+    requires capacity { offset.old < 2 ^ 63 }
+    ensures reads { Reads (λ x. x) (read_field 16 (bounds_say version))
         (state (S.to_come source.old) offset.old (S.failures source.old))
         (state (S.to_come source.new) offset.new (S.failures source.new)) result }
-    ensures counted { OnOk result (offset.new ≡ offset.old + 16) }
+    ensures advanced { OnOk result (offset.new ≡ offset.old + 16) }
     ensures ordered { IfOk result (λ bounds. bounds.lo ≤ℤ bounds.hi) }
     ensures narrow { IfOk result (λ bounds. (bounds.hi -ℤ bounds.lo) <ℤ pos (2 ^ 63)) }
 {
     let at = *offset;
     let mut bytes = [0; 16];
     take(source, offset, &mut bytes)?;
-    placed(at, bounds_say(version, &bytes))
+    at_offset(at, bounds_say(version, &bytes))
 }
 
 /// Reads whether a column is nullable.
 fn read_nullable<S: Source>(source: &mut S, offset: &mut u64) -> Result<bool, Fault>
-    requires countable { S.failures source.old < 2 ^ 64 - 1 }
-    requires room { offset.old < 2 ^ 63 }
-    ensures reads { Reads (λ x. x) (judged 1 nullable_says)
+    requires counter_fits { S.failures source.old < 2 ^ 64 - 1 }
+    requires capacity { offset.old < 2 ^ 63 }
+    ensures reads { Reads (λ x. x) (read_field 1 parse_nullable)
         (state (S.to_come source.old) offset.old (S.failures source.old))
         (state (S.to_come source.new) offset.new (S.failures source.new)) result }
-    ensures counted { OnOk result (offset.new ≡ offset.old + 1) }
+    ensures advanced { OnOk result (offset.new ≡ offset.old + 1) }
 {
     let at = *offset;
     let mut bytes = [0; 1];
     take(source, offset, &mut bytes)?;
-    placed(at, nullable_says(&bytes))
+    at_offset(at, parse_nullable(&bytes))
 }
 
 /// Reads a name, which follows a byte for its length. Errors: 304 at that byte, if the text isn't a
 /// valid name or is the name of an earlier column, ignoring case.
-#[tactic(auto, unfolding(crate::specs::TableReading::name_says))]
+#[tactic(auto, unfolding(crate::specs::TableReading::parse_name))]
 fn read_name<S: Source>(
     alloc: Global,
     before: &[Column],
     source: &mut S,
     offset: &mut u64,
 ) -> Result<Name, Fault>
-    requires countable { S.failures source.old < 2 ^ 64 - 1 }
-    requires room { offset.old < 2 ^ 63 }
+    requires counter_fits { S.failures source.old < 2 ^ 64 - 1 }
+    requires capacity { offset.old < 2 ^ 63 }
     ensures reads { Reads (λ x. x) (name (names_of before.now))
         (state (S.to_come source.old) offset.old (S.failures source.old))
         (state (S.to_come source.new) offset.new (S.failures source.new)) result }
-    ensures counted { OnOk result (offset.new ≤ offset.old + 256) }
+    ensures advanced { OnOk result (offset.new ≤ offset.old + 256) }
     ensures apart { IfOk result
         (λ text. list_any (λ other. same_text other text) (names_of before.now) ≡ false) }
 {
@@ -161,12 +161,12 @@ fn read_name<S: Source>(
 }
 
 /// Returns whether the text is a valid name, and no column has it, ignoring case.
-#[tactic(auto, using(crate::proofs::HeaderLemmas::list_any_names), unfolding(crate::specs::TableReading::name_says))]
+#[tactic(auto, using(crate::proofs::HeaderLemmas::list_any_names), unfolding(crate::specs::TableReading::parse_name))]
 fn is_new_name(before: &[Column], text: &[u8]) -> bool
     ensures name { IsTrue result → is_name text.now ≡ true }
     ensures apart { IsTrue result
         → list_any (λ other. same_text other text.now) (names_of before.now) ≡ false }
-    ensures says { name_says (names_of before.now) text.now
+    ensures says { parse_name (names_of before.now) text.now
         ≡ (if result then Ok text.now else Err HEADER) }
 {
     is_name(text) && !has_name(before, text)
@@ -188,12 +188,12 @@ fn read_column<S: Source>(
     source: &mut S,
     offset: &mut u64,
 ) -> Result<Column, Fault>
-    requires countable { S.failures source.old < 2 ^ 64 - 1 }
-    requires room { offset.old < 2 ^ 62 }
+    requires counter_fits { S.failures source.old < 2 ^ 64 - 1 }
+    requires capacity { offset.old < 2 ^ 62 }
     ensures reads { Reads column_shape (column version (names_of before.now))
         (state (S.to_come source.old) offset.old (S.failures source.old))
         (state (S.to_come source.new) offset.new (S.failures source.new)) result }
-    ensures counted { OnOk result (offset.new ≤ offset.old + 273) }
+    ensures advanced { OnOk result (offset.new ≤ offset.old + 273) }
     ensures apart { IfOk result
         (λ found. list_any (λ other. same_text other found.name) (names_of before.now) ≡ false) }
 {
@@ -215,12 +215,12 @@ fn read_columns<S: Source>(
     source: &mut S,
     offset: &mut u64,
 ) -> Result<Vec<Column>, Fault>
-    requires countable { S.failures source.old < 2 ^ 64 - 1 }
-    requires room { offset.old < 2 ^ 32 }
+    requires counter_fits { S.failures source.old < 2 ^ 64 - 1 }
+    requires capacity { offset.old < 2 ^ 32 }
     ensures reads { Reads (λ found. map column_shape found.items) (columns version [] count)
         (state (S.to_come source.old) offset.old (S.failures source.old))
         (state (S.to_come source.new) offset.new (S.failures source.new)) result }
-    ensures counted { OnOk result (offset.new ≤ offset.old + 273 * count) }
+    ensures advanced { OnOk result (offset.new ≤ offset.old + 273 * count) }
     ensures many { IfOk result (λ found. length found.items ≡ count) }
     ensures apart { IfOk result (λ found. are_apart (names_of found.items) ≡ true) }
 {
@@ -242,15 +242,15 @@ struct Front {
 }
 
 fn read_front<S: Source>(source: &mut S, offset: &mut u64) -> Result<Front, Fault>
-    requires countable { S.failures source.old < 2 ^ 64 - 1 }
-    requires room { offset.old < 2 ^ 32 }
+    requires counter_fits { S.failures source.old < 2 ^ 64 - 1 }
+    requires capacity { offset.old < 2 ^ 32 }
     ensures reads { Reads (λ found. front_of found.version found.layout found.columns found.rows)
         front
         (state (S.to_come source.old) offset.old (S.failures source.old))
         (state (S.to_come source.new) offset.new (S.failures source.new)) result }
-    ensures counted { OnOk result (offset.new ≡ offset.old + 16) }
+    ensures advanced { OnOk result (offset.new ≡ offset.old + 16) }
     ensures bounds { IfOk result (λ found. (1 ≤ found.columns) × (found.columns ≤ 64)) }
-    ensures few { IfOk result (λ found. found.rows ≤ most_rows) }
+    ensures within_limit { IfOk result (λ found. found.rows ≤ most_rows) }
 {
     read_magic(source, offset)?;
     let version = read_version(source, offset)?;
@@ -282,13 +282,13 @@ pub(crate) fn read_header<S: Source>(
     source: &mut S,
     offset: &mut u64,
 ) -> Result<Header, Fault>
-    requires countable { S.failures source.old < 2 ^ 64 - 1 }
-    requires room { offset.old < 2 ^ 31 }
+    requires counter_fits { S.failures source.old < 2 ^ 64 - 1 }
+    requires capacity { offset.old < 2 ^ 31 }
     ensures reads { Reads header_shape header
         (state (S.to_come source.old) offset.old (S.failures source.old))
         (state (S.to_come source.new) offset.new (S.failures source.new)) result }
-    ensures counted { OnOk result (offset.new ≤ offset.old + 20000) }
-    ensures few { IfOk result (λ found. found.rows ≤ most_rows) }
+    ensures advanced { OnOk result (offset.new ≤ offset.old + 20000) }
+    ensures within_limit { IfOk result (λ found. found.rows ≤ most_rows) }
 {
     let front = read_front(source, offset)?;
     let name = read_name(alloc, &[], source, offset)?;

@@ -24,7 +24,7 @@ impl SegmentBytes {
     pub(crate) fn of<S: Source>(alloc: Global, source: &S, size: usize) -> Result<Self, Fault>
         ensures size { IfOk result (λ bytes. length (bytes_held bytes) ≡ size) }
         ensures next { IfOk result (λ bytes. AreNext bytes 0 (S.kept source.now)) }
-        ensures only_memory { IsOkUnless result no_memory }
+        ensures only_oom { IsOkUnless result no_memory }
     {
         if let Some(shared) = source.share(size) {
             return Ok(SegmentBytes::Shared(shared));
@@ -43,14 +43,14 @@ impl SegmentBytes {
         start: usize,
         size: usize,
     ) -> Result<(), Fault>
-        requires countable { S.failures source.old < 2 ^ 64 - 1 }
-        requires room { offset.old + size < 2 ^ 64 }
+        requires counter_fits { S.failures source.old < 2 ^ 64 - 1 }
+        requires capacity { offset.old + size < 2 ^ 64 }
         requires within { start + size ≤ length (bytes_held self.old) }
         requires next { AreNext self.old start (S.kept source.old) }
         ensures reads { Reads (λ _. slice_range (bytes_held self.new) start (start + size))
             (field size) (state (S.to_come source.old) offset.old (S.failures source.old))
             (state (S.to_come source.new) offset.new (S.failures source.new)) result }
-        ensures counted { OnOk result (offset.new ≡ offset.old + size) }
+        ensures advanced { OnOk result (offset.new ≡ offset.old + size) }
         ensures next { OnOk result (AreNext self.new (start + size) (S.kept source.new)) }
         ensures before { take start (bytes_held self.new) ≡ take start (bytes_held self.old) }
         ensures long { length (bytes_held self.new) ≡ length (bytes_held self.old) }
@@ -83,7 +83,7 @@ impl SegmentBytes {
     /// Returns the bytes, all of which have been read.
     pub(crate) fn into_shared(self, alloc: Global) -> Result<SharedBytes, Fault>
         ensures bytes { IfOk result (λ shared. bytes_in shared ≡ bytes_held self) }
-        ensures only_memory { IsOkUnless result no_memory }
+        ensures only_oom { IsOkUnless result no_memory }
     {
         match self {
             SegmentBytes::Shared(shared) => Ok(shared),

@@ -88,18 +88,18 @@ impl Segment for AnySegment {
     }
 
     #[tactic(auto, unfolding(crate::specs::AnySegment::any_meaning))]
-    fn least_code(&self, col: usize, rows: &Selection) -> Option<u64> {
+    fn min_code(&self, col: usize, rows: &Selection) -> Option<u64> {
         match self {
-            AnySegment::Planes(segment) => segment.least_code(col, rows),
-            AnySegment::Slices(segment) => segment.least_code(col, rows),
+            AnySegment::Planes(segment) => segment.min_code(col, rows),
+            AnySegment::Slices(segment) => segment.min_code(col, rows),
         }
     }
 
     #[tactic(auto, unfolding(crate::specs::AnySegment::any_meaning))]
-    fn greatest_code(&self, col: usize, rows: &Selection) -> Option<u64> {
+    fn max_code(&self, col: usize, rows: &Selection) -> Option<u64> {
         match self {
-            AnySegment::Planes(segment) => segment.greatest_code(col, rows),
-            AnySegment::Slices(segment) => segment.greatest_code(col, rows),
+            AnySegment::Planes(segment) => segment.max_code(col, rows),
+            AnySegment::Slices(segment) => segment.max_code(col, rows),
         }
     }
 
@@ -134,8 +134,8 @@ impl AnySegment {
         bytes: SharedBytes,
     ) -> Self
         requires placed { IsPlaced layout placement.value }
-        requires some { 1 ≤ rows }
-        requires few { rows ≤ group_size }
+        requires nonempty { 1 ≤ rows }
+        requires within_limit { rows ≤ group_size }
         requires sound { IsSound layout placement.value.schema.columns.items rows (bytes_in bytes) }
         ensures layout { any_layout result ≡ layout }
         ensures name { (any_meaning result).name ≡ placement.value.schema.name }
@@ -161,7 +161,7 @@ pub(crate) fn placement_of(
     ensures columns { IfOk result (λ placement.
         placement.schema.columns.items ≡ schema.now.columns.items) }
     ensures placed { IfOk result (IsPlaced layout) }
-    ensures only_memory { IsOkUnless result no_memory }
+    ensures only_oom { IsOkUnless result no_memory }
 {
     match layout {
         Layout::Planes => Placement::of::<Planes>(alloc, schema),
@@ -186,7 +186,7 @@ pub(crate) fn append(
         ++ segment_bytes layout placement.now.schema.columns.items rows) }
     ensures front { OnOk result (take (length bytes.old.items) bytes.new.items ≡ bytes.old.items) }
     ensures refused { OnErr result (bytes.new.items ≡ bytes.old.items) }
-    ensures only_memory { IsOkUnless result no_memory }
+    ensures only_oom { IsOkUnless result no_memory }
 {
     match layout {
         Layout::Planes => PlaneSegment::append(alloc, bytes, placement, kept),
@@ -235,7 +235,7 @@ pub(crate) fn judge(
     ensures { result ≡ block_fault layout placement.now.schema.columns.items col rows block.now }
 {
     match layout {
-        Layout::Planes => PlaneSegment::judge(placement, col, rows, block),
-        Layout::Slices => SliceSegment::judge(placement, col, rows, block),
+        Layout::Planes => PlaneSegment::find_fault(placement, col, rows, block),
+        Layout::Slices => SliceSegment::find_fault(placement, col, rows, block),
     }
 }

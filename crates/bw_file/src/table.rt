@@ -1,6 +1,6 @@
 //! Whole tables in memory, to the bytes of a table file and back.
 ghost use Rattle.std.specs.Prelude.{◌≡◌, ◌-◌, ◌^◌, ◌<◌, ◌++◌, ◌∷◌, [], List, map, false, length, slice_index_or, Ok, Err, OnOk, IfOk, IfErr, IsOkUnless};
-ghost use Rattle.bw_model.specs.Fault.{no_memory, is_memory, Gives};
+ghost use Rattle.bw_model.specs.Fault.{no_memory, is_memory, MatchesUnlessOom};
 ghost use Rattle.bw_model.specs.Row.{Value, values_of};
 ghost use Rattle.bw_model.specs.SchemaText.{schema_shape};
 ghost use Rattle.bw_file.specs.AnySegment.{any_meaning};
@@ -38,7 +38,7 @@ pub fn encode(
         (λ bytes. bytes.items ≡ file_bytes layout schema.now (map values_of rows.now)) }
     ensures file { IfOk result
         (λ bytes. IsFileBytes bytes.items layout schema.now (map values_of rows.now)) }
-    ensures only_memory { IsOkUnless result no_memory }
+    ensures only_oom { IsOkUnless result no_memory }
 {
     schema.has_names_and_bounds();
     let mut encoder = Encoder::new(alloc, layout, schema)?;
@@ -56,7 +56,7 @@ pub fn decode(alloc: Global, bytes: &[u8]) -> Result<Table, Fault>
         (map values_of table.rows.items)) }
     ensures accepted { (layout : Layout) (schema : Schema) (rows : List (List Value))
         → IsFileBytes bytes.now layout schema rows
-        → Gives found_of result (Ok (found_as layout (schema_shape schema) rows)) }
+        → MatchesUnlessOom found_of result (Ok (found_as layout (schema_shape schema) rows)) }
     ensures read { IfOk result (λ table. IsReadAs bytes.now (Ok (found_of table))) }
     ensures fault { IfErr result
         (λ fault. is_memory fault ≡ false → IsReadAs bytes.now (Err fault)) }
@@ -79,7 +79,7 @@ pub fn decode(alloc: Global, bytes: &[u8]) -> Result<Table, Fault>
 fn push_rows(alloc: Global, segment: &AnySegment, rows: &mut Vec<Row>) -> Result<(), Fault>
     ensures rows { OnOk result (map values_of rows.new.items ≡ map values_of rows.old.items
         ++ (any_meaning segment.now).rows) }
-    ensures only_memory { IsOkUnless result no_memory }
+    ensures only_oom { IsOkUnless result no_memory }
 {
     for i in 0..segment.rows_in() as usize {
         rows.push(row_of(alloc, segment, i)?)?;
@@ -92,7 +92,7 @@ fn row_of(alloc: Global, segment: &AnySegment, i: usize) -> Result<Row, Fault>
     requires { i < length (any_meaning segment.now).rows }
     ensures row { IfOk result
         (λ row. values_of row ≡ slice_index_or (any_meaning segment.now).rows i []) }
-    ensures only_memory { IsOkUnless result no_memory }
+    ensures only_oom { IsOkUnless result no_memory }
 {
     let count = segment.schema().columns.len();
     let mut values: Vec<Value> = Vec::with_capacity(alloc, count)?;

@@ -33,16 +33,16 @@ pub struct TableReader {
     phase: Phase,
     ghost placed: { IsPlaced layout placement.value },
     ghost within: { given ≤ rows },
-    ghost few: { rows ≤ most_rows },
-    ghost own: { (fault : Fault) → phase ≡ Failed fault → IsTableFault fault },
-    ghost room: { phase ≡ Reading → offset + 2 ^ 19 * (rows - given) < 2 ^ 50 },
+    ghost within_limit: { rows ≤ most_rows },
+    ghost not_reader: { (fault : Fault) → phase ≡ Failed fault → IsTableFault fault },
+    ghost capacity: { phase ≡ Reading → offset + 2 ^ 19 * (rows - given) < 2 ^ 50 },
 }
 
 impl TableReader {
     ghost use Rattle.bw_file.specs.Blocks.{segment_size};
     ghost use Rattle.bw_file.specs.Reading.{Fails, GoesOn, give, state};
     ghost use Rattle.bw_file.specs.TableReading.{header};
-    ghost use Rattle.bw_file.specs.TableReader.{schema_in, version_in, layout_in, header_stated, rows_stated, rows_given, bytes_taken, settled, SoFar, AnswersFault, GivesNext};
+    ghost use Rattle.bw_file.specs.TableReader.{schema_in, version_in, layout_in, header_stated, rows_stated, rows_given, bytes_taken, final_result, ReadProgress, AnswersFault, GivesNext};
 
     /// Reads the header of a table file, and no byte after it. The source's count of failures must
     /// be less than 2^64 - 1.
@@ -51,7 +51,7 @@ impl TableReader {
     /// that ends before; 701 if a read fails; 801 if memory is refused.
     pub fn begin<S: Source>(alloc: Global, source: &mut S) -> Result<Self, Fault>
         requires { S.failures source.old < 2 ^ 64 - 1 }
-        ensures began { IfOk result (λ reader. SoFar
+        ensures began { IfOk result (λ reader. ReadProgress
             (state (S.to_come source.old) 0 (S.failures source.old))
             (state (S.to_come source.new) (bytes_taken reader) (S.failures source.new)) reader []) }
         ensures stated { IfOk result (λ reader. GoesOn header
@@ -59,7 +59,8 @@ impl TableReader {
             (give (header_stated (version_in reader) reader))
             (state (S.to_come source.new) (bytes_taken reader) (S.failures source.new))) }
         ensures short { IfOk result (λ reader. bytes_taken reader ≤ 20000) }
-        ensures fresh { IfOk result (λ reader. (rows_given reader ≡ 0) × (settled reader ≡ None)) }
+        ensures fresh { IfOk result (λ reader. (rows_given reader ≡ 0)
+            × (final_result reader ≡ None)) }
         ensures head { IfErr result (λ fault. (offset : ℕ) × Fails header
             (state (S.to_come source.old) 0 (S.failures source.old))
             (state (S.to_come source.new) offset (S.failures source.new)) fault) }
@@ -116,7 +117,7 @@ impl TableReader {
 
     /// Checks that the source has ended.
     fn see_end<S: Source>(&mut self, source: &mut S) -> Result<Option<AnySegment>, Fault>
-        requires countable { S.failures source.old < 2 ^ 64 - 1 }
+        requires counter_fits { S.failures source.old < 2 ^ 64 - 1 }
         requires open { self.old.phase ≡ Reading }
         requires all { self.old.given ≡ self.old.rows }
         ensures { GivesNext source.old source.new
@@ -141,7 +142,7 @@ impl TableReader {
 
     /// Reads a segment of the remaining rows.
     fn give_segment<S: Source>(&mut self, source: &mut S) -> Result<Option<AnySegment>, Fault>
-        requires countable { S.failures source.old < 2 ^ 64 - 1 }
+        requires counter_fits { S.failures source.old < 2 ^ 64 - 1 }
         requires open { self.old.phase ≡ Reading }
         requires left { self.old.given < self.old.rows }
         ensures { GivesNext source.old source.new

@@ -12,12 +12,12 @@ pub(crate) fn take<S: Source>(
     offset: &mut u64,
     buffer: &mut [u8],
 ) -> Result<(), Fault>
-    requires countable { S.failures source.old < 2 ^ 64 - 1 }
-    requires room { offset.old + length buffer.old < 2 ^ 64 }
+    requires counter_fits { S.failures source.old < 2 ^ 64 - 1 }
+    requires capacity { offset.old + length buffer.old < 2 ^ 64 }
     ensures reads { Reads (λ _. buffer.new) (field (length buffer.old))
         (state (S.to_come source.old) offset.old (S.failures source.old))
         (state (S.to_come source.new) offset.new (S.failures source.new)) result }
-    ensures counted { OnOk result (offset.new ≡ offset.old + length buffer.old) }
+    ensures advanced { OnOk result (offset.new ≡ offset.old + length buffer.old) }
 {
     let mut filled = 0;
     while filled < buffer.len() {

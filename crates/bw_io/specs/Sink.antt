@@ -25,15 +25,16 @@ GoesOut old new before after text (Err fault) =
 -- beginning was written, and then a write failed; or nothing was written, and the call returned the
 -- expected error, or an exempt one. The sink's count of failures rises from `before` to `after`: by
 -- one at a failed write, else by none.
-pub data Wrote {T : Type 0} (aside : Fault → Bool) (old new : Option (List ℕ)) (before after : ℕ)
+pub data WriteOutcome {T : Type 0} (aside : Fault → Bool) (old new : Option (List ℕ))
+    (before after : ℕ)
     (given : Result (List ℕ) Fault) : Result T Fault → Type 0 where
   everything : {x : T} (text : List ℕ) → given ≡ Ok text → Appends old new text → after ≡ before →
-      Wrote aside old new before after given (Ok x)
+      WriteOutcome aside old new before after given (Ok x)
   beginning : (text : List ℕ) → given ≡ Ok text → TookPart old new text → after ≡ before + 1 →
-      Wrote aside old new before after given (Err (nowhere WRITE_FAILED))
+      WriteOutcome aside old new before after given (Err (nowhere WRITE_FAILED))
   nothing : {fault : Fault} → is_write_fault fault ≡ false →
       (aside fault ≡ false → given ≡ Err fault) →
-      new ≡ old → after ≡ before → Wrote aside old new before after given (Err fault)
+      new ≡ old → after ≡ before → WriteOutcome aside old new before after given (Err fault)
 
 -- no error is exempt
 abbrev pub none_aside : Fault → Bool

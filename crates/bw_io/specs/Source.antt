@@ -58,18 +58,19 @@ TookAtMost most old new = (bytes : List ℕ) × Consumes old new bytes × (lengt
 
 -- How a call leaves its source: it consumed at most `most` of the unread bytes, and failed by a
 -- failed read if and only if the count of failures rose.
-abbrev pub LeavesSource : {T : Type 0} → ℕ → Option (List ℕ) → Option (List ℕ) → ℕ → ℕ
+abbrev pub SourceEffect : {T : Type 0} → ℕ → Option (List ℕ) → Option (List ℕ) → ℕ → ℕ
     → Result T Fault → Type 0
-LeavesSource most old new before after result = TookAtMost most old new
+SourceEffect most old new before after result = TookAtMost most old new
     × TellsFailure before after result
 
 -- A source's count of failures rises from `before` to `after`: by one if it yielded a failed read,
 -- else by none. A source that wasn't reached is as it was, as far as its unread bytes and its count
 -- state.
-abbrev pub Came : ℕ → Option (List ℕ) → Option (List ℕ) → ℕ → ℕ → Arrival → Type 0
-Came limit old new before after NotReached = (new ≡ old) × (after ≡ before)
-Came limit old new before after (Whole bytes) = GaveAll limit old new bytes × (after ≡ before)
-Came limit old new before after TooLong = PassedLimit limit old new × (after ≡ before)
-Came limit old new before after (Failed fault) =
+abbrev pub ReadOutcome : ℕ → Option (List ℕ) → Option (List ℕ) → ℕ → ℕ → Arrival → Type 0
+ReadOutcome limit old new before after NotReached = (new ≡ old) × (after ≡ before)
+ReadOutcome limit old new before after (Whole bytes) = GaveAll limit old new bytes
+    × (after ≡ before)
+ReadOutcome limit old new before after TooLong = PassedLimit limit old new × (after ≡ before)
+ReadOutcome limit old new before after (Failed fault) =
     MatchBool (is_memory fault) ((fault ≡ no_memory) × (after ≡ before))
     ((fault ≡ nowhere READ_FAILED) × (after ≡ before + 1))

@@ -1,6 +1,6 @@
 //! Complete inputs, read from a source up to a limit.
 ghost use Rattle.std.specs.Prelude.{◌+◌, ◌-◌, ◌^◌, ◌<◌, IfErr, IsTrue};
-ghost use Rattle.bw_io.specs.Source.{Came, TookAtMost, TellsFailure, is_input_fault};
+ghost use Rattle.bw_io.specs.Source.{ReadOutcome, TookAtMost, TellsFailure, is_input_fault};
 ghost use Rattle.bw_io.specs.Input.{arrival};
 
 use crate::failed::Failed;
@@ -24,9 +24,9 @@ pub enum Input {
 /// be less than 2^63, and the source's count of failures less than 2^64 - 1. Errors: 701 at the
 /// first read that fails; 801 if memory is refused.
 pub fn read_limited<S: Source>(alloc: Global, source: &mut S, limit: u64) -> Result<Input, Fault>
-    requires countable { S.failures source.old < 2 ^ 64 - 1 }
+    requires counter_fits { S.failures source.old < 2 ^ 64 - 1 }
     requires limited { limit < 2 ^ 63 }
-    ensures came { Came limit (S.to_come source.old) (S.to_come source.new)
+    ensures came { ReadOutcome limit (S.to_come source.old) (S.to_come source.new)
         (S.failures source.old) (S.failures source.new) (arrival result) }
     ensures took { TookAtMost (limit + 1) (S.to_come source.old) (S.to_come source.new) }
     ensures failed { TellsFailure (S.failures source.old) (S.failures source.new) result }

@@ -23,7 +23,7 @@ impl SharedBytes {
     /// Returns all of these bytes. Errors: 801 if memory is refused.
     pub fn new(alloc: Global, bytes: Vec<u8>) -> Result<Self, Fault>
         ensures bytes { IfOk result (λ shared. bytes_in shared ≡ bytes.items) }
-        ensures only_memory { IsOkUnless result no_memory }
+        ensures only_oom { IsOkUnless result no_memory }
     {
         let end = bytes.len();
         let memory = Rc::new(alloc, bytes)?;

@@ -58,7 +58,7 @@ pub fn bytes_none(slices: &[u8], count: usize) -> Plane
 {
     let mut words = [0; 8];
     for word in 0..8 {
-        words[word] = eq(joined(slices, count, 64 * word), 0);
+        words[word] = eq(or_slices(slices, count, 64 * word), 0);
     }
     words
 }
@@ -89,13 +89,13 @@ fn any_of_word(slices: &[u8], count: usize, first: usize, rows: u64) -> bool
         (zip2 (λ among row. among && not (are_zero slices.now row count))
         (bits_from_least 64 rows) (range_with_len first 64)) }
 {
-    rows != 0 && rows & !eq(joined(slices, count, first), 0) != 0
+    rows != 0 && rows & !eq(or_slices(slices, count, first), 0) != 0
 }
 
 /// Returns the bytes of 64 rows, from `first` on, in `count` slices, combined by OR.
 #[tactic(auto, using(crate::proofs::ByteLemmas::joined_so_far))]
 #[inline(always)]
-fn joined(slices: &[u8], count: usize, first: usize) -> u8x64
+fn or_slices(slices: &[u8], count: usize, first: usize) -> u8x64
     requires slices { 512 * count ≤ length slices.now }
     requires rows { first + 64 ≤ 512 }
     ensures { map (λ byte. byte == 0) result

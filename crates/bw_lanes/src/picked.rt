@@ -118,13 +118,13 @@ pub fn keep_in(rows: &mut [u8; LANES], bytes: &[u8; LANES], c: u8)
 {
     for word in 0..8 {
         let some = u8x64::from_slice(&rows[64 * word..]);
-        let kept = kept(some, u8x64::from_slice(&bytes[64 * word..]), c);
+        let kept = mask_equal(some, u8x64::from_slice(&bytes[64 * word..]), c);
         put(rows, word, kept);
     }
 }
 
 /// Returns the bytes of `rows` in the lanes whose byte is `c`, and 0 in the others.
-fn kept(rows: u8x64, bytes: u8x64, c: u8) -> u8x64
+fn mask_equal(rows: u8x64, bytes: u8x64, c: u8) -> u8x64
     ensures { result ≡ zip2 (λ row byte. if byte == c then row else 0) rows bytes }
 {
     bytes.simd_eq(u8x64::splat(c)).select(rows, u8x64::splat(0))

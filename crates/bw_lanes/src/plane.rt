@@ -42,7 +42,7 @@ pub fn xor(a: &Plane, b: &Plane) -> Plane
 pub fn not(plane: &Plane) -> Plane
     ensures { lanes_of_words result ≡ map not (lanes_of_words plane.now) }
 {
-    inverted(u64x8::from_array(*plane)).to_array()
+    invert(u64x8::from_array(*plane)).to_array()
 }
 
 /// Returns whether all 512 lanes are 0.
@@ -115,7 +115,7 @@ fn ones_and_last(whole: u64, last: u64) -> u64x8
 
 /// Returns the lanes that are 0.
 #[tactic(auto, using(crate::proofs::WordLemmas::lanes_of_not))]
-fn inverted(words: u64x8) -> u64x8
+fn invert(words: u64x8) -> u64x8
     ensures { lanes_of_words result ≡ map not (lanes_of_words words) }
 {
     !words

@@ -13,7 +13,7 @@ use Rattle.bw_model.specs.Row.{Value}
 use Rattle.bw_model.specs.Schema.{IsSchema}
 use Rattle.bw_model.specs.SchemaText.{schema_shape}
 use Rattle.bw_io.specs.Source.{Arrival, NotReached, Whole, TooLong, Failed}
-use Rattle.bw_sql.specs.Asked.{asked}
+use Rattle.bw_sql.specs.Asked.{query_shape}
 use Rattle.bw_sql.specs.Statement.{IsReadAs}
 use Rattle.bw_sql.proofs.SameNames.{columns_too, spells_too}
 use Rattle.bw_answer.specs.Answer.{csv_text, meaning}
@@ -75,7 +75,7 @@ under_direct admits limits layout came csv bytes sql program old new (Ok schema)
     let is = file_of_rows layout schema csv_came.text bytes admits limits (sound_from came schema from) of in
     let same = of_one_table bytes layout file.layout schema file.schema of.rows file.rows is file.file in
     let shape = sym (ap (λ (found : Found). found.schema) same) in
-    let spelled = spells_too file.schema schema sql (asked file.query) shape file.asked.0 in
+    let spelled = spells_too file.schema schema sql (query_shape file.query) shape file.asked.0 in
     let found : AnswersCsv (λ query. IsReadAs schema sql (Ok query)) schema csv_came.text old new =
     answers (λ query. IsReadAs schema sql (Ok query)) layout file.layout schema file.schema csv_came.text bytes old new file.query of file.rows same
     (columns_too file.schema schema shape) spelled file.text in
@@ -144,7 +144,7 @@ answerable_under admits limits layout came csv sql answer given schema other que
       rows = found.0;
       file = file_of_rows layout schema text bytes admits limits (sound_from came schema from) of;
       query = query;
-      asked = spells_too other schema sql (asked query) shape read;
+      asked = spells_too other schema sql (query_shape query) shape read;
     }
 
 answerable_read : AdmitsRows → LimitsRows → (layout : Layout) (came csv : Arrival) (sql answer : List ℕ) (given : Result (List ℕ) Fault)

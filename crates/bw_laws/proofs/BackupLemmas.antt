@@ -17,7 +17,7 @@ use Rattle.bw_model.specs.Fault.{is_memory, no_memory, nowhere}
 use Rattle.bw_model.specs.Limits.{longest_csv, longest_schema, most_rows}
 use Rattle.bw_model.specs.Groups.{together}
 use Rattle.bw_model.specs.Row.{Value, value_in}
-use Rattle.bw_model.specs.Selection.{kept}
+use Rattle.bw_model.specs.Selection.{matching_rows}
 use Rattle.bw_model.specs.SchemaText.{IsSchemaText, SchemaShape, schema_shape}
 use Rattle.bw_model.proofs.SameColumns.{columns_same}
 use Rattle.bw_model.proofs.SchemaSpelling.{read_of}
@@ -163,7 +163,7 @@ plain_lists zero some = absurd (omega (arith, some))
 plain_lists (suc n) some = refl
 
 every_meaning : (columns : List Column) (query : Query) (rows : Rows) → 1 ≤ length columns → list_all (admits_values columns) rows ≡ true
-    → query.items.items ≡ map Plain (range_with_len 0 (length columns)) → kept query.cond rows ≡ rows
+    → query.items.items ≡ map Plain (range_with_len 0 (length columns)) → matching_rows query.cond rows ≡ rows
     → meaning (names_of columns) query rows ≡ names_of columns ∷ rows_fields rows
 unfolding meaning
 every_meaning columns query rows some e items all =

@@ -12,8 +12,8 @@ use Rattle.bw_model.specs.SchemaText.{ColumnShape, shape, shape_names, schema_sh
 use Rattle.bw_file.specs.declared.layout.Layout.{Layout}
 use Rattle.bw_file.specs.Blocks.{block_size, block_fault, rows_spelled}
 use Rattle.bw_file.specs.FileBytes.{IsFileBytes}
-use Rattle.bw_file.specs.Reading.{Tail, tail, Reading, passed, ◌>>=◌, give, field, said_at, judged, NeedsEach}
-use Rattle.bw_file.specs.TableReading.{magic_says, version_says, layout_says, count_says, rows_say, bounds_say, nullable_says, name_says, name, column, columns, front_of, front, HeaderShape, header_of, header, sound_at, one_block, blocks, segment, group_sizes, end, body, Found, found_as, found_in, IsReadAfter, IsReadAs}
+use Rattle.bw_file.specs.Reading.{Tail, tail, Reading, passed, ◌>>=◌, give, field, parsed_at, read_field, NeedsEach}
+use Rattle.bw_file.specs.TableReading.{parse_magic, parse_version, parse_layout, parse_count, rows_say, bounds_say, parse_nullable, parse_name, name, column, columns, front_of, front, HeaderShape, header_of, header, sound_at, one_block, blocks, segment, group_sizes, end, body, Found, found_as, found_in, IsReadAfter, IsReadAs}
 use Rattle.bw_file.proofs.FileSpelling.{body_found}
 use Rattle.bw_file.proofs.ReadingLemmas.{field_needs, needs_more, needs_none}
 use Rattle.bw_file.proofs.SpelledFile.{read_one_way, spelled_is_read}
@@ -48,8 +48,8 @@ gives reading x at on = record { takes = λ bytes read e. takes_text reading at 
 give_takes : {A : Type 0} (x : A) (at : ℕ) → TakesWhole (give x) at
 give_takes x at = gives (give x) x at (λ rest. refl)
 
-said_takes : {A : Type 0} (from at : ℕ) (said : Result A ℕ) → TakesWhole (said_at from said) at
-said_takes from at (Ok x) = gives (said_at from (Ok x)) x at (λ rest. refl)
+said_takes : {A : Type 0} (from at : ℕ) (said : Result A ℕ) → TakesWhole (parsed_at from said) at
+said_takes from at (Ok x) = gives (parsed_at from (Ok x)) x at (λ rest. refl)
 said_takes from at (Err code) = record { takes = λ bytes read e. absurd (cc e) }
 
 field_takes : (size at : ℕ) → TakesWhole (field size) at
@@ -98,26 +98,26 @@ takes_as one other at same p = record {
       };
 }
 
-judged_takes : {A : Type 0} (size : ℕ) (says : List ℕ → Result A ℕ) (at : ℕ) → TakesWhole (judged size says) at
-unfolding judged
+judged_takes : {A : Type 0} (size : ℕ) (says : List ℕ → Result A ℕ) (at : ℕ) → TakesWhole (read_field size says) at
+unfolding read_field
 judged_takes size says at =
-    takes_as (field size >>= λ bytes. said_at at (says bytes)) (judged size says) at (λ bytes. refl)
-    (then_takes (field size) (λ bytes. said_at at (says bytes)) at (field_takes size at) (λ bytes n. said_takes at n (says bytes)))
+    takes_as (field size >>= λ bytes. parsed_at at (says bytes)) (read_field size says) at (λ bytes. refl)
+    (then_takes (field size) (λ bytes. parsed_at at (says bytes)) at (field_takes size at) (λ bytes n. said_takes at n (says bytes)))
 
 -- the header, part by part
 name_takes : (before : List (List ℕ)) (at : ℕ) → TakesWhole (name before) at
 unfolding name
 name_takes before at =
-    takes_as (field 1 >>= λ size. field (slice_index size 0) >>= λ text. said_at at (name_says before text)) (name before) at (λ bytes. refl)
-    (then_takes (field 1) (λ size. field (slice_index size 0) >>= λ text. said_at at (name_says before text)) at (field_takes 1 at) (λ size n.
-    then_takes (field (slice_index size 0)) (λ text. said_at at (name_says before text)) n (field_takes (slice_index size 0) n) (λ text m. said_takes at m (name_says before text))))
+    takes_as (field 1 >>= λ size. field (slice_index size 0) >>= λ text. parsed_at at (parse_name before text)) (name before) at (λ bytes. refl)
+    (then_takes (field 1) (λ size. field (slice_index size 0) >>= λ text. parsed_at at (parse_name before text)) at (field_takes 1 at) (λ size n.
+    then_takes (field (slice_index size 0)) (λ text. parsed_at at (parse_name before text)) n (field_takes (slice_index size 0) n) (λ text m. said_takes at m (parse_name before text))))
 
 column_takes : (version : ℕ) (before : List (List ℕ)) (at : ℕ) → TakesWhole (column version before) at
 unfolding column
 column_takes version before at =
     then_takes (name before) _ at (name_takes before at) (λ text n.
-    then_takes (judged 16 (bounds_say version)) _ n (judged_takes 16 (bounds_say version) n) (λ bounds m.
-    then_takes (judged 1 nullable_says) _ m (judged_takes 1 nullable_says m) (λ nullable k. give_takes (shape text bounds.lo bounds.hi nullable) k)))
+    then_takes (read_field 16 (bounds_say version)) _ n (judged_takes 16 (bounds_say version) n) (λ bounds m.
+    then_takes (read_field 1 parse_nullable) _ m (judged_takes 1 parse_nullable m) (λ nullable k. give_takes (shape text bounds.lo bounds.hi nullable) k)))
 
 columns_take : (version : ℕ) (before : List ColumnShape) (count at : ℕ) → TakesWhole (columns version before count) at
 unfolding columns
@@ -128,11 +128,11 @@ columns_take version before (suc count) at =
 front_takes : (at : ℕ) → TakesWhole front at
 unfolding front
 front_takes at =
-    then_takes (judged 8 magic_says) _ at (judged_takes 8 magic_says at) (λ _ a.
-    then_takes (judged 1 version_says) _ a (judged_takes 1 version_says a) (λ version b.
-    then_takes (judged 1 layout_says) _ b (judged_takes 1 layout_says b) (λ layout c.
-    then_takes (judged 2 count_says) _ c (judged_takes 2 count_says c) (λ count d.
-    then_takes (judged 4 rows_say) _ d (judged_takes 4 rows_say d) (λ rows e. give_takes (front_of version layout count rows) e)))))
+    then_takes (read_field 8 parse_magic) _ at (judged_takes 8 parse_magic at) (λ _ a.
+    then_takes (read_field 1 parse_version) _ a (judged_takes 1 parse_version a) (λ version b.
+    then_takes (read_field 1 parse_layout) _ b (judged_takes 1 parse_layout b) (λ layout c.
+    then_takes (read_field 2 parse_count) _ c (judged_takes 2 parse_count c) (λ count d.
+    then_takes (read_field 4 rows_say) _ d (judged_takes 4 rows_say d) (λ rows e. give_takes (front_of version layout count rows) e)))))
 
 header_takes : (at : ℕ) → TakesWhole header at
 unfolding header

@@ -11,7 +11,7 @@ use Rattle.bw_model.specs.CondTree.{tree_of}
 use Rattle.bw_model.specs.Fault.{is_memory}
 use Rattle.bw_model.specs.Row.{Value}
 use Rattle.bw_model.specs.SchemaText.{schema_shape}
-use Rattle.bw_sql.specs.Asked.{Asked, asked}
+use Rattle.bw_sql.specs.Asked.{QueryShape, query_shape}
 use Rattle.bw_sql.specs.Statement.{IsReadAs}
 use Rattle.bw_sql.proofs.SameNames.{columns_too}
 use Rattle.bw_sql.proofs.Texts.{text_query}
@@ -41,7 +41,7 @@ pub one_text : (bytes sql text : List ℕ) (layout : Layout) (schema : Schema) (
 one_text bytes sql text layout schema rows program second old new is told file =
     let took = took_meaning layout schema rows bytes sql second old new is file in
     let names = names_of schema.columns.items in
-    let same = one_meaning names took.query told.query rows (text_query schema sql (asked took.query) (asked told.query) took.spelled told.asked.0) in
+    let same = one_meaning names took.query told.query rows (text_query schema sql (query_shape took.query) (query_shape told.query) took.spelled told.asked.0) in
     subst (λ (those : List ℕ). Appends old new those) (ap csv_text same ∙ sym told.is) took.took
 
 -- one file is judged in one way, for conditions of one tree
@@ -54,8 +54,8 @@ pub record OneVerdict : Type 0 where
 module _ (verdict : OneVerdict) (schema other : Schema) (shape : schema_shape schema ≡ schema_shape other) (sql : List ℕ) where
   trees : (query another : Query) → asked_in (Ok query) ≡ asked_in (Ok another) → tree_of query.cond ≡ tree_of another.cond
   trees query another same =
-      let one : asked query ≡ asked another = cc same in
-      ap (λ (a : Asked). a.cond) one
+      let one : query_shape query ≡ query_shape another = cc same in
+      ap (λ (a : QueryShape). a.cond) one
 
   not_both : (file : Option (List ℕ)) (query another : Query) (fault : Fault) → tree_of query.cond ≡ tree_of another.cond → IsUsable file schema.columns.items query.cond
       → IsScanFault file schema.columns.items another.cond fault → ⊥

@@ -13,14 +13,14 @@ use Rattle.bw_model.specs.Fault.{at_record, ◌>>=◌, refused_if}
 use Rattle.bw_model.specs.Name.{is_name, are_apart}
 use Rattle.bw_model.specs.Row.{Value, value_in}
 use Rattle.bw_model.specs.SchemaText.{ColumnShape, SchemaShape, shape_names, is_range, IsSchemaText}
-use Rattle.bw_model.specs.Total.{joined, total}
+use Rattle.bw_model.specs.Total.{combine_totals, total}
 use Rattle.bw_model.proofs.SchemaLemmas.{are_apart-push}
 use Rattle.bw_model.proofs.TotalLemmas.{total_append}
 use Rattle.bw_csv.specs.Bare.{bare_number, bare_row, bare_rows, bare_value, bare_values, records_of, within_64_bits}
 use Rattle.bw_csv.specs.Rows.{is_minus, is_null_text, unsigned, with_row, without_blanks}
 use Rattle.bw_csv.proofs.BareLemmas.{bound, passed}
 use Rattle.bw_schemas.specs.Heading.{heading_names, names_from, some_names}
-use Rattle.bw_schemas.specs.Inferred.{column_over, columns_over, inferred, inferred_after, or_zero, ranged, ranged_column, schema_over, table_of}
+use Rattle.bw_schemas.specs.Inferred.{column_over, columns_over, infer_schema, inferred_after, or_zero, check_bounds, ranged_column, schema_over, table_of}
 use Rattle.bw_schemas.specs.Printed.{schema_text}
 use Rattle.bw_schemas.proofs.NarrowLemmas.{greatest_of_one, least_of_one}
 use Rattle.bw_laws.proofs.ShapeText.{IsSound, AreSound, shape_spelled}
@@ -82,12 +82,12 @@ value_there [] (suc i) fits = tt
 value_there (v ∷ row) zero fits = All-head Fits v row fits
 value_there (v ∷ row) (suc i) fits = value_there row i (All-tail Fits v row fits)
 
-lesser_fits : (i : ℕ) (a b : Option ℤ) → Fits a → Fits b → Fits (joined (Min i) a b)
+lesser_fits : (i : ℕ) (a b : Option ℤ) → Fits a → Fits b → Fits (combine_totals (Min i) a b)
 lesser_fits i None b f g = g
 lesser_fits i (Some a) None f g = f
 lesser_fits i (Some a) (Some b) f g = omega (arith, ints, clamps)
 
-greater_fits : (i : ℕ) (a b : Option ℤ) → Fits a → Fits b → Fits (joined (Max i) a b)
+greater_fits : (i : ℕ) (a b : Option ℤ) → Fits a → Fits b → Fits (combine_totals (Max i) a b)
 greater_fits i None b f g = g
 greater_fits i (Some a) None f g = f
 greater_fits i (Some a) (Some b) f g = omega (arith, ints, clamps)
@@ -171,12 +171,12 @@ column_sound rows i name column fits named e =
     } in
     subst (λ (column : ColumnShape). IsSound column × (column.name ≡ name)) same (is, refl)
 
-columns_sound : (rows : List (List Value)) (i : ℕ) (names : List (List ℕ)) (found : List ColumnShape) → All RowFits rows → All IsName names → ranged (columns_over rows i names) ≡ Ok found
+columns_sound : (rows : List (List Value)) (i : ℕ) (names : List (List ℕ)) (found : List ColumnShape) → All RowFits rows → All IsName names → check_bounds (columns_over rows i names) ≡ Ok found
     → Columns names found
-unfolding ranged columns_over
+unfolding check_bounds columns_over
 columns_sound rows i [] found fits are e = let same : ◌≡◌ {A = List ColumnShape} [] found = cc e in subst (Columns []) same (All-nil IsSound, refl)
 columns_sound rows i (name ∷ names) found fits are e =
-    let others = ranged (columns_over rows (suc i) names) in
+    let others = check_bounds (columns_over rows (suc i) names) in
     let one = bound (ranged_column (column_over rows i name)) (λ first. others >>= λ rest. Ok (first ∷ rest)) found e in
     let more = bound others (λ rest. Ok (one.0 ∷ rest)) found one.2 in
     let same : one.0 ∷ more.0 ≡ found = cc more.2 in
@@ -192,7 +192,7 @@ inferred_sound table (heading ∷ more) schema named e =
     let names = one.0 in
     let two = bound (bare_rows (length names) 1 more) (λ rows. schema_over table names rows) schema one.2 in
     let rows = two.0 in
-    let three = bound (ranged (columns_over rows 0 names)) (λ found. Ok (table_of table found)) schema two.2 in
+    let three = bound (check_bounds (columns_over rows 0 names)) (λ found. Ok (table_of table found)) schema two.2 in
     let same : table_of table three.0 ≡ schema = cc three.2 in
     let good = heading_sound heading names one.1 in
     let columns = columns_sound rows 0 names three.0 (rows_fit (length names) 1 more rows two.1) good.0.are three.1 in
@@ -205,5 +205,5 @@ inferred_sound table (heading ∷ more) schema named e =
       apart = ap are_apart columns.1 ∙ good.0.apart;
     })
 
-pub inferred_spelled : (table csv : List ℕ) (schema : SchemaShape) → is_name table ≡ true → inferred table csv ≡ Ok schema → IsSchemaText (schema_text schema) schema
+pub inferred_spelled : (table csv : List ℕ) (schema : SchemaShape) → is_name table ≡ true → infer_schema table csv ≡ Ok schema → IsSchemaText (schema_text schema) schema
 inferred_spelled table csv schema named e = shape_spelled schema (inferred_sound table (records_of csv) schema named e)

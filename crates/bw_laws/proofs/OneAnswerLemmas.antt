@@ -10,7 +10,7 @@ use Rattle.bw_model.specs.SchemaText.{SchemaShape, schema_shape}
 use Rattle.bw_io.specs.Source.{Arrival, NotReached, Whole, TooLong, Failed}
 use Rattle.bw_sql.specs.declared.reader.Refusal.{Refusal}
 use Rattle.bw_sql.specs.declared.reader.Refusal.TheVariants.{Syntax, Literal}
-use Rattle.bw_sql.specs.Asked.{Asked, asked}
+use Rattle.bw_sql.specs.Asked.{QueryShape, query_shape}
 use Rattle.bw_sql.specs.Demand.{meets, refusal}
 use Rattle.bw_sql.specs.Frontier.{Begins, Stands, IsFirst, asked_for, at_token, at_sign, at_end}
 use Rattle.bw_sql.specs.Grammar.{StatementIs}
@@ -29,7 +29,7 @@ use Rattle.bw_laws.proofs.OneMeaningLemmas.{one_meaning}
 use Rattle.bw_laws.proofs.SchemaTextLemmas as texts
 
 -- what is spelled under a schema, as far as the demands of one number go, is spelled under one of its shape
-spelled_too : (s t : Schema) (why : Refusal) (tokens : List Lexeme) (query : Asked) → schema_shape s ≡ schema_shape t
+spelled_too : (s t : Schema) (why : Refusal) (tokens : List Lexeme) (query : QueryShape) → schema_shape s ≡ schema_shape t
     → StatementIs s.columns.items (asked_for s why) tokens query → StatementIs t.columns.items (asked_for t why) tokens query
 spelled_too s t why tokens query same spelled =
     subst (λ (name : List ℕ). StatementIs t.columns.items (λ d. not (code_of (refusal d) == code_of why) || meets name t.columns.items d) tokens query)
@@ -67,9 +67,9 @@ fault_too s t text fault same (refused short refusal) = refused short (refusal_t
 -- a statement is read in one way under schemas of one shape
 pub one_reading : (s t : Schema) (text : List ℕ) (reading second : Result Query Fault) → schema_shape s ≡ schema_shape t
     → IsReadAs s text reading → IsReadAs t text second → asked_in reading ≡ asked_in second
-one_reading s t text (Ok query) (Ok other) same a b = ap Ok (text_query t text (asked query) (asked other) (spells_too s t text (asked query) same a) b)
-one_reading s t text (Ok query) (Err fault) same a b = absurd (spelled_or_refused t text (asked query) fault (spells_too s t text (asked query) same a) b)
-one_reading s t text (Err fault) (Ok query) same a b = absurd (spelled_or_refused t text (asked query) fault b (fault_too s t text fault same a))
+one_reading s t text (Ok query) (Ok other) same a b = ap Ok (text_query t text (query_shape query) (query_shape other) (spells_too s t text (query_shape query) same a) b)
+one_reading s t text (Ok query) (Err fault) same a b = absurd (spelled_or_refused t text (query_shape query) fault (spells_too s t text (query_shape query) same a) b)
+one_reading s t text (Err fault) (Ok query) same a b = absurd (spelled_or_refused t text (query_shape query) fault b (fault_too s t text fault same a))
 one_reading s t text (Err fault) (Err other) same a b = ap Err (same_fault t text fault other (fault_too s t text fault same a) b)
 
 -- a schema text is read in one way
@@ -89,12 +89,12 @@ then_alike : {A B : Type 0} (first : Result A Fault) (f g : A → Result B Fault
 then_alike (Ok x) f g alike = alike x
 then_alike (Err fault) f g alike = refl
 
-answer_of_alike : (columns : List Column) (query other : Query) (text : List ℕ) → asked query ≡ asked other → answer_of columns query text ≡ answer_of columns other text
+answer_of_alike : (columns : List Column) (query other : Query) (text : List ℕ) → query_shape query ≡ query_shape other → answer_of columns query text ≡ answer_of columns other text
 answer_of_alike columns query other text same =
     then_alike (rows_of columns text) (λ rows. Ok (csv_text (meaning (names_of columns) query rows))) (λ rows. Ok (csv_text (meaning (names_of columns) other rows)))
     (λ rows. ap (λ (records : List (List (List ℕ))). Ok (csv_text records)) (one_meaning (names_of columns) query other rows same))
 
-answers_alike : (s t : Schema) (query other : Query) (text : List ℕ) → s.columns.items ≡ t.columns.items → asked query ≡ asked other
+answers_alike : (s t : Schema) (query other : Query) (text : List ℕ) → s.columns.items ≡ t.columns.items → query_shape query ≡ query_shape other
     → answer_of s.columns.items query text ≡ answer_of t.columns.items other text
 answers_alike s t query other text columns same =
     ap (λ (cs : List Column). answer_of cs query text) columns ∙ answer_of_alike t.columns.items query other text same
@@ -120,7 +120,7 @@ under_alike : (reading second : Result Schema Fault) (sql : List ℕ) (csv : Arr
     → shape_in reading ≡ shape_in second → IsAnswerUnder reading sql csv given → IsAnswerUnder second sql csv other → given ≡ other
 under_alike (Ok s) (Ok t) sql csv given other same a b =
     let shape : schema_shape s ≡ schema_shape t = cc same in
-    after_alike asked (answer_of s.columns.items) (answer_of t.columns.items) a.0 b.0 csv given other (λ x y text one. answers_alike s t x y text (columns_too s t shape) one)
+    after_alike query_shape (answer_of s.columns.items) (answer_of t.columns.items) a.0 b.0 csv given other (λ x y text one. answers_alike s t x y text (columns_too s t shape) one)
     (one_reading s t sql a.0 b.0 shape a.1 b.1) a.2 b.2
 under_alike (Ok s) (Err fault) sql csv given other same a b = absurd (cc same)
 under_alike (Err fault) (Ok t) sql csv given other same a b = absurd (cc same)

@@ -5,7 +5,7 @@ use Rattle.bw_model.specs.declared.query.Query.{Query}
 use Rattle.bw_model.specs.declared.schema.Schema.{Schema}
 use Rattle.bw_model.specs.Column.{names_of}
 use Rattle.bw_model.specs.Row.{Value}
-use Rattle.bw_sql.specs.Asked.{asked}
+use Rattle.bw_sql.specs.Asked.{query_shape}
 use Rattle.bw_sql.specs.Statement.{Spells}
 use Rattle.bw_sql.proofs.SameNames.{columns_too, spells_too}
 use Rattle.bw_sql.proofs.Texts.{text_query}
@@ -20,7 +20,7 @@ use Rattle.bw_laws.proofs.OneMeaningLemmas.{one_meaning}
 -- a sink took the meaning over these rows of a query that the statement spells under this schema
 pub record TookMeaning (schema : Schema) (rows : List (List Value)) (sql : List ℕ) (old new : Option (List ℕ)) : Type 0 where
   pub query : Query
-  pub spelled : Spells schema sql (asked query)
+  pub spelled : Spells schema sql (query_shape query)
   pub took : Appends old new (csv_text (meaning (names_of schema.columns.items) query rows))
 
 pub took_meaning : (layout : Layout) (schema : Schema) (rows : List (List Value)) (bytes sql : List ℕ) (program old new : Option (List ℕ))
@@ -32,7 +32,7 @@ took_meaning layout schema rows bytes sql program old new is file =
     let columns = columns_too file.schema schema shape in
     record {
       query = file.query;
-      spelled = spells_too file.schema schema sql (asked file.query) shape file.asked.0;
+      spelled = spells_too file.schema schema sql (query_shape file.query) shape file.asked.0;
       took = rw (rows_same, columns) at file.text;
     }
 
@@ -44,5 +44,5 @@ one_answer layout other schema rows bytes others sql program old new second befo
     let a = took_meaning layout schema rows bytes sql program old new is file in
     let b = took_meaning other schema rows others sql second before after also more in
     let names = names_of schema.columns.items in
-    let same = one_meaning names b.query a.query rows (text_query schema sql (asked b.query) (asked a.query) b.spelled a.spelled) in
+    let same = one_meaning names b.query a.query rows (text_query schema sql (query_shape b.query) (query_shape a.query) b.spelled a.spelled) in
     (csv_text (meaning names a.query rows), a.took, subst (λ (records : List (List (List ℕ))). Appends before after (csv_text records)) same b.took)

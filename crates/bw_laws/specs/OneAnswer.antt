@@ -6,13 +6,13 @@ use Rattle.bw_model.specs.declared.schema.Schema.{Schema}
 use Rattle.bw_model.specs.Fault.{◌>>=◌}
 use Rattle.bw_model.specs.Limits.{longest_schema, longest_csv}
 use Rattle.bw_model.specs.SchemaText.{SchemaShape, schema_shape}
-use Rattle.bw_io.specs.Source.{Arrival, Came}
-use Rattle.bw_sql.specs.Asked.{Asked, asked}
+use Rattle.bw_io.specs.Source.{Arrival, ReadOutcome}
+use Rattle.bw_sql.specs.Asked.{QueryShape, query_shape}
 use Rattle.bw_csv_calls.specs.Direct.{IsAnswer}
 
 -- the query that a statement is read as, or its error
-abbrev pub asked_in : Result Query Fault → Result Asked Fault
-asked_in reading = reading >>= λ query. Ok (asked query)
+abbrev pub asked_in : Result Query Fault → Result QueryShape Fault
+asked_in reading = reading >>= λ query. Ok (query_shape query)
 
 -- the name and the columns of the schema that a text is read as, or its error
 abbrev pub shape_in : Result Schema Fault → Result SchemaShape Fault
@@ -23,7 +23,7 @@ pub record CameOf (limit : ℕ) (text : List ℕ) (came : Arrival) : Type 0 wher
   pub left : Option (List ℕ)
   pub before : ℕ
   pub after : ℕ
-  pub is : Came limit (Some text) left before after came
+  pub is : ReadOutcome limit (Some text) left before after came
 
 -- over sources of this schema text and of this CSV text, `direct` may write this answer to the
 -- statement

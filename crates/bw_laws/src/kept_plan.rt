@@ -5,7 +5,7 @@ ghost use Rattle.bw_model.specs.declared.query.Query.{Query};
 ghost use Rattle.bw_model.specs.declared.schema.Schema.{Schema};
 ghost use Rattle.bw_model.specs.Row.{Value};
 ghost use Rattle.bw_model.specs.SchemaText.{IsSchemaText, schema_shape};
-ghost use Rattle.bw_io.specs.Sink.{Wrote, none_aside};
+ghost use Rattle.bw_io.specs.Sink.{WriteOutcome, none_aside};
 ghost use Rattle.bw_file.specs.declared.layout.Layout.{Layout};
 ghost use Rattle.bw_file.specs.FileBytes.{IsFileBytes};
 ghost use Rattle.bw_sql.specs.Statement.{IsReadAs};
@@ -30,7 +30,7 @@ use bw_sql::{one_query_of_a_text, schemas_of_one_shape};
 pub fn a_kept_plan_is_used()
     ensures written { (text sql plan : List ℕ) (given : Result (List ℕ) Fault) (before after : ℕ)
         → IsPlanned text sql given
-        → Wrote {T = Unit {0}} none_aside (Some []) (Some plan) before after given (Ok tt)
+        → WriteOutcome {T = Unit {0}} none_aside (Some []) (Some plan) before after given (Ok tt)
         → IsPlan text sql plan }
     ensures accepted { (text sql plan : List ℕ) (schema : Schema) → IsPlan text sql plan
         → IsSchemaText text (schema_shape schema)

@@ -14,7 +14,7 @@ use Rattle.bw_file.specs.declared.table_reader.TableReader.{TableReader}
 use Rattle.bw_file.specs.AnySegment.{any_is_group, any_layout, any_meaning}
 use Rattle.bw_file.specs.Blocks.{IsSound, form_of, rows_spelled}
 use Rattle.bw_file.specs.Reading.{State}
-use Rattle.bw_file.specs.TableReader.{IsSegmentOf, ReadWhole, SameTable, SoFar, found_so_far, layout_in, rows_given, rows_stated, schema_in}
+use Rattle.bw_file.specs.TableReader.{IsSegmentOf, ReadWhole, SameTable, ReadProgress, found_so_far, layout_in, rows_given, rows_stated, schema_in}
 use Rattle.bw_file.specs.TableReading.{found_as}
 use Rattle.bw_file.proofs.FileSpelling.{read_is_spelled_by}
 use Rattle.bw_file.proofs.MemoryAnswers.{columns_of}
@@ -84,8 +84,8 @@ module _ (first reader next : TableReader) (segment : AnySegment) (count : ℕ) 
 -- all segments, once the end was seen, which counted no row
 pub all_kept : (old now : State) (first reader next : TableReader) (count : ℕ) (kept : List ColumnBlocks) → SameTable first reader
     → KeepSegments (layout_in first) (schema_in first).columns.items (rows_given reader) count kept → rows_given next ≡ rows_given reader → rows_given next ≤ most_rows
-    → ((start : State) → SoFar start old first [] → ReadWhole start now (found_so_far reader (groups_kept (layout_in first) (schema_in first).columns.items (rows_given reader) count kept)))
-    → ((start : State) → SoFar start old first [] → groups_kept (layout_in first) (schema_in first).columns.items (rows_given reader) count kept
+    → ((start : State) → ReadProgress start old first [] → ReadWhole start now (found_so_far reader (groups_kept (layout_in first) (schema_in first).columns.items (rows_given reader) count kept)))
+    → ((start : State) → ReadProgress start old first [] → groups_kept (layout_in first) (schema_in first).columns.items (rows_given reader) count kept
     ≡ groups_of (together (groups_kept (layout_in first) (schema_in first).columns.items (rows_given reader) count kept)))
     → KeptAll old now first (rows_given next) count kept
 all_kept old now first reader next count kept same segments counted few read cut = subst (λ (rows : ℕ). KeptAll old now first rows count kept) (sym counted) (record {
@@ -122,12 +122,12 @@ module _ (first : TableReader) (layout : Layout) (schema : Schema) (rows given c
   groups_made = rw (same_layout, columns, same_rows, same_items) refl
 
   module _ (old now : State) (all : KeptAll old now first rows count kept) where
-    pub cut_made : (start : State) → SoFar start old first [] → groups_kept layout schema.columns.items given count items
+    pub cut_made : (start : State) → ReadProgress start old first [] → groups_kept layout schema.columns.items given count items
         ≡ groups_of (together (groups_kept layout schema.columns.items given count items))
     cut_made start so_far =
         subst (λ (groups : List (List (List Value))). groups ≡ groups_of (together groups)) (sym groups_made) (all.cut start so_far)
 
-    pub came_whole : (start : State) → SoFar start old first [] → CameWhole start now layout schema (together (groups_kept layout schema.columns.items given count items))
+    pub came_whole : (start : State) → ReadProgress start old first [] → CameWhole start now layout schema (together (groups_kept layout schema.columns.items given count items))
     came_whole start so_far =
         subst (λ (kind : Layout). CameWhole start now kind schema (together (groups_kept layout schema.columns.items given count items))) (sym same_layout)
         (subst (λ (groups : List (List (List Value))). CameWhole start now (layout_in first) schema (together groups)) (sym groups_made)

@@ -29,7 +29,8 @@ abbrev pub group_kept : Layout → List Column → ℕ → List ColumnBlocks →
 group_kept layout columns rows kept number =
     rows_spelled layout columns (rows_numbered rows number) (segment_numbered kept number)
 
-unfoldable pub groups_kept : Layout → List Column → ℕ → ℕ → List ColumnBlocks → List (List (List Value))
+unfoldable pub groups_kept : Layout → List Column → ℕ → ℕ → List ColumnBlocks
+    → List (List (List Value))
 groups_kept layout columns rows count kept =
     map (group_kept layout columns rows kept) (range_with_len 0 count)
 
@@ -38,7 +39,8 @@ pub record AddSegment (layout : Layout) (columns : List Column) (bytes : List �
     (old new : List ColumnBlocks) : Type 0 where
   pub keep : (count : ℕ) → KeepBlocks (form_of layout) columns count old
       → KeepBlocks (form_of layout) columns (count + 1) new
-  pub last : (count : ℕ) → KeepBlocks (form_of layout) columns count old → segment_numbered new count ≡ bytes
+  pub last : (count : ℕ) → KeepBlocks (form_of layout) columns count old
+      → segment_numbered new count ≡ bytes
   pub others : (count number : ℕ) → KeepBlocks (form_of layout) columns count old → number < count
       → segment_numbered new number ≡ segment_numbered old number
 

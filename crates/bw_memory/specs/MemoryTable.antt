@@ -22,7 +22,8 @@ schema_of table = table.placement.value.schema
 -- the groups of the rows, one a segment, and all rows
 abbrev pub groups_in : MemoryTable → List (List (List Value))
 groups_in table =
-    groups_kept table.layout table.placement.value.schema.columns.items table.rows table.segments table.columns.items
+    groups_kept table.layout table.placement.value.schema.columns.items table.rows table.segments
+    table.columns.items
 
 abbrev pub rows_of : MemoryTable → List (List Value)
 rows_of table = together (groups_in table)
@@ -37,11 +38,13 @@ meaning_numbered table number =
     record {
       name = (schema_of table).name;
       columns = (schema_of table).columns.items;
-      rows = group_kept table.layout (schema_of table).columns.items table.rows table.columns.items number;
+      rows = group_kept table.layout (schema_of table).columns.items table.rows table.columns.items
+          number;
     }
 
 -- All bytes of a source were taken, none of which could be spared, with no failed read, and they are the table file of
 -- these rows under this schema in this layout.
-pub record CameWhole (start now : State) (layout : Layout) (schema : Schema) (rows : List (List Value)) : Type 0 where
+pub record CameWhole (start now : State) (layout : Layout) (schema : Schema)
+    (rows : List (List Value)) : Type 0 where
   pub read : ReadWhole start now (found_as layout (schema_shape schema) rows)
   pub text : IsFileBytes read.bytes layout schema rows

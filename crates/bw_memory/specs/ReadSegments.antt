@@ -4,7 +4,7 @@ use Rattle.bw_model.specs.Groups.{groups_of, together}
 use Rattle.bw_model.specs.Limits.{most_rows}
 use Rattle.bw_segment.specs.declared.column_blocks.ColumnBlocks.{ColumnBlocks}
 use Rattle.bw_file.specs.Reading.{State}
-use Rattle.bw_file.specs.TableReader.{ReadWhole, SoFar, found_so_far, layout_in, schema_in}
+use Rattle.bw_file.specs.TableReader.{ReadWhole, ReadProgress, found_so_far, layout_in, schema_in}
 use Rattle.bw_file.specs.declared.table_reader.TableReader.{TableReader}
 use Rattle.bw_memory.specs.Kept.{KeepSegments, groups_kept}
 
@@ -14,8 +14,10 @@ pub record KeptAll (old now : State) (reader : TableReader) (rows count : ℕ)
     (columns : List ColumnBlocks) : Type 0 where
   pub segments : KeepSegments (layout_in reader) (schema_in reader).columns.items rows count columns
   pub few : rows ≤ most_rows
-  pub read : (start : State) → SoFar start old reader [] → ReadWhole start now (found_so_far reader
+  pub read : (start : State) → ReadProgress start old reader []
+      → ReadWhole start now (found_so_far reader
       (groups_kept (layout_in reader) (schema_in reader).columns.items rows count columns))
-  pub cut : (start : State) → SoFar start old reader []
+  pub cut : (start : State) → ReadProgress start old reader []
       → groups_kept (layout_in reader) (schema_in reader).columns.items rows count columns
-      ≡ groups_of (together (groups_kept (layout_in reader) (schema_in reader).columns.items rows count columns))
+      ≡ groups_of (together (groups_kept (layout_in reader) (schema_in reader).columns.items rows
+      count columns))

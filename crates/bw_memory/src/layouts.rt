@@ -25,7 +25,7 @@ pub(crate) fn placement_of(
     ensures columns { IfOk result (λ placement.
         placement.value.schema.columns.items ≡ schema.now.columns.items) }
     ensures placed { IfOk result (λ placement. IsPlaced layout placement.value) }
-    ensures only_memory { IsOkUnless result no_memory }
+    ensures only_oom { IsOkUnless result no_memory }
 {
     let placement = match layout {
         Layout::Planes => Placement::of::<Planes>(alloc, schema)?,
@@ -43,7 +43,7 @@ pub(crate) fn no_columns(
 ) -> Result<Vec<ColumnBlocks>, Fault>
     ensures keep { IfOk result (λ columns.
         KeepBlocks (form_of layout) placement.now.schema.columns.items 0 columns.items) }
-    ensures only_memory { IsOkUnless result no_memory }
+    ensures only_oom { IsOkUnless result no_memory }
 {
     match layout {
         Layout::Planes => no_blocks::<Planes>(alloc, placement),
@@ -56,8 +56,9 @@ pub(crate) fn no_columns(
 pub(crate) fn push_segment(columns: &mut [ColumnBlocks], segment: &AnySegment) -> Result<(), Fault>
     requires { length columns.old ≡ length (any_meaning segment.now).columns }
     ensures added { OnOk result ((bytes : List ℕ) × AreOf segment.now bytes
-        × AddSegment (any_layout segment.now) (any_meaning segment.now).columns bytes columns.old columns.new) }
-    ensures only_memory { IsOkUnless result no_memory }
+        × AddSegment (any_layout segment.now) (any_meaning segment.now).columns bytes columns.old
+        columns.new) }
+    ensures only_oom { IsOkUnless result no_memory }
 {
     match segment {
         AnySegment::Planes(segment) => push_blocks::<Planes>(columns, segment),

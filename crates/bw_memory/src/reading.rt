@@ -8,7 +8,7 @@ ghost use Rattle.bw_file.specs.declared.layout.Layout.{Layout};
 ghost use Rattle.bw_file.specs.Blocks.{form_of};
 ghost use Rattle.bw_file.specs.FileBytes.{IsFileBytes};
 ghost use Rattle.bw_file.specs.Reading.{State, state};
-ghost use Rattle.bw_file.specs.TableReader.{AnswersFault, SoFar, bytes_taken, layout_in, rows_given, schema_in, settled};
+ghost use Rattle.bw_file.specs.TableReader.{AnswersFault, ReadProgress, bytes_taken, layout_in, rows_given, schema_in, final_result};
 ghost use Rattle.bw_file.specs.TableReading.{IsTableFault};
 ghost use Rattle.bw_memory.specs.MemoryTable.{CameWhole, layout_of, rows_of, schema_of};
 ghost use Rattle.bw_memory.specs.ReadSegments.{KeptAll};
@@ -42,8 +42,10 @@ impl MemoryTable {
         // Where the bytes to come are known: they were the table's file; and where they are one, it's only a failed read
         // or memory that can refuse it.
         ensures file { (bytes : List ℕ) → S.to_come source.old ≡ Some bytes
-            → IfOk result (λ table. IsFileBytes bytes (layout_of table) (schema_of table) (rows_of table)) }
-        ensures accepted { (bytes : List ℕ) (layout : Layout) (schema : Schema) (rows : List (List Value))
+            → IfOk result (λ table. IsFileBytes bytes (layout_of table) (schema_of table)
+            (rows_of table)) }
+        ensures accepted { (bytes : List ℕ) (layout : Layout) (schema : Schema)
+            (rows : List (List Value))
             → S.to_come source.old ≡ Some bytes → IsFileBytes bytes layout schema rows
             → IfErr result (λ fault. IsTrue (is_input_fault fault)) }
         ensures source { TellsFailure (S.failures source.old) (S.failures source.new) result }
@@ -60,17 +62,21 @@ fn read_table<S: Source>(
     reader: &mut TableReader,
     source: &mut S,
 ) -> Result<MemoryTable, Fault>
-    requires countable { S.failures source.old < 2 ^ 64 - 1 }
-    requires fresh { (rows_given reader.old ≡ 0) × (settled reader.old ≡ None) }
-    requires began { (start : State) × SoFar start
-        (state (S.to_come source.old) (bytes_taken reader.old) (S.failures source.old)) reader.old [] }
+    requires counter_fits { S.failures source.old < 2 ^ 64 - 1 }
+    requires fresh { (rows_given reader.old ≡ 0) × (final_result reader.old ≡ None) }
+    requires began { (start : State) × ReadProgress start
+        (state (S.to_come source.old) (bytes_taken reader.old) (S.failures source.old)) reader.old
+        [] }
     ensures table { IfOk result (λ table. (start : State)
-        → SoFar start (state (S.to_come source.old) (bytes_taken reader.old) (S.failures source.old)) reader.old []
-        → CameWhole start (state (S.to_come source.new) (bytes_taken reader.new) (S.failures source.new))
-        (layout_of table) (schema_of table) (rows_of table)) }
+        → ReadProgress start (state (S.to_come source.old) (bytes_taken reader.old)
+        (S.failures source.old)) reader.old []
+        → CameWhole start (state (S.to_come source.new) (bytes_taken reader.new)
+        (S.failures source.new)) (layout_of table) (schema_of table) (rows_of table)) }
     ensures refused { IfErr result (λ fault. (start : State)
-        → SoFar start (state (S.to_come source.old) (bytes_taken reader.old) (S.failures source.old)) reader.old []
-        → AnswersFault start (state (S.to_come source.old) (bytes_taken reader.old) (S.failures source.old))
+        → ReadProgress start (state (S.to_come source.old) (bytes_taken reader.old)
+        (S.failures source.old)) reader.old []
+        → AnswersFault start (state (S.to_come source.old) (bytes_taken reader.old)
+        (S.failures source.old))
         (state (S.to_come source.new) (bytes_taken reader.new) (S.failures source.new)) fault) }
     ensures fault { IfErr result IsTableFault }
 {
@@ -94,16 +100,19 @@ fn read_segments<S: Source>(
     source: &mut S,
     columns: &mut [ColumnBlocks],
 ) -> Result<u32, Fault>
-    requires countable { S.failures source.old < 2 ^ 64 - 1 }
-    requires fresh { (rows_given reader.old ≡ 0) × (settled reader.old ≡ None) }
-    requires none { KeepBlocks (form_of (layout_in reader.old)) (schema_in reader.old).columns.items 0 columns.old }
+    requires counter_fits { S.failures source.old < 2 ^ 64 - 1 }
+    requires fresh { (rows_given reader.old ≡ 0) × (final_result reader.old ≡ None) }
+    requires none { KeepBlocks (form_of (layout_in reader.old)) (schema_in reader.old).columns.items
+        0 columns.old }
     ensures kept { IfOk result (λ count. KeptAll
         (state (S.to_come source.old) (bytes_taken reader.old) (S.failures source.old))
         (state (S.to_come source.new) (bytes_taken reader.new) (S.failures source.new))
         reader.old (rows_given reader.new) count columns.new) }
     ensures refused { IfErr result (λ fault. (start : State)
-        → SoFar start (state (S.to_come source.old) (bytes_taken reader.old) (S.failures source.old)) reader.old []
-        → AnswersFault start (state (S.to_come source.old) (bytes_taken reader.old) (S.failures source.old))
+        → ReadProgress start (state (S.to_come source.old) (bytes_taken reader.old)
+        (S.failures source.old)) reader.old []
+        → AnswersFault start (state (S.to_come source.old) (bytes_taken reader.old)
+        (S.failures source.old))
         (state (S.to_come source.new) (bytes_taken reader.new) (S.failures source.new)) fault) }
     ensures fault { IfErr result IsTableFault }
 {

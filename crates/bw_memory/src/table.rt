@@ -22,8 +22,9 @@ pub struct MemoryTable {
     pub(crate) segments: u32,
     pub(crate) columns: Vec<ColumnBlocks>,
     ghost placed: { IsPlaced layout placement.value },
-    ghost few: { rows ≤ most_rows },
-    ghost kept: { KeepSegments layout placement.value.schema.columns.items rows segments columns.items },
+    ghost within_limit: { rows ≤ most_rows },
+    ghost kept: { KeepSegments layout placement.value.schema.columns.items rows segments
+        columns.items },
     ghost cut: { groups_kept layout placement.value.schema.columns.items rows segments columns.items
         ≡ groups_of (together
         (groups_kept layout placement.value.schema.columns.items rows segments columns.items)) },
@@ -69,8 +70,9 @@ impl MemoryTable {
         requires layout { form_of (layout_of self.now) ≡ L.packing }
         requires number { number < segments_in self.now }
         ensures means { IfOk result (λ segment.
-            ⟦<PackedSegment<L, NumberedBlocks<'a>> as Segment>⟧.meaning segment ≡ meaning_numbered self.now number) }
-        ensures only_memory { IsOkUnless result no_memory }
+            ⟦<PackedSegment<L, NumberedBlocks<'a>> as Segment>⟧.meaning segment
+            ≡ meaning_numbered self.now number) }
+        ensures only_oom { IsOkUnless result no_memory }
     {
         let placement = self.placement.clone()?;
         let rows = (self.rows - LANES as u32 * number).min(LANES as u32);

@@ -9,14 +9,14 @@ use Rattle.bw_model.specs.declared.cond.Operand.{Operand}
 use Rattle.bw_model.specs.declared.cond.Cond.{Cond, Cond-F, fold-roll-Cond}
 use Rattle.bw_model.specs.declared.cond.Cond.TheVariants.{Always, Cmp, Between, Among, IsNull, And, Or, Not, Test, rolls-Always, rolls-Cmp, rolls-Between, rolls-Among, rolls-IsNull, rolls-And, rolls-Or, rolls-Not, rolls-Test}
 use Rattle.bw_model.specs.Row.{Value}
-use Rattle.bw_model.specs.Truth.{truth_from, all_of, any_of, negation, is_truth, compared, between, among, is_null}
+use Rattle.bw_model.specs.Truth.{truth_from, all_of, any_of, negation, is_truth, compare_values, between, in_list, is_null}
 use Rattle.bw_model.specs.Cond.{truth_of, truth_step, names_within, within_step, operand_value, is_within}
 
 pub truth_of-Always : (row : List Value) → truth_of row Always ≡ Yes
 unfolding truth_of
 truth_of-Always row = ap (truth_of row) (sym rolls-Always) ∙ fold-roll-Cond Truth (truth_step row) Cond-F.Always
 
-pub truth_of-Cmp : (row : List Value) (op : Op) (x y : Operand) → truth_of row (Cmp op x y) ≡ compared op (operand_value row x) (operand_value row y)
+pub truth_of-Cmp : (row : List Value) (op : Op) (x y : Operand) → truth_of row (Cmp op x y) ≡ compare_values op (operand_value row x) (operand_value row y)
 unfolding truth_of
 truth_of-Cmp row op x y = ap (truth_of row) (sym (rolls-Cmp op x y)) ∙ fold-roll-Cond Truth (truth_step row) (Cond-F.Cmp op x y)
 
@@ -24,7 +24,7 @@ pub truth_of-Between : (row : List Value) (x y z : Operand) → truth_of row (Be
 unfolding truth_of
 truth_of-Between row x y z = ap (truth_of row) (sym (rolls-Between x y z)) ∙ fold-roll-Cond Truth (truth_step row) (Cond-F.Between x y z)
 
-pub truth_of-Among : (row : List Value) (x : Operand) (items : Vec Operand Global) → truth_of row (Among x items) ≡ among (operand_value row x) (map (operand_value row) items.items)
+pub truth_of-Among : (row : List Value) (x : Operand) (items : Vec Operand Global) → truth_of row (Among x items) ≡ in_list (operand_value row x) (map (operand_value row) items.items)
 unfolding truth_of
 truth_of-Among row x items = ap (truth_of row) (sym (rolls-Among x items)) ∙ fold-roll-Cond Truth (truth_step row) (Cond-F.Among x items)
 

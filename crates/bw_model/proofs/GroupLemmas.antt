@@ -9,7 +9,7 @@ use Rattle.bw_model.specs.Row.{Value}
 use Rattle.bw_model.specs.Groups.{group_size, groups_within, groups_of, together, lanes_of}
 use Rattle.bw_model.specs.Stored.{no_bits}
 use Rattle.bw_model.specs.Variable.{Assignment, assignment_of, bits_of}
-use Rattle.bw_model.specs.Selection.{positions_from, picked}
+use Rattle.bw_model.specs.Selection.{positions_from, selected_items}
 
 -- more groups than rows change nothing
 within_enough : {A : Type 0} (m n : ℕ) (rows : List A) → length rows ≤ m → length rows ≤ n → groups_within m rows ≡ groups_within n rows
@@ -80,17 +80,17 @@ unfolding groups_of group_size
 groups_of-sizes rows = within_sizes (length rows) rows
 
 -- the items that pass a test are those whose bit it sets, and those at the positions of these bits
-pub filter-picked : {A : Type 0} (test : A → Bool) (items : List A) → filter test items ≡ picked (map test items) items
+pub filter-picked : {A : Type 0} (test : A → Bool) (items : List A) → filter test items ≡ selected_items (map test items) items
 filter-picked test [] = refl
 filter-picked {A = A} test (item ∷ items) = go (test item) (filter-picked test items)
   where
-    go : (b : Bool) → filter test items ≡ picked (map test items) items →
-        cond b (item ∷ filter test items) (filter test items) ≡ picked (b ∷ map test items) (item ∷ items)
+    go : (b : Bool) → filter test items ≡ selected_items (map test items) items →
+        cond b (item ∷ filter test items) (filter test items) ≡ selected_items (b ∷ map test items) (item ∷ items)
     go true later = ap (λ (rest : List A). item ∷ rest) later
     go false later = later
 
 pub picked-positions : {A : Type 0} (d : A) (bits : List Bool) (before items : List A) → length bits ≤ length items →
-    picked bits items ≡ map (λ position. get_or (before ++ items) position d) (positions_from (length before) bits)
+    selected_items bits items ≡ map (λ position. get_or (before ++ items) position d) (positions_from (length before) bits)
 picked-positions d [] before items le = refl
 picked-positions d (bit ∷ bits) before [] le = absurd (omega arith)
 picked-positions {A = A} d (bit ∷ bits) before (item ∷ items) le =
@@ -98,8 +98,8 @@ picked-positions {A = A} d (bit ∷ bits) before (item ∷ items) le =
     go bit (picked-positions d bits (before ++ item ∷ []) items (omega arith)
     ∙ ap₂ (λ (all : List A) (first : ℕ). map (λ position. get_or all position d) (positions_from first bits)) (append_assoc before (item ∷ []) items) longer)
   where
-    go : (b : Bool) → picked bits items ≡ map (λ position. get_or (before ++ item ∷ items) position d) (positions_from (suc (length before)) bits) →
-        picked (b ∷ bits) (item ∷ items) ≡ map (λ position. get_or (before ++ item ∷ items) position d) (positions_from (length before) (b ∷ bits))
+    go : (b : Bool) → selected_items bits items ≡ map (λ position. get_or (before ++ item ∷ items) position d) (positions_from (suc (length before)) bits) →
+        selected_items (b ∷ bits) (item ∷ items) ≡ map (λ position. get_or (before ++ item ∷ items) position d) (positions_from (length before) (b ∷ bits))
     go true later = ap₂ (λ (x : A) (xs : List A). x ∷ xs) (sym (get_or-append_seam before item items d)) later
     go false later = later
 
@@ -116,14 +116,14 @@ positions_from-append position (bit ∷ front) back =
     go false later = later
 
 pub picked-append : {A : Type 0} (front back : List Bool) (items others : List A) → length front ≡ length items →
-    picked (front ++ back) (items ++ others) ≡ picked front items ++ picked back others
+    selected_items (front ++ back) (items ++ others) ≡ selected_items front items ++ selected_items back others
 picked-append [] back [] others same = refl
 picked-append [] back (item ∷ items) others same = absurd (omega arith)
 picked-append (bit ∷ front) back [] others same = absurd (omega arith)
 picked-append {A = A} (bit ∷ front) back (item ∷ items) others same = go bit (picked-append front back items others (omega arith))
   where
-    go : (b : Bool) → picked (front ++ back) (items ++ others) ≡ picked front items ++ picked back others →
-        picked (b ∷ (front ++ back)) (item ∷ (items ++ others)) ≡ picked (b ∷ front) (item ∷ items) ++ picked back others
+    go : (b : Bool) → selected_items (front ++ back) (items ++ others) ≡ selected_items front items ++ selected_items back others →
+        selected_items (b ∷ (front ++ back)) (item ∷ (items ++ others)) ≡ selected_items (b ∷ front) (item ∷ items) ++ selected_items back others
     go true later = ap (λ (rest : List A). item ∷ rest) later
     go false later = later
 

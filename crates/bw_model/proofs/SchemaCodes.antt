@@ -4,7 +4,7 @@ use Rattle.std.specs.List.{list_any}
 use Rattle.std.proofs.Math.Bool.{or-true}
 use Rattle.bw_model.specs.declared.fault.Fault.{Fault}
 use Rattle.bw_model.specs.declared.schema.Schema.{Schema}
-use Rattle.bw_model.specs.Fault.{Gives, is_memory, ◌>>=◌, refused_if, at_line, nowhere}
+use Rattle.bw_model.specs.Fault.{MatchesUnlessOom, is_memory, ◌>>=◌, refused_if, at_line, nowhere}
 use Rattle.bw_text.specs.Lines.{NumberedWords, lines_in, end_in, whole, is_empty}
 use Rattle.bw_model.specs.Name.{is_name}
 use Rattle.bw_model.specs.SchemaText.{ColumnShape, SchemaShape, schema_shape, shape_names, is_range, column_words, table_words, table_on, named_table, column_on, next_column, after_room, columns_on, with_columns, schema_on, schema_of, IsSchemaFault}
@@ -68,6 +68,6 @@ fault_by true text fault m given = memory_so fault m
 fault_by false text fault m given = refused_by (schema_of text) fault (given m) (text_so text)
 
 -- so whatever reads a schema text refuses by one of them, out of memory included
-pub codes_of_schema : (text : List ℕ) (result : Result Schema Fault) → Gives schema_shape result (schema_of text) → IfErr result IsSchemaFault
+pub codes_of_schema : (text : List ℕ) (result : Result Schema Fault) → MatchesUnlessOom schema_shape result (schema_of text) → IfErr result IsSchemaFault
 codes_of_schema text (Ok schema) gives = tt
 codes_of_schema text (Err fault) gives = fault_by (is_memory fault) text fault refl gives

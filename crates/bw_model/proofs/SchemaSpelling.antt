@@ -6,7 +6,7 @@ use Rattle.std.proofs.lemmas.List.{length-map, append-nil, map-append}
 use Rattle.std.proofs.lemmas.List.Folds.{list_any-append}
 use Rattle.bw_model.specs.declared.fault.Fault.{Fault}
 use Rattle.bw_model.specs.declared.schema.Schema.{Schema}
-use Rattle.bw_model.specs.Fault.{Gives, ◌>>=◌, refused_if, at_line, nowhere}
+use Rattle.bw_model.specs.Fault.{MatchesUnlessOom, ◌>>=◌, refused_if, at_line, nowhere}
 use Rattle.bw_text.specs.Lines.{NumberedWords, lines_in, end_in, whole, is_empty}
 use Rattle.bw_model.specs.Name.{is_name, are_apart}
 use Rattle.bw_model.specs.SchemaText.{ColumnShape, SchemaShape, schema_shape, shape_names, is_range, column_words, table_words, table_on, named_table, column_on, next_column, after_room, columns_on, with_columns, schema_on, schema_of, SpellsColumn, SpellsSchema, IsSchemaText}
@@ -166,10 +166,10 @@ read_of text schema h =
     rw short (read_on (lines_in (whole text)) (end_in (whole text)) schema h.1)
 
 -- the same of what a call gave
-pub spelled_from : (text : List ℕ) (result : Result Schema Fault) → Gives schema_shape result (schema_of text) → IfOk result (λ schema. IsSchemaText text (schema_shape schema))
+pub spelled_from : (text : List ℕ) (result : Result Schema Fault) → MatchesUnlessOom schema_shape result (schema_of text) → IfOk result (λ schema. IsSchemaText text (schema_shape schema))
 spelled_from text (Ok schema) e = spelled_of text (schema_shape schema) e
 spelled_from text (Err fault) e = tt
 
-pub accepted_from : (text : List ℕ) (result : Result Schema Fault) → Gives schema_shape result (schema_of text)
-    → (schema : SchemaShape) → IsSchemaText text schema → Gives schema_shape result (Ok schema)
-accepted_from text result e schema h = let P : Result SchemaShape Fault → Type 0 = λ r. Gives schema_shape result r in subst P (read_of text schema h) e
+pub accepted_from : (text : List ℕ) (result : Result Schema Fault) → MatchesUnlessOom schema_shape result (schema_of text)
+    → (schema : SchemaShape) → IsSchemaText text schema → MatchesUnlessOom schema_shape result (Ok schema)
+accepted_from text result e schema h = let P : Result SchemaShape Fault → Type 0 = λ r. MatchesUnlessOom schema_shape result r in subst P (read_of text schema h) e

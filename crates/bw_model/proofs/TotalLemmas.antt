@@ -8,7 +8,7 @@ use Rattle.std.proofs.lemmas.Int.{ints, clamps}
 use Rattle.bw_model.specs.declared.query.Item.{Item}
 use Rattle.bw_model.specs.declared.query.Item.TheVariants.{Plain, CountAll, Count, Sum, Min, Max}
 use Rattle.bw_model.specs.Row.{Value, value_in}
-use Rattle.bw_model.specs.Total.{joined, present, total}
+use Rattle.bw_model.specs.Total.{combine_totals, present, total}
 
 -- totals of some values and others
 reduce_append : (f : ℤ → ℤ → ℤ) → ((a b c : ℤ) → f (f a b) c ≡ f a (f b c)) → (xs ys : List ℤ)
@@ -35,13 +35,13 @@ present_append : (column : ℕ) (rows others : List (List Value)) → present co
 present_append column rows others = filter_map-append (λ row. value_in row column) rows others
 
 -- the total of some rows and others
-pub total_append : (item : Item) (rows others : List (List Value)) → total item (rows ++ others) ≡ joined item (total item rows) (total item others)
+pub total_append : (item : Item) (rows others : List (List Value)) → total item (rows ++ others) ≡ combine_totals item (total item rows) (total item others)
 total_append (Plain column) rows others = refl
 total_append CountAll rows others = ap (λ k. Some (pos k)) (length-append rows others)
 total_append (Count column) rows others = ap (λ xs. Some (pos (length xs))) (present_append column rows others) ∙ ap (λ k. Some (pos k)) (length-append (present column rows) (present column others))
 total_append (Sum column) rows others =
-    ap (reduce (λ a b. a +ℤ b)) (present_append column rows others) ∙ reduce_append (λ a b. a +ℤ b) sum_assoc (present column rows) (present column others) (joined (Sum column)) (λ o. refl) (λ a. refl) (λ a b. refl)
+    ap (reduce (λ a b. a +ℤ b)) (present_append column rows others) ∙ reduce_append (λ a b. a +ℤ b) sum_assoc (present column rows) (present column others) (combine_totals (Sum column)) (λ o. refl) (λ a. refl) (λ a b. refl)
 total_append (Min column) rows others =
-    ap (reduce int_min) (present_append column rows others) ∙ reduce_append int_min min_assoc (present column rows) (present column others) (joined (Min column)) (λ o. refl) (λ a. refl) (λ a b. refl)
+    ap (reduce int_min) (present_append column rows others) ∙ reduce_append int_min min_assoc (present column rows) (present column others) (combine_totals (Min column)) (λ o. refl) (λ a. refl) (λ a b. refl)
 total_append (Max column) rows others =
-    ap (reduce int_max) (present_append column rows others) ∙ reduce_append int_max max_assoc (present column rows) (present column others) (joined (Max column)) (λ o. refl) (λ a. refl) (λ a b. refl)
+    ap (reduce int_max) (present_append column rows others) ∙ reduce_append int_max max_assoc (present column rows) (present column others) (combine_totals (Max column)) (λ o. refl) (λ a. refl) (λ a b. refl)

@@ -8,7 +8,7 @@ use Rattle.bw_model.specs.declared.cond.Operand.TheVariants.{Col, Lit, Null}
 use Rattle.bw_model.specs.declared.cond.Cond.{Cond, Cond-F, fold-Cond}
 use Rattle.bw_model.specs.declared.cond.Cond.TheOpen.{Always, Cmp, Between, Among, IsNull, And, Or, Not, Test}
 use Rattle.bw_model.specs.Row.{Value, value_in}
-use Rattle.bw_model.specs.Truth.{truth_from, all_of, any_of, negation, is_truth, compared, between, among, is_null}
+use Rattle.bw_model.specs.Truth.{truth_from, all_of, any_of, negation, is_truth, compare_values, between, in_list, is_null}
 
 -- the value that an operand has in a row
 abbrev pub operand_value : List Value → Operand → Value
@@ -19,10 +19,10 @@ operand_value row Null = None
 -- the truth of a condition on a row, from the truths of its parts
 abbrev pub truth_step : List Value → Cond-F Truth → Truth
 truth_step row Always = Yes
-truth_step row (Cmp op x y) = compared op (operand_value row x) (operand_value row y)
+truth_step row (Cmp op x y) = compare_values op (operand_value row x) (operand_value row y)
 truth_step row (Between x y z) = between (operand_value row x) (operand_value row y)
     (operand_value row z)
-truth_step row (Among x items) = among (operand_value row x) (map (operand_value row) items.items)
+truth_step row (Among x items) = in_list (operand_value row x) (map (operand_value row) items.items)
 truth_step row (IsNull x) = truth_from (is_null (operand_value row x))
 truth_step row (And parts) = all_of parts.items
 truth_step row (Or parts) = any_of parts.items
@@ -34,8 +34,8 @@ unfoldable pub truth_of : List Value → Cond → Truth
 truth_of row cond = fold-Cond Truth (truth_step row) cond
 
 -- a row matches a condition if it is TRUE: neither FALSE nor UNKNOWN will do
-abbrev pub is_kept : Cond → List Value → Bool
-is_kept cond row = is_truth (truth_of row cond) Yes
+abbrev pub is_match : Cond → List Value → Bool
+is_match cond row = is_truth (truth_of row cond) Yes
 
 -- the operand is a literal, NULL or one of the first `columns` columns
 abbrev pub is_within : ℕ → Operand → Bool

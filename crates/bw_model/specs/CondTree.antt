@@ -9,7 +9,7 @@ use Rattle.bw_model.specs.declared.cond.Operand.{Operand}
 use Rattle.bw_model.specs.declared.cond.Cond.{Cond, Cond-F, fold-Cond}
 use Rattle.bw_model.specs.declared.cond.Cond.TheOpen as layer
 use Rattle.bw_model.specs.Row.{Value}
-use Rattle.bw_model.specs.Truth.{truth_from, all_of, any_of, negation, is_truth, compared, between, among, is_null}
+use Rattle.bw_model.specs.Truth.{truth_from, all_of, any_of, negation, is_truth, compare_values, between, in_list, is_null}
 use Rattle.bw_model.specs.Cond.{operand_value, is_within}
 
 mutual
@@ -51,10 +51,10 @@ tree_of cond = fold-Cond CondTree tree_step cond
 abbrev mutual
   pub tree_truth : List Value → CondTree → Truth
   tree_truth row Always = Yes
-  tree_truth row (Cmp op x y) = compared op (operand_value row x) (operand_value row y)
+  tree_truth row (Cmp op x y) = compare_values op (operand_value row x) (operand_value row y)
   tree_truth row (Between x y z) = between (operand_value row x) (operand_value row y)
       (operand_value row z)
-  tree_truth row (Among x items) = among (operand_value row x) (map (operand_value row) items)
+  tree_truth row (Among x items) = in_list (operand_value row x) (map (operand_value row) items)
   tree_truth row (IsNull x) = truth_from (is_null (operand_value row x))
   tree_truth row (And parts) = all_of (tree_truths row parts)
   tree_truth row (Or parts) = any_of (tree_truths row parts)

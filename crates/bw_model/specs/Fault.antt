@@ -61,6 +61,6 @@ refused_if true fault next = Err fault
 refused_if false fault next = next
 
 -- What a call returned, seen by view, is what is expected, unless it ran out of memory.
-abbrev pub Gives : {A B : Type 0} → (A → B) → Result A Fault → Result B Fault → Type 0
-Gives view (Ok x) expected = expected ≡ Ok (view x)
-Gives view (Err fault) expected = is_memory fault ≡ false → expected ≡ Err fault
+abbrev pub MatchesUnlessOom : {A B : Type 0} → (A → B) → Result A Fault → Result B Fault → Type 0
+MatchesUnlessOom view (Ok x) expected = expected ≡ Ok (view x)
+MatchesUnlessOom view (Err fault) expected = is_memory fault ≡ false → expected ≡ Err fault

@@ -31,10 +31,10 @@ of_both (Max column) a b = int_max a b
 
 -- the aggregate of two lists of rows, from the aggregates of both; null, the aggregate of no
 -- values, adds nothing
-abbrev pub joined : Item → Option ℤ → Option ℤ → Option ℤ
-joined item None others = others
-joined item (Some a) None = Some a
-joined item (Some a) (Some b) = Some (of_both item a b)
+abbrev pub combine_totals : Item → Option ℤ → Option ℤ → Option ℤ
+combine_totals item None others = others
+combine_totals item (Some a) None = Some a
+combine_totals item (Some a) (Some b) = Some (of_both item a b)
 
 -- the item is an aggregate
 abbrev pub is_aggregate : Item → Bool

@@ -65,27 +65,27 @@ holds Le x y = int_le x y
 holds Ge x y = int_le y x
 
 -- the comparison that is true of y and x exactly if this one is true of x and y
-abbrev pub turned : Op → Op
-turned Eq = Eq
-turned Ne = Ne
-turned Lt = Gt
-turned Gt = Lt
-turned Le = Ge
-turned Ge = Le
+abbrev pub swap_operands : Op → Op
+swap_operands Eq = Eq
+swap_operands Ne = Ne
+swap_operands Lt = Gt
+swap_operands Gt = Lt
+swap_operands Le = Ge
+swap_operands Ge = Le
 
 -- a comparison is UNKNOWN if an operand is null
-abbrev pub compared : Op → Value → Value → Truth
-compared op None y = Unknown
-compared op (Some m) None = Unknown
-compared op (Some m) (Some n) = truth_from (holds op m n)
+abbrev pub compare_values : Op → Value → Value → Truth
+compare_values op None y = Unknown
+compare_values op (Some m) None = Unknown
+compare_values op (Some m) (Some n) = truth_from (holds op m n)
 
 -- x BETWEEN y AND z is x >= y AND x <= z
 abbrev pub between : Value → Value → Value → Truth
-between x y z = least (compared Ge x y) (compared Le x z)
+between x y z = least (compare_values Ge x y) (compare_values Le x z)
 
 -- x IN (a, b, ..) is x = a OR x = b OR ..
-abbrev pub among : Value → List Value → Truth
-among x items = any_of (map (compared Eq x) items)
+abbrev pub in_list : Value → List Value → Truth
+in_list x items = any_of (map (compare_values Eq x) items)
 
 -- the value is null
 abbrev pub is_null : Value → Bool

@@ -33,7 +33,7 @@ impl Schema {
     #[tactic(auto, unfolding(crate::specs::Column::column_named))]
     pub fn column_named(&self, name: &[u8]) -> Option<usize>
         ensures named { result ≡ column_named self.now.columns.items name.now }
-        ensures there { IfSome result (λ col. col < length self.now.columns.items) }
+        ensures in_range { IfSome result (λ col. col < length self.now.columns.items) }
     {
         self.columns.iter().position(|column| column.name.is(name))
     }

@@ -1,6 +1,6 @@
 //! Conditions on rows: comparisons of columns and constants, combined by NOT, AND and OR.
 ghost use Rattle.std.specs.Prelude.{◌≡◌};
-ghost use Rattle.bw_model.specs.Truth.{holds, truth_from, turned};
+ghost use Rattle.bw_model.specs.Truth.{holds, truth_from, swap_operands};
 
 /// A truth value of SQL-92: `No` is FALSE and `Yes` is TRUE.
 #[derive(Clone, Copy, Debug, PartialEq, Eq)]
@@ -47,8 +47,8 @@ impl Op {
 
     /// Returns the comparison that is true of `y` and `x` exactly if this one is true of `x` and
     /// `y`.
-    pub const fn turned(self) -> Self
-        ensures { result ≡ turned self }
+    pub const fn swap_operands(self) -> Self
+        ensures { result ≡ swap_operands self }
     {
         match self {
             Op::Eq => Op::Eq,

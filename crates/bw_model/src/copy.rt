@@ -16,7 +16,7 @@ impl Name {
     /// Returns an equal name.
     pub(crate) fn copy(&self, alloc: Global) -> Result<Self, Fault>
         ensures equal { IfOk result (λ name. name ≡ self.now) }
-        ensures only_memory { IsOkUnless result no_memory }
+        ensures only_oom { IsOkUnless result no_memory }
     {
         Ok(Name::new(alloc, self.as_bytes())?)
     }
@@ -26,7 +26,7 @@ impl Column {
     /// Returns an equal column.
     pub(crate) fn copy(&self, alloc: Global) -> Result<Self, Fault>
         ensures equal { IfOk result (λ column. column ≡ self.now) }
-        ensures only_memory { IsOkUnless result no_memory }
+        ensures only_oom { IsOkUnless result no_memory }
     {
         Ok(Column {
             name: self.name.copy(alloc)?,
@@ -42,7 +42,7 @@ impl Schema {
     pub fn copy(&self, alloc: Global) -> Result<Self, Fault>
         ensures name { IfOk result (λ schema. schema.name ≡ self.now.name) }
         ensures columns { IfOk result (λ schema. schema.columns.items ≡ self.now.columns.items) }
-        ensures only_memory { IsOkUnless result no_memory }
+        ensures only_oom { IsOkUnless result no_memory }
     {
         let mut columns = Vec::new(alloc);
         for column in &self.columns {
@@ -70,7 +70,7 @@ impl Cond {
     #[tactic(auto, using(crate::proofs::TreeLemmas::trees))]
     pub fn copy(&self, alloc: Global) -> Result<Self, Fault>
         ensures equal { IfOk result (λ cond. tree_of cond ≡ tree_of self.now) }
-        ensures only_memory { IsOkUnless result no_memory }
+        ensures only_oom { IsOkUnless result no_memory }
     {
         match self {
             Cond::Always => Ok(Cond::Always),
@@ -93,7 +93,7 @@ impl Cond {
 #[cycle(copy)]
 fn copies(alloc: Global, conds: &[Cond]) -> Result<Vec<Cond>, Fault>
     ensures equal { IfOk result (λ copies. map tree_of copies.items ≡ map tree_of conds.now) }
-    ensures only_memory { IsOkUnless result no_memory }
+    ensures only_oom { IsOkUnless result no_memory }
 {
     let mut copies = Vec::new(alloc);
     for cond in conds {

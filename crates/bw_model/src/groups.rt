@@ -5,7 +5,7 @@ ghost use Rattle.bw_model.specs.declared.column.Column.{Column};
 ghost use Rattle.bw_model.specs.Column.{admits_values};
 ghost use Rattle.bw_model.specs.Row.{Value};
 ghost use Rattle.bw_model.specs.Groups.{group_size, groups_of, together, lanes_of};
-ghost use Rattle.bw_model.specs.Selection.{positions_from, positions_of, picked, selection, selected, kept};
+ghost use Rattle.bw_model.specs.Selection.{positions_from, positions_of, selected_items, selection, matching_positions, matching_rows};
 ghost use Rattle.bw_model.specs.Stored.{no_bits};
 ghost use Rattle.bw_model.specs.Variable.{assignment_of, bits_of};
 
@@ -37,18 +37,20 @@ pub fn lanes_are_rows_and_zeros()
 /// A law: a condition's matching rows are those whose bit is 1, and those at its matching
 /// positions. The selections of groups together are the selection of the table.
 pub fn kept_rows_are_selected()
-    ensures bits { (cond : Cond) (rows : List (List Value)) → kept cond rows
-        ≡ picked (selection cond rows) rows }
+    ensures bits { (cond : Cond) (rows : List (List Value)) → matching_rows cond rows
+        ≡ selected_items (selection cond rows) rows }
     ensures positions { (cond : Cond) (rows : List (List Value))
-        → kept cond rows ≡ map (λ position. slice_index_or rows position []) (selected cond rows) }
-    ensures kept { (cond : Cond) (front back : List (List Value)) → kept cond (front ++ back)
-        ≡ kept cond front ++ kept cond back }
+        → matching_rows cond rows ≡ map (λ position. slice_index_or rows position [])
+        (matching_positions cond rows) }
+    ensures kept { (cond : Cond) (front back : List (List Value))
+        → matching_rows cond (front ++ back) ≡ matching_rows cond front ++ matching_rows cond back }
     ensures joined { (front back : List Bool) (position : ℕ)
         → positions_from position (front ++ back) ≡ positions_from position front
         ++ positions_from (position + length front) back }
     ensures picked { (front back : List Bool) (rows others : List (List Value))
         → length front ≡ length rows
-        → picked (front ++ back) (rows ++ others) ≡ picked front rows ++ picked back others }
+        → selected_items (front ++ back) (rows ++ others) ≡ selected_items front rows
+        ++ selected_items back others }
 {}
 
 /// A law: a row that the columns admit has a value for each of them.

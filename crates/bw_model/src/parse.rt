@@ -4,7 +4,7 @@
 ghost use Rattle.std.specs.Prelude.{◌≡◌, ◌<◌, Ok, false, map, length, option_map, pos, ◌≤ℤ◌, ◌<ℤ◌, ◌-ℤ◌, ◌^◌, IfOk, IfErr, IsTrue};
 ghost use Rattle.std.specs.List.{list_any};
 ghost use Rattle.bw_model.specs.Column.{names_of};
-ghost use Rattle.bw_model.specs.Fault.{Gives};
+ghost use Rattle.bw_model.specs.Fault.{MatchesUnlessOom};
 ghost use Rattle.bw_text.specs.Lines.{line_of};
 ghost use Rattle.bw_model.specs.SchemaText.{schema_of, schema_shape, SchemaShape, IsSchemaText, IsSchemaFault, column_shape, column_words, with_bounds, are_not_null, column_on, table_on, is_range, bound_of, signed_digits, words_shape};
 ghost use Rattle.bw_text.specs.Text.{same_text};
@@ -36,10 +36,10 @@ impl Schema {
         // A text that is read spells the schema, and every text that spells one is read.
         ensures spelled { IfOk result (λ schema. IsSchemaText text.now (schema_shape schema)) }
         ensures accepted { (schema : SchemaShape) → IsSchemaText text.now schema
-            → Gives schema_shape result (Ok schema) }
+            → MatchesUnlessOom schema_shape result (Ok schema) }
 
         // A failed call returns the first error of the text.
-        ensures fault { Gives schema_shape result (schema_of text.now) }
+        ensures fault { MatchesUnlessOom schema_shape result (schema_of text.now) }
         ensures code { IfErr result IsSchemaFault }
     {
         read_schema(alloc, text)
@@ -49,7 +49,7 @@ impl Schema {
 /// Reads a schema text line by line.
 #[tactic(auto, unfolding(crate::specs::SchemaText::schema_of, crate::specs::SchemaText::schema_on, crate::specs::SchemaText::columns_on))]
 fn read_schema(alloc: Global, text: &[u8]) -> Result<Schema, Fault>
-    ensures { Gives schema_shape result (schema_of text.now) }
+    ensures { MatchesUnlessOom schema_shape result (schema_of text.now) }
 {
     if text.len() > MAX_SCHEMA_LEN {
         return Err(Fault::new(code::SCHEMA_TOO_LONG));
@@ -73,7 +73,7 @@ fn read_schema(alloc: Global, text: &[u8]) -> Result<Schema, Fault>
 /// Returns the table's name from the line `TABLE name`.
 #[tactic(auto, unfolding(crate::specs::SchemaText::table_words))]
 fn table_of(alloc: Global, line: &Line) -> Result<Name, Fault>
-    ensures { Gives (λ name. name) result (table_on (line_of line.now)) }
+    ensures { MatchesUnlessOom (λ name. name) result (table_on (line_of line.now)) }
 {
     let [keyword, name] = line.words.as_slice() else {
         return Err(Fault::at_line(code::SCHEMA_FORM, line.number));
@@ -180,9 +180,9 @@ fn is_range(lo: i64, hi: i64) -> bool
 /// Returns the column of a line that follows these columns, or the line's first error.
 #[tactic(auto, using(crate::proofs::SchemaLemmas::list_any_names))]
 fn column_of(alloc: Global, line: &Line, before: &[Column]) -> Result<Column, Fault>
-    ensures column { Gives column_shape result
+    ensures column { MatchesUnlessOom column_shape result
         (column_on (names_of before.now) (line_of line.now)) }
-    ensures room { IfOk result (λ column. length before.now < 64) }
+    ensures capacity { IfOk result (λ column. length before.now < 64) }
     ensures apart { IfOk result (λ column. list_any (λ name. same_text name column.name)
         (names_of before.now) ≡ false) }
 {

@@ -19,7 +19,7 @@ impl Row {
     /// Returns an equal row. Fails only if memory is refused.
     pub fn copy(&self, alloc: Global) -> Result<Self, Fault>
         ensures equal { IfOk result (λ row. values_of row ≡ values_of self.now) }
-        ensures only_memory { IsOkUnless result no_memory }
+        ensures only_oom { IsOkUnless result no_memory }
     {
         Ok(Row {
             values: Vec::from_slice(alloc, &self.values)?,

@@ -21,10 +21,10 @@ pub trait RowTaker {
     /// Accepts the next row. Errors: only 801, out of memory, after which no row follows.
     fn take(&mut self, row: &Row) -> Result<(), Fault>
         requires fits { IsTrue (takes self.old (values_of row.now)) }
-        requires room { rows self.old < most_rows }
+        requires capacity { rows self.old < most_rows }
         ensures takes { OnOk result (takes self.new ≡ takes self.old) }
         ensures rows { OnOk result (rows self.new ≡ rows self.old + 1) }
         ensures led { OnOk result ((start : Self) → (before : List (List Value))
             → led start before self.old → led start (before ++ values_of row.now ∷ []) self.new) }
-        ensures only_memory { IfErr result (λ fault. fault ≡ no_memory) };
+        ensures only_oom { IfErr result (λ fault. fault ≡ no_memory) };
 }

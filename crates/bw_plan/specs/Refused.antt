@@ -6,7 +6,8 @@ use Rattle.bw_model.specs.Fault.{stands_nowhere}
 
 -- no program within the limits, or out of memory; neither stands anywhere
 abbrev pub is_refusal : Fault → Bool
-is_refusal fault = ((fault.code == NO_PROGRAM) || (fault.code == OUT_OF_MEMORY)) && stands_nowhere fault.place
+is_refusal fault = ((fault.code == NO_PROGRAM) || (fault.code == OUT_OF_MEMORY))
+    && stands_nowhere fault.place
 
 abbrev pub IsRefusal : Fault → Type 0
 IsRefusal fault = IsTrue (is_refusal fault)

@@ -211,7 +211,7 @@ impl<'a> Code<'a> {
     }
 
     /// A register that isn't needed and holds a plane of this node, from now on needed.
-    fn held(&mut self, node: u32) -> Result<Option<Register>, Refusal> {
+    fn reserve_plane(&mut self, node: u32) -> Result<Option<Register>, Refusal> {
         self.meet()?;
         for (number, register) in self.registers.iter_mut().enumerate() {
             if !register.needed && register.is_plane && register.node == Some(node) {
@@ -243,7 +243,7 @@ impl<'a> Code<'a> {
     /// Returns a register with the plane of a column's bit.
     pub(crate) fn bit(&mut self, column: ColumnIndex, bit: u32) -> Result<Register, Refusal> {
         let node = self.facts.bit(column, bit)?;
-        if let Some(register) = self.held(node)? {
+        if let Some(register) = self.reserve_plane(node)? {
             return Ok(register);
         }
         let place = u8::try_from(bit).map_err(|_| Refusal::NoProgram)?;
@@ -259,7 +259,7 @@ impl<'a> Code<'a> {
         let Some(node) = self.facts.nulls(column)? else {
             return Ok(None);
         };
-        if let Some(register) = self.held(node)? {
+        if let Some(register) = self.reserve_plane(node)? {
             return Ok(Some(register));
         }
         let register = self.claim()?;
@@ -275,7 +275,7 @@ impl<'a> Code<'a> {
             return Ok(None);
         };
         let values = self.facts.row(self.order, Connective::Diff, 1, nulls)?;
-        if let Some(register) = self.held(values.node)? {
+        if let Some(register) = self.reserve_plane(values.node)? {
             return Ok(Some(register));
         }
         let Some(register) = self.nulls(column)? else {
@@ -297,7 +297,7 @@ impl<'a> Code<'a> {
         let start = u32::from(slice) * 8;
         let len = self.facts.width(column).saturating_sub(start).min(8);
         let cited = self.facts.bound(kind, column, start, len, u64::from(byte))?;
-        if let Some(register) = self.held(cited.node)? {
+        if let Some(register) = self.reserve_plane(cited.node)? {
             return Ok(register);
         }
         self.looks = self.looks.saturating_add(1);
@@ -338,7 +338,7 @@ impl<'a> Code<'a> {
     }
 
     /// A new register, which is made a connective of two.
-    pub(crate) fn joined(
+    pub(crate) fn emit_connective(
         &mut self,
         op: Connective,
         left: Register,
@@ -596,7 +596,7 @@ impl<'a> Code<'a> {
         true
     }
 
-    /// Returns the product rows that prove that a register with node `held` at a skip has the value
+    /// Returns the product rows that prove that a register with node `reserve_plane` at a skip has the value
     /// of `node` where skips meet, if it has: the two differ nowhere where the skip's node is 0.
     fn edge(&mut self, tested: u32, held: u32, node: u32) -> Result<Option<EdgeProducts>, Refusal> {
         let differs = self.facts.row(self.order, Connective::Xor, held, node)?;

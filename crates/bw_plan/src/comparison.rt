@@ -81,7 +81,7 @@ pub(crate) fn compare(
             Ok(Comparison::Literal(with_literal(facts, op, column, n)?))
         }
         (Operand::Lit(n), Operand::Col(column)) => {
-            Ok(Comparison::Literal(with_literal(facts, op.turned(), column, n)?))
+            Ok(Comparison::Literal(with_literal(facts, op.swap_operands(), column, n)?))
         }
         (Operand::Col(left), Operand::Col(right)) => {
             Ok(Comparison::Columns(with_column(facts, op, left, right)?))

@@ -11,7 +11,7 @@ use crate::emit;
 use crate::facts::Facts;
 use crate::order::VariableOrder;
 use crate::refusal::Refusal;
-use crate::truths::Wanted;
+use crate::truths::WantedTruths;
 use bw_cert_text::Certificate;
 use bw_diagram::Connective;
 use bw_model::{Cond, Fault, Schema};
@@ -70,17 +70,17 @@ fn program_of(schema: &Schema, cond: &Cond, code: &mut Code<'_>) -> Result<(Prog
     ensures { IfOk result (λ made. IsTrue (fits schema.now.columns.items made.0)) }
 {
     let node = code.begin(cond)?;
-    match programmed(schema, cond, node, code) {
+    match emit_program(schema, cond, node, code) {
         Err(Refusal::NoProgram) => {
             code.begin_again();
-            programmed(schema, cond, node, code)
+            emit_program(schema, cond, node, code)
         }
         made => made,
     }
 }
 
 /// The program of a condition that has this node, and the row that says that its answer has it too.
-fn programmed(
+fn emit_program(
     schema: &Schema,
     cond: &Cond,
     node: u32,
@@ -127,7 +127,7 @@ fn certified(schema: &Schema, code: Code<'_>, row: u32) -> Result<Certificate, R
 
 /// Writes the instructions of a condition, and gives the result register.
 fn written(code: &mut Code<'_>, cond: &Cond) -> Result<Register, Refusal> {
-    let wanted = Wanted {
+    let wanted = WantedTruths {
         yes: true,
         no: false,
     };

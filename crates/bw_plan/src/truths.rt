@@ -12,15 +12,15 @@ use bw_program::{ColumnIndex, Register};
 
 /// Which truths are wanted.
 #[derive(Clone, Copy)]
-pub(crate) struct Wanted {
+pub(crate) struct WantedTruths {
     pub(crate) yes: bool,
     pub(crate) no: bool,
 }
 
-impl Wanted {
+impl WantedTruths {
     /// What is wanted of the opposite.
     fn exchanged(self) -> Self {
-        Wanted {
+        WantedTruths {
             yes: self.no,
             no: self.yes,
         }
@@ -35,15 +35,15 @@ impl Wanted {
 /// The registers that are 1 where a condition is TRUE, and where it is FALSE, of those that are
 /// wanted.
 #[derive(Clone, Copy)]
-pub(crate) struct Halves {
+pub(crate) struct TruthRegisters {
     pub(crate) yes: Option<Register>,
     pub(crate) no: Option<Register>,
 }
 
-impl Halves {
+impl TruthRegisters {
     /// The registers of the opposite.
     fn exchanged(self) -> Self {
-        Halves {
+        TruthRegisters {
             yes: self.no,
             no: self.yes,
         }
@@ -61,7 +61,11 @@ const SKIPPED_PARTS: usize = 16;
 impl Code<'_> {
     /// The registers of a condition.
     #[cycle(truths)]
-    pub(crate) fn truths(&mut self, cond: &Cond, wanted: Wanted) -> Result<Halves, Refusal> {
+    pub(crate) fn truths(
+        &mut self,
+        cond: &Cond,
+        wanted: WantedTruths,
+    ) -> Result<TruthRegisters, Refusal> {
         match cond {
             Cond::Always => self.constant(Truth::Yes, wanted),
             Cond::Cmp(op, x, y) => self.compared(*op, *x, *y, wanted),
@@ -72,7 +76,7 @@ impl Code<'_> {
             Cond::Or(parts) => self.all_joined(true, parts, wanted),
             Cond::Not(part) => Ok(self.truths(part, wanted.exchanged())?.exchanged()),
             Cond::Test(part, truth) => {
-                let needed = Wanted {
+                let needed = WantedTruths {
                     yes: *truth != Truth::No,
                     no: *truth != Truth::Yes,
                 };
@@ -85,7 +89,12 @@ impl Code<'_> {
     /// The registers of parts of which any, or else each, is to hold: first of the part that takes
     /// many registers, if there is one.
     #[cycle(truths)]
-    fn all_joined(&mut self, any: bool, parts: &[Cond], wanted: Wanted) -> Result<Halves, Refusal> {
+    fn all_joined(
+        &mut self,
+        any: bool,
+        parts: &[Cond],
+        wanted: WantedTruths,
+    ) -> Result<TruthRegisters, Refusal> {
         let first = self.waiting()?;
         let leading = leading(parts);
         let mut made = None;
@@ -114,7 +123,7 @@ impl Code<'_> {
     }
 
     /// Skips to the end of parts where the others can change nothing.
-    fn skip_if_settled(&mut self, any: bool, made: Halves) -> Result<(), Refusal> {
+    fn skip_if_settled(&mut self, any: bool, made: TruthRegisters) -> Result<(), Refusal> {
         let made = made.turned(any);
         match (made.yes, made.no) {
             (_, Some(excluded)) => {
@@ -129,7 +138,12 @@ impl Code<'_> {
     }
 
     /// Joins the registers of one part with those of another, which are let go.
-    fn join_parts(&mut self, any: bool, made: Halves, next: Halves) -> Result<(), Refusal> {
+    fn join_parts(
+        &mut self,
+        any: bool,
+        made: TruthRegisters,
+        next: TruthRegisters,
+    ) -> Result<(), Refusal> {
         let (made, next) = (made.turned(any), next.turned(any));
         if let (Some(to), Some(y)) = (made.yes, next.yes) {
             self.join_into(Connective::And, to, y)?;
@@ -141,8 +155,8 @@ impl Code<'_> {
     }
 
     /// The registers of one truth on every row.
-    fn constant(&mut self, truth: Truth, wanted: Wanted) -> Result<Halves, Refusal> {
-        let mut made = Halves {
+    fn constant(&mut self, truth: Truth, wanted: WantedTruths) -> Result<TruthRegisters, Refusal> {
+        let mut made = TruthRegisters {
             yes: None,
             no: None,
         };
@@ -156,7 +170,12 @@ impl Code<'_> {
     }
 
     /// The registers of `IS TRUE`, `IS FALSE` or `IS UNKNOWN`.
-    fn tested(&mut self, truth: Truth, made: Halves, wanted: Wanted) -> Result<Halves, Refusal> {
+    fn tested(
+        &mut self,
+        truth: Truth,
+        made: TruthRegisters,
+        wanted: WantedTruths,
+    ) -> Result<TruthRegisters, Refusal> {
         let (held, negated) = match (truth, made.yes, made.no) {
             (Truth::Yes, Some(held), _) | (Truth::No, _, Some(held)) => (held, false),
             (Truth::Unknown, Some(held), Some(other)) => {
@@ -172,7 +191,7 @@ impl Code<'_> {
     }
 
     /// The registers of `IS NULL`.
-    fn null_tested(&mut self, x: Operand, wanted: Wanted) -> Result<Halves, Refusal> {
+    fn null_tested(&mut self, x: Operand, wanted: WantedTruths) -> Result<TruthRegisters, Refusal> {
         let column = match x {
             Operand::Col(column) => self.facts.column(column)?,
             Operand::Lit(_) => return self.constant(Truth::No, wanted),
@@ -180,7 +199,7 @@ impl Code<'_> {
         };
         if !wanted.yes {
             return match self.values(column)? {
-                Some(values) => Ok(Halves {
+                Some(values) => Ok(TruthRegisters {
                     yes: None,
                     no: Some(values),
                 }),
@@ -199,8 +218,8 @@ impl Code<'_> {
         op: Op,
         x: Operand,
         y: Operand,
-        wanted: Wanted,
-    ) -> Result<Halves, Refusal> {
+        wanted: WantedTruths,
+    ) -> Result<TruthRegisters, Refusal> {
         match compare(&self.facts, op, x, y)? {
             Comparison::Fixed(truth) => self.constant(truth, wanted),
             Comparison::Literal(bound) => self.bounded(bound, wanted),
@@ -209,7 +228,11 @@ impl Code<'_> {
     }
 
     /// The registers of a comparison of a column with a number.
-    fn bounded(&mut self, bound: LiteralComparison, wanted: Wanted) -> Result<Halves, Refusal> {
+    fn bounded(
+        &mut self,
+        bound: LiteralComparison,
+        wanted: WantedTruths,
+    ) -> Result<TruthRegisters, Refusal> {
         let set = Set::of(self.alloc, self.facts.width(bound.column), bound)?;
         self.in_set(bound.column, &set, wanted)
     }
@@ -219,8 +242,8 @@ impl Code<'_> {
         &mut self,
         column: ColumnIndex,
         set: &Set,
-        wanted: Wanted,
-    ) -> Result<Halves, Refusal> {
+        wanted: WantedTruths,
+    ) -> Result<TruthRegisters, Refusal> {
         let first = self.waiting()?;
         let start = self.instrs.len();
         let inside = self.codes(column, &set.bounds)?;
@@ -236,8 +259,8 @@ impl Code<'_> {
         x: Operand,
         y: Operand,
         z: Operand,
-        wanted: Wanted,
-    ) -> Result<Halves, Refusal> {
+        wanted: WantedTruths,
+    ) -> Result<TruthRegisters, Refusal> {
         if let (Operand::Col(column), Operand::Lit(least), Operand::Lit(most)) = (x, y, z) {
             return self.in_range(column, least, most, wanted);
         }
@@ -256,8 +279,8 @@ impl Code<'_> {
         column: usize,
         least: i64,
         most: i64,
-        wanted: Wanted,
-    ) -> Result<Halves, Refusal> {
+        wanted: WantedTruths,
+    ) -> Result<TruthRegisters, Refusal> {
         let column = self.facts.column(column)?;
         let lo = i128::from(self.facts.lo(column)?);
         let (from, to) = (i128::from(least) - lo, i128::from(most) - lo);
@@ -271,8 +294,8 @@ impl Code<'_> {
         &mut self,
         x: Operand,
         items: &[Operand],
-        wanted: Wanted,
-    ) -> Result<Option<Halves>, Refusal> {
+        wanted: WantedTruths,
+    ) -> Result<Option<TruthRegisters>, Refusal> {
         match Set::listed(&self.facts, x, items)? {
             Some((column, set)) => match self.in_set(column, &set, wanted) {
                 Ok(made) => Ok(Some(made)),
@@ -283,7 +306,12 @@ impl Code<'_> {
     }
 
     /// The registers of `IN`: the literals at once, and then what else is in the list.
-    fn among(&mut self, x: Operand, items: &[Operand], wanted: Wanted) -> Result<Halves, Refusal> {
+    fn among(
+        &mut self,
+        x: Operand,
+        items: &[Operand],
+        wanted: WantedTruths,
+    ) -> Result<TruthRegisters, Refusal> {
         let first = self.waiting()?;
         let mut made = self.in_list(x, items, wanted)?;
         let at_once = made.is_some();
@@ -306,7 +334,11 @@ impl Code<'_> {
 
     /// The registers of a comparison of two columns. Its skips meet right after its own
     /// instructions: after a NOT or a null plane, "less so far" would differ by them.
-    fn related(&mut self, relation: ColumnComparison, wanted: Wanted) -> Result<Halves, Refusal> {
+    fn related(
+        &mut self,
+        relation: ColumnComparison,
+        wanted: WantedTruths,
+    ) -> Result<TruthRegisters, Refusal> {
         let first = self.waiting()?;
         self.order = relation.order();
         let held = match relation.terminal() {
@@ -333,9 +365,9 @@ impl Code<'_> {
         held: Register,
         columns: &[u8],
         early: bool,
-        wanted: Wanted,
-    ) -> Result<Halves, Refusal> {
-        let mut made = Halves {
+        wanted: WantedTruths,
+    ) -> Result<TruthRegisters, Refusal> {
+        let mut made = TruthRegisters {
             yes: None,
             no: None,
         };

@@ -7,7 +7,7 @@ use mir.Val.{bool_byte}
 use Rattle.bw_lanes.specs.Lanes.{lanes_of_words}
 use Rattle.bw_lanes.proofs.WordLemmas.{length-lanes_of_words}
 use Rattle.bw_model.specs.Code.{has_bit}
-use Rattle.bw_model.specs.Selection.{picked}
+use Rattle.bw_model.specs.Selection.{selected_items}
 use Rattle.bw_segment.proofs.PickedLemmas.{is_none, picked_where, none_picked, all_picked}
 use Rattle.bw_segment.proofs.DescentLemmas.{IsDescended, choice, sought, next_descended, descended_as, descent_begins, none_chosen}
 use Rattle.bw_planes.specs.Planes.{planes_codes}
@@ -23,7 +23,7 @@ bit_worth false = refl
 
 module _ (g : Bool) (width : ℕ) (bytes lanes : List ℕ) where
   abbrev codes_in : List ℕ → List ℕ
-  codes_in words = picked (lanes_of_words words) (planes_codes width bytes)
+  codes_in words = selected_items (lanes_of_words words) (planes_codes width bytes)
 
   no_codes : (words : List ℕ) → length words ≡ 8 → is_none (codes_in words) ≡ list_all not (lanes_of_words words)
   no_codes words eight = sym (none_picked (lanes_of_words words) (planes_codes width bytes) (omega (arith, codes_long width bytes, length-lanes_of_words words)))
@@ -50,7 +50,7 @@ module _ (g : Bool) (width : ℕ) (bytes lanes : List ℕ) where
   next_left some left found other plane place code head lt eight is plane_is none same_left same_code so_far =
       let bit = width - 1 - place in
       let are : codes_in found ≡ filter (sought g bit) (codes_in left) =
-      ap (λ l. picked l (planes_codes width bytes)) (is ∙ ap (zip2 (λ l p. l && cond g p (not p)) (lanes_of_words left)) plane_is)
+      ap (λ l. selected_items l (planes_codes width bytes)) (is ∙ ap (zip2 (λ l p. l && cond g p (not p)) (lanes_of_words left)) plane_is)
       ∙ picked_where (λ b. cond g b (not b)) (λ n. has_bit n bit) (lanes_of_words left) (planes_codes width bytes) in
       let before = descended_as g _ (codes_in left) _ (width - place) (suc bit) place code _ refl (omega arith) refl so_far in
       descended_as g _ _ _ bit _ (place + 1) _ head

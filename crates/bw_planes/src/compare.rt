@@ -47,7 +47,7 @@ fn low_at_least(width: u32, bytes: &[u8], low: u32, count: u32, c: u64) -> Plane
     let mut at_least = ONES;
     for place in 0..count as usize {
         let plane = plane_of(width, bytes, low as usize + place);
-        at_least = risen(&at_least, &plane, c >> place & 1 == 1);
+        at_least = at_least_step(&at_least, &plane, c >> place & 1 == 1);
     }
     at_least
 }
@@ -88,7 +88,7 @@ fn low_eq(width: u32, bytes: &[u8], low: u32, count: u32, c: u8) -> Plane
     let mut equal = ONES;
     for place in 0..count as usize {
         let plane = plane_of(width, bytes, low as usize + place);
-        equal = narrowed(&equal, &plane, c >> place & 1 == 1);
+        equal = equal_step(&equal, &plane, c >> place & 1 == 1);
     }
     equal
 }
@@ -96,7 +96,7 @@ fn low_eq(width: u32, bytes: &[u8], low: u32, count: u32, c: u8) -> Plane
 /// Returns the lanes that are at least the constant with one bit more, its highest so far. If that
 /// is 1, they are those that have it too and were at least the constant so far; if it is 0, those
 /// that have a 1 or were.
-fn risen(at_least: &Plane, plane: &Plane, one: bool) -> Plane
+fn at_least_step(at_least: &Plane, plane: &Plane, one: bool) -> Plane
     ensures { lanes_of_words result ≡ zip2 (λ a p. if one then a && p else (a || p))
         (lanes_of_words at_least.now) (lanes_of_words plane.now) }
 {
@@ -109,7 +109,7 @@ fn risen(at_least: &Plane, plane: &Plane, one: bool) -> Plane
 
 /// Returns those lanes that have this bit in a plane.
 #[tactic(auto, using(crate::proofs::CompareLemmas::zip2_map_right))]
-pub(crate) fn narrowed(lanes: &Plane, plane: &Plane, one: bool) -> Plane
+pub(crate) fn equal_step(lanes: &Plane, plane: &Plane, one: bool) -> Plane
     ensures { lanes_of_words result ≡ zip2 (λ l p. l && (if one then p else not p))
         (lanes_of_words lanes.now) (lanes_of_words plane.now) }
 {

@@ -3,11 +3,11 @@ ghost use Rattle.std.specs.Prelude.{◌≡◌, ◌*◌, ◌^◌, ◌<◌, ◌≤
 ghost use Rattle.std.specs.List.{list_any, reduce};
 ghost use Rattle.bw_lanes.specs.Lanes.{lanes_of_words};
 ghost use Rattle.bw_model.specs.Code.{has_bit};
-ghost use Rattle.bw_model.specs.Selection.{picked};
+ghost use Rattle.bw_model.specs.Selection.{selected_items};
 ghost use Rattle.bw_model.specs.Stored.{byte_of};
 ghost use Rattle.bw_planes.specs.Planes.{plane_packing, planes_codes};
 
-use crate::compare::{at_least, eq, narrowed};
+use crate::compare::{at_least, eq, equal_step};
 use crate::sum::sum_in_word;
 use bw_lanes::{
     LANES, Plane, Selection, and, bytes_bit, is_zero, load, not, or, push_bit, to_bytes,
@@ -127,7 +127,7 @@ fn chosen_code(width: u32, bytes: &[u8], lanes: &Selection, greatest: bool) -> O
     requires width { (1 ≤ width) × (width ≤ 63) }
     requires size { length bytes.now ≡ 64 * width }
     ensures chosen { result ≡ reduce (if greatest then max else min)
-        (picked (lanes_of_words lanes.now) (planes_codes width bytes.now)) }
+        (selected_items (lanes_of_words lanes.now) (planes_codes width bytes.now)) }
     ensures bound { IfSome result (λ code. code < 2 ^ 63) }
 {
     if is_zero(lanes) {
@@ -137,7 +137,7 @@ fn chosen_code(width: u32, bytes: &[u8], lanes: &Selection, greatest: bool) -> O
     let mut code = 0;
     for place in 0..width {
         let plane = Planes::bit(width, bytes, width - 1 - place);
-        let sought = narrowed(&left, &plane, greatest);
+        let sought = equal_step(&left, &plane, greatest);
         code *= 2;
         if is_zero(&sought) {
             code += u64::from(!greatest);

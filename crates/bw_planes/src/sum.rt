@@ -4,7 +4,7 @@ ghost use Rattle.std.specs.Prelude.{◌≡◌, ◌+◌, ◌-◌, ◌*◌, ◌/�
 ghost use lib.Lanes.{zip2};
 ghost use Rattle.bw_lanes.specs.Lanes.{bits_from_least, lanes_of_bytes};
 ghost use Rattle.bw_model.specs.Code.{has_bit};
-ghost use Rattle.bw_model.specs.Selection.{picked};
+ghost use Rattle.bw_model.specs.Selection.{selected_items};
 ghost use Rattle.bw_planes.specs.Planes.{planes_codes, codes_in_word};
 
 use std::simd::prelude::*;
@@ -15,7 +15,7 @@ pub(crate) fn sum_in_word(width: u32, bytes: &[u8], word: usize, rows: u64) -> u
     requires size { length bytes.now ≡ 64 * width }
     requires word { word < 8 }
     ensures sum { result
-        ≡ sum (picked (bits_from_least 64 rows)
+        ≡ sum (selected_items (bits_from_least 64 rows)
         (codes_in_word word (planes_codes width bytes.now))) }
     ensures bound { result ≤ 2 ^ 69 }
 {
@@ -33,9 +33,10 @@ fn sum_of_bits(width: u32, bytes: &[u8], word: usize, rows: u64, low: u32, count
     requires size { length bytes.now ≡ 64 * width }
     requires word { word < 8 }
     requires bits { low + count ≤ width }
-    requires few { count ≤ 32 }
+    requires within_limit { count ≤ 32 }
     ensures sum { result ≡ sum_by (λ code. code / 2 ^ low % 2 ^ count)
-        (picked (bits_from_least 64 rows) (codes_in_word word (planes_codes width bytes.now))) }
+        (selected_items (bits_from_least 64 rows)
+        (codes_in_word word (planes_codes width bytes.now))) }
     ensures bound { result + 64 ≤ 64 * 2 ^ count }
 {
     let top = (width - low - count) as usize;

@@ -7,7 +7,7 @@ use Rattle.std.proofs.lemmas.Bool.{lt-ltb, le-leb, leb-false, lt-leb}
 use Rattle.std.proofs.lemmas.List.{append-nil, length-map, map-append}
 use Rattle.bw_model.specs.declared.column.Column.{Column}
 use Rattle.bw_model.specs.declared.fault.Fault.{Fault}
-use Rattle.bw_model.specs.Fault.{Gives, at_line, ◌>>=◌, refused_if}
+use Rattle.bw_model.specs.Fault.{MatchesUnlessOom, at_line, ◌>>=◌, refused_if}
 use Rattle.bw_text.specs.Lines.{NumberedWords, lines_in, end_in, whole}
 use Rattle.bw_program.specs.declared.instr.Instr.{Instr}
 use Rattle.bw_program.specs.declared.parse.Placed.{Placed}
@@ -244,7 +244,7 @@ text_is_program columns bytes program is =
 
 -- so a call that reads a text is exact
 abbrev Told : List Column → List ℕ → Result ProgramShape Fault → Type 0
-Told columns bytes result = Gives (λ (program : ProgramShape). program) result (program_of columns bytes)
+Told columns bytes result = MatchesUnlessOom (λ (program : ProgramShape). program) result (program_of columns bytes)
 
 pub spelled_from : (columns : List Column) (bytes : List ℕ) (result : Result ProgramShape Fault) → Told columns bytes result → IfOk result (λ program. IsProgramText columns bytes program)
 spelled_from columns bytes (Ok program) told = text_spelled columns bytes program told
@@ -255,6 +255,6 @@ fits_from columns bytes (Ok program) told = (text_is_program columns bytes progr
 fits_from columns bytes (Err fault) told = tt
 
 pub accepted_from : (columns : List Column) (bytes : List ℕ) (result : Result ProgramShape Fault) → Told columns bytes result → (program : ProgramShape) → IsProgramText columns bytes program →
-    Gives (λ (p : ProgramShape). p) result (Ok program)
+    MatchesUnlessOom (λ (p : ProgramShape). p) result (Ok program)
 accepted_from columns bytes (Ok p) told program is = sym (spelled_text columns bytes program is) ∙ told
 accepted_from columns bytes (Err fault) told program is = λ aside. sym (spelled_text columns bytes program is) ∙ told aside

@@ -12,7 +12,7 @@ use bw_text::{Line, Opcode, natural_number, register_of};
 /// doesn't go forward (504).
 #[tactic(auto, unfolding(crate::specs::ProgramText::instr_on))]
 pub(crate) fn instr_of(schema: &Schema, number: usize, line: &Line) -> Result<Instr, Fault>
-    ensures said { result ≡ instr_on schema.now.columns.items number (line_of line.now) }
+    ensures parsed { result ≡ instr_on schema.now.columns.items number (line_of line.now) }
     ensures fault { IfErr result IsProgramFault }
 {
     let words = line.words.as_slice();
@@ -34,7 +34,7 @@ fn instr_after(
     opcode: Opcode,
     words: &[&[u8]],
 ) -> Result<Instr, Fault>
-    ensures said { result ≡ instr_after schema.now.columns.items number line (Some opcode)
+    ensures parsed { result ≡ instr_after schema.now.columns.items number line (Some opcode)
         (map (λ word. word.now) words.now) }
     ensures fault { IfErr result IsProgramFault }
 {
@@ -69,7 +69,7 @@ fn instr_after(
 }
 
 fn load_of(schema: &Schema, line: u64, words: &[&[u8]]) -> Result<Instr, Fault>
-    ensures said { result ≡ load_on schema.now.columns.items line
+    ensures parsed { result ≡ load_on schema.now.columns.items line
         (map (λ word. word.now) words.now) }
     ensures fault { IfErr result IsProgramFault }
 {
@@ -87,7 +87,7 @@ fn load_of(schema: &Schema, line: u64, words: &[&[u8]]) -> Result<Instr, Fault>
 
 /// Returns an unsigned number, or 501.
 fn natural_on(line: u64, word: &[u8]) -> Result<u64, Fault>
-    ensures said { result ≡ natural_on line word.now }
+    ensures parsed { result ≡ natural_on line word.now }
     ensures fault { IfErr result IsProgramFault }
 {
     natural_number(word).ok_or(Fault::at_line(code::PROGRAM_FORM, line))
@@ -105,7 +105,7 @@ fn register_on(line: u64, word: &[u8]) -> Result<Register, Fault>
 /// Returns a column's number, or 503.
 fn column_on(schema: &Schema, line: u64, word: &[u8]) -> Result<usize, Fault>
     ensures column { result ≡ column_on schema.now.columns.items line word.now }
-    ensures there { IfOk result (λ column. column < length schema.now.columns.items) }
+    ensures in_range { IfOk result (λ column. column < length schema.now.columns.items) }
     ensures fault { IfErr result IsProgramFault }
 {
     schema
@@ -114,7 +114,7 @@ fn column_on(schema: &Schema, line: u64, word: &[u8]) -> Result<usize, Fault>
 }
 
 fn nulls_of(schema: &Schema, line: u64, words: &[&[u8]]) -> Result<Instr, Fault>
-    ensures said { result ≡ nulls_on schema.now.columns.items line
+    ensures parsed { result ≡ nulls_on schema.now.columns.items line
         (map (λ word. word.now) words.now) }
     ensures fault { IfErr result IsProgramFault }
 {
@@ -130,7 +130,7 @@ fn nulls_of(schema: &Schema, line: u64, words: &[&[u8]]) -> Result<Instr, Fault>
 }
 
 fn fill_of(line: u64, words: &[&[u8]]) -> Result<Instr, Fault>
-    ensures said { result ≡ fill_on line (map (λ word. word.now) words.now) }
+    ensures parsed { result ≡ fill_on line (map (λ word. word.now) words.now) }
     ensures fault { IfErr result IsProgramFault }
 {
     let [r, b] = words else {
@@ -146,7 +146,7 @@ fn fill_of(line: u64, words: &[&[u8]]) -> Result<Instr, Fault>
 
 /// Returns three registers.
 fn three_of(line: u64, words: &[&[u8]]) -> Result<(Register, Register, Register), Fault>
-    ensures said { result ≡ three_on line (map (λ word. word.now) words.now) }
+    ensures parsed { result ≡ three_on line (map (λ word. word.now) words.now) }
     ensures fault { IfErr result IsProgramFault }
 {
     let [r, x, y] = words else {
@@ -159,7 +159,7 @@ fn three_of(line: u64, words: &[&[u8]]) -> Result<(Register, Register, Register)
 }
 
 fn not_of(line: u64, words: &[&[u8]]) -> Result<Instr, Fault>
-    ensures said { result ≡ not_on line (map (λ word. word.now) words.now) }
+    ensures parsed { result ≡ not_on line (map (λ word. word.now) words.now) }
     ensures fault { IfErr result IsProgramFault }
 {
     let [r, x] = words else {
@@ -176,7 +176,7 @@ fn byte_of(
     line: u64,
     words: &[&[u8]],
 ) -> Result<(Register, ColumnIndex, SliceIndex, u8), Fault>
-    ensures said { result ≡ byte_on schema.now.columns.items line
+    ensures parsed { result ≡ byte_on schema.now.columns.items line
         (map (λ word. word.now) words.now) }
     ensures fault { IfErr result IsProgramFault }
 {
@@ -197,7 +197,7 @@ fn byte_of(
 }
 
 fn skip_of(number: usize, line: u64, words: &[&[u8]]) -> Result<Instr, Fault>
-    ensures said { result ≡ skip_on number line (map (λ word. word.now) words.now) }
+    ensures parsed { result ≡ skip_on number line (map (λ word. word.now) words.now) }
     ensures fault { IfErr result IsProgramFault }
 {
     let [x, l] = words else {

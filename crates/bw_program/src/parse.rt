@@ -1,6 +1,6 @@
 //! Program texts, read line by line: instructions, then `RESULT x`.
 ghost use Rattle.std.specs.Prelude.{◌≡◌, ◌<◌, ◌≤◌, ℕ, Ok, Err, [], false, length, option_map, IfOk, IfErr, OnOk, IsTrue};
-ghost use Rattle.bw_model.specs.Fault.{Gives, is_memory};
+ghost use Rattle.bw_model.specs.Fault.{MatchesUnlessOom, is_memory};
 ghost use Rattle.bw_text.specs.Lines.{lines_in, end_in};
 ghost use Rattle.bw_program.specs.Program.{ProgramShape, fits, most_instructions};
 ghost use Rattle.bw_program.specs.ProgramText.{program_of, program_on, last_line, finished, instrs_of, within_end, goes_past, IsProgramText, IsProgramFault};
@@ -37,10 +37,10 @@ impl Program {
             (λ program. IsProgramText schema.now.columns.items text.now program) }
         ensures accepted { (program : ProgramShape)
             → IsProgramText schema.now.columns.items text.now program
-            → Gives (λ program. program) result (Ok program) }
+            → MatchesUnlessOom (λ program. program) result (Ok program) }
 
         // A failed call returns the first error of the text.
-        ensures fault { Gives (λ program. program) result
+        ensures fault { MatchesUnlessOom (λ program. program) result
             (program_of schema.now.columns.items text.now) }
         ensures code { IfErr result IsProgramFault }
         ensures fits { IfOk result (λ program. IsTrue (fits schema.now.columns.items program)) }
@@ -58,7 +58,7 @@ pub(crate) struct Placed {
 
 /// Reads a program text line by line.
 fn read_program(alloc: Global, schema: &Schema, text: &[u8]) -> Result<Program, Fault>
-    ensures read { Gives (λ program. program) result
+    ensures read { MatchesUnlessOom (λ program. program) result
         (program_of schema.now.columns.items text.now) }
     ensures code { IfErr result IsProgramFault }
 {
@@ -92,7 +92,7 @@ fn read_lines(
     ensures fault { IfErr result (λ fault. is_memory fault ≡ false
         → program_on schema.now.columns.items [] (lines_in lines.old) (end_in lines.old)
         ≡ Err fault) }
-    ensures few { OnOk result (length placed.new.items ≤ most_instructions) }
+    ensures within_limit { OnOk result (length placed.new.items ≤ most_instructions) }
     ensures below { IfOk result (λ register. register < 64) }
     ensures code { IfErr result IsProgramFault }
 {
@@ -115,7 +115,7 @@ fn read_lines(
 /// Fails if a line follows that of the result.
 fn refuse_more(alloc: Global, mut lines: Lines<'_>) -> Result<(), Fault>
     ensures none { OnOk result ((x : ℕ) → last_line (lines_in lines.entry) x ≡ Ok x) }
-    ensures some { IfErr result (λ fault. is_memory fault ≡ false → (x : ℕ)
+    ensures nonempty { IfErr result (λ fault. is_memory fault ≡ false → (x : ℕ)
         → last_line (lines_in lines.entry) x ≡ Err fault) }
     ensures code { IfErr result IsProgramFault }
 {

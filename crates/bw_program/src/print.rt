@@ -30,7 +30,7 @@ impl Program {
             (λ text. text.items ≡ print_text schema.now.columns.items self.now) }
         ensures spelled { IfOk result
             (λ text. IsProgramText schema.now.columns.items text.items self.now) }
-        ensures only_memory { IsOkUnless result no_memory }
+        ensures only_oom { IsOkUnless result no_memory }
     {
         let _ = &self.instrs;
         schema.has_names_and_bounds();

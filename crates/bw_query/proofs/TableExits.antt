@@ -13,7 +13,7 @@ use Rattle.bw_sql.specs.Refusal.{IsStatementFault, is_statement_fault}
 use Rattle.bw_cert.specs.Judged.{is_file_fault}
 use Rattle.bw_model.specs.Groups.{groups_of, together}
 use Rattle.bw_model.specs.Row.{Value}
-use Rattle.bw_io.specs.Sink.{GoesOut, Wrote, beginning, everything, is_write_fault, none_aside, nothing}
+use Rattle.bw_io.specs.Sink.{GoesOut, WriteOutcome, beginning, everything, is_write_fault, none_aside, nothing}
 use Rattle.bw_io.proofs.SinkLemmas.{no_write_fault, wrote_nothing, wrote_text}
 use Rattle.bw_io.specs.Source.{TellsFailure, failed_by, failed_reads, is_input_fault, is_read_fault}
 use Rattle.bw_file.specs.FileBytes.{IsFileBytes}
@@ -152,22 +152,22 @@ text_gave asks start now schema query scan text scanned asked over =
     record { failures = omega (arith, over.read.failures); answer = found.0 }
 
 -- a fault was answered that is no failed write, and nothing was written
-pub refused : (T : Type 0) (old : Option (List ℕ)) (count : ℕ) (fault : Fault) → is_write_fault fault ≡ false → Wrote {T = T} none_aside old old count count (Err fault) (Err fault)
+pub refused : (T : Type 0) (old : Option (List ℕ)) (count : ℕ) (fault : Fault) → is_write_fault fault ≡ false → WriteOutcome {T = T} none_aside old old count count (Err fault) (Err fault)
 refused T old count fault other = wrote_nothing T none_aside old count fault (Err fault) other (λ _. refl)
 
 -- the text went out whole, or up to a failed write
 pub went : (T : Type 0) (old new : Option (List ℕ)) (before after : ℕ) (text : List ℕ) (result : Result T Fault) → GoesOut {T = T} old new before after text result
-    → Wrote {T = T} none_aside old new before after (Ok text) result
+    → WriteOutcome {T = T} none_aside old new before after (Ok text) result
 went T old new before after text result goes = wrote_text T none_aside old new before after text (Ok text) result refl goes
 
 -- what was answered tells how many reads failed, as what was given does: a failed write is no failed read
-tells_as : (T : Type 0) (old new : Option (List ℕ)) (before after : ℕ) (given : Given) (result : Result T Fault) → Wrote none_aside old new before after given result → failed_by given ≡ failed_by result
+tells_as : (T : Type 0) (old new : Option (List ℕ)) (before after : ℕ) (given : Given) (result : Result T Fault) → WriteOutcome none_aside old new before after given result → failed_by given ≡ failed_by result
 tells_as T old new before after given _ (everything text is _ _) = ap failed_by is
 tells_as T old new before after given _ (beginning text is _ _) = ap failed_by is
 tells_as T old new before after given _ (nothing _ is _ _) = ap failed_by (is refl)
 
 pub tells : (T : Type 0) (asks : Schema → Result Query Fault → Type 0) (start : State) (now : ℕ → State) (old new : Option (List ℕ)) (before after : ℕ) (result : Result T Fault)
-    → (told : Ends asks start now (λ given. Wrote none_aside old new before after given result)) → TellsFailure start.failures (now told.0).failures result
+    → (told : Ends asks start now (λ given. WriteOutcome none_aside old new before after given result)) → TellsFailure start.failures (now told.0).failures result
 tells T asks start now old new before after result told = told.2.failures ∙ ap (λ (n : ℕ). start.failures + n) (tells_as T old new before after told.1 result told.3)
 
 -- faults of a schema, of a statement, of a table file and of a program file, and out of memory, are no failed writes

@@ -27,7 +27,8 @@ abbrev pub IsRejected : List Column → Cond → List ℕ → Type 0
 IsRejected columns cond file = IsUsable (Some file) columns cond → ⊥
 
 -- the first of some program files that is accepted for a condition; none, if none is
-pub data IsFirstUsable (files : List (List ℕ)) (columns : List Column) (cond : Cond) : Option (List ℕ) → Type 0 where
+pub data IsFirstUsable (files : List (List ℕ)) (columns : List Column) (cond : Cond) : Option
+    (List ℕ) → Type 0 where
   first : (number : ℕ) (file : List ℕ) → slice_get files number ≡ Some file
       → All (IsRejected columns cond) (take number files) → IsUsable (Some file) columns cond
       → IsFirstUsable files columns cond (Some file)
@@ -37,12 +38,14 @@ pub data IsFirstUsable (files : List (List ℕ)) (columns : List Column) (cond :
 -- some certificate is valid, or none.
 abbrev pub IsChosenAmong : List (List ℕ) → List Column → Cond → Scan → Type 0
 IsChosenAmong files columns cond scan =
-    (file : Option (List ℕ)) × IsFirstUsable files columns cond file × IsChosen file columns cond scan
+    (file : Option (List ℕ)) × IsFirstUsable files columns cond file
+    × IsChosen file columns cond scan
 
 -- so it is reported
 abbrev pub IsServedAmong : List (List ℕ) → Schema → Query → List (List Value) → Served → Type 0
 IsServedAmong files schema query rows served = (file : Option (List ℕ))
-    × IsFirstUsable files schema.columns.items query.cond file × IsServed file schema query rows served
+    × IsFirstUsable files schema.columns.items query.cond file
+    × IsServed file schema query rows served
 
 -- what a program file yields for a condition: its program, if it's accepted
 abbrev pub IsYield : List ℕ → List Column → Cond → Option Certified → Type 0

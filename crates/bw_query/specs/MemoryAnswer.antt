@@ -11,7 +11,8 @@ use Rattle.bw_answer.specs.Answer.{csv_text, meaning}
 use Rattle.bw_io.specs.Sink.{is_write_fault}
 
 -- the text of the meaning of what is asked under a schema, over rows
-pub record RowsText (asks : Schema → Result Query Fault → Type 0) (schema : Schema) (rows : List (List Value))
+pub record RowsText (asks : Schema → Result Query Fault → Type 0) (schema : Schema)
+    (rows : List (List Value))
     (text : List ℕ) : Type 0 where
   pub query : Query
   pub asked : asks schema (Ok query)
@@ -25,7 +26,8 @@ IsMemoryAnswer asks schema rows (Ok text) = RowsText asks schema rows text
 IsMemoryAnswer asks schema rows (Err fault) = is_memory fault ≡ false → asks schema (Err fault)
 
 -- a sink took the text of the meaning of what is asked, over the rows
-pub record AnswersRows (asks : Schema → Result Query Fault → Type 0) (schema : Schema) (rows : List (List Value))
+pub record AnswersRows (asks : Schema → Result Query Fault → Type 0) (schema : Schema)
+    (rows : List (List Value))
     (old new : Option (List ℕ)) : Type 0 where
   pub query : Query
   pub asked : asks schema (Ok query)

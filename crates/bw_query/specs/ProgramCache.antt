@@ -17,7 +17,8 @@ files_of programs = texts_of programs.files.items
 
 -- a scan that is kept was certified and chosen for its condition
 abbrev pub IsKept : List (List ℕ) → List Column → KeptScan → Type 0
-IsKept files columns kept = IsFor columns kept.cond kept.scan × IsChosenAmong files columns kept.cond kept.scan
+IsKept files columns kept = IsFor columns kept.cond kept.scan
+    × IsChosenAmong files columns kept.cond kept.scan
 
 -- so was each of a cache, for tables of these columns
 abbrev pub Serves : List Column → ProgramCache → Type 0
@@ -32,7 +33,8 @@ HasScan columns programs cond number = (number < length programs.kept.items)
 -- the scan of a number is kept for an equal condition
 abbrev pub IsForEqual : ProgramCache → Cond → ℕ → Type 0
 IsForEqual programs cond number = (number < length programs.kept.items)
-    × ((none : KeptScan) → tree_of cond ≡ tree_of (slice_index_or programs.kept.items number none).cond)
+    × ((none : KeptScan) → tree_of cond
+    ≡ tree_of (slice_index_or programs.kept.items number none).cond)
 
 -- the file of a number has this fault for every condition, and those before it are read; or memory ran out
 abbrev pub IsRejection : List Column → List (List ℕ) → RejectedFile → Type 0

@@ -23,8 +23,10 @@ use Rattle.bw_query.specs.TableAnswer.{group_count}
 pub record ByProgram (program : ProgramShape) (columns : List Column) (rows : List (List Value))
     (served : Served) : Type 0 where
   pub by : served.by ≡ By.Program
-  pub loads : served.loads ≡ sum_by (λ group. (run_over program columns group).loads) (groups_of rows)
-  pub skips : served.skips ≡ sum_by (λ group. (run_over program columns group).skips) (groups_of rows)
+  pub loads : served.loads ≡ sum_by (λ group. (run_over program columns group).loads)
+      (groups_of rows)
+  pub skips : served.skips ≡ sum_by (λ group. (run_over program columns group).skips)
+      (groups_of rows)
 
 -- row by row, with no load and no skip
 pub record ByRows (served : Served) : Type 0 where
@@ -36,15 +38,18 @@ pub record ByRows (served : Served) : Type 0 where
 -- program that with some certificate is, or row by row.
 abbrev pub IsServedBy : Option (List ℕ) → List Column → Cond → List (List Value) → Served → Type 0
 IsServedBy (Some file) columns cond rows served =
-    (program : ProgramShape) × (certificate : CertificateShape) × Certifies columns cond file program certificate
+    (program : ProgramShape) × (certificate : CertificateShape)
+    × Certifies columns cond file program certificate
     × ByProgram program columns rows served
 IsServedBy None columns cond rows served =
-    ((program : ProgramShape) × (certificate : CertificateShape) × Valid columns cond program certificate
+    ((program : ProgramShape) × (certificate : CertificateShape)
+    × Valid columns cond program certificate
     × ByProgram program columns rows served)
     ⊎ ByRows served
 
 -- over the groups of a table's rows
-pub record IsServed (file : Option (List ℕ)) (schema : Schema) (query : Query) (rows : List (List Value))
+pub record IsServed (file : Option (List ℕ)) (schema : Schema) (query : Query)
+    (rows : List (List Value))
     (served : Served) : Type 0 where
   pub segments : served.segments ≡ group_count rows
   pub how : IsServedBy file schema.columns.items query.cond rows served

@@ -8,7 +8,7 @@ use Rattle.bw_model.specs.declared.query.Query.{Query}
 use Rattle.bw_model.specs.declared.schema.Schema.{Schema}
 use Rattle.bw_model.specs.Fault.{is_memory}
 use Rattle.bw_model.specs.Column.{names_of}
-use Rattle.bw_model.specs.Cond.{is_kept}
+use Rattle.bw_model.specs.Cond.{is_match}
 use Rattle.bw_model.specs.Groups.{groups_of}
 use Rattle.bw_model.specs.Row.{Value}
 use Rattle.bw_model.specs.SchemaText.{schema_shape}
@@ -20,7 +20,7 @@ use Rattle.bw_file.specs.declared.layout.Layout.{Layout}
 use Rattle.bw_file.specs.FileBytes.{IsFileBytes}
 use Rattle.bw_file.specs.Reading.{State, Took, GoesOn, Fails, give}
 use Rattle.bw_file.specs.TableReading.{HeaderShape, Found, header}
-use Rattle.bw_file.specs.TableReader.{AreUnfinished, HasFirstFault, NoneToSpare, ReadWhole, SoFar, header_stated, version_in}
+use Rattle.bw_file.specs.TableReader.{AreUnfinished, HasFirstFault, NoneToSpare, ReadWhole, ReadProgress, header_stated, version_in}
 use Rattle.bw_file.specs.declared.table_reader.TableReader.{TableReader}
 use Rattle.bw_query.specs.Scan.{IsScanFault, IsUsable}
 
@@ -32,11 +32,12 @@ pub record HeaderRead (start after : State) (schema : Schema) : Type 0 where
 
 -- a reader has read the header, which stands at the start of its file, and nothing after it
 pub record Began (start now : State) (reader : TableReader) : Type 0 where
-  pub so_far : SoFar start now reader []
+  pub so_far : ReadProgress start now reader []
   pub stated : GoesOn header start (give (header_stated (version_in reader) reader)) now
 
 -- all bytes of the file were taken, and they are the table file of these rows under this schema
-pub record WholeTable (start now : State) (schema : Schema) (rows : List (List Value)) : Type 0 where
+pub record WholeTable (start now : State) (schema : Schema) (rows : List (List Value)) : Type
+    0 where
   pub found : Found
   pub read : ReadWhole start now found
   pub shape : found.schema ≡ schema_shape schema
@@ -44,7 +45,8 @@ pub record WholeTable (start now : State) (schema : Schema) (rows : List (List V
   pub text : IsFileBytes read.bytes found.layout schema rows
 
 -- the text of the meaning of what is asked, over the rows of the table
-pub record TableText (asks : Schema → Result Query Fault → Type 0) (start now : State) (text : List ℕ) : Type 0 where
+pub record TableText (asks : Schema → Result Query Fault → Type 0) (start now : State)
+    (text : List ℕ) : Type 0 where
   pub schema : Schema
   pub rows : List (List Value)
   pub query : Query
@@ -69,7 +71,8 @@ abbrev pub group_count : List (List Value) → ℕ
 group_count rows = length (groups_of rows)
 
 -- the header was read and nothing after it, and what is asked was refused, or memory ran out
-pub record AskedRefused (asks : Schema → Result Query Fault → Type 0) (start now : State) (fault : Fault) : Type 0 where
+pub record AskedRefused (asks : Schema → Result Query Fault → Type 0) (start now : State)
+    (fault : Fault) : Type 0 where
   pub schema : Schema
   pub head : HeaderRead start now schema
   pub asked : is_memory fault ≡ false → asks schema (Err fault)
@@ -93,10 +96,12 @@ pub record SegmentRefused (asks : Schema → Result Query Fault → Type 0) (sta
 -- What is asked of a table file is answered by this text, or by the first fault in the order of the header, what is
 -- asked, and the segments; a failed read is answered in its place in that order, and out of memory at any, where no
 -- more was taken than is needed until then.
-abbrev pub IsTableAnswer : (Schema → Result Query Fault → Type 0) → State → State → Result (List ℕ) Fault → Type 0
+abbrev pub IsTableAnswer : (Schema → Result Query Fault → Type 0) → State → State
+    → Result (List ℕ) Fault → Type 0
 IsTableAnswer asks start now (Ok text) = TableText asks start now text
 IsTableAnswer asks start now (Err fault) =
-    Fails header start now fault ⊎ AskedRefused asks start now fault ⊎ SegmentRefused asks start now fault
+    Fails header start now fault ⊎ AskedRefused asks start now fault
+    ⊎ SegmentRefused asks start now fault
 
 -- so it is by what a source gave, whose failures rose where a failed read is answered
 pub record TableGave (asks : Schema → Result Query Fault → Type 0) (start now : State)
@@ -105,7 +110,8 @@ pub record TableGave (asks : Schema → Result Query Fault → Type 0) (start no
   pub answer : IsTableAnswer asks start now given
 
 -- a statement spells a query, and then a program file has a fault
-pub record ProgramRefused (file : Option (List ℕ)) (sql : List ℕ) (schema : Schema) (fault : Fault) : Type 0 where
+pub record ProgramRefused (file : Option (List ℕ)) (sql : List ℕ) (schema : Schema)
+    (fault : Fault) : Type 0 where
   pub query : Query
   pub asked : IsReadAs schema sql (Ok query)
   pub refused : IsScanFault file schema.columns.items query.cond fault
@@ -113,14 +119,16 @@ pub record ProgramRefused (file : Option (List ℕ)) (sql : List ℕ) (schema : 
 -- A statement is asked, with a program file or without one: it spells a query, for whose condition the file is
 -- accepted; or the statement is refused, or else the file.
 abbrev pub by_statement : Option (List ℕ) → List ℕ → Schema → Result Query Fault → Type 0
-by_statement file sql schema (Ok query) = IsReadAs schema sql (Ok query) × IsUsable file schema.columns.items query.cond
-by_statement file sql schema (Err fault) = IsReadAs schema sql (Err fault) ⊎ ProgramRefused file sql schema fault
+by_statement file sql schema (Ok query) = IsReadAs schema sql (Ok query)
+    × IsUsable file schema.columns.items query.cond
+by_statement file sql schema (Err fault) = IsReadAs schema sql (Err fault)
+    ⊎ ProgramRefused file sql schema fault
 
 -- every row in every column is asked for
 
 pub record IsEveryRow (schema : Schema) (query : Query) : Type 0 where
   pub columns : query.items.items ≡ map Plain (range_with_len 0 (length schema.columns.items))
-  pub rows : (row : List Value) → IsTrue (is_kept query.cond row)
+  pub rows : (row : List Value) → IsTrue (is_match query.cond row)
 
 abbrev pub by_dump : Schema → Result Query Fault → Type 0
 by_dump schema (Ok query) = IsEveryRow schema query

@@ -13,7 +13,7 @@ use Rattle.bw_answer.specs.Over.{GoesOver}
 use Rattle.bw_answer.specs.declared.answer.Answer.{Answer}
 use Rattle.bw_file.specs.Reading.{State}
 use Rattle.bw_file.specs.TableReading.{Found}
-use Rattle.bw_file.specs.TableReader.{ReadWhole, SoFar, found_so_far, schema_in}
+use Rattle.bw_file.specs.TableReader.{ReadWhole, ReadProgress, found_so_far, schema_in}
 use Rattle.bw_file.specs.declared.table_reader.TableReader.{TableReader}
 use Rattle.bw_query.specs.declared.scan.Scan.{Scan}
 use Rattle.bw_query.specs.declared.served.Scanned.{Scanned}
@@ -32,12 +32,15 @@ pub record TookAll (old now : State) (reader : TableReader) (scan : Scan) (befor
   pub groups : List (List (List Value))
   pub over : GoesOver before (together groups) after
   pub counts : IsScanOf (schema_in reader).columns.items scan groups scanned
-  pub read : (start : State) → SoFar start old reader [] → ReadWhole start now (found_so_far reader groups)
-  pub cut : (start : State) → SoFar start old reader [] → groups ≡ groups_of (together groups)
+  pub read : (start : State) → ReadProgress start old reader []
+      → ReadWhole start now (found_so_far reader groups)
+  pub cut : (start : State) → ReadProgress start old reader []
+      → groups ≡ groups_of (together groups)
 
 -- The file was read whole, as a table of this schema and of the rows of groups that were scanned, and the text is that
 -- of the query's meaning over them.
-pub record TextOver (start now : State) (schema : Schema) (query : Query) (scan : Scan) (text : List ℕ)
+pub record TextOver (start now : State) (schema : Schema) (query : Query) (scan : Scan)
+    (text : List ℕ)
     (scanned : Scanned) : Type 0 where
   pub found : Found
   pub groups : List (List (List Value))

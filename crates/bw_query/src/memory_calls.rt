@@ -3,7 +3,7 @@ ghost use Rattle.std.specs.Prelude.{◌≡◌, ◌-◌, ◌^◌, ◌<◌, ℕ, L
 ghost use Rattle.bw_model.specs.declared.fault.Fault.{Fault};
 ghost use Rattle.bw_model.specs.declared.query.Query.{Query};
 ghost use Rattle.bw_model.specs.Fault.{is_memory};
-ghost use Rattle.bw_io.specs.Sink.{Wrote, is_write_fault, none_aside};
+ghost use Rattle.bw_io.specs.Sink.{WriteOutcome, is_write_fault, none_aside};
 ghost use Rattle.bw_memory.specs.MemoryTable.{rows_of, schema_of};
 ghost use Rattle.bw_query.specs.Among.{IsServedAmong};
 ghost use Rattle.bw_query.specs.AnswerText.{text_in};
@@ -42,14 +42,15 @@ pub fn answer_in_memory<K: Sink>(
 ) -> Result<Served, Fault>
     requires { K.failures sink.old < 2 ^ 64 - 1 }
     ensures answer { (given : Result (List ℕ) Fault)
-        × IsMemoryAnswer (by_statement (given_file program.entry) sql.now) (schema_of table.now) (rows_of table.now)
-        given
-        × Wrote none_aside (K.taken sink.old) (K.taken sink.new) (K.failures sink.old) (K.failures sink.new) given
-        result }
+        × IsMemoryAnswer (by_statement (given_file program.entry) sql.now) (schema_of table.now)
+        (rows_of table.now) given
+        × WriteOutcome none_aside (K.taken sink.old) (K.taken sink.new) (K.failures sink.old)
+        (K.failures sink.new) given result }
     ensures served { IfOk result (λ served.
         (found : AnswersRows (by_statement (given_file program.entry) sql.now) (schema_of table.now)
         (rows_of table.now) (K.taken sink.old) (K.taken sink.new))
-        × IsServed (given_file program.entry) (schema_of table.now) found.query (rows_of table.now) served) }
+        × IsServed (given_file program.entry) (schema_of table.now) found.query
+        (rows_of table.now) served) }
 
     // Where the statement spells a query, and the program file is accepted for its condition, it's only the sink or
     // memory that can fail.
@@ -70,12 +71,13 @@ fn answered_in_memory(
     sql: &[u8],
     program: Option<&[u8]>,
 ) -> Result<AnswerText, Fault>
-    ensures answer { IsMemoryAnswer (by_statement (given_file program.entry) sql.now) (schema_of table.now)
-        (rows_of table.now) (text_in result) }
+    ensures answer { IsMemoryAnswer (by_statement (given_file program.entry) sql.now)
+        (schema_of table.now) (rows_of table.now) (text_in result) }
     ensures served { IfOk result (λ answered.
         (found : RowsText (by_statement (given_file program.entry) sql.now) (schema_of table.now)
         (rows_of table.now) answered.text.items)
-        × IsServed (given_file program.entry) (schema_of table.now) found.query (rows_of table.now) answered.served) }
+        × IsServed (given_file program.entry) (schema_of table.now) found.query
+        (rows_of table.now) answered.served) }
     ensures accepted { (query : Query)
         → by_statement (given_file program.entry) sql.now (schema_of table.now) (Ok query)
         → IfErr result (λ fault. IsTrue (is_memory fault)) }
@@ -111,12 +113,13 @@ pub fn answer_with_programs<K: Sink>(
     requires sink { K.failures sink.old < 2 ^ 64 - 1 }
     ensures answer { (given : Result (List ℕ) Fault)
         × IsMemoryAnswer (by_statement None sql.now) (schema_of table.now) (rows_of table.now) given
-        × Wrote none_aside (K.taken sink.old) (K.taken sink.new) (K.failures sink.old) (K.failures sink.new) given
-        result }
+        × WriteOutcome none_aside (K.taken sink.old) (K.taken sink.new) (K.failures sink.old)
+        (K.failures sink.new) given result }
     ensures served { IfOk result (λ served.
         (found : AnswersRows (by_statement None sql.now) (schema_of table.now) (rows_of table.now)
         (K.taken sink.old) (K.taken sink.new))
-        × IsServedAmong (files_of programs.old) (schema_of table.now) found.query (rows_of table.now) served) }
+        × IsServedAmong (files_of programs.old) (schema_of table.now) found.query
+        (rows_of table.now) served) }
 
     // If the statement spells a query, only the sink or memory can fail.
     ensures accepted { (query : Query) → by_statement None sql.now (schema_of table.now) (Ok query)
@@ -145,8 +148,8 @@ fn answered_with_programs(
     ensures served { IfOk result (λ answered.
         (found : RowsText (by_statement None sql.now) (schema_of table.now) (rows_of table.now)
         answered.text.items)
-        × IsServedAmong (files_of programs.old) (schema_of table.now) found.query (rows_of table.now)
-        answered.served) }
+        × IsServedAmong (files_of programs.old) (schema_of table.now) found.query
+        (rows_of table.now) answered.served) }
     ensures accepted { (query : Query) → by_statement None sql.now (schema_of table.now) (Ok query)
         → IfErr result (λ fault. IsTrue (is_memory fault)) }
     ensures fault { IfErr result (λ fault. is_write_fault fault ≡ false) }

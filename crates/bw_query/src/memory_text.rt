@@ -33,15 +33,17 @@ pub(crate) fn memory_text(
     query: &Query,
     scan: &Scan,
 ) -> Result<TableText, Fault>
-    requires items { IsTrue (list_all (item_within (vec_len (schema_of table.now).columns)) query.now.items.items) }
-    requires some { 1 ≤ length query.now.items.items }
+    requires items { IsTrue (list_all (item_within (vec_len (schema_of table.now).columns))
+        query.now.items.items) }
+    requires nonempty { 1 ≤ length query.now.items.items }
     requires kinds { AreOfOneKind query.now.items.items }
     requires scan { IsFor (schema_of table.now).columns.items query.now.cond scan.now }
     ensures text { IfOk result (λ found. found.text.items
-        ≡ csv_text (meaning (names_of (schema_of table.now).columns.items) query.now (rows_of table.now))) }
+        ≡ csv_text (meaning (names_of (schema_of table.now).columns.items) query.now
+        (rows_of table.now))) }
     ensures counts { IfOk result (λ found.
         IsScanOf (schema_of table.now).columns.items scan.now (groups_in table.now) found.scanned) }
-    ensures only_memory { IfErr result (λ fault. fault ≡ no_memory) }
+    ensures only_oom { IfErr result (λ fault. fault ≡ no_memory) }
 {
     let mut answer = empty_answer(alloc, table.schema(), table.rows(), query)?;
     let scanned = take_segments(table, scan, &mut answer)?;
@@ -60,10 +62,10 @@ fn take_segments(
     requires none { answer.old.rows ≡ 0 }
     requires width { answer.old.width ≡ length (schema_of table.now).columns.items }
     requires scan { IsFor (schema_of table.now).columns.items (asked_by answer.old).cond scan.now }
-    ensures over { OnOk result (GoesOver answer.old (rows_of table.now) answer.new) }
+    ensures covers { OnOk result (GoesOver answer.old (rows_of table.now) answer.new) }
     ensures counts { IfOk result (λ scanned.
         IsScanOf (schema_of table.now).columns.items scan.now (groups_in table.now) scanned) }
-    ensures only_memory { IfErr result (λ fault. fault ≡ no_memory) }
+    ensures only_oom { IfErr result (λ fault. fault ≡ no_memory) }
 {
     let counts = answer.counts_rows();
     let mut scanned = Scanned {
@@ -93,17 +95,21 @@ fn take_numbered(
     requires scan { IsFor (schema_of table.now).columns.items (asked_by answer.old).cond scan.now }
     requires counts { counts ≡ true → CountsRows (asked_by answer.old) }
     requires width { answer.old.width ≡ length (schema_of table.now).columns.items }
-    requires room { answer.old.rows + length (meaning_numbered table.now number).rows ≤ most_rows }
-    ensures over { OnOk result (GoesOver answer.old (meaning_numbered table.now number).rows answer.new) }
+    requires capacity { answer.old.rows + length (meaning_numbered table.now number).rows
+        ≤ most_rows }
+    ensures covers { OnOk result
+        (GoesOver answer.old (meaning_numbered table.now number).rows answer.new) }
     ensures width { OnOk result (answer.new.width ≡ answer.old.width) }
     ensures rows { OnOk result
         (answer.new.rows ≡ answer.old.rows + length (meaning_numbered table.now number).rows) }
     ensures loads { IfOk result (λ counts. counts.loads
-        ≡ loads_in (schema_of table.now).columns.items scan.now (meaning_numbered table.now number).rows) }
+        ≡ loads_in (schema_of table.now).columns.items scan.now
+        (meaning_numbered table.now number).rows) }
     ensures skips { IfOk result (λ counts. counts.skips
-        ≡ skips_in (schema_of table.now).columns.items scan.now (meaning_numbered table.now number).rows) }
+        ≡ skips_in (schema_of table.now).columns.items scan.now
+        (meaning_numbered table.now number).rows) }
     ensures bounded { IfOk result (λ counts. counts.loads + counts.skips ≤ 4096) }
-    ensures only_memory { IfErr result (λ fault. fault ≡ no_memory) }
+    ensures only_oom { IfErr result (λ fault. fault ≡ no_memory) }
 {
     match table.layout() {
         Layout::Planes => {

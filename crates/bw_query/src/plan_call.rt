@@ -9,7 +9,7 @@ ghost use Rattle.bw_cert_text.specs.CertificateFields.{certificate_fields};
 ghost use Rattle.bw_cert_text.specs.CertificateShape.{CertificateShape};
 ghost use Rattle.bw_cert_text.specs.Columns.{has_columns};
 ghost use Rattle.bw_cert.specs.Judged.{Certifies};
-ghost use Rattle.bw_io.specs.Sink.{Wrote, none_aside};
+ghost use Rattle.bw_io.specs.Sink.{WriteOutcome, none_aside};
 ghost use Rattle.bw_query.specs.Plan.{IsPlanned, IsPrinted};
 
 use bw_cert::certify;
@@ -35,8 +35,8 @@ pub fn plan_text<K: Sink>(
 ) -> Result<(), Fault>
     requires { K.failures sink.old < 2 ^ 64 - 1 }
     ensures planned { (given : Result (List ℕ) Fault) × IsPlanned schema.now sql.now given
-        × Wrote none_aside (K.taken sink.old) (K.taken sink.new) (K.failures sink.old) (K.failures sink.new) given
-        result }
+        × WriteOutcome none_aside (K.taken sink.old) (K.taken sink.new) (K.failures sink.old)
+        (K.failures sink.new) given result }
 {
     let schema = Schema::parse(alloc, schema)?;
     let query = parse(alloc, &schema, sql)?;
@@ -49,7 +49,8 @@ pub fn plan_text<K: Sink>(
 fn plan_of(alloc: Global, schema: &Schema, cond: &Cond) -> Result<Vec<u8>, Fault>
     requires { IsTrue (names_within (length schema.now.columns.items) cond.now) }
     ensures printed { IfOk result (λ file. IsPrinted schema.now.columns.items file.items) }
-    ensures certifies { IfOk result (λ file. (program : ProgramShape) × (certificate : CertificateShape)
+    ensures certifies { IfOk result (λ file. (program : ProgramShape)
+        × (certificate : CertificateShape)
         × Certifies schema.now.columns.items cond.now file.items program certificate) }
     ensures fault { IfErr result (λ fault. is_memory fault ≡ false → fault ≡ nowhere NO_PROGRAM) }
 {
@@ -73,9 +74,10 @@ fn proposed_file(alloc: Global, schema: &Schema, cond: &Cond) -> Result<Vec<u8>,
 /// Returns the text of a program, the line CERTIFICATE, and the text of a certificate.
 fn file_of(alloc: Global, schema: &Schema, proposal: &Proposal) -> Result<Vec<u8>, Fault>
     requires program { IsTrue (fits schema.now.columns.items proposal.now.program) }
-    requires certificate { IsTrue (has_columns schema.now.columns.items (certificate_fields proposal.now.certificate)) }
+    requires certificate { IsTrue
+        (has_columns schema.now.columns.items (certificate_fields proposal.now.certificate)) }
     ensures printed { IfOk result (λ file. IsPrinted schema.now.columns.items file.items) }
-    ensures only_memory { IfErr result (λ fault. IsTrue (is_memory fault)) }
+    ensures only_oom { IfErr result (λ fault. IsTrue (is_memory fault)) }
 {
     let mut file = proposal.program.print(alloc, schema)?;
     file.extend_from_slice(b"CERTIFICATE\n")?;

@@ -30,7 +30,7 @@ pub struct RejectedFile {
 pub struct ProgramCache {
     pub(crate) files: Vec<Vec<u8>>,
     pub(crate) kept: Vec<KeptScan>,
-    ghost few: { length kept.items ≤ 64 },
+    ghost within_limit: { length kept.items ≤ 64 },
 }
 
 impl ProgramCache {
@@ -50,11 +50,13 @@ impl ProgramCache {
     /// bytes; 501 to 507, its program text; 605, its certificate text. 801 at any time, if memory
     /// is refused.
     pub fn new(alloc: Global, schema: &Schema, files: Vec<Vec<u8>>) -> Result<Self, RejectedFile>
-        ensures serves { IfOk result (λ programs. (columns : List Column) → Serves columns programs) }
+        ensures serves { IfOk result (λ programs. (columns : List Column)
+            → Serves columns programs) }
         ensures files { IfOk result (λ programs. files_of programs ≡ texts_of files.items) }
         ensures read { IfOk result (λ programs.
             All (IsFileRead schema.now.columns.items) (texts_of files.items)) }
-        ensures rejected { IfErr result (IsRejection schema.now.columns.items (texts_of files.items)) }
+        ensures rejected { IfErr result
+            (IsRejection schema.now.columns.items (texts_of files.items)) }
         ensures code { IfErr result (λ rejected. IsTrue (is_file_fault rejected.fault)) }
     {
         for number in 0..files.len() {
@@ -72,7 +74,7 @@ impl ProgramCache {
     /// Returns the number of conditions whose scans are kept: at most 64.
     pub fn conditions(&self) -> usize
         ensures count { result ≡ length self.now.kept.items }
-        ensures few { result ≤ 64 }
+        ensures within_limit { result ≤ 64 }
     {
         self.kept.len()
     }
@@ -91,7 +93,7 @@ impl ProgramCache {
         ensures found { IfOk result (HasScan schema.now.columns.items self.new cond.now) }
         ensures serves { Serves schema.now.columns.items self.new }
         ensures files { files_of self.new ≡ files_of self.old }
-        ensures only_memory { IfErr result (λ fault. IsTrue (is_memory fault)) }
+        ensures only_oom { IfErr result (λ fault. IsTrue (is_memory fault)) }
     {
         certificates_are_for_equal_conditions();
         match self.find(cond) {
@@ -132,7 +134,7 @@ impl ProgramCache {
         ensures found { IfOk result (HasScan schema.now.columns.items self.new cond.now) }
         ensures serves { Serves schema.now.columns.items self.new }
         ensures files { files_of self.new ≡ files_of self.old }
-        ensures only_memory { IfErr result (λ fault. IsTrue (is_memory fault)) }
+        ensures only_oom { IfErr result (λ fault. IsTrue (is_memory fault)) }
     {
         certificates_are_for_equal_conditions();
         let scan = choose(alloc, schema, cond, &self.files)?;
@@ -145,8 +147,9 @@ impl ProgramCache {
 
     /// Drops the first scan, if 64 are kept.
     fn drop_oldest(&mut self)
-        ensures room { length self.new.kept.items < 64 }
-        ensures serves { (columns : List Column) → Serves columns self.old → Serves columns self.new }
+        ensures capacity { length self.new.kept.items < 64 }
+        ensures serves { (columns : List Column) → Serves columns self.old
+            → Serves columns self.new }
         ensures files { files_of self.new ≡ files_of self.old }
     {
         if self.kept.len() >= MAX_KEPT {

@@ -45,7 +45,8 @@ pub(crate) fn scan_for(
 ) -> Result<Scan, Fault>
     requires { IsTrue (names_within (length schema.now.columns.items) cond.now) }
     ensures certified { IfOk result (IsFor schema.now.columns.items cond.now) }
-    ensures chosen { IfOk result (IsChosen (given_file program.entry) schema.now.columns.items cond.now) }
+    ensures chosen { IfOk result
+        (IsChosen (given_file program.entry) schema.now.columns.items cond.now) }
     ensures fault { IfErr result (λ fault. is_memory fault ≡ false
         → IsScanFault (given_file program.entry) schema.now.columns.items cond.now fault) }
     ensures code { IfErr result (λ fault. IsTrue (is_file_fault fault)) }
@@ -56,7 +57,7 @@ pub(crate) fn scan_for(
 {
     match program {
         Some(file) => Ok(Scan::Program(certify(alloc, schema, cond, file)?.certified)),
-        None => planned(alloc, schema, cond),
+        None => plan_and_certify(alloc, schema, cond),
     }
 }
 
@@ -71,8 +72,9 @@ pub(crate) fn choose(
 ) -> Result<Scan, Fault>
     requires { IsTrue (names_within (length schema.now.columns.items) cond.now) }
     ensures certified { IfOk result (IsFor schema.now.columns.items cond.now) }
-    ensures chosen { IfOk result (IsChosenAmong (texts_of files.now) schema.now.columns.items cond.now) }
-    ensures only_memory { IfErr result (λ fault. IsTrue (is_memory fault)) }
+    ensures chosen { IfOk result
+        (IsChosenAmong (texts_of files.now) schema.now.columns.items cond.now) }
+    ensures only_oom { IfErr result (λ fault. IsTrue (is_memory fault)) }
 {
     for number in 0..files.len() {
         match certified_by(alloc, schema, cond, &files[number])? {
@@ -80,12 +82,13 @@ pub(crate) fn choose(
             None => {}
         }
     }
-    planned(alloc, schema, cond)
+    plan_and_certify(alloc, schema, cond)
 }
 
 /// A law: a certificate that is valid for a condition is valid for each equal one.
 pub(crate) fn certificates_are_for_equal_conditions()
-    ensures { (columns : List Column) (cond same : Cond) (program : ProgramShape) (certificate : CertificateShape)
+    ensures { (columns : List Column) (cond same : Cond) (program : ProgramShape)
+        (certificate : CertificateShape)
         → tree_of cond ≡ tree_of same → Valid columns cond program certificate
         → Valid columns same program certificate }
 {
@@ -103,7 +106,7 @@ fn certified_by(
 ) -> Result<Option<Certified>, Fault>
     requires { IsTrue (names_within (length schema.now.columns.items) cond.now) }
     ensures found { IfOk result (IsYield file.now schema.now.columns.items cond.now) }
-    ensures only_memory { IfErr result (λ fault. IsTrue (is_memory fault)) }
+    ensures only_oom { IfErr result (λ fault. IsTrue (is_memory fault)) }
 {
     match certify(alloc, schema, cond, file) {
         Ok(found) => Ok(Some(found.certified)),
@@ -119,11 +122,11 @@ fn certified_by(
 
 /// Returns the planner's program, if it proposes one that the checker accepts; else row by row.
 /// Errors: 801 if memory is refused.
-fn planned(alloc: Global, schema: &Schema, cond: &Cond) -> Result<Scan, Fault>
+fn plan_and_certify(alloc: Global, schema: &Schema, cond: &Cond) -> Result<Scan, Fault>
     requires { IsTrue (names_within (length schema.now.columns.items) cond.now) }
     ensures certified { IfOk result (IsFor schema.now.columns.items cond.now) }
     ensures chosen { IfOk result (IsChosen None schema.now.columns.items cond.now) }
-    ensures only_memory { IfErr result (λ fault. IsTrue (is_memory fault)) }
+    ensures only_oom { IfErr result (λ fault. IsTrue (is_memory fault)) }
     ensures found { (found : Result Certified Fault) × (result ≡ scan_by found) }
 {
     scan_by(accepted(alloc, schema, cond))
@@ -133,8 +136,10 @@ fn planned(alloc: Global, schema: &Schema, cond: &Cond) -> Result<Scan, Fault>
 /// to 610, the checker's; 801 if memory is refused.
 fn accepted(alloc: Global, schema: &Schema, cond: &Cond) -> Result<Certified, Fault>
     requires { IsTrue (names_within (length schema.now.columns.items) cond.now) }
-    ensures certified { IfOk result (λ certified. IsFor schema.now.columns.items cond.now (Program certified)) }
-    ensures chosen { IfOk result (λ certified. IsChosen None schema.now.columns.items cond.now (Program certified)) }
+    ensures certified { IfOk result
+        (λ certified. IsFor schema.now.columns.items cond.now (Program certified)) }
+    ensures chosen { IfOk result (λ certified. IsChosen None schema.now.columns.items cond.now
+        (Program certified)) }
 {
     let proposal = propose(alloc, schema, cond)?;
     match check(alloc, schema, cond, proposal.program, &proposal.certificate) {

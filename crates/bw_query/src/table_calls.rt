@@ -6,7 +6,7 @@ ghost use Rattle.bw_model.specs.declared.fault.Fault.{Fault};
 ghost use Rattle.bw_model.specs.declared.query.Query.{Query};
 ghost use Rattle.bw_model.specs.declared.schema.Schema.{Schema};
 ghost use Rattle.bw_model.specs.Total.{item_within};
-ghost use Rattle.bw_sql.specs.Asked.{Asked};
+ghost use Rattle.bw_sql.specs.Asked.{QueryShape};
 ghost use Rattle.bw_sql.specs.Items.{AreOfOneKind};
 ghost use Rattle.bw_sql.specs.Statement.{Spells};
 ghost use Rattle.bw_model.specs.Fault.{no_memory, is_memory};
@@ -15,8 +15,8 @@ ghost use Rattle.bw_model.specs.SchemaText.{schema_shape};
 ghost use Rattle.bw_file.specs.declared.layout.Layout.{Layout};
 ghost use Rattle.bw_file.specs.FileBytes.{IsFileBytes};
 ghost use Rattle.bw_file.specs.Reading.{State, state};
-ghost use Rattle.bw_file.specs.TableReader.{bytes_taken, rows_given, settled};
-ghost use Rattle.bw_io.specs.Sink.{Wrote, is_write_fault, none_aside};
+ghost use Rattle.bw_file.specs.TableReader.{bytes_taken, rows_given, final_result};
+ghost use Rattle.bw_io.specs.Sink.{WriteOutcome, is_write_fault, none_aside};
 ghost use Rattle.bw_io.specs.Source.{TellsFailure, is_read_fault};
 ghost use Rattle.bw_query.specs.AnswerText.{bytes_in, text_in};
 ghost use Rattle.bw_query.specs.Scan.{IsChosen, IsFor, given_file};
@@ -59,8 +59,8 @@ pub fn answer<S: Source, K: Sink>(
         × TableGave (by_statement (given_file program.entry) sql.now)
         (state (S.to_come table.old) 0 (S.failures table.old))
         (state (S.to_come table.new) offset (S.failures table.new)) given
-        × Wrote none_aside (K.taken sink.old) (K.taken sink.new) (K.failures sink.old) (K.failures sink.new) given
-        result }
+        × WriteOutcome none_aside (K.taken sink.old) (K.taken sink.new) (K.failures sink.old)
+        (K.failures sink.new) given result }
     ensures served { IfOk result (λ served. (offset : ℕ) × (text : List ℕ)
         × (found : TableText (by_statement (given_file program.entry) sql.now)
         (state (S.to_come table.old) 0 (S.failures table.old))
@@ -72,10 +72,11 @@ pub fn answer<S: Source, K: Sink>(
     // the statement spells a query, and the program file is accepted for its condition, it's only a device or memory
     // that can fail.
     ensures file { (bytes : List ℕ) → S.to_come table.old ≡ Some bytes → IfOk result (λ served.
-        (file : AnswersFile (by_statement (given_file program.entry) sql.now) bytes (K.taken sink.old)
-        (K.taken sink.new))
+        (file : AnswersFile (by_statement (given_file program.entry) sql.now) bytes
+        (K.taken sink.old) (K.taken sink.new))
         × IsServed (given_file program.entry) file.schema file.query file.rows served) }
-    ensures accepted { (bytes : List ℕ) (layout : Layout) (schema : Schema) (rows : List (List Value)) (query : Query)
+    ensures accepted { (bytes : List ℕ) (layout : Layout) (schema : Schema)
+        (rows : List (List Value)) (query : Query)
         → S.to_come table.old ≡ Some bytes → IsFileBytes bytes layout schema rows
         → by_statement (given_file program.entry) sql.now schema (Ok query)
         → IfErr result (λ fault. IsTrue (is_no_verdict fault)) }
@@ -110,7 +111,8 @@ fn answered<S: Source>(
         (state (S.to_come table.old) 0 (S.failures table.old))
         (state (S.to_come table.new) offset (S.failures table.new)) answered.text.items)
         × IsServed (given_file program.entry) found.schema found.query found.rows answered.served) }
-    ensures accepted { (bytes : List ℕ) (layout : Layout) (schema : Schema) (rows : List (List Value)) (query : Query)
+    ensures accepted { (bytes : List ℕ) (layout : Layout) (schema : Schema)
+        (rows : List (List Value)) (query : Query)
         → S.to_come table.old ≡ Some bytes → IsFileBytes bytes layout schema rows
         → by_statement (given_file program.entry) sql.now schema (Ok query)
         → IfErr result (λ fault. IsTrue (is_no_verdict fault)) }
@@ -129,21 +131,23 @@ fn answered_after_header<S: Source>(
     sql: &[u8],
     program: Option<&[u8]>,
 ) -> Result<AnswerText, Fault>
-    requires countable { S.failures table.old < 2 ^ 64 - 1 }
-    requires fresh { (rows_given reader.old ≡ 0) × (settled reader.old ≡ None) }
+    requires counter_fits { S.failures table.old < 2 ^ 64 - 1 }
+    requires fresh { (rows_given reader.old ≡ 0) × (final_result reader.old ≡ None) }
     ensures answer { (start : State)
-        → Began start (state (S.to_come table.old) (bytes_taken reader.old) (S.failures table.old)) reader.old
-        → TableGave (by_statement (given_file program.entry) sql.now) start
-        (state (S.to_come table.new) (bytes_taken reader.new) (S.failures table.new)) (text_in result) }
+        → Began start (state (S.to_come table.old) (bytes_taken reader.old) (S.failures table.old))
+        reader.old → TableGave (by_statement (given_file program.entry) sql.now) start
+        (state (S.to_come table.new) (bytes_taken reader.new) (S.failures table.new))
+        (text_in result) }
     ensures served { IfOk result (λ answered. (start : State)
-        → Began start (state (S.to_come table.old) (bytes_taken reader.old) (S.failures table.old)) reader.old
-        → (found : TableText (by_statement (given_file program.entry) sql.now) start
-        (state (S.to_come table.new) (bytes_taken reader.new) (S.failures table.new)) answered.text.items)
+        → Began start (state (S.to_come table.old) (bytes_taken reader.old) (S.failures table.old))
+        reader.old → (found : TableText (by_statement (given_file program.entry) sql.now) start
+        (state (S.to_come table.new) (bytes_taken reader.new) (S.failures table.new))
+        answered.text.items)
         × IsServed (given_file program.entry) found.schema found.query found.rows answered.served) }
-    ensures accepted { (start : State) (bytes : List ℕ) (layout : Layout) (schema : Schema) (rows : List (List Value))
-        (query : Query)
-        → Began start (state (S.to_come table.old) (bytes_taken reader.old) (S.failures table.old)) reader.old
-        → start.known ≡ Some bytes → IsFileBytes bytes layout schema rows
+    ensures accepted { (start : State) (bytes : List ℕ) (layout : Layout) (schema : Schema)
+        (rows : List (List Value)) (query : Query)
+        → Began start (state (S.to_come table.old) (bytes_taken reader.old) (S.failures table.old))
+        reader.old → start.known ≡ Some bytes → IsFileBytes bytes layout schema rows
         → by_statement (given_file program.entry) sql.now schema (Ok query)
         → IfErr result (λ fault. IsTrue (is_no_verdict fault)) }
     ensures fault { IfErr result (λ fault. is_write_fault fault ≡ false) }
@@ -174,14 +178,17 @@ pub(crate) fn prepare(
     sql: &[u8],
     program: Option<&[u8]>,
 ) -> Result<Prepared, Fault>
-    ensures asked { IfOk result (λ prepared. by_statement (given_file program.entry) sql.now schema.now
+    ensures asked { IfOk result
+        (λ prepared. by_statement (given_file program.entry) sql.now schema.now
         (Ok prepared.query)) }
     ensures chosen { IfOk result (λ prepared.
-        IsChosen (given_file program.entry) schema.now.columns.items prepared.query.cond prepared.scan) }
-    ensures certified { IfOk result (λ prepared. IsFor schema.now.columns.items prepared.query.cond prepared.scan) }
+        IsChosen (given_file program.entry) schema.now.columns.items prepared.query.cond
+        prepared.scan) }
+    ensures certified { IfOk result
+        (λ prepared. IsFor schema.now.columns.items prepared.query.cond prepared.scan) }
     ensures items { IfOk result (λ prepared.
         IsTrue (list_all (item_within (vec_len schema.now.columns)) prepared.query.items.items)) }
-    ensures some { IfOk result (λ prepared. 1 ≤ length prepared.query.items.items) }
+    ensures nonempty { IfOk result (λ prepared. 1 ≤ length prepared.query.items.items) }
     ensures kinds { IfOk result (λ prepared. AreOfOneKind prepared.query.items.items) }
     ensures refused { IfErr result (λ fault. is_memory fault ≡ false
         → by_statement (given_file program.entry) sql.now schema.now (Err fault)) }
@@ -189,8 +196,8 @@ pub(crate) fn prepare(
     ensures unread { IfErr result (λ fault. is_read_fault fault ≡ false) }
     // A statement that spells a query under a schema of the same shape, with a program file that is accepted for its
     // condition, is refused only where memory runs out.
-    ensures accepted { (other : Schema) (query : Query) → schema_shape schema.now ≡ schema_shape other
-        → by_statement (given_file program.entry) sql.now other (Ok query)
+    ensures accepted { (other : Schema) (query : Query) → schema_shape schema.now
+        ≡ schema_shape other → by_statement (given_file program.entry) sql.now other (Ok query)
         → IfErr result (λ fault. IsTrue (is_memory fault)) }
 {
     schemas_of_one_shape();
@@ -211,13 +218,14 @@ pub fn dump<S: Source, K: Sink>(alloc: Global, table: &mut S, sink: &mut K) -> R
     ensures answer { (offset : ℕ) × (given : Result (List ℕ) Fault)
         × TableGave by_dump (state (S.to_come table.old) 0 (S.failures table.old))
         (state (S.to_come table.new) offset (S.failures table.new)) given
-        × Wrote none_aside (K.taken sink.old) (K.taken sink.new) (K.failures sink.old) (K.failures sink.new) given
-        result }
+        × WriteOutcome none_aside (K.taken sink.old) (K.taken sink.new) (K.failures sink.old)
+        (K.failures sink.new) given result }
 
     // Where the bytes to come are known, as of [`answer`].
     ensures file { (bytes : List ℕ) → S.to_come table.old ≡ Some bytes
         → OnOk result (AnswersFile by_dump bytes (K.taken sink.old) (K.taken sink.new)) }
-    ensures accepted { (bytes : List ℕ) (layout : Layout) (schema : Schema) (rows : List (List Value))
+    ensures accepted { (bytes : List ℕ) (layout : Layout) (schema : Schema)
+        (rows : List (List Value))
         → S.to_come table.old ≡ Some bytes → IsFileBytes bytes layout schema rows
         → IfErr result (λ fault. IsTrue (is_no_verdict fault)) }
     ensures table { TellsFailure (S.failures table.old) (S.failures table.new) result }
@@ -230,12 +238,14 @@ pub fn dump<S: Source, K: Sink>(alloc: Global, table: &mut S, sink: &mut K) -> R
 /// has ended. Errors are those of [`dump`], without the sink's.
 fn dumped<S: Source>(alloc: Global, table: &mut S) -> Result<Vec<u8>, Fault>
     requires { S.failures table.old < 2 ^ 64 - 1 }
-    ensures answer { (offset : ℕ) × TableGave by_dump (state (S.to_come table.old) 0 (S.failures table.old))
+    ensures answer { (offset : ℕ)
+        × TableGave by_dump (state (S.to_come table.old) 0 (S.failures table.old))
         (state (S.to_come table.new) offset (S.failures table.new)) (bytes_in result) }
     ensures text { IfOk result (λ text. (offset : ℕ) × TableText by_dump
         (state (S.to_come table.old) 0 (S.failures table.old))
         (state (S.to_come table.new) offset (S.failures table.new)) text.items) }
-    ensures accepted { (bytes : List ℕ) (layout : Layout) (schema : Schema) (rows : List (List Value))
+    ensures accepted { (bytes : List ℕ) (layout : Layout) (schema : Schema)
+        (rows : List (List Value))
         → S.to_come table.old ≡ Some bytes → IsFileBytes bytes layout schema rows
         → IfErr result (λ fault. IsTrue (is_no_verdict fault)) }
     ensures fault { IfErr result (λ fault. is_write_fault fault ≡ false) }
@@ -251,19 +261,21 @@ fn dumped_after_header<S: Source>(
     reader: &mut TableReader,
     table: &mut S,
 ) -> Result<Vec<u8>, Fault>
-    requires countable { S.failures table.old < 2 ^ 64 - 1 }
-    requires fresh { (rows_given reader.old ≡ 0) × (settled reader.old ≡ None) }
+    requires counter_fits { S.failures table.old < 2 ^ 64 - 1 }
+    requires fresh { (rows_given reader.old ≡ 0) × (final_result reader.old ≡ None) }
     ensures answer { (start : State)
-        → Began start (state (S.to_come table.old) (bytes_taken reader.old) (S.failures table.old)) reader.old
-        → TableGave by_dump start
-        (state (S.to_come table.new) (bytes_taken reader.new) (S.failures table.new)) (bytes_in result) }
+        → Began start (state (S.to_come table.old) (bytes_taken reader.old) (S.failures table.old))
+        reader.old → TableGave by_dump start
+        (state (S.to_come table.new) (bytes_taken reader.new) (S.failures table.new))
+        (bytes_in result) }
     ensures text { IfOk result (λ text. (start : State)
-        → Began start (state (S.to_come table.old) (bytes_taken reader.old) (S.failures table.old)) reader.old
-        → TableText by_dump start
+        → Began start (state (S.to_come table.old) (bytes_taken reader.old) (S.failures table.old))
+        reader.old → TableText by_dump start
         (state (S.to_come table.new) (bytes_taken reader.new) (S.failures table.new)) text.items) }
-    ensures accepted { (start : State) (bytes : List ℕ) (layout : Layout) (schema : Schema) (rows : List (List Value))
-        → Began start (state (S.to_come table.old) (bytes_taken reader.old) (S.failures table.old)) reader.old
-        → start.known ≡ Some bytes → IsFileBytes bytes layout schema rows
+    ensures accepted { (start : State) (bytes : List ℕ) (layout : Layout) (schema : Schema)
+        (rows : List (List Value))
+        → Began start (state (S.to_come table.old) (bytes_taken reader.old) (S.failures table.old))
+        reader.old → start.known ≡ Some bytes → IsFileBytes bytes layout schema rows
         → IfErr result (λ fault. IsTrue (is_no_verdict fault)) }
     ensures fault { IfErr result (λ fault. is_write_fault fault ≡ false) }
 {
@@ -281,9 +293,9 @@ fn every_row(alloc: Global, schema: &Schema) -> Result<Query, Fault>
     ensures every { IfOk result (IsEveryRow schema.now) }
     ensures items { IfOk result (λ query. IsTrue (list_all (item_within
         (vec_len schema.now.columns)) query.items.items)) }
-    ensures some { IfOk result (λ query. 1 ≤ length query.items.items) }
+    ensures nonempty { IfOk result (λ query. 1 ≤ length query.items.items) }
     ensures kinds { IfOk result (λ query. AreOfOneKind query.items.items) }
-    ensures only_memory { IfErr result (λ fault. fault ≡ no_memory) }
+    ensures only_oom { IfErr result (λ fault. fault ≡ no_memory) }
 {
     let mut items = Vec::with_capacity(alloc, schema.columns.len())?;
     for column in 0..schema.columns.len() {

@@ -13,7 +13,7 @@ ghost use Rattle.bw_answer.specs.declared.answer.Answer.{Answer};
 ghost use Rattle.bw_io.specs.Sink.{is_write_fault};
 ghost use Rattle.bw_file.specs.AnySegment.{any_meaning};
 ghost use Rattle.bw_file.specs.Reading.{State, state};
-ghost use Rattle.bw_file.specs.TableReader.{schema_in, bytes_taken, rows_given, settled, SoFar, AnswersFault};
+ghost use Rattle.bw_file.specs.TableReader.{schema_in, bytes_taken, rows_given, final_result, ReadProgress, AnswersFault};
 ghost use Rattle.bw_query.specs.Scan.{IsFor, loads_in, skips_in};
 ghost use Rattle.bw_query.specs.TableText.{TextOver, TookAll};
 
@@ -43,19 +43,24 @@ pub(crate) fn table_text<S: Source>(
     query: &Query,
     scan: &Scan,
 ) -> Result<TableText, Fault>
-    requires countable { S.failures source.old < 2 ^ 64 - 1 }
-    requires fresh { (rows_given reader.old ≡ 0) × (settled reader.old ≡ None) }
-    requires items { IsTrue (list_all (item_within (vec_len (schema_in reader.old).columns)) query.now.items.items) }
-    requires some { 1 ≤ length query.now.items.items }
+    requires counter_fits { S.failures source.old < 2 ^ 64 - 1 }
+    requires fresh { (rows_given reader.old ≡ 0) × (final_result reader.old ≡ None) }
+    requires items { IsTrue (list_all (item_within (vec_len (schema_in reader.old).columns))
+        query.now.items.items) }
+    requires nonempty { 1 ≤ length query.now.items.items }
     requires kinds { AreOfOneKind query.now.items.items }
     requires scan { IsFor (schema_in reader.old).columns.items query.now.cond scan.now }
     ensures text { IfOk result (λ found. (start : State)
-        → SoFar start (state (S.to_come source.old) (bytes_taken reader.old) (S.failures source.old)) reader.old []
-        → TextOver start (state (S.to_come source.new) (bytes_taken reader.new) (S.failures source.new))
+        → ReadProgress start (state (S.to_come source.old) (bytes_taken reader.old)
+        (S.failures source.old)) reader.old []
+        → TextOver start (state (S.to_come source.new) (bytes_taken reader.new)
+        (S.failures source.new))
         (schema_in reader.old) query.now scan.now found.text.items found.scanned) }
     ensures refused { IfErr result (λ fault. (start : State)
-        → SoFar start (state (S.to_come source.old) (bytes_taken reader.old) (S.failures source.old)) reader.old []
-        → AnswersFault start (state (S.to_come source.old) (bytes_taken reader.old) (S.failures source.old))
+        → ReadProgress start (state (S.to_come source.old) (bytes_taken reader.old)
+        (S.failures source.old)) reader.old []
+        → AnswersFault start (state (S.to_come source.old) (bytes_taken reader.old)
+        (S.failures source.old))
         (state (S.to_come source.new) (bytes_taken reader.new) (S.failures source.new)) fault) }
     ensures fault { IfErr result (λ fault. is_write_fault fault ≡ false) }
 {
@@ -75,13 +80,15 @@ pub(crate) fn empty_answer<'a>(
     rows: u32,
     query: &'a Query,
 ) -> Result<Answer<'a>, Fault>
-    requires items { IsTrue (list_all (item_within (vec_len schema.now.columns)) query.now.items.items) }
-    requires some { 1 ≤ length query.now.items.items }
+    requires items { IsTrue (list_all (item_within (vec_len schema.now.columns))
+        query.now.items.items) }
+    requires nonempty { 1 ≤ length query.now.items.items }
     requires kinds { AreOfOneKind query.now.items.items }
-    ensures over { IfOk result (λ answer. IsOver (names_of schema.now.columns.items) query.now [] answer) }
+    ensures covers { IfOk result
+        (λ answer. IsOver (names_of schema.now.columns.items) query.now [] answer) }
     ensures width { IfOk result (λ answer. answer.width ≡ vec_len schema.now.columns) }
     ensures rows { IfOk result (λ answer. answer.rows ≡ 0) }
-    ensures only_memory { IfErr result (λ fault. fault ≡ no_memory) }
+    ensures only_oom { IfErr result (λ fault. fault ≡ no_memory) }
 {
     let mut answer = Answer::new(alloc, schema, query)?;
     answer.reserve(rows)?;
@@ -95,8 +102,8 @@ fn take_rows<S: Source>(
     scan: &Scan,
     answer: &mut Answer<'_>,
 ) -> Result<Scanned, Fault>
-    requires countable { S.failures source.old < 2 ^ 64 - 1 }
-    requires fresh { (rows_given reader.old ≡ 0) × (settled reader.old ≡ None) }
+    requires counter_fits { S.failures source.old < 2 ^ 64 - 1 }
+    requires fresh { (rows_given reader.old ≡ 0) × (final_result reader.old ≡ None) }
     requires none { answer.old.rows ≡ 0 }
     requires width { answer.old.width ≡ length (schema_in reader.old).columns.items }
     requires scan { IsFor (schema_in reader.old).columns.items (asked_by answer.old).cond scan.now }
@@ -105,8 +112,10 @@ fn take_rows<S: Source>(
         (state (S.to_come source.new) (bytes_taken reader.new) (S.failures source.new))
         reader.old scan.now answer.old answer.new scanned) }
     ensures refused { IfErr result (λ fault. (start : State)
-        → SoFar start (state (S.to_come source.old) (bytes_taken reader.old) (S.failures source.old)) reader.old []
-        → AnswersFault start (state (S.to_come source.old) (bytes_taken reader.old) (S.failures source.old))
+        → ReadProgress start (state (S.to_come source.old) (bytes_taken reader.old)
+        (S.failures source.old)) reader.old []
+        → AnswersFault start (state (S.to_come source.old) (bytes_taken reader.old)
+        (S.failures source.old))
         (state (S.to_come source.new) (bytes_taken reader.new) (S.failures source.new)) fault) }
     ensures fault { IfErr result (λ fault. is_write_fault fault ≡ false) }
 {
@@ -139,16 +148,17 @@ fn take_either(
     requires scan { IsFor (any_meaning segment.now).columns (asked_by answer.old).cond scan.now }
     requires counts { counts ≡ true → CountsRows (asked_by answer.old) }
     requires width { answer.old.width ≡ length (any_meaning segment.now).columns }
-    requires room { answer.old.rows + length (any_meaning segment.now).rows ≤ most_rows }
-    ensures over { OnOk result (GoesOver answer.old (any_meaning segment.now).rows answer.new) }
+    requires capacity { answer.old.rows + length (any_meaning segment.now).rows ≤ most_rows }
+    ensures covers { OnOk result (GoesOver answer.old (any_meaning segment.now).rows answer.new) }
     ensures width { OnOk result (answer.new.width ≡ answer.old.width) }
-    ensures rows { OnOk result (answer.new.rows ≡ answer.old.rows + length (any_meaning segment.now).rows) }
+    ensures rows { OnOk result (answer.new.rows
+        ≡ answer.old.rows + length (any_meaning segment.now).rows) }
     ensures loads { IfOk result (λ counts. counts.loads
         ≡ loads_in (any_meaning segment.now).columns scan.now (any_meaning segment.now).rows) }
     ensures skips { IfOk result (λ counts. counts.skips
         ≡ skips_in (any_meaning segment.now).columns scan.now (any_meaning segment.now).rows) }
     ensures bounded { IfOk result (λ counts. counts.loads + counts.skips ≤ 4096) }
-    ensures only_memory { IfErr result (λ fault. fault ≡ no_memory) }
+    ensures only_oom { IfErr result (λ fault. fault ≡ no_memory) }
 {
     match segment {
         AnySegment::Planes(segment) => take_segment(segment, scan, counts, answer),
@@ -166,16 +176,17 @@ pub(crate) fn take_segment<S: Segment>(
     requires scan { IsFor (S.meaning segment.now).columns (asked_by answer.old).cond scan.now }
     requires counts { counts ≡ true → CountsRows (asked_by answer.old) }
     requires width { answer.old.width ≡ length (S.meaning segment.now).columns }
-    requires room { answer.old.rows + length (S.meaning segment.now).rows ≤ most_rows }
-    ensures over { OnOk result (GoesOver answer.old (S.meaning segment.now).rows answer.new) }
+    requires capacity { answer.old.rows + length (S.meaning segment.now).rows ≤ most_rows }
+    ensures covers { OnOk result (GoesOver answer.old (S.meaning segment.now).rows answer.new) }
     ensures width { OnOk result (answer.new.width ≡ answer.old.width) }
-    ensures rows { OnOk result (answer.new.rows ≡ answer.old.rows + length (S.meaning segment.now).rows) }
+    ensures rows { OnOk result (answer.new.rows
+        ≡ answer.old.rows + length (S.meaning segment.now).rows) }
     ensures loads { IfOk result (λ counts. counts.loads
         ≡ loads_in (S.meaning segment.now).columns scan.now (S.meaning segment.now).rows) }
     ensures skips { IfOk result (λ counts. counts.skips
         ≡ skips_in (S.meaning segment.now).columns scan.now (S.meaning segment.now).rows) }
     ensures bounded { IfOk result (λ counts. counts.loads + counts.skips ≤ 4096) }
-    ensures only_memory { IfErr result (λ fault. fault ≡ no_memory) }
+    ensures only_oom { IfErr result (λ fault. fault ≡ no_memory) }
 {
     match scan {
         Scan::Program(certified) => {
@@ -196,11 +207,12 @@ pub(crate) fn take_segment<S: Segment>(
 fn take_by_rows<S: Segment>(segment: &S, counts: bool, answer: &mut Answer<'_>) -> Result<(), Fault>
     requires counts { counts ≡ true → CountsRows (asked_by answer.old) }
     requires width { answer.old.width ≡ length (S.meaning segment.now).columns }
-    requires room { answer.old.rows + length (S.meaning segment.now).rows ≤ most_rows }
-    ensures over { OnOk result (GoesOver answer.old (S.meaning segment.now).rows answer.new) }
+    requires capacity { answer.old.rows + length (S.meaning segment.now).rows ≤ most_rows }
+    ensures covers { OnOk result (GoesOver answer.old (S.meaning segment.now).rows answer.new) }
     ensures width { OnOk result (answer.new.width ≡ answer.old.width) }
-    ensures rows { OnOk result (answer.new.rows ≡ answer.old.rows + length (S.meaning segment.now).rows) }
-    ensures only_memory { IfErr result (λ fault. fault ≡ no_memory) }
+    ensures rows { OnOk result (answer.new.rows
+        ≡ answer.old.rows + length (S.meaning segment.now).rows) }
+    ensures only_oom { IfErr result (λ fault. fault ≡ no_memory) }
 {
     if counts {
         answer.take_count(segment.rows_in());

@@ -48,7 +48,7 @@ fn line_of(fault: &Fault) -> InlineText<LINE>
 fn and_place<const N: usize>(line: InlineText<N>, place: Place) -> InlineText<N>
     requires { length (inline_text line) + 31 < N }
     ensures text { inline_text result ≡ inline_text line.entry ++ place_text place }
-    ensures room { length (inline_text result) ≤ length (inline_text line.entry) + 31 }
+    ensures capacity { length (inline_text result) ≤ length (inline_text line.entry) + 31 }
 {
     match place {
         Place::Nowhere => line,
@@ -86,8 +86,8 @@ fn and_words<const N: usize>(line: InlineText<N>, words: &str) -> InlineText<N>
 fn and_count<const N: usize>(line: InlineText<N>, words: &str, count: u64) -> InlineText<N>
     requires { length (inline_text line) + length words.now + 20 < N }
     ensures text { inline_text result ≡ inline_text line.entry ++ with_count words.now count }
-    ensures room { length (inline_text result) ≤ length (inline_text line.entry) + length words.now
-        + 20 }
+    ensures capacity { length (inline_text result) ≤ length (inline_text line.entry)
+        + length words.now + 20 }
 {
     let line = and_words(line, words);
     and_words(line, Buffer::new().format(count))

@@ -18,7 +18,7 @@ use Rattle.bw_model.specs.Cond.{operand_value}
 use Rattle.bw_model.specs.declared.cond.Truth.{Truth}
 use Rattle.bw_model.specs.declared.cond.Truth.TheVariants.{No, Unknown}
 use Rattle.bw_model.specs.Row.{Value}
-use Rattle.bw_model.specs.Truth.{among, compared, greatest, truth_from}
+use Rattle.bw_model.specs.Truth.{in_list, compare_values, greatest, truth_from}
 use Rattle.bw_rowwise.proofs.LogicLemmas.{greatest_assoc, greatest_comm}
 use Rattle.bw_rowwise.specs.Numbers.{among_numbers}
 
@@ -93,9 +93,9 @@ in_any_order (Some n) xs ys moved =
     ∙ sym (number_among n xs)
 
 -- one item more
-pub among_more : (x : Value) (items : List Value) (item : Value) → among x (items ++ item ∷ []) ≡ greatest (among x items) (compared Eq x item)
-among_more x [] item = greatest_comm (compared Eq x item) No
-among_more x (y ∷ items) item = ap (greatest (compared Eq x y)) (among_more x items item) ∙ sym (greatest_assoc (compared Eq x y) (among x items) (compared Eq x item))
+pub among_more : (x : Value) (items : List Value) (item : Value) → in_list x (items ++ item ∷ []) ≡ greatest (in_list x items) (compare_values Eq x item)
+among_more x [] item = greatest_comm (compare_values Eq x item) No
+among_more x (y ∷ items) item = ap (greatest (compare_values Eq x y)) (among_more x items item) ∙ sym (greatest_assoc (compare_values Eq x y) (in_list x items) (compare_values Eq x item))
 
 -- what comes last may stand between the numbers and the others
 pub beside : (a b c : Truth) → greatest (greatest a c) b ≡ greatest (greatest a b) c
@@ -103,29 +103,29 @@ beside a b c = greatest_assoc a c b ∙ ap (greatest a) (greatest_comm c b) ∙ 
 
 -- one item more in a list, at its end
 items_more : (x : Value) (row : List Value) (items : List Operand) (i : ℕ) (d : Operand) → i < length items
-    → among x (map (operand_value row) (take (i + 1) items)) ≡ greatest (among x (map (operand_value row) (take i items))) (compared Eq x (operand_value row (get_or items i d)))
+    → in_list x (map (operand_value row) (take (i + 1) items)) ≡ greatest (in_list x (map (operand_value row) (take i items))) (compare_values Eq x (operand_value row (get_or items i d)))
 items_more x row items i d within =
-    ap (λ (those : List Operand). among x (map (operand_value row) those)) (take_more items i d within)
-    ∙ ap (among x) (map-append (operand_value row) (take i items) (get_or items i d ∷ []))
+    ap (λ (those : List Operand). in_list x (map (operand_value row) those)) (take_more items i d within)
+    ∙ ap (in_list x) (map-append (operand_value row) (take i items) (get_or items i d ∷ []))
     ∙ among_more x (map (operand_value row) (take i items)) (operand_value row (get_or items i d))
 
 -- a number goes to the numbers
 pub number_more : (x : Value) (row : List Value) (items others : List Operand) (numbers : List ℤ) (i : ℕ) (d : Operand) (n : ℤ) → i < length items → get_or items i d ≡ Lit n
-    → greatest (among_numbers x numbers) (among x (map (operand_value row) others)) ≡ among x (map (operand_value row) (take i items))
-    → greatest (among_numbers x (numbers ++ n ∷ [])) (among x (map (operand_value row) others)) ≡ among x (map (operand_value row) (take (i + 1) items))
+    → greatest (among_numbers x numbers) (in_list x (map (operand_value row) others)) ≡ in_list x (map (operand_value row) (take i items))
+    → greatest (among_numbers x (numbers ++ n ∷ [])) (in_list x (map (operand_value row) others)) ≡ in_list x (map (operand_value row) (take (i + 1) items))
 number_more x row items others numbers i d n within is so_far =
-    ap (λ (t : Truth). greatest t (among x (map (operand_value row) others))) (ap (among x) (map-append Some numbers (n ∷ [])) ∙ among_more x (map Some numbers) (Some n))
-    ∙ beside (among_numbers x numbers) (among x (map (operand_value row) others)) (compared Eq x (Some n))
-    ∙ ap (λ (t : Truth). greatest t (compared Eq x (Some n))) so_far
-    ∙ sym (items_more x row items i d within ∙ ap (λ (item : Operand). greatest (among x (map (operand_value row) (take i items))) (compared Eq x (operand_value row item))) is)
+    ap (λ (t : Truth). greatest t (in_list x (map (operand_value row) others))) (ap (in_list x) (map-append Some numbers (n ∷ [])) ∙ among_more x (map Some numbers) (Some n))
+    ∙ beside (among_numbers x numbers) (in_list x (map (operand_value row) others)) (compare_values Eq x (Some n))
+    ∙ ap (λ (t : Truth). greatest t (compare_values Eq x (Some n))) so_far
+    ∙ sym (items_more x row items i d within ∙ ap (λ (item : Operand). greatest (in_list x (map (operand_value row) (take i items))) (compare_values Eq x (operand_value row item))) is)
 
 -- and another item to the others
 pub other_more : (x : Value) (row : List Value) (items others : List Operand) (numbers : List ℤ) (i : ℕ) (d : Operand) → i < length items
-    → greatest (among_numbers x numbers) (among x (map (operand_value row) others)) ≡ among x (map (operand_value row) (take i items))
-    → greatest (among_numbers x numbers) (among x (map (operand_value row) (others ++ get_or items i d ∷ []))) ≡ among x (map (operand_value row) (take (i + 1) items))
+    → greatest (among_numbers x numbers) (in_list x (map (operand_value row) others)) ≡ in_list x (map (operand_value row) (take i items))
+    → greatest (among_numbers x numbers) (in_list x (map (operand_value row) (others ++ get_or items i d ∷ []))) ≡ in_list x (map (operand_value row) (take (i + 1) items))
 other_more x row items others numbers i d within so_far =
     let item = operand_value row (get_or items i d) in
-    ap (greatest (among_numbers x numbers)) (ap (among x) (map-append (operand_value row) others (get_or items i d ∷ [])) ∙ among_more x (map (operand_value row) others) item)
-    ∙ sym (greatest_assoc (among_numbers x numbers) (among x (map (operand_value row) others)) (compared Eq x item))
-    ∙ ap (λ (t : Truth). greatest t (compared Eq x item)) so_far
+    ap (greatest (among_numbers x numbers)) (ap (in_list x) (map-append (operand_value row) others (get_or items i d ∷ [])) ∙ among_more x (map (operand_value row) others) item)
+    ∙ sym (greatest_assoc (among_numbers x numbers) (in_list x (map (operand_value row) others)) (compare_values Eq x item))
+    ∙ ap (λ (t : Truth). greatest t (compare_values Eq x item)) so_far
     ∙ sym (items_more x row items i d within)

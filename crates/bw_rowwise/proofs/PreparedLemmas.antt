@@ -6,7 +6,7 @@ use Rattle.bw_model.specs.declared.cond.Op.{Op}
 use Rattle.bw_model.specs.declared.cond.Operand.{Operand}
 use Rattle.bw_model.specs.Cond.{operand_value}
 use Rattle.bw_model.specs.Row.{Value}
-use Rattle.bw_model.specs.Truth.{all_of, among, any_of, between, compared, greatest, is_null, is_truth, least, negation, truth_from}
+use Rattle.bw_model.specs.Truth.{all_of, in_list, any_of, between, compare_values, greatest, is_null, is_truth, least, negation, truth_from}
 use Rattle.bw_rowwise.specs.declared.numbers.Numbers.{Numbers}
 use Rattle.bw_rowwise.specs.declared.prepared.Prepared.{Prepared, Prepared-F, fold-roll-Prepared}
 use Rattle.bw_rowwise.specs.declared.prepared.Prepared.TheVariants.{Always, Cmp, Between, Among, IsNull, And, Or, Not, Test, rolls-Always, rolls-Cmp, rolls-Between, rolls-Among, rolls-IsNull, rolls-And, rolls-Or, rolls-Not, rolls-Test}
@@ -19,7 +19,7 @@ pub truth-Always : (row : List Value) → prepared_truth row Always ≡ Yes
 unfolding prepared_truth
 truth-Always row = ap (prepared_truth row) (sym rolls-Always) ∙ fold-roll-Prepared Truth (prepared_step row) Prepared-F.Always
 
-pub truth-Cmp : (row : List Value) (op : Op) (x y : Operand) → prepared_truth row (Cmp op x y) ≡ compared op (operand_value row x) (operand_value row y)
+pub truth-Cmp : (row : List Value) (op : Op) (x y : Operand) → prepared_truth row (Cmp op x y) ≡ compare_values op (operand_value row x) (operand_value row y)
 unfolding prepared_truth
 truth-Cmp row op x y = ap (prepared_truth row) (sym (rolls-Cmp op x y)) ∙ fold-roll-Prepared Truth (prepared_step row) (Prepared-F.Cmp op x y)
 
@@ -28,7 +28,7 @@ unfolding prepared_truth
 truth-Between row x y z = ap (prepared_truth row) (sym (rolls-Between x y z)) ∙ fold-roll-Prepared Truth (prepared_step row) (Prepared-F.Between x y z)
 
 pub truth-Among : (row : List Value) (x : Operand) (numbers : Numbers) (others : Vec Operand Global) → prepared_truth row (Among x numbers others)
-    ≡ greatest (among_numbers (operand_value row x) numbers.sorted.items) (among (operand_value row x) (map (operand_value row) others.items))
+    ≡ greatest (among_numbers (operand_value row x) numbers.sorted.items) (in_list (operand_value row x) (map (operand_value row) others.items))
 unfolding prepared_truth
 truth-Among row x numbers others = ap (prepared_truth row) (sym (rolls-Among x numbers others)) ∙ fold-roll-Prepared Truth (prepared_step row) (Prepared-F.Among x numbers others)
 

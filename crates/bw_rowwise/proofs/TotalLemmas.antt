@@ -10,7 +10,7 @@ use Rattle.bw_model.specs.declared.query.Item.{Item}
 use Rattle.bw_model.specs.declared.query.Item.TheVariants.{Plain, CountAll, Count, Sum, Min, Max}
 use Rattle.bw_model.specs.Row.{Value, value_in}
 use Rattle.bw_model.specs.Total.{total, present, of_both}
-use Rattle.bw_rowwise.specs.Accumulator.{Tally, tally_of, IsTotalOfRows, answer_with, including}
+use Rattle.bw_rowwise.specs.Accumulator.{Tally, tally_of, IsTotalOfRows, answer_with, include_value}
 
 pub small_one : (rows : ℕ) (n : ℤ) → FitsSigned w64 n → IsTotalOfRows (rows + 1) (Some n)
 small_one rows n fits x is =
@@ -54,7 +54,7 @@ small_both rows more a b total small other is x e =
     let o = other b refl in
     let same : total ≡ x = cc in (omega (arith, ints), omega (arith, ints))
 
-reduce_append : (f : ℤ → ℤ → ℤ) (xs : List ℤ) (value : Value) → reduce f (xs ++ option_to_list value) ≡ including f (reduce f xs) value
+reduce_append : (f : ℤ → ℤ → ℤ) (xs : List ℤ) (value : Value) → reduce f (xs ++ option_to_list value) ≡ include_value f (reduce f xs) value
 reduce_append f [] None = refl
 reduce_append f [] (Some n) = refl
 reduce_append f (x ∷ xs) None = ap (λ ys. Some (fold f x ys)) (append-nil xs)
@@ -67,7 +67,7 @@ present_append column rows row = filter_map-append (λ row. value_in row column)
     one None = refl
     one (Some n) = refl
 
-length_append : (xs : List ℤ) (value : Value) → Some (pos (length (xs ++ option_to_list value))) ≡ including (λ a b. a +ℤ b) (Some (pos (length xs))) (option_map (λ _. pos 1) value)
+length_append : (xs : List ℤ) (value : Value) → Some (pos (length (xs ++ option_to_list value))) ≡ include_value (λ a b. a +ℤ b) (Some (pos (length xs))) (option_map (λ _. pos 1) value)
 length_append xs None = ap (λ ys. Some (pos (length ys))) (append-nil xs)
 length_append xs (Some n) = ap (λ k. Some (pos k)) (length-append xs (n ∷ []))
 

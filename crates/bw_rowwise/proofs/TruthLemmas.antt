@@ -4,7 +4,7 @@ use Rattle.std.proofs.lemmas.List.{map-append, take_more, take-append-drop}
 use Rattle.bw_model.specs.declared.cond.Op.{Op}
 use Rattle.bw_model.specs.declared.cond.Truth.{Truth}
 use Rattle.bw_model.specs.declared.cond.Truth.TheVariants.{No, Unknown, Yes}
-use Rattle.bw_model.specs.Truth.{all_of, any_of, compared, greatest, holds, is_truth, least, negation, truth_from}
+use Rattle.bw_model.specs.Truth.{all_of, any_of, compare_values, greatest, holds, is_truth, least, negation, truth_from}
 use Rattle.bw_rowwise.proofs.LogicLemmas.{greatest_assoc, least_assoc}
 use Rattle.bw_rowwise.specs.Lanes.{AreTruths}
 use Rattle.bw_rowwise.specs.declared.truths.Truths.{Truths}
@@ -72,7 +72,7 @@ from_maybe false = refl
 
 -- a comparison is TRUE where it holds and no value is null, and isn't FALSE where it holds or a
 -- value is null
-pub compared_yes : (op : Op) (p q : Bool) (m n : ℤ) → (holds op m n && not (p || q)) ≡ is_truth (compared op (cond p None (Some m)) (cond q None (Some n))) Yes
+pub compared_yes : (op : Op) (p q : Bool) (m n : ℤ) → (holds op m n && not (p || q)) ≡ is_truth (compare_values op (cond p None (Some m)) (cond q None (Some n))) Yes
 compared_yes op true q m n = off (holds op m n)
   where
     off : (h : Bool) → (h && false) ≡ false
@@ -89,7 +89,7 @@ compared_yes op false false m n = on (holds op m n)
     on true = refl
     on false = refl
 
-pub compared_maybe : (op : Op) (p q : Bool) (m n : ℤ) → (holds op m n || (p || q)) ≡ not (is_truth (compared op (cond p None (Some m)) (cond q None (Some n))) No)
+pub compared_maybe : (op : Op) (p q : Bool) (m n : ℤ) → (holds op m n || (p || q)) ≡ not (is_truth (compare_values op (cond p None (Some m)) (cond q None (Some n))) No)
 compared_maybe op true q m n = on (holds op m n)
   where
     on : (h : Bool) → (h || true) ≡ true
@@ -107,7 +107,7 @@ compared_maybe op false false m n = off (holds op m n)
     off false = refl
 
 -- the same where the second side is a number
-pub compared_one_yes : (op : Op) (p : Bool) (m n : ℤ) → (holds op m n && not p) ≡ is_truth (compared op (cond p None (Some m)) (Some n)) Yes
+pub compared_one_yes : (op : Op) (p : Bool) (m n : ℤ) → (holds op m n && not p) ≡ is_truth (compare_values op (cond p None (Some m)) (Some n)) Yes
 compared_one_yes op true m n = off (holds op m n)
   where
     off : (h : Bool) → (h && false) ≡ false
@@ -119,7 +119,7 @@ compared_one_yes op false m n = on (holds op m n)
     on true = refl
     on false = refl
 
-pub compared_one_maybe : (op : Op) (p : Bool) (m n : ℤ) → (holds op m n || p) ≡ not (is_truth (compared op (cond p None (Some m)) (Some n)) No)
+pub compared_one_maybe : (op : Op) (p : Bool) (m n : ℤ) → (holds op m n || p) ≡ not (is_truth (compare_values op (cond p None (Some m)) (Some n)) No)
 compared_one_maybe op true m n = on (holds op m n)
   where
     on : (h : Bool) → (h || true) ≡ true

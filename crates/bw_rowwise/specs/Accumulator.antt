@@ -4,7 +4,7 @@ use Rattle.std.specs.Option.{ForSome, option_map}
 use Rattle.bw_model.specs.declared.query.Item.{Item}
 use Rattle.bw_model.specs.declared.query.Item.TheVariants.{Plain, CountAll, Count, Sum, Min, Max}
 use Rattle.bw_model.specs.Row.{Value, value_in}
-use Rattle.bw_model.specs.Total.{joined, of_both, total}
+use Rattle.bw_model.specs.Total.{combine_totals, of_both, total}
 
 -- an aggregate, the number of rows, and their total
 pub record Tally : Type 0 where
@@ -17,10 +17,10 @@ abbrev pub tally_of : Item → List (List Value) → Tally
 tally_of item rows = record { item = item; count = length rows; answer = total item rows }
 
 -- a total with one value more, unless it is null
-abbrev pub including : (ℤ → ℤ → ℤ) → Option ℤ → Value → Option ℤ
-including f answer None = answer
-including f None (Some n) = Some n
-including f (Some m) (Some n) = Some (f m n)
+abbrev pub include_value : (ℤ → ℤ → ℤ) → Option ℤ → Value → Option ℤ
+include_value f answer None = answer
+include_value f None (Some n) = Some n
+include_value f (Some m) (Some n) = Some (f m n)
 
 -- what a row adds to an aggregate: null adds nothing
 abbrev pub added_by : Item → List Value → Value
@@ -33,7 +33,7 @@ added_by (Max column) row = value_in row column
 
 -- the total of an aggregate with one row more
 abbrev pub answer_with : Item → Option ℤ → List Value → Option ℤ
-answer_with item answer row = including (of_both item) answer (added_by item row)
+answer_with item answer row = include_value (of_both item) answer (added_by item row)
 
 -- a tally with one row more
 abbrev pub tally_with : Tally → List Value → Tally
@@ -44,15 +44,19 @@ tally_with tally row = record {
 }
 
 -- a tally of rows that are only counted, with this many more
-abbrev pub counted : Tally → ℕ → Tally
-counted tally more = record { item = tally.item; count = tally.count + more; answer = Some (pos (tally.count + more)) }
+abbrev pub count_rows : Tally → ℕ → Tally
+count_rows tally more = record {
+  item = tally.item;
+  count = tally.count + more;
+  answer = Some (pos (tally.count + more));
+}
 
 -- a tally with this many rows more, whose total is known
 abbrev pub tally_joined : Tally → ℕ → Option ℤ → Tally
 tally_joined tally more others = record {
   item = tally.item;
   count = tally.count + more;
-  answer = joined tally.item tally.answer others;
+  answer = combine_totals tally.item tally.answer others;
 }
 
 -- A total of this many rows is at most as many times 2^73 in size. A value is at most 2^63, and the

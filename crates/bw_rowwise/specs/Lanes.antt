@@ -16,7 +16,8 @@ use Rattle.bw_rowwise.specs.Prepared.{row_at}
 
 -- Two planes state a truth value in each lane: whether it is TRUE, and whether it isn't FALSE.
 pub record AreTruths (truths : Truths) (truth : ℕ → Truth) : Type 0 where
-  pub yes : (lane : ℕ) → lane < 512 → slice_index_or (lanes_of_words truths.yes) lane false ≡ is_truth (truth lane) Yes
+  pub yes : (lane : ℕ) → lane < 512 → slice_index_or (lanes_of_words truths.yes) lane false
+      ≡ is_truth (truth lane) Yes
   pub maybe : (lane : ℕ) → lane < 512
       → slice_index_or (lanes_of_words truths.maybe) lane false ≡ not (is_truth (truth lane) No)
 
@@ -26,12 +27,14 @@ value_at lanes lane = value_in_lane (lanes_of_words lanes.none) lanes.keys lane
 
 -- the lanes have the values of a column in these rows, and past the last row none
 abbrev pub HasColumn : List (List Value) → ℕ → ColumnLanes → Type 0
-HasColumn rows column lanes = (lane : ℕ) → lane < 512 → value_at lanes lane ≡ value_in (row_at rows lane) column
+HasColumn rows column lanes = (lane : ℕ) → lane < 512 → value_at lanes lane
+    ≡ value_in (row_at rows lane) column
 
 -- each unpacked column has its values in these rows
 abbrev pub AreUnpacked : List (List Value) → Unpacked → Type 0
 AreUnpacked rows unpacked =
-    All (λ (column : UnpackedColumn). HasColumn rows column.number column.lanes) unpacked.columns.items
+    All (λ (column : UnpackedColumn). HasColumn rows column.number column.lanes)
+    unpacked.columns.items
 
 -- the lanes of one side of a comparison
 abbrev pub lanes_in : Side → ColumnLanes

@@ -6,7 +6,7 @@ use Rattle.bw_model.specs.declared.cond.Truth.{Truth}
 use Rattle.bw_model.specs.declared.cond.Truth.TheVariants.{Yes}
 use Rattle.bw_model.specs.Cond.{operand_value, truth_of}
 use Rattle.bw_model.specs.Row.{Value}
-use Rattle.bw_model.specs.Truth.{all_of, among, any_of, between, compared, greatest, is_null, is_truth, least, negation, truth_from}
+use Rattle.bw_model.specs.Truth.{all_of, in_list, any_of, between, compare_values, greatest, is_null, is_truth, least, negation, truth_from}
 use Rattle.bw_rowwise.specs.Numbers.{among_numbers}
 use Rattle.bw_rowwise.specs.declared.prepared.Prepared.{Prepared, Prepared-F, fold-Prepared}
 use Rattle.bw_rowwise.specs.declared.prepared.Prepared.TheOpen.{Always, Cmp, Between, Among, IsNull, And, Or, Not, Test}
@@ -14,11 +14,12 @@ use Rattle.bw_rowwise.specs.declared.prepared.Prepared.TheOpen.{Always, Cmp, Bet
 -- the truth of a prepared condition on a row, from that of its parts
 abbrev pub prepared_step : List Value → Prepared-F Truth → Truth
 prepared_step row Always = Yes
-prepared_step row (Cmp op x y) = compared op (operand_value row x) (operand_value row y)
-prepared_step row (Between x y z) = between (operand_value row x) (operand_value row y) (operand_value row z)
+prepared_step row (Cmp op x y) = compare_values op (operand_value row x) (operand_value row y)
+prepared_step row (Between x y z) = between (operand_value row x) (operand_value row y)
+    (operand_value row z)
 prepared_step row (Among x numbers others) =
     greatest (among_numbers (operand_value row x) numbers.sorted.items)
-    (among (operand_value row x) (map (operand_value row) others.items))
+    (in_list (operand_value row x) (map (operand_value row) others.items))
 prepared_step row (IsNull x) = truth_from (is_null (operand_value row x))
 prepared_step row (And parts) = all_of parts.items
 prepared_step row (Or parts) = any_of parts.items

@@ -4,9 +4,9 @@ ghost use Rattle.bw_model.specs.Limits.{most_rows};
 ghost use Rattle.bw_model.specs.declared.query.Item.TheVariants.{CountAll};
 ghost use Rattle.bw_model.specs.Row.{Value, values_of};
 ghost use Rattle.bw_model.specs.Total.{total, is_aggregate, item_within};
-ghost use Rattle.bw_rowwise.specs.Accumulator.{tally_of, tally_with, tally_joined, counted, IsTotalOfRows};
+ghost use Rattle.bw_rowwise.specs.Accumulator.{tally_of, tally_with, tally_joined, count_rows, IsTotalOfRows};
 
-use crate::total::{answer_with, joined};
+use crate::total::{answer_with, combine_totals};
 use bw_model::{Item, Row, totals_join};
 use std::marker::Model;
 
@@ -58,7 +58,7 @@ impl Accumulator {
 
     /// Adds a row, which must have the aggregate's column.
     pub fn add(&mut self, row: &Row)
-        requires room { self.old.count < most_rows }
+        requires capacity { self.old.count < most_rows }
         requires column { IsTrue (item_within (length (values_of row.now)) self.old.item) }
         ensures step { self.new ≡ tally_with self.old (values_of row.now) }
         ensures total { (rows : List (List Value)) → self.old ≡ tally_of self.old.item rows
@@ -75,9 +75,9 @@ impl Accumulator {
     /// count.
     pub fn add_count(&mut self, count: u32)
         requires { self.old.count + count ≤ most_rows }
-        ensures total { (rows more : List (List Value)) → length more ≡ count → self.old ≡ tally_of CountAll rows
-            → self.new ≡ tally_of CountAll (rows ++ more) }
-        ensures step { self.new ≡ counted self.old count }
+        ensures total { (rows more : List (List Value)) → length more ≡ count
+            → self.old ≡ tally_of CountAll rows → self.new ≡ tally_of CountAll (rows ++ more) }
+        ensures step { self.new ≡ count_rows self.old count }
     {
         let rows = self.rows + count;
         *self = Accumulator {
@@ -91,17 +91,19 @@ impl Accumulator {
     /// total must be no larger than 2^73 for each row.
     #[tactic(auto, using(crate::proofs::TotalLemmas::small_below))]
     pub fn add_total(&mut self, count: u32, others: Option<i128>)
-        requires room { self.old.count + count ≤ most_rows }
+        requires capacity { self.old.count + count ≤ most_rows }
         requires small { IsTotalOfRows count others }
         ensures step { self.new ≡ tally_joined self.old count others }
-        ensures total { (rows more : List (List Value)) → length more ≡ count → others ≡ total self.old.item more
-            → self.old ≡ tally_of self.old.item rows → self.new ≡ tally_of self.old.item (rows ++ more) }
+        ensures total { (rows more : List (List Value)) → length more ≡ count
+            → others ≡ total self.old.item more
+            → self.old ≡ tally_of self.old.item rows
+            → self.new ≡ tally_of self.old.item (rows ++ more) }
     {
         totals_join();
         *self = Accumulator {
             item: self.item,
             rows: self.rows + count,
-            total: joined(self.item, self.total, others),
+            total: combine_totals(self.item, self.total, others),
         };
     }
 
@@ -116,7 +118,8 @@ impl Accumulator {
 /// Returns the total of a list of rows, each of which must have the aggregate's column.
 pub fn aggregate(item: &Item, rows: &[Row]) -> Option<i128>
     requires aggregate { IsTrue (is_aggregate item.now) }
-    requires columns { All (λ row. IsTrue (item_within (length (values_of row)) item.now)) rows.now }
+    requires columns { All (λ row. IsTrue (item_within (length (values_of row)) item.now))
+        rows.now }
     requires count { length rows.now ≤ most_rows }
     ensures { result ≡ total item.now (map values_of rows.now) }
 {

@@ -3,7 +3,7 @@
 ghost use Rattle.std.specs.Prelude.{◌≡◌, ◌<◌, ℕ, Bool, Some, false, slice_index, slice_index_or};
 ghost use Rattle.bw_lanes.specs.Lanes.{lanes_of_words};
 ghost use Rattle.bw_model.specs.Row.{Value};
-ghost use Rattle.bw_model.specs.Truth.{compared, holds, is_null, truth_from};
+ghost use Rattle.bw_model.specs.Truth.{compare_values, holds, is_null, truth_from};
 ghost use Rattle.bw_rowwise.specs.Lanes.{AreTruths, value_at};
 ghost use Rattle.bw_rowwise.specs.Numbers.{among_numbers};
 ghost use Rattle.bw_segment.specs.Keys.{number_of_key};
@@ -41,7 +41,8 @@ impl ColumnLanes {
 
     /// Returns the truth of a comparison with other values in each lane.
     pub fn compared(&self, op: Op, other: &ColumnLanes) -> Truths
-        ensures { AreTruths result (λ lane. compared op (value_at self.now lane) (value_at other.now lane)) }
+        ensures { AreTruths result
+            (λ lane. compare_values op (value_at self.now lane) (value_at other.now lane)) }
     {
         let none = either_lanes(&self.none, &other.none);
         let holds = holding(op, &self.keys, &other.keys);
@@ -53,7 +54,7 @@ impl ColumnLanes {
 
     /// Returns the truth of a comparison with a number in each lane.
     pub fn compared_with(&self, op: Op, n: i64) -> Truths
-        ensures { AreTruths result (λ lane. compared op (value_at self.now lane) (Some n)) }
+        ensures { AreTruths result (λ lane. compare_values op (value_at self.now lane) (Some n)) }
     {
         let keys = [key(n); LANES];
         let holds = holding(op, &self.keys, &keys);
@@ -65,7 +66,8 @@ impl ColumnLanes {
 
     /// Returns in each lane whether the value is one of these numbers, as `IN` has it.
     pub fn among(&self, numbers: &Numbers) -> Truths
-        ensures { AreTruths result (λ lane. among_numbers (value_at self.now lane) numbers.now.sorted.items) }
+        ensures { AreTruths result
+            (λ lane. among_numbers (value_at self.now lane) numbers.now.sorted.items) }
     {
         let mut yes = [0; LANES];
         let mut maybe = [0; LANES];
@@ -103,7 +105,8 @@ impl ColumnLanes {
 /// Returns the lanes in which a comparison is true of the numbers of two keys.
 fn holding(op: Op, xs: &[u64; LANES], ys: &[u64; LANES]) -> Plane
     ensures { (lane : ℕ) → lane < 512 → slice_index_or (lanes_of_words result) lane false
-        ≡ holds op (number_of_key (slice_index xs.now lane)) (number_of_key (slice_index ys.now lane)) }
+        ≡ holds op (number_of_key (slice_index xs.now lane))
+        (number_of_key (slice_index ys.now lane)) }
 {
     match op {
         Op::Eq => codes_eq(xs, ys),

@@ -1,13 +1,13 @@
 //! The truth of a condition on a row, and the rows that match.
 ghost use Rattle.std.specs.Prelude.{◌≡◌, List, true, length, map, All, IsTrue, IfOk, IsOkUnless};
 ghost use Rattle.std.specs.List.{list_all};
-ghost use Rattle.bw_model.specs.Truth.{among, all_of, any_of};
-ghost use Rattle.bw_model.specs.Cond.{truth_of, is_kept, names_within, is_within, operand_value};
-ghost use Rattle.bw_model.specs.Selection.{kept};
+ghost use Rattle.bw_model.specs.Truth.{in_list, all_of, any_of};
+ghost use Rattle.bw_model.specs.Cond.{truth_of, is_match, names_within, is_within, operand_value};
+ghost use Rattle.bw_model.specs.Selection.{matching_rows};
 ghost use Rattle.bw_model.specs.Row.{Value, values_of};
 ghost use Rattle.bw_model.specs.Fault.{no_memory};
 
-use crate::logic::{between, both, compared, either, opposite};
+use crate::logic::{between, both, compare_values, either, opposite};
 use bw_model::{Cond, Fault, Op, Operand, Row, Truth, Value};
 use std::alloc::Global;
 
@@ -21,7 +21,7 @@ pub fn truth(cond: &Cond, row: &Row) -> Truth
 {
     match cond {
         Cond::Always => Truth::Yes,
-        Cond::Cmp(op, x, y) => compared(*op, value_of(*x, row), value_of(*y, row)),
+        Cond::Cmp(op, x, y) => compare_values(*op, value_of(*x, row), value_of(*y, row)),
         Cond::Between(x, y, z) => {
             between(value_of(*x, row), value_of(*y, row), value_of(*z, row))
         }
@@ -37,7 +37,7 @@ pub fn truth(cond: &Cond, row: &Row) -> Truth
 /// Returns whether a condition is the one that matches every row.
 #[tactic(auto, using(bw_model::proofs::CondLemmas::truths))]
 pub fn keeps_all(cond: &Cond) -> bool
-    ensures { result ≡ true → (values : List Value) → IsTrue (is_kept cond.now values) }
+    ensures { result ≡ true → (values : List Value) → IsTrue (is_match cond.now values) }
 {
     matches!(cond, Cond::Always)
 }
@@ -46,8 +46,9 @@ pub fn keeps_all(cond: &Cond) -> bool
 /// every column that the condition names. Errors: 801 if memory is refused.
 pub fn select(alloc: Global, cond: &Cond, rows: &[Row]) -> Result<Vec<Row>, Fault>
     requires { All (λ row. IsTrue (names_within (length (values_of row)) cond.now)) rows.now }
-    ensures kept { IfOk result (λ copies. map values_of copies.items ≡ kept cond.now (map values_of rows.now)) }
-    ensures only_memory { IsOkUnless result no_memory }
+    ensures kept { IfOk result (λ copies. map values_of copies.items
+        ≡ matching_rows cond.now (map values_of rows.now)) }
+    ensures only_oom { IsOkUnless result no_memory }
 {
     let mut kept = Vec::new(alloc);
     for row in rows {
@@ -108,11 +109,11 @@ fn value_of(operand: Operand, row: &Row) -> Value
 #[tactic(auto, using(crate::proofs::LogicLemmas::greatest_assoc))]
 fn among(x: Value, items: &[Operand], row: &Row) -> Truth
     requires { IsTrue (list_all (is_within (length row.now.values.items)) items.now) }
-    ensures { result ≡ among x (map (operand_value row.now.values.items) items.now) }
+    ensures { result ≡ in_list x (map (operand_value row.now.values.items) items.now) }
 {
     let mut greatest = Truth::No;
     for item in items {
-        greatest = either(greatest, compared(Op::Eq, x, value_of(*item, row)));
+        greatest = either(greatest, compare_values(Op::Eq, x, value_of(*item, row)));
         if greatest == Truth::Yes {
             break;
         }

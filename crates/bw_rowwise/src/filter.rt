@@ -38,7 +38,7 @@ impl Filter {
     /// Prepares a condition. Errors: 801 if memory is refused.
     pub fn new(alloc: Global, cond: &Cond) -> Result<Self, Fault>
         ensures prepared { IfOk result (IsPreparedFrom cond.now) }
-        ensures only_memory { IsOkUnless result no_memory }
+        ensures only_oom { IsOkUnless result no_memory }
     {
         let cond = Prepared::new(alloc, cond)?;
         let unpacked = Unpacked::new(alloc, &cond)?;

@@ -4,7 +4,7 @@ ghost use Rattle.bw_lanes.specs.Lanes.{lanes_of_words};
 ghost use Rattle.bw_model.specs.Cond.{operand_value};
 ghost use Rattle.bw_model.specs.Groups.{group_size};
 ghost use Rattle.bw_model.specs.Row.{value_in};
-ghost use Rattle.bw_model.specs.Truth.{all_of, among, any_of, between, compared, greatest, is_null, is_truth, truth_from};
+ghost use Rattle.bw_model.specs.Truth.{all_of, in_list, any_of, between, compare_values, greatest, is_null, is_truth, truth_from};
 ghost use Rattle.bw_model.specs.declared.cond.Truth.TheVariants.{Yes};
 ghost use Rattle.bw_rowwise.specs.Lanes.{AreTruths, AreUnpacked, lanes_in, value_at};
 ghost use Rattle.bw_rowwise.specs.Numbers.{among_numbers};
@@ -38,7 +38,8 @@ impl Prepared {
 #[cycle(truths)]
 fn truths<S: Segment>(cond: &Prepared, segment: &S, unpacked: &Unpacked) -> Truths
     requires { AreUnpacked (S.meaning segment.now).rows unpacked.now }
-    ensures { AreTruths result (λ lane. prepared_truth (row_at (S.meaning segment.now).rows lane) cond.now) }
+    ensures { AreTruths result
+        (λ lane. prepared_truth (row_at (S.meaning segment.now).rows lane) cond.now) }
 {
     match cond {
         Prepared::Always => Truths::all(Truth::Yes),
@@ -58,7 +59,8 @@ fn truths<S: Segment>(cond: &Prepared, segment: &S, unpacked: &Unpacked) -> Trut
 fn all_of<S: Segment>(parts: &[Prepared], segment: &S, unpacked: &Unpacked) -> Truths
     requires { AreUnpacked (S.meaning segment.now).rows unpacked.now }
     ensures { AreTruths result
-        (λ lane. all_of (map (prepared_truth (row_at (S.meaning segment.now).rows lane)) parts.now)) }
+        (λ lane. all_of (map (prepared_truth (row_at (S.meaning segment.now).rows lane))
+        parts.now)) }
 {
     let mut least = Truths::all(Truth::Yes);
     for part in parts {
@@ -75,7 +77,8 @@ fn all_of<S: Segment>(parts: &[Prepared], segment: &S, unpacked: &Unpacked) -> T
 fn any_of<S: Segment>(parts: &[Prepared], segment: &S, unpacked: &Unpacked) -> Truths
     requires { AreUnpacked (S.meaning segment.now).rows unpacked.now }
     ensures { AreTruths result
-        (λ lane. any_of (map (prepared_truth (row_at (S.meaning segment.now).rows lane)) parts.now)) }
+        (λ lane. any_of (map (prepared_truth (row_at (S.meaning segment.now).rows lane))
+        parts.now)) }
 {
     let mut greatest = Truths::all(Truth::No);
     for part in parts {
@@ -91,7 +94,8 @@ fn any_of<S: Segment>(parts: &[Prepared], segment: &S, unpacked: &Unpacked) -> T
 fn null_tested<S: Segment>(x: Operand, segment: &S, unpacked: &Unpacked) -> Truths
     requires { AreUnpacked (S.meaning segment.now).rows unpacked.now }
     ensures { AreTruths result
-        (λ lane. truth_from (is_null (operand_value (row_at (S.meaning segment.now).rows lane) x))) }
+        (λ lane. truth_from (is_null
+        (operand_value (row_at (S.meaning segment.now).rows lane) x))) }
 {
     if let Operand::Col(column) = x {
         if let Some(lanes) = unpacked.find(column) {
@@ -104,7 +108,8 @@ fn null_tested<S: Segment>(x: Operand, segment: &S, unpacked: &Unpacked) -> Trut
 /// Returns the truth of a comparison in each lane.
 fn compared<S: Segment>(op: Op, x: Operand, y: Operand, segment: &S, unpacked: &Unpacked) -> Truths
     requires { AreUnpacked (S.meaning segment.now).rows unpacked.now }
-    ensures { AreTruths result (λ lane. compared op (operand_value (row_at (S.meaning segment.now).rows lane) x)
+    ensures { AreTruths result
+        (λ lane. compare_values op (operand_value (row_at (S.meaning segment.now).rows lane) x)
         (operand_value (row_at (S.meaning segment.now).rows lane) y)) }
 {
     match (x, y) {
@@ -127,7 +132,8 @@ fn columns_compared<S: Segment>(
     unpacked: &Unpacked,
 ) -> Truths
     requires { AreUnpacked (S.meaning segment.now).rows unpacked.now }
-    ensures { AreTruths result (λ lane. compared op (value_in (row_at (S.meaning segment.now).rows lane) left)
+    ensures { AreTruths result
+        (λ lane. compare_values op (value_in (row_at (S.meaning segment.now).rows lane) left)
         (value_in (row_at (S.meaning segment.now).rows lane) right)) }
 {
     match (unpacked.find(left), unpacked.find(right)) {
@@ -145,7 +151,8 @@ fn sides_compared<S: Segment>(
     unpacked: &Unpacked,
 ) -> Truths
     requires { AreUnpacked (S.meaning segment.now).rows unpacked.now }
-    ensures { AreTruths result (λ lane. compared op (operand_value (row_at (S.meaning segment.now).rows lane) x)
+    ensures { AreTruths result
+        (λ lane. compare_values op (operand_value (row_at (S.meaning segment.now).rows lane) x)
         (operand_value (row_at (S.meaning segment.now).rows lane) y)) }
 {
     let left = side_of(x, segment, unpacked);
@@ -163,7 +170,8 @@ fn column_compared<S: Segment>(
 ) -> Truths
     requires { AreUnpacked (S.meaning segment.now).rows unpacked.now }
     ensures { AreTruths result
-        (λ lane. compared op (value_in (row_at (S.meaning segment.now).rows lane) column) (Some n)) }
+        (λ lane. compare_values op (value_in (row_at (S.meaning segment.now).rows lane) column)
+        (Some n)) }
 {
     match unpacked.find(column) {
         Some(lanes) => lanes.compared_with(op, n),
@@ -180,7 +188,8 @@ fn between<S: Segment>(
     unpacked: &Unpacked,
 ) -> Truths
     requires { AreUnpacked (S.meaning segment.now).rows unpacked.now }
-    ensures { AreTruths result (λ lane. between (operand_value (row_at (S.meaning segment.now).rows lane) x)
+    ensures { AreTruths result
+        (λ lane. between (operand_value (row_at (S.meaning segment.now).rows lane) x)
         (operand_value (row_at (S.meaning segment.now).rows lane) y)
         (operand_value (row_at (S.meaning segment.now).rows lane) z)) }
 {
@@ -199,8 +208,9 @@ fn among<S: Segment>(
 ) -> Truths
     requires { AreUnpacked (S.meaning segment.now).rows unpacked.now }
     ensures { AreTruths result (λ lane. greatest
-        (among_numbers (operand_value (row_at (S.meaning segment.now).rows lane) x) numbers.now.sorted.items)
-        (among (operand_value (row_at (S.meaning segment.now).rows lane) x)
+        (among_numbers (operand_value (row_at (S.meaning segment.now).rows lane) x)
+        numbers.now.sorted.items)
+        (in_list (operand_value (row_at (S.meaning segment.now).rows lane) x)
         (map (operand_value (row_at (S.meaning segment.now).rows lane)) others.now))) }
 {
     let found = side_of(x, segment, unpacked).lanes().among(numbers);
@@ -215,7 +225,8 @@ fn among_others<S: Segment>(
     unpacked: &Unpacked,
 ) -> Truths
     requires { AreUnpacked (S.meaning segment.now).rows unpacked.now }
-    ensures { AreTruths result (λ lane. among (operand_value (row_at (S.meaning segment.now).rows lane) x)
+    ensures { AreTruths result
+        (λ lane. in_list (operand_value (row_at (S.meaning segment.now).rows lane) x)
         (map (operand_value (row_at (S.meaning segment.now).rows lane)) others.now)) }
 {
     let mut greatest = Truths::all(Truth::No);

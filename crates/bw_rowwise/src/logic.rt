@@ -1,6 +1,6 @@
 //! Three-valued logic, and comparisons in it, after SQL-92.
 ghost use Rattle.std.specs.Prelude.{◌≡◌};
-ghost use Rattle.bw_model.specs.Truth.{least, greatest, negation, compared, between};
+ghost use Rattle.bw_model.specs.Truth.{least, greatest, negation, compare_values, between};
 
 use bw_model::{Op, Truth, Value};
 
@@ -38,8 +38,8 @@ pub fn opposite(a: Truth) -> Truth
 }
 
 /// Returns the truth of a comparison: UNKNOWN if a value is null.
-pub fn compared(op: Op, x: Value, y: Value) -> Truth
-    ensures { result ≡ compared op x y }
+pub fn compare_values(op: Op, x: Value, y: Value) -> Truth
+    ensures { result ≡ compare_values op x y }
 {
     match (x, y) {
         (Some(x), Some(y)) => Truth::of(op.holds(x, y)),
@@ -51,5 +51,5 @@ pub fn compared(op: Op, x: Value, y: Value) -> Truth
 pub fn between(x: Value, y: Value, z: Value) -> Truth
     ensures { result ≡ between x y z }
 {
-    both(compared(Op::Ge, x, y), compared(Op::Le, x, z))
+    both(compare_values(Op::Ge, x, y), compare_values(Op::Le, x, z))
 }

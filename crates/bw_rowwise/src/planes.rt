@@ -9,7 +9,8 @@ use bw_lanes::{LANES, Plane, and, mask, not, or};
 pub fn both_lanes(a: &Plane, b: &Plane) -> Plane
     ensures long { length (lanes_of_words result) ≡ 512 }
     ensures each { (lane : ℕ) → lane < 512 → slice_index_or (lanes_of_words result) lane false
-        ≡ (slice_index_or (lanes_of_words a.now) lane false && slice_index_or (lanes_of_words b.now) lane false) }
+        ≡ (slice_index_or (lanes_of_words a.now) lane false
+        && slice_index_or (lanes_of_words b.now) lane false) }
 {
     and(a, b)
 }
@@ -18,7 +19,8 @@ pub fn both_lanes(a: &Plane, b: &Plane) -> Plane
 #[tactic(auto, using(crate::proofs::PlaneLemmas::at_either))]
 pub fn either_lanes(a: &Plane, b: &Plane) -> Plane
     ensures { (lane : ℕ) → lane < 512 → slice_index_or (lanes_of_words result) lane false
-        ≡ (slice_index_or (lanes_of_words a.now) lane false || slice_index_or (lanes_of_words b.now) lane false) }
+        ≡ (slice_index_or (lanes_of_words a.now) lane false
+        || slice_index_or (lanes_of_words b.now) lane false) }
 {
     or(a, b)
 }

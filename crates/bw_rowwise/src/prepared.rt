@@ -3,7 +3,7 @@ ghost use Rattle.std.specs.Prelude.{◌≡◌, List, map, IfOk, IsOkUnless, IsTr
 ghost use Rattle.bw_model.specs.Cond.{operand_value, truth_of};
 ghost use Rattle.bw_model.specs.Fault.{no_memory};
 ghost use Rattle.bw_model.specs.Row.{Value};
-ghost use Rattle.bw_model.specs.Truth.{among, greatest};
+ghost use Rattle.bw_model.specs.Truth.{in_list, greatest};
 ghost use Rattle.bw_rowwise.specs.Numbers.{among_numbers};
 ghost use Rattle.bw_rowwise.specs.Prepared.{prepared_truth, Absorbs, IsPreparedFrom, JoinAlike};
 
@@ -42,7 +42,7 @@ impl Prepared {
     #[tactic(auto, using(bw_model::proofs::CondLemmas::truths, crate::proofs::PreparedLemmas::truths))]
     pub fn new(alloc: Global, cond: &Cond) -> Result<Self, Fault>
         ensures prepared { IfOk result (IsPreparedFrom cond.now) }
-        ensures only_memory { IsOkUnless result no_memory }
+        ensures only_oom { IsOkUnless result no_memory }
     {
         match cond {
             Cond::Always => Ok(Prepared::Always),
@@ -70,7 +70,7 @@ impl Prepared {
 fn all_of(alloc: Global, conds: &[Cond]) -> Result<Vec<Prepared>, Fault>
     ensures prepared { IfOk result (λ prepared. (row : List Value)
         → JoinAlike (map (prepared_truth row) prepared.items) (map (truth_of row) conds.now)) }
-    ensures only_memory { IsOkUnless result no_memory }
+    ensures only_oom { IsOkUnless result no_memory }
 {
     let mut prepared = Vec::with_capacity(alloc, conds.len())?;
     let mut firsts = HashMap::new(alloc);
@@ -92,7 +92,7 @@ fn is_repeated(
 ) -> Result<bool, Fault>
     ensures repeated { IfOk result (λ repeated. IsTrue repeated → (row : List Value)
         → Absorbs (map (truth_of row) earlier.now) (truth_of row cond.now)) }
-    ensures only_memory { IsOkUnless result no_memory }
+    ensures only_oom { IsOkUnless result no_memory }
 {
     let hash = hash_of(cond);
     if let Some(first) = firsts.get(&hash) {
@@ -104,7 +104,8 @@ fn is_repeated(
 
 /// Returns whether a list has an equal condition at this place.
 fn has_at(conds: &[Cond], place: usize, cond: &Cond) -> bool
-    ensures { IsTrue result → (row : List Value) → Absorbs (map (truth_of row) conds.now) (truth_of row cond.now) }
+    ensures { IsTrue result → (row : List Value)
+        → Absorbs (map (truth_of row) conds.now) (truth_of row cond.now) }
 {
     place < conds.len() && conds[place].is_same(cond)
 }
@@ -113,9 +114,9 @@ fn has_at(conds: &[Cond], place: usize, cond: &Cond) -> bool
 fn items_of(alloc: Global, items: &[Operand]) -> Result<Items, Fault>
     ensures items { IfOk result (λ found. (row : List Value) (x : Value)
         → greatest (among_numbers x found.numbers.sorted.items)
-        (among x (map (operand_value row) found.others.items))
-        ≡ among x (map (operand_value row) items.now)) }
-    ensures only_memory { IsOkUnless result no_memory }
+        (in_list x (map (operand_value row) found.others.items))
+        ≡ in_list x (map (operand_value row) items.now)) }
+    ensures only_oom { IsOkUnless result no_memory }
 {
     let mut numbers = Vec::new(alloc);
     let mut others = Vec::new(alloc);

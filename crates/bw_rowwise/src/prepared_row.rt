@@ -2,10 +2,10 @@
 ghost use Rattle.std.specs.Prelude.{◌≡◌, map};
 ghost use Rattle.bw_model.specs.Cond.{operand_value};
 ghost use Rattle.bw_model.specs.Row.{values_of};
-ghost use Rattle.bw_model.specs.Truth.{all_of, among, any_of};
+ghost use Rattle.bw_model.specs.Truth.{all_of, in_list, any_of};
 ghost use Rattle.bw_rowwise.specs.Prepared.{prepared_truth};
 
-use crate::logic::{between, both, compared, either, opposite};
+use crate::logic::{between, both, compare_values, either, opposite};
 use crate::prepared::Prepared;
 use bw_model::{Op, Operand, Row, Truth, Value};
 
@@ -18,7 +18,7 @@ impl Prepared {
     {
         match self {
             Prepared::Always => Truth::Yes,
-            Prepared::Cmp(op, x, y) => compared(*op, value_of(*x, row), value_of(*y, row)),
+            Prepared::Cmp(op, x, y) => compare_values(*op, value_of(*x, row), value_of(*y, row)),
             Prepared::Between(x, y, z) => {
                 between(value_of(*x, row), value_of(*y, row), value_of(*z, row))
             }
@@ -81,11 +81,11 @@ fn value_of(operand: Operand, row: &Row) -> Value
 /// Returns whether a value is one of the items, as `IN` has it.
 #[tactic(auto, using(crate::proofs::LogicLemmas::greatest_assoc))]
 fn among(x: Value, items: &[Operand], row: &Row) -> Truth
-    ensures { result ≡ among x (map (operand_value (values_of row.now)) items.now) }
+    ensures { result ≡ in_list x (map (operand_value (values_of row.now)) items.now) }
 {
     let mut greatest = Truth::No;
     for item in items {
-        greatest = either(greatest, compared(Op::Eq, x, value_of(*item, row)));
+        greatest = either(greatest, compare_values(Op::Eq, x, value_of(*item, row)));
         if greatest == Truth::Yes {
             break;
         }

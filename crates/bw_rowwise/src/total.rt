@@ -3,7 +3,7 @@ ghost use Rattle.std.specs.Prelude.{◌≡◌, ◌+◌, ◌<◌, ◌+ℤ◌, ℕ
 ghost use Rattle.std.specs.Int.{w64};
 ghost use Rattle.bw_model.specs.Limits.{most_rows};
 ghost use Rattle.bw_model.specs.Row.{values_of};
-ghost use Rattle.bw_model.specs.Total.{item_within, joined, of_both};
+ghost use Rattle.bw_model.specs.Total.{item_within, combine_totals, of_both};
 ghost use Rattle.bw_rowwise.specs.Accumulator.{answer_with, added_by, IsTotalOfRows};
 
 use bw_model::{Item, Row, Value};
@@ -11,14 +11,14 @@ use bw_model::{Item, Row, Value};
 /// Returns the total of an aggregate with one row more, which must have the aggregate's column.
 #[tactic(auto, using(crate::proofs::TotalLemmas::small_one, crate::proofs::TotalLemmas::small_more))]
 pub fn answer_with(item: Item, answer: Option<i128>, row: &Row) -> Option<i128>
-    requires few { IsTotalOfRows most_rows answer }
+    requires within_limit { IsTotalOfRows most_rows answer }
     requires column { IsTrue (item_within (length (values_of row.now)) item) }
     ensures value { result ≡ answer_with item answer (values_of row.now) }
     ensures small { (rows : ℕ) → IsTotalOfRows rows answer → IsTotalOfRows (rows + 1) result }
 {
     match (answer, added_by(item, row)) {
         (Some(total), Some(n)) => Some(of_both(item, total, n)),
-        (None, Some(n)) => Some(widened(n)),
+        (None, Some(n)) => Some(widen(n)),
         (_, None) => answer,
     }
 }
@@ -45,8 +45,8 @@ fn of_both(item: Item, total: i128, n: i64) -> i128
         → IsTotalOfRows (rows + 1) (Some result) }
 {
     match item {
-        Item::Min(_) => total.min(widened(n)),
-        Item::Max(_) => total.max(widened(n)),
+        Item::Min(_) => total.min(widen(n)),
+        Item::Max(_) => total.max(widen(n)),
         Item::Plain(_) | Item::CountAll | Item::Count(_) | Item::Sum(_) => plus(total, n),
     }
 }
@@ -61,7 +61,7 @@ fn plus(sum: i128, n: i64) -> i128
 }
 
 /// Returns the same number.
-fn widened(n: i64) -> i128
+fn widen(n: i64) -> i128
     ensures same { result ≡ n }
     ensures fits { FitsSigned w64 n }
 {
@@ -70,10 +70,10 @@ fn widened(n: i64) -> i128
 
 /// Returns the total of two lists of rows, from the totals of both.
 #[tactic(auto, using(crate::proofs::TotalLemmas::small_left, crate::proofs::TotalLemmas::small_right))]
-pub fn joined(item: Item, answer: Option<i128>, others: Option<i128>) -> Option<i128>
-    requires few { IsTotalOfRows most_rows answer }
+pub fn combine_totals(item: Item, answer: Option<i128>, others: Option<i128>) -> Option<i128>
+    requires within_limit { IsTotalOfRows most_rows answer }
     requires others { IsTotalOfRows most_rows others }
-    ensures value { result ≡ joined item answer others }
+    ensures value { result ≡ combine_totals item answer others }
     ensures small { (rows more : ℕ) → IsTotalOfRows rows answer → IsTotalOfRows more others
         → IsTotalOfRows (rows + more) result }
 {
@@ -86,7 +86,7 @@ pub fn joined(item: Item, answer: Option<i128>, others: Option<i128>) -> Option<
 
 /// Returns the total of two lists of rows, from the totals of both, neither of them null.
 fn total_of_both(item: Item, a: i128, b: i128) -> i128
-    requires few { IsTotalOfRows most_rows (Some a) }
+    requires within_limit { IsTotalOfRows most_rows (Some a) }
     requires others { IsTotalOfRows most_rows (Some b) }
     ensures value { result ≡ of_both item a b }
     ensures small { (rows more : ℕ) → IsTotalOfRows rows (Some a) → IsTotalOfRows more (Some b)
@@ -101,7 +101,7 @@ fn total_of_both(item: Item, a: i128, b: i128) -> i128
 
 /// Returns the sum of two totals.
 fn sum_of_both(a: i128, b: i128) -> i128
-    requires few { IsTotalOfRows most_rows (Some a) }
+    requires within_limit { IsTotalOfRows most_rows (Some a) }
     requires others { IsTotalOfRows most_rows (Some b) }
     ensures { result ≡ a +ℤ b }
 {

@@ -34,7 +34,8 @@ impl Truths {
 
     /// Returns TRUE in these lanes, and FALSE in the others.
     pub fn of(those: Plane) -> Self
-        ensures { AreTruths result (λ lane. truth_from (slice_index_or (lanes_of_words those) lane false)) }
+        ensures { AreTruths result
+            (λ lane. truth_from (slice_index_or (lanes_of_words those) lane false)) }
     {
         Truths {
             yes: those,
@@ -66,7 +67,8 @@ impl Truths {
 
     /// Returns NOT in each lane.
     pub fn opposite(&self) -> Truths
-        ensures { (f : ℕ → Truth) → AreTruths self.now f → AreTruths result (λ lane. negation (f lane)) }
+        ensures { (f : ℕ → Truth) → AreTruths self.now f
+            → AreTruths result (λ lane. negation (f lane)) }
     {
         Truths {
             yes: other_lanes(&self.maybe),
@@ -105,10 +107,12 @@ impl Truths {
     /// Returns those of the first `rows` lanes that are TRUE.
     pub fn true_rows(&self, rows: u32) -> Selection
         requires { rows ≤ 512 }
-        ensures { (f : ℕ → Truth) (those : List (List Value)) (keeps : List Value → Bool) → AreTruths self.now f
-            → length those ≡ rows
-            → ((lane : ℕ) → lane < rows → is_truth (f lane) Yes ≡ keeps (slice_index_or those lane []))
-            → lanes_of_words result ≡ map keeps those ++ replicate (group_size - length those) false }
+        ensures { (f : ℕ → Truth) (those : List (List Value)) (keeps : List Value → Bool)
+            → AreTruths self.now f → length those ≡ rows
+            → ((lane : ℕ) → lane < rows → is_truth (f lane) Yes
+            ≡ keeps (slice_index_or those lane []))
+            → lanes_of_words result ≡ map keeps those
+            ++ replicate (group_size - length those) false }
     {
         both_lanes(&self.yes, &mask(rows))
     }

@@ -121,7 +121,8 @@ fn add_all(unpacked: &mut Unpacked, operands: &[Operand]) -> Result<(), Fault>
 
 /// Unpacks columns of a segment.
 fn unpack_all<S: Segment>(columns: &mut [UnpackedColumn], segment: &S)
-    ensures { All (λ column. HasColumn (S.meaning segment.now).rows column.number column.lanes) columns.new }
+    ensures { All (λ column. HasColumn (S.meaning segment.now).rows column.number column.lanes)
+        columns.new }
 {
     for column in columns.iter_mut() {
         put_column(column.number, segment, &mut column.lanes);

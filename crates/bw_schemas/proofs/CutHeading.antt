@@ -13,7 +13,7 @@ use Rattle.bw_csv.specs.Fields.{IsCutAfter, IsCutRecord}
 use Rattle.bw_csv.specs.Rows.{Stops, StopsAfter, is_reader_fault, without_blanks}
 use Rattle.bw_schemas.specs.Heading.{heading_names, names_from}
 use Rattle.bw_schemas.specs.Infer.{StopsInferring}
-use Rattle.bw_schemas.specs.Inferred.{inferred, inferred_after}
+use Rattle.bw_schemas.specs.Inferred.{infer_schema, inferred_after}
 
 -- two results are the same fault
 abbrev BothRefused : Result (List (List ℕ)) Fault → Result (List (List ℕ)) Fault → Type 0
@@ -52,7 +52,7 @@ inferred_cut table whole cut is =
     let both = heading_refused is.first is.next is.others is.many in
     rw (is.whole_is, is.cut_is, both.1, both.2) refl
 
-pub same_inferred : (table text cut : List ℕ) → IsCutAfter 64 (records_of text) (records_of cut) → inferred table cut ≡ inferred table text
+pub same_inferred : (table text cut : List ℕ) → IsCutAfter 64 (records_of text) (records_of cut) → infer_schema table cut ≡ infer_schema table text
 same_inferred table text cut (inl same) = ap (λ (records : List (List (List ℕ))). inferred_after table records) same
 same_inferred table text cut (inr is) = inferred_cut table (records_of text) (records_of cut) is
 

@@ -17,14 +17,14 @@ use Rattle.bw_model.specs.Fault.{at_record, ◌>>=◌}
 use Rattle.bw_model.specs.Row.{Value, value_in}
 use Rattle.bw_model.specs.SchemaText.{ColumnShape, SchemaShape, column_shape, schema_shape, shape, is_range}
 use Rattle.bw_text.specs.Text.{same_text}
-use Rattle.bw_model.specs.Total.{joined, total}
+use Rattle.bw_model.specs.Total.{combine_totals, total}
 use Rattle.bw_model.specs.Truth.{is_null}
 use Rattle.bw_model.proofs.TotalLemmas.{total_append}
 use Rattle.bw_csv.specs.Bare.{bare_rows, records_of}
 use Rattle.bw_csv.specs.Rows.{is_heading, rows_after, without_blanks}
 use Rattle.bw_csv.proofs.BareLemmas.{both, bound, passed, rows_are, rows_wide}
 use Rattle.bw_schemas.specs.Heading.{heading_names}
-use Rattle.bw_schemas.specs.Inferred.{column_over, columns_over, has_null, inferred, inferred_after, or_zero, ranged, ranged_column, schema_over, table_of, IsExact, IsNarrowest}
+use Rattle.bw_schemas.specs.Inferred.{column_over, columns_over, has_null, infer_schema, inferred_after, or_zero, check_bounds, ranged_column, schema_over, table_of, IsExact, IsNarrowest}
 use Rattle.bw_schemas.proofs.HeadingLemmas.{heading_is}
 use Rattle.bw_schemas.proofs.NarrowLemmas.{greatest_of_one, least_of_one}
 
@@ -54,12 +54,12 @@ greatest_own : (t : Option ℤ) → AtMost (or_zero t) t
 greatest_own None = tt
 greatest_own (Some m) = omega (arith, ints)
 
-least_parts : (i : ℕ) (a b : Option ℤ) (lo : ℤ) → AtLeast lo (joined (Min i) a b) → AtLeast lo a × AtLeast lo b
+least_parts : (i : ℕ) (a b : Option ℤ) (lo : ℤ) → AtLeast lo (combine_totals (Min i) a b) → AtLeast lo a × AtLeast lo b
 least_parts i None b lo h = (tt, h)
 least_parts i (Some a) None lo h = (h, tt)
 least_parts i (Some a) (Some b) lo h = (omega (arith, ints, clamps), omega (arith, ints, clamps))
 
-greatest_parts : (i : ℕ) (a b : Option ℤ) (hi : ℤ) → AtMost hi (joined (Max i) a b) → AtMost hi a × AtMost hi b
+greatest_parts : (i : ℕ) (a b : Option ℤ) (hi : ℤ) → AtMost hi (combine_totals (Max i) a b) → AtMost hi a × AtMost hi b
 greatest_parts i None b hi h = (tt, h)
 greatest_parts i (Some a) None hi h = (h, tt)
 greatest_parts i (Some a) (Some b) hi h = (omega (arith, ints, clamps), omega (arith, ints, clamps))
@@ -170,12 +170,12 @@ narrow_at (column ∷ columns) rows i (name ∷ names) e (suc k) n d same h =
     narrow_at columns rows (suc i) names rest k n d (omega arith) (omega arith)
 
 -- columns that aren't refused are what they were
-ranged_is : (columns found : List ColumnShape) → ranged columns ≡ Ok found → columns ≡ found
-unfolding ranged
+ranged_is : (columns found : List ColumnShape) → check_bounds columns ≡ Ok found → columns ≡ found
+unfolding check_bounds
 ranged_is [] found e = cc e
 ranged_is (column ∷ columns) found e =
-    let one = bound (ranged_column column) (λ first. ranged columns >>= λ rest. Ok (first ∷ rest)) found e in
-    let more = bound (ranged columns) (λ rest. Ok (one.0 ∷ rest)) found one.2 in
+    let one = bound (ranged_column column) (λ first. check_bounds columns >>= λ rest. Ok (first ∷ rest)) found e in
+    let more = bound (check_bounds columns) (λ rest. Ok (one.0 ∷ rest)) found one.2 in
     let first : ◌≡◌ {A = Result ColumnShape Fault} (Ok column) (Ok one.0) = (passed (not (is_range column.lo column.hi)) (at_record 103 0) (Ok column) one.0 one.1).1 in
     let here : column ≡ one.0 = cc first in
     let rest = ranged_is columns more.0 more.1 in
@@ -196,7 +196,7 @@ found_in table schema (heading ∷ more) e =
     let names = one.0 in
     let two = bound (bare_rows (length names) 1 more) (λ rows. schema_over table names rows) (schema_shape schema) one.2 in
     let rows = two.0 in
-    let three = bound (ranged (columns_over rows 0 names)) (λ found. Ok (table_of table found)) (schema_shape schema) two.2 in
+    let three = bound (check_bounds (columns_over rows 0 names)) (λ found. Ok (table_of table found)) (schema_shape schema) two.2 in
     let told : table_of table three.0 ≡ schema_shape schema = cc three.2 in
     let shapes : map column_shape columns ≡ columns_over rows 0 names = sym (ranged_is (columns_over rows 0 names) three.0 three.1 ∙ ap (λ (s : SchemaShape). s.columns) told) in
     let named = names_over columns rows 0 names shapes in
@@ -206,7 +206,7 @@ found_in table schema (heading ∷ more) e =
     let read = rows_are columns 1 more rows (subst (λ (n : ℕ). bare_rows n 1 more ≡ Ok rows) count two.1) admitted in
     record { rows = rows; spelled = rw head read; narrow = λ number column h. narrow_at columns rows 0 names shapes number number column (omega arith) h }
 
-pub exact_for : (table text : List ℕ) (schema : Schema) → inferred table text ≡ Ok (schema_shape schema) → IsExact schema.columns.items text
+pub exact_for : (table text : List ℕ) (schema : Schema) → infer_schema table text ≡ Ok (schema_shape schema) → IsExact schema.columns.items text
 exact_for table text schema e =
     let found = found_in table schema (records_of text) e in
     record { rows = found.rows; spelled = found.spelled; narrow = found.narrow }

@@ -7,7 +7,7 @@ use Rattle.bw_model.specs.declared.schema.Schema.{Schema}
 use Rattle.bw_model.specs.Fault.{no_memory}
 use Rattle.bw_model.specs.Row.{Value}
 use Rattle.bw_model.specs.SchemaText.{IsSchemaText, SchemaShape, schema_shape}
-use Rattle.bw_io.specs.Sink.{GoesOut, Wrote, is_write_fault, none_aside}
+use Rattle.bw_io.specs.Sink.{GoesOut, WriteOutcome, is_write_fault, none_aside}
 use Rattle.bw_io.proofs.SinkLemmas.{no_write_fault, wrote_nothing}
 use Rattle.bw_io.specs.Source.{failed_reads, is_input_fault, is_read_fault}
 use Rattle.bw_file.specs.declared.layout.Layout.{Layout}
@@ -67,11 +67,11 @@ text_exit start now offset W reader text read is spelled w =
     )
 
 -- a fault of a table file was answered, or out of memory, and nothing was written
-pub refused_table : (old : Option (List ℕ)) (count : ℕ) (fault : Fault) → IsTableFault fault → Wrote {T = Unit {0}} none_aside old old count count (Err fault) (Err fault)
+pub refused_table : (old : Option (List ℕ)) (count : ℕ) (fault : Fault) → IsTableFault fault → WriteOutcome {T = Unit {0}} none_aside old old count count (Err fault) (Err fault)
 refused_table old count fault is =
     wrote_nothing (Unit {0}) none_aside old count fault (Err fault) (no_write_fault is_table_fault fault is refl) (λ _. refl)
 
-pub refused_memory : (old : Option (List ℕ)) (count : ℕ) (fault : Fault) → fault ≡ no_memory → Wrote {T = Unit {0}} none_aside old old count count (Err fault) (Err fault)
+pub refused_memory : (old : Option (List ℕ)) (count : ℕ) (fault : Fault) → fault ≡ no_memory → WriteOutcome {T = Unit {0}} none_aside old old count count (Err fault) (Err fault)
 refused_memory old count fault is = wrote_nothing (Unit {0}) none_aside old count fault (Err fault) (ap is_write_fault is) (λ _. refl)
 
 -- the text of a schema's header is that of another's with the same name and columns

@@ -13,11 +13,11 @@ use Rattle.bw_csv.specs.Input.{IsMadeAfter}
 use Rattle.bw_csv.specs.Rows.{Stops, StopsAfter, is_rows_fault}
 use Rattle.bw_schemas.specs.Printed.{schema_text}
 use Rattle.bw_schemas.specs.Heading.{heading_names}
-use Rattle.bw_schemas.specs.Inferred.{inferred, IsExact}
+use Rattle.bw_schemas.specs.Inferred.{infer_schema, IsExact}
 
 -- the text of the schema that is inferred from a CSV text, or the CSV text's first error
 abbrev pub inferred_text : List ℕ → List ℕ → Result (List ℕ) Fault
-inferred_text table csv = inferred table csv >>= λ schema. Ok (schema_text schema)
+inferred_text table csv = infer_schema table csv >>= λ schema. Ok (schema_text schema)
 
 -- The text of the schema, or the first error, by what the CSV's source yielded. If the table's name
 -- is invalid, the CSV isn't reached.

@@ -42,9 +42,9 @@ abbrev pub ranged_column : ColumnShape → Result ColumnShape Fault
 ranged_column column = refused_if (not (is_range column.lo column.hi)) (at_record SCHEMA_RANGE 0)
     (Ok column)
 
-unfoldable pub ranged : List ColumnShape → Result (List ColumnShape) Fault
-ranged [] = Ok []
-ranged (column ∷ columns) = ranged_column column >>= λ first. ranged columns
+unfoldable pub check_bounds : List ColumnShape → Result (List ColumnShape) Fault
+check_bounds [] = Ok []
+check_bounds (column ∷ columns) = ranged_column column >>= λ first. check_bounds columns
     >>= λ rest. Ok (first ∷ rest)
 
 abbrev pub table_of : List ℕ → List ColumnShape → SchemaShape
@@ -52,7 +52,7 @@ table_of table columns = record { name = table; columns = columns }
 
 -- the schema of rows of columns of these names
 abbrev pub schema_over : List ℕ → List (List ℕ) → List (List Value) → Result SchemaShape Fault
-schema_over table names rows = ranged (columns_over rows 0 names)
+schema_over table names rows = check_bounds (columns_over rows 0 names)
     >>= λ columns. Ok (table_of table columns)
 
 -- the schema of records, the first of which is the heading and has number 0, or their first error:
@@ -65,8 +65,8 @@ inferred_after table (heading ∷ more) =
 
 -- the schema that is inferred from a text, with this table name and without the byte order mark at
 -- its start, if it has one; or the first error
-abbrev pub inferred : List ℕ → List ℕ → Result SchemaShape Fault
-inferred table text = inferred_after table (records_of text)
+abbrev pub infer_schema : List ℕ → List ℕ → Result SchemaShape Fault
+infer_schema table text = inferred_after table (records_of text)
 
 -- a column is as narrow as its values in the rows
 pub record IsNarrowest (rows : List (List Value)) (number : ℕ) (column : Column) : Type 0 where

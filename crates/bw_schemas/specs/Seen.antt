@@ -8,18 +8,22 @@ use Rattle.bw_model.specs.Row.{Value}
 use Rattle.bw_model.specs.SchemaText.{ColumnShape, shape}
 use Rattle.bw_model.specs.Total.{total}
 use Rattle.bw_csv.specs.Bare.{bare_rows}
-use Rattle.bw_schemas.specs.Inferred.{columns_over, has_null, or_zero, ranged}
-use Rattle.bw_schemas.specs.declared.seen.Seen.{Seen}
+use Rattle.bw_schemas.specs.Inferred.{columns_over, has_null, or_zero, check_bounds}
+use Rattle.bw_schemas.specs.declared.seen.ColumnStats.{ColumnStats}
 
-abbrev pub seen : Option ℤ → Option ℤ → Bool → Seen
-seen least greatest has_null = record { least = least; greatest = greatest; has_null = has_null }
+abbrev pub column_stats : Option ℤ → Option ℤ → Bool → ColumnStats
+column_stats least greatest has_null = record {
+  least = least;
+  greatest = greatest;
+  has_null = has_null;
+}
 
-abbrev pub nothing : Seen
-nothing = seen None None false
+abbrev pub no_stats : ColumnStats
+no_stats = column_stats None None false
 
 -- the statistics of a column in the rows: its minimum and maximum, and whether a value is null
-abbrev pub seen_in : List (List Value) → ℕ → Seen
-seen_in rows column = seen (total (Min column) rows) (total (Max column) rows)
+abbrev pub stats_in : List (List Value) → ℕ → ColumnStats
+stats_in rows column = column_stats (total (Min column) rows) (total (Max column) rows)
     (has_null column rows)
 
 abbrev pub lesser : Option ℤ → ℤ → ℤ
@@ -31,38 +35,41 @@ greater None n = n
 greater (Some m) n = int_max m n
 
 -- the statistics with one value more
-abbrev pub with_value : Seen → Value → Seen
-with_value s None = seen s.least s.greatest true
-with_value s (Some n) = seen (Some (lesser s.least n)) (Some (greater s.greatest n)) s.has_null
+abbrev pub with_value : ColumnStats → Value → ColumnStats
+with_value s None = column_stats s.least s.greatest true
+with_value s (Some n) = column_stats (Some (lesser s.least n))
+    (Some (greater s.greatest n)) s.has_null
 
 -- the statistics with one value more for each column; a missing one is null
-unfoldable pub with_values : List Seen → List Value → List Seen
+unfoldable pub with_values : List ColumnStats → List Value → List ColumnStats
 with_values [] values = []
 with_values (s ∷ columns) [] = with_value s None ∷ with_values columns []
 with_values (s ∷ columns) (value ∷ values) = with_value s value ∷ with_values columns values
 
 -- the statistics with these rows more
-unfoldable pub with_rows : List Seen → List (List Value) → List Seen
+unfoldable pub with_rows : List ColumnStats → List (List Value) → List ColumnStats
 with_rows columns [] = columns
 with_rows columns (row ∷ rows) = with_rows (with_values columns row) rows
 
 -- the statistics with the rows of these records more, the first of which has this number, or the
 -- first error
-abbrev pub with_records : List Seen → ℕ → ℕ → List (List (List ℕ)) → Result (List Seen) Fault
+abbrev pub with_records : List ColumnStats → ℕ → ℕ → List (List (List ℕ))
+    → Result (List ColumnStats) Fault
 with_records columns width number records = bare_rows width number records
     >>= λ rows. Ok (with_rows columns rows)
 
 -- the column of a name and its statistics
-abbrev pub column_seen : List ℕ → Seen → ColumnShape
-column_seen name s = shape name (or_zero s.least) (or_zero s.greatest) s.has_null
+abbrev pub column_from_stats : List ℕ → ColumnStats → ColumnShape
+column_from_stats name s = shape name (or_zero s.least) (or_zero s.greatest) s.has_null
 
-unfoldable pub columns_seen : List (List ℕ) → List Seen → List ColumnShape
-columns_seen [] columns = []
-columns_seen (name ∷ names) [] = []
-columns_seen (name ∷ names) (s ∷ columns) = column_seen name s ∷ columns_seen names columns
+unfoldable pub columns_from_stats : List (List ℕ) → List ColumnStats → List ColumnShape
+columns_from_stats [] columns = []
+columns_from_stats (name ∷ names) [] = []
+columns_from_stats (name ∷ names) (s ∷ columns) = column_from_stats name s
+    ∷ columns_from_stats names columns
 
 -- the columns of these names over the rows of records, the first of which has number 1; or the
 -- first error, in the records and then in the bounds
 abbrev pub columns_after : List (List ℕ) → List (List (List ℕ)) → Result (List ColumnShape) Fault
 columns_after names more = bare_rows (length names) 1 more
-    >>= λ rows. ranged (columns_over rows 0 names)
+    >>= λ rows. check_bounds (columns_over rows 0 names)

@@ -2,12 +2,12 @@
 ghost use Rattle.std.specs.Prelude.{◌≡◌, ◌≤ℤ◌, ◌<ℤ◌, ◌-ℤ◌, ◌^◌, pos, length, map, true, false, IfOk, IfErr, IsTrue};
 ghost use Rattle.bw_model.specs.Column.{names_of};
 ghost use Rattle.bw_model.specs.SchemaText.{column_shape, is_range};
-ghost use Rattle.bw_csv.specs.Rows.{GivesButAside, is_reader_fault};
+ghost use Rattle.bw_csv.specs.Rows.{MatchesUnlessExempt, is_reader_fault};
 ghost use Rattle.bw_schemas.specs.Infer.{is_inferring_fault};
-ghost use Rattle.bw_schemas.specs.Inferred.{or_zero, ranged, ranged_column};
-ghost use Rattle.bw_schemas.specs.Seen.{column_seen, columns_seen};
+ghost use Rattle.bw_schemas.specs.Inferred.{or_zero, check_bounds, ranged_column};
+ghost use Rattle.bw_schemas.specs.Seen.{column_from_stats, columns_from_stats};
 
-use crate::seen::Seen;
+use crate::seen::ColumnStats;
 use bw_model::{Column, Fault, Name, code};
 use std::alloc::Global;
 
@@ -16,14 +16,14 @@ use std::alloc::Global;
 pub(crate) fn columns_seen(
     alloc: Global,
     names: &[Name],
-    seen: &[Seen],
+    seen: &[ColumnStats],
 ) -> Result<Vec<Column>, Fault>
     requires { length names.now ≡ length seen.now }
-    ensures columns { GivesButAside (λ columns. map column_shape columns.items) result
-        (ranged (columns_seen names.now seen.now)) }
+    ensures columns { MatchesUnlessExempt (λ columns. map column_shape columns.items) result
+        (check_bounds (columns_from_stats names.now seen.now)) }
     ensures names { IfOk result (λ columns. names_of columns.items ≡ names.now) }
     ensures fault { IfErr result (λ fault. is_inferring_fault fault ≡ true) }
-    ensures own { IfErr result (λ fault. is_reader_fault fault ≡ false) }
+    ensures not_reader { IfErr result (λ fault. is_reader_fault fault ≡ false) }
 {
     let mut columns: Vec<Column> = Vec::new(alloc);
     for i in 0..names.len() {
@@ -34,12 +34,12 @@ pub(crate) fn columns_seen(
 }
 
 /// Returns the column of this name.
-fn column_seen(alloc: Global, name: &Name, seen: &Seen) -> Result<Column, Fault>
-    ensures column { GivesButAside column_shape result
-        (ranged_column (column_seen name.now seen.now)) }
+fn column_seen(alloc: Global, name: &Name, seen: &ColumnStats) -> Result<Column, Fault>
+    ensures column { MatchesUnlessExempt column_shape result
+        (ranged_column (column_from_stats name.now seen.now)) }
     ensures name { IfOk result (λ column. column.name ≡ name.now) }
     ensures fault { IfErr result (λ fault. is_inferring_fault fault ≡ true) }
-    ensures own { IfErr result (λ fault. is_reader_fault fault ≡ false) }
+    ensures not_reader { IfErr result (λ fault. is_reader_fault fault ≡ false) }
 {
     let lo = or_zero(seen.least);
     let hi = or_zero(seen.greatest);

@@ -5,7 +5,7 @@ ghost use Rattle.bw_model.specs.Limits.{most_columns};
 ghost use Rattle.bw_model.specs.Name.{are_apart};
 ghost use Rattle.bw_text.specs.Text.{same_text};
 ghost use Rattle.bw_csv.specs.Records.{fields_in};
-ghost use Rattle.bw_csv.specs.Rows.{GivesButAside, is_reader_fault};
+ghost use Rattle.bw_csv.specs.Rows.{MatchesUnlessExempt, is_reader_fault};
 ghost use Rattle.bw_schemas.specs.Heading.{heading_names};
 ghost use Rattle.bw_schemas.specs.Infer.{is_inferring_fault};
 
@@ -18,13 +18,13 @@ use std::alloc::Global;
 /// invalid name, 104 for the name of an earlier column, ignoring case.
 #[tactic(auto, unfolding(crate::specs::Heading::heading_names))]
 pub(crate) fn heading_names(alloc: Global, records: &Records<'_>) -> Result<Vec<Name>, Fault>
-    ensures names { GivesButAside (λ names. names.items) result
+    ensures names { MatchesUnlessExempt (λ names. names.items) result
         (heading_names (fields_in records.now)) }
-    ensures some { IfOk result (λ names. 1 ≤ length names.items) }
-    ensures few { IfOk result (λ names. length names.items ≤ most_columns) }
+    ensures nonempty { IfOk result (λ names. 1 ≤ length names.items) }
+    ensures within_limit { IfOk result (λ names. length names.items ≤ most_columns) }
     ensures apart { IfOk result (λ names. are_apart names.items ≡ true) }
     ensures fault { IfErr result (λ fault. is_inferring_fault fault ≡ true) }
-    ensures own { IfErr result (λ fault. is_reader_fault fault ≡ false) }
+    ensures not_reader { IfErr result (λ fault. is_reader_fault fault ≡ false) }
 {
     let mut names: Vec<Name> = Vec::new(alloc);
     for i in 0..records.field_count() {

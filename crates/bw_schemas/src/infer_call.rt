@@ -3,9 +3,9 @@ ghost use Rattle.std.specs.Prelude.{◌≡◌, ◌+◌, ◌-◌, ◌^◌, ◌<�
 ghost use Rattle.bw_model.specs.declared.fault.Fault.{Fault};
 ghost use Rattle.bw_model.specs.Limits.{longest_csv};
 ghost use Rattle.bw_model.specs.Name.{is_name};
-ghost use Rattle.bw_io.specs.Sink.{Wrote};
-ghost use Rattle.bw_io.specs.Source.{Arrival, Whole, Came, LeavesSource};
-ghost use Rattle.bw_csv.specs.Rows.{is_aside, is_reader_fault, GivesButAside};
+ghost use Rattle.bw_io.specs.Sink.{WriteOutcome};
+ghost use Rattle.bw_io.specs.Source.{Arrival, Whole, ReadOutcome, SourceEffect};
+ghost use Rattle.bw_csv.specs.Rows.{is_exempt, is_reader_fault, MatchesUnlessExempt};
 ghost use Rattle.bw_schemas.specs.Infer.{inferred_text, is_inferring_fault, InfersExactly, IsTextFrom, SpellsExactly, StopsInferring};
 
 use crate::print::print_schema;
@@ -45,30 +45,30 @@ pub fn infer<C: Source, K: Sink>(
     // The bytes written are the text of the schema that is inferred from what the source yielded,
     // or none if that is an error. If the table's name is invalid, the source wasn't reached.
     ensures schema { (csv : Arrival) × (given : Result (List ℕ) Fault)
-        × Came longest_csv (C.to_come csv_source.old) (C.to_come csv_source.new)
+        × ReadOutcome longest_csv (C.to_come csv_source.old) (C.to_come csv_source.new)
         (C.failures csv_source.old) (C.failures csv_source.new) csv
         × IsTextFrom table.now csv given
-        × Wrote is_aside (K.taken sink.old) (K.taken sink.new)
+        × WriteOutcome is_exempt (K.taken sink.old) (K.taken sink.new)
         (K.failures sink.old) (K.failures sink.new) given result }
 
     // The text that was written spells a schema under which the CSV text has its rows without an
     // error, and no column could be narrower.
     ensures exact { OnOk result ((csv : List ℕ)
-        × Came longest_csv (C.to_come csv_source.old) (C.to_come csv_source.new)
+        × ReadOutcome longest_csv (C.to_come csv_source.old) (C.to_come csv_source.new)
         (C.failures csv_source.old) (C.failures csv_source.new) (Whole csv)
         × InfersExactly csv (K.taken sink.old) (K.taken sink.new)) }
 
     // If the reader has an error of its own, the CSV was read completely, and the error is at the
     // heading, or at the record after those that have rows.
     ensures reader { IfErr result (λ fault. is_reader_fault fault ≡ true → (csv : List ℕ)
-        × Came longest_csv (C.to_come csv_source.old) (C.to_come csv_source.new)
+        × ReadOutcome longest_csv (C.to_come csv_source.old) (C.to_come csv_source.new)
         (C.failures csv_source.old) (C.failures csv_source.new) (Whole csv)
         × StopsInferring csv fault) }
 
     // Of the source at most one byte past its limit is read. The call fails by a failed read if and
     // only if the source's count of failures rose. If the table's name is invalid, the source is as
     // it was.
-    ensures csv { LeavesSource (longest_csv + 1) (C.to_come csv_source.old)
+    ensures csv { SourceEffect (longest_csv + 1) (C.to_come csv_source.old)
         (C.to_come csv_source.new) (C.failures csv_source.old) (C.failures csv_source.new) result }
     ensures unneeded { is_name table.now ≡ false → csv_source.new ≡ csv_source.old }
 {
@@ -83,7 +83,8 @@ pub fn infer<C: Source, K: Sink>(
 /// Returns the text of the schema that is inferred from a CSV text.
 fn inferred_text(alloc: Global, table: &[u8], csv: &[u8]) -> Result<Vec<u8>, Fault>
     requires { IsTrue (is_name table.now) }
-    ensures text { GivesButAside (λ text. text.items) result (inferred_text table.now csv.now) }
+    ensures text { MatchesUnlessExempt (λ text. text.items) result
+        (inferred_text table.now csv.now) }
     ensures exact { IfOk result (λ text. SpellsExactly text.items csv.now) }
     ensures fault { IfErr result (λ fault. is_inferring_fault fault ≡ true) }
     ensures reader { IfErr result (λ fault. is_reader_fault fault ≡ true

@@ -4,7 +4,7 @@ ghost use Rattle.bw_model.specs.declared.fault.Fault.{Fault};
 ghost use Rattle.bw_model.specs.declared.schema.Schema.{Schema};
 ghost use Rattle.bw_model.specs.Groups.{groups_of};
 ghost use Rattle.bw_model.specs.Row.{Value};
-ghost use Rattle.bw_io.specs.Sink.{Wrote, none_aside};
+ghost use Rattle.bw_io.specs.Sink.{WriteOutcome, none_aside};
 ghost use Rattle.bw_io.specs.Source.{TellsFailure};
 ghost use Rattle.bw_file.specs.declared.layout.Layout.{Layout};
 ghost use Rattle.bw_file.specs.FileBytes.{AreRows, IsFileBytes, bytes_of_version};
@@ -32,7 +32,7 @@ pub fn info<S: Source, K: Sink>(alloc: Global, table: &mut S, sink: &mut K) -> R
     ensures info { (offset : ℕ) × (given : Result (List ℕ) Fault)
         × InfoGave (state (S.to_come table.old) 0 (S.failures table.old))
         (state (S.to_come table.new) offset (S.failures table.new)) given
-        × Wrote none_aside (K.taken sink.old) (K.taken sink.new) (K.failures sink.old)
+        × WriteOutcome none_aside (K.taken sink.old) (K.taken sink.new) (K.failures sink.old)
         (K.failures sink.new) given result }
 
     // If the unread bytes are a table file's, its schema, its rows and its length are reported, and

@@ -19,7 +19,7 @@ pub fn print_schema(alloc: Global, schema: &Schema) -> Result<Vec<u8>, Fault>
     ensures commented { IfOk result (λ text. (comments : List ℕ) → AreComments comments
         → length comments ≤ most_comments
         → IsSchemaText (text.items ++ comments) (schema_shape schema.now)) }
-    ensures only_memory { IsOkUnless result no_memory }
+    ensures only_oom { IsOkUnless result no_memory }
 {
     schema.has_names_and_bounds();
     let mut text = Vec::new(alloc);

@@ -6,16 +6,16 @@ ghost use Rattle.bw_model.specs.Name.{is_name};
 ghost use Rattle.bw_model.specs.Row.{values_of};
 ghost use Rattle.bw_model.specs.SchemaText.{column_shape, schema_shape};
 ghost use Rattle.bw_model.specs.Column.{names_of};
-ghost use Rattle.bw_csv.specs.Records.{IsOpen, coming, fields_in};
+ghost use Rattle.bw_csv.specs.Records.{IsOpen, remaining_records, fields_in};
 ghost use Rattle.bw_csv.specs.Bare.{bare_rows};
-ghost use Rattle.bw_csv.specs.Rows.{GivesButAside, is_reader_fault, StopsAfter};
+ghost use Rattle.bw_csv.specs.Rows.{MatchesUnlessExempt, is_reader_fault, StopsAfter};
 ghost use Rattle.bw_schemas.specs.Infer.{is_inferring_fault, StopsInferring};
-ghost use Rattle.bw_schemas.specs.Inferred.{inferred, IsExact};
-ghost use Rattle.bw_schemas.specs.Seen.{columns_after, nothing, with_records};
+ghost use Rattle.bw_schemas.specs.Inferred.{infer_schema, IsExact};
+ghost use Rattle.bw_schemas.specs.Seen.{columns_after, no_stats, with_records};
 
 use crate::columns::columns_seen;
 use crate::heading::heading_names;
-use crate::seen::{Seen, take_values};
+use crate::seen::{ColumnStats, take_values};
 use bw_csv::{Records, read_bare_row, without_more_fields};
 use bw_model::{Column, Fault, MAX_COLUMNS, Name, Row, Schema, code};
 use std::alloc::{AllocError, Global};
@@ -31,7 +31,7 @@ use std::alloc::{AllocError, Global};
 /// Of a heading of more than 64 columns only the first 64 are read.
 pub(crate) fn infer_schema(alloc: Global, table: &[u8], text: &[u8]) -> Result<Schema, Fault>
     requires { IsTrue (is_name table.now) }
-    ensures schema { GivesButAside schema_shape result (inferred table.now text.now) }
+    ensures schema { MatchesUnlessExempt schema_shape result (infer_schema table.now text.now) }
     ensures fault { IfErr result (λ fault. is_inferring_fault fault ≡ true) }
     ensures reader { IfErr result (λ fault. is_reader_fault fault ≡ true
         → StopsInferring text.now fault) }
@@ -43,7 +43,7 @@ pub(crate) fn infer_schema(alloc: Global, table: &[u8], text: &[u8]) -> Result<S
 #[tactic(auto, unfolding(crate::specs::Inferred::inferred_after))]
 fn schema_of(alloc: Global, table: &[u8], text: &[u8]) -> Result<Schema, Fault>
     requires { IsTrue (is_name table.now) }
-    ensures schema { GivesButAside schema_shape result (inferred table.now text.now) }
+    ensures schema { MatchesUnlessExempt schema_shape result (infer_schema table.now text.now) }
     ensures fault { IfErr result (λ fault. is_inferring_fault fault ≡ true) }
     ensures reader { IfErr result (λ fault. is_reader_fault fault ≡ true
         → StopsInferring text.now fault) }
@@ -68,12 +68,12 @@ fn columns_after(
     names: &[Name],
 ) -> Result<Vec<Column>, Fault>
     requires { IsOpen records.old }
-    ensures columns { GivesButAside (λ columns. map column_shape columns.items) result
-        (columns_after names.now (coming records.old)) }
+    ensures columns { MatchesUnlessExempt (λ columns. map column_shape columns.items) result
+        (columns_after names.now (remaining_records records.old)) }
     ensures names { IfOk result (λ columns. names_of columns.items ≡ names.now) }
     ensures fault { IfErr result (λ fault. is_inferring_fault fault ≡ true) }
     ensures reader { IfErr result (λ fault. is_reader_fault fault ≡ true
-        → StopsAfter (bare_rows (length names.now)) (coming records.old) fault) }
+        → StopsAfter (bare_rows (length names.now)) (remaining_records records.old) fault) }
 {
     let seen = rows_seen(alloc, records, names.len())?;
     columns_seen(alloc, names, &seen)
@@ -81,14 +81,18 @@ fn columns_after(
 
 /// Returns the statistics of `width` columns, over the rows of the unread records, the first of
 /// which has number 1.
-fn rows_seen(alloc: Global, records: &mut Records<'_>, width: usize) -> Result<Vec<Seen>, Fault>
+fn rows_seen(
+    alloc: Global,
+    records: &mut Records<'_>,
+    width: usize,
+) -> Result<Vec<ColumnStats>, Fault>
     requires { IsOpen records.old }
-    ensures seen { GivesButAside (λ columns. columns.items) result
-        (with_records (replicate width nothing) width 1 (coming records.old)) }
+    ensures seen { MatchesUnlessExempt (λ columns. columns.items) result
+        (with_records (replicate width no_stats) width 1 (remaining_records records.old)) }
     ensures width { IfOk result (λ columns. length columns.items ≡ width) }
     ensures fault { IfErr result (λ fault. is_inferring_fault fault ≡ true) }
     ensures reader { IfErr result (λ fault. is_reader_fault fault ≡ true
-        → StopsAfter (bare_rows width) (coming records.old) fault) }
+        → StopsAfter (bare_rows width) (remaining_records records.old) fault) }
 {
     let mut row = Row {
         values: Vec::with_capacity(alloc, width)?,
@@ -99,11 +103,11 @@ fn rows_seen(alloc: Global, records: &mut Records<'_>, width: usize) -> Result<V
 }
 
 /// Returns `width` columns without a value yet.
-fn nothing_seen(alloc: Global, width: usize) -> Result<Vec<Seen>, AllocError>
-    ensures { IfOk result (λ columns. columns.items ≡ replicate width nothing) }
+fn nothing_seen(alloc: Global, width: usize) -> Result<Vec<ColumnStats>, AllocError>
+    ensures { IfOk result (λ columns. columns.items ≡ replicate width no_stats) }
 {
     let mut columns = Vec::new(alloc);
-    let nothing = Seen {
+    let nothing = ColumnStats {
         least: None,
         greatest: None,
         has_null: false,
@@ -113,14 +117,19 @@ fn nothing_seen(alloc: Global, width: usize) -> Result<Vec<Seen>, AllocError>
 }
 
 /// Adds the rows of the unread records, the first of which has number 1.
-fn take_rows(records: &mut Records<'_>, row: &mut Row, columns: &mut Vec<Seen>) -> Result<(), Fault>
+fn take_rows(
+    records: &mut Records<'_>,
+    row: &mut Row,
+    columns: &mut Vec<ColumnStats>,
+) -> Result<(), Fault>
     requires { IsOpen records.old }
-    ensures seen { GivesButAside (λ _. columns.new.items) result
-        (with_records columns.old.items (length columns.old.items) 1 (coming records.old)) }
+    ensures seen { MatchesUnlessExempt (λ _. columns.new.items) result
+        (with_records columns.old.items (length columns.old.items) 1
+        (remaining_records records.old)) }
     ensures width { OnOk result (length columns.new.items ≡ length columns.old.items) }
     ensures fault { IfErr result (λ fault. is_inferring_fault fault ≡ true) }
     ensures reader { IfErr result (λ fault. is_reader_fault fault ≡ true
-        → StopsAfter (bare_rows (length columns.old.items)) (coming records.old) fault) }
+        → StopsAfter (bare_rows (length columns.old.items)) (remaining_records records.old) fault) }
 {
     let width = columns.len();
     let mut number = 1;
@@ -134,6 +143,6 @@ fn take_rows(records: &mut Records<'_>, row: &mut Row, columns: &mut Vec<Seen>) 
 /// A law: the schema that is inferred from a CSV text is exact for it: the text has its rows under
 /// the schema, and no column could be narrower.
 pub fn inferred_schemas_are_exact()
-    ensures { (table text : List ℕ) (schema : Schema) → inferred table text
+    ensures { (table text : List ℕ) (schema : Schema) → infer_schema table text
         ≡ Ok (schema_shape schema) → IsExact schema.columns.items text }
 {}

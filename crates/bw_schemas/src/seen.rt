@@ -6,14 +6,14 @@ use bw_model::Value;
 
 /// The minimum and the maximum of a column so far, and whether it had a null.
 #[derive(Clone, Copy)]
-pub(crate) struct Seen {
+pub(crate) struct ColumnStats {
     pub(crate) least: Option<i64>,
     pub(crate) greatest: Option<i64>,
     pub(crate) has_null: bool,
 }
 
 /// Adds one value to each column.
-pub(crate) fn take_values(columns: &mut Vec<Seen>, values: &[Value])
+pub(crate) fn take_values(columns: &mut Vec<ColumnStats>, values: &[Value])
     requires { length columns.old.items ≡ length values.now }
     ensures { columns.new.items ≡ with_values columns.old.items values.now }
 {
@@ -23,16 +23,16 @@ pub(crate) fn take_values(columns: &mut Vec<Seen>, values: &[Value])
 }
 
 /// Returns the statistics with one value more.
-fn with_value(seen: Seen, value: Value) -> Seen
+fn with_value(seen: ColumnStats, value: Value) -> ColumnStats
     ensures { result ≡ with_value seen value }
 {
     match value {
-        None => Seen {
+        None => ColumnStats {
             least: seen.least,
             greatest: seen.greatest,
             has_null: true,
         },
-        Some(n) => Seen {
+        Some(n) => ColumnStats {
             least: Some(lesser(seen.least, n)),
             greatest: Some(greater(seen.greatest, n)),
             has_null: seen.has_null,

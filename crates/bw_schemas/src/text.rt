@@ -25,7 +25,7 @@ pub(crate) fn info_text(alloc: Global, reader: &TableReader) -> Result<Vec<u8>, 
         (rows_stated reader.now)) }
     ensures spelled { IfOk result
         (λ text. IsSchemaText text.items (schema_shape (schema_in reader.now))) }
-    ensures only_memory { IsOkUnless result no_memory }
+    ensures only_oom { IsOkUnless result no_memory }
 {
     use Piece::{Number, Word};
     let rows = u64::from(reader.rows());

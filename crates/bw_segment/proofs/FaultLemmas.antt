@@ -10,7 +10,7 @@ use Rattle.std.proofs.Math.Bool.{and-true}
 use Rattle.bw_model.proofs.BitsLemmas.{both}
 use lib.Lanes.{zip2}
 use Rattle.bw_model.specs.Groups.{group_size}
-use Rattle.bw_model.specs.Selection.{picked}
+use Rattle.bw_model.specs.Selection.{selected_items}
 use Rattle.bw_segment.specs.BlockFault.{or_else, padding_fault, row_fault, first_fault, lanes_fault, TellsCodes}
 
 pub first_none : (fault : ℕ → Option ℕ) (n : ℕ) → ((row : ℕ) → row < n → fault row ≡ None) → first_fault fault n ≡ None
@@ -202,13 +202,13 @@ tells_nothing count nulls used codes whole none = record {
 }
 
 -- no code is used in no lanes
-pub none_used : (test : ℕ → Bool) (lanes : List Bool) (codes : List ℕ) → list_all not lanes ≡ true → list_any test (picked lanes codes) ≡ false
+pub none_used : (test : ℕ → Bool) (lanes : List Bool) (codes : List ℕ) → list_all not lanes ≡ true → list_any test (selected_items lanes codes) ≡ false
 none_used test [] codes none = refl
 none_used test (lane ∷ lanes) [] none = refl
 none_used test (true ∷ lanes) (code ∷ codes) none = cc
 none_used test (false ∷ lanes) (code ∷ codes) none = none_used test lanes codes none
 
-unused_at : (lanes : List Bool) (codes : List ℕ) (row : ℕ) → list_any (λ code. not (code == 0)) (picked lanes codes) ≡ false → row < length codes → get_or lanes row false ≡ true → get_or codes row 0 ≡ 0
+unused_at : (lanes : List Bool) (codes : List ℕ) (row : ℕ) → list_any (λ code. not (code == 0)) (selected_items lanes codes) ≡ false → row < length codes → get_or lanes row false ≡ true → get_or codes row 0 ≡ 0
 unused_at [] codes row none lt set = cc
 unused_at (lane ∷ lanes) [] row none lt set = absurd (omega arith)
 unused_at (true ∷ lanes) (code ∷ codes) zero none lt set = grind (arith, nat_tests, or_parts (not (code == 0)) _ none)
@@ -217,7 +217,7 @@ unused_at (true ∷ lanes) (code ∷ codes) (suc row) none lt set = unused_at la
 unused_at (false ∷ lanes) (code ∷ codes) (suc row) none lt set = unused_at lanes codes row none (omega arith) set
 
 -- 512 rows of which none that is null has a code, and none a code above the greatest
-pub all_good : (span : ℕ) (nulls : List Bool) (codes : List ℕ) → length codes ≡ group_size → list_any (λ code. not (code == 0)) (picked nulls codes) ≡ false → list_any (ltb span) codes ≡ false
+pub all_good : (span : ℕ) (nulls : List Bool) (codes : List ℕ) → length codes ≡ group_size → list_any (λ code. not (code == 0)) (selected_items nulls codes) ≡ false → list_any (ltb span) codes ≡ false
     → lanes_fault span 512 nulls codes ≡ None
 unfolding group_size
 all_good span nulls codes long unused within =

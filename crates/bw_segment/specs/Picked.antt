@@ -1,7 +1,7 @@
 -- The codes of a column in selected lanes.
 use Rattle.std.specs.Prelude.{ℕ, Bool, List, map}
 use Rattle.bw_model.specs.Code.{has_bit}
-use Rattle.bw_model.specs.Selection.{picked}
+use Rattle.bw_model.specs.Selection.{selected_items}
 use Rattle.bw_segment.specs.Meaning.{Meaning, code_lanes}
 
 -- a bit of a column's stored code in each lane
@@ -10,4 +10,4 @@ bit_lanes meaning column bit = map (λ code. has_bit code bit) (code_lanes meani
 
 -- the stored codes of a column in the lanes whose bit is 1
 unfoldable pub codes_in : Meaning → ℕ → List Bool → List ℕ
-codes_in meaning column lanes = picked lanes (code_lanes meaning column)
+codes_in meaning column lanes = selected_items lanes (code_lanes meaning column)

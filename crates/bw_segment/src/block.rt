@@ -57,7 +57,7 @@ impl Placement {
             ++ (if is_nullable self.now.schema.columns.items col
             then bytes_of_lanes (null_bits rows col) else [])) }
         ensures refused { OnErr result (bytes.new.items ≡ bytes.old.items) }
-        ensures only_memory { IsOkUnless result no_memory }
+        ensures only_oom { IsOkUnless result no_memory }
     {
         if !self.schema.columns[col].nullable {
             return Ok(());

@@ -24,7 +24,7 @@ impl<L: CodeLayout> PackedSegment<L> {
         requires { IsGroup (meaning_of schema.now rows.now) }
         ensures means { IfOk result (λ segment.
             ⟦<PackedSegment<L> as Segment>⟧.meaning segment ≡ meaning_of schema.now rows.now) }
-        ensures only_memory { IsOkUnless result no_memory }
+        ensures only_oom { IsOkUnless result no_memory }
     {
         let placement = Rc::new(alloc, Placement::of::<L>(alloc, schema)?)?;
         PackedSegment::build_shared(alloc, &placement, rows)
@@ -42,7 +42,7 @@ impl<L: CodeLayout> PackedSegment<L> {
         ensures means { IfOk result (λ segment.
             ⟦<PackedSegment<L> as Segment>⟧.meaning segment
             ≡ meaning_of placement.now.value.schema rows.now) }
-        ensures only_memory { IsOkUnless result no_memory }
+        ensures only_oom { IsOkUnless result no_memory }
     {
         let shared: &Placement = placement;
         let kept = columns_of(alloc, &shared.schema, rows)?;
@@ -70,7 +70,7 @@ impl<L: CodeLayout> PackedSegment<L> {
         ensures front { OnOk result (take (length bytes.old.items) bytes.new.items
             ≡ bytes.old.items) }
         ensures refused { OnErr result (bytes.new.items ≡ bytes.old.items) }
-        ensures only_memory { IsOkUnless result no_memory }
+        ensures only_oom { IsOkUnless result no_memory }
     {
         let added = blocks_of::<L>(alloc, placement, kept)?;
         bytes.extend_from_slice(&added)?;
@@ -89,7 +89,7 @@ fn blocks_of<L: CodeLayout>(
     ensures bytes { IfOk result (λ bytes. (rows : List (List Value))
         → KeepRows placement.now.schema.columns.items rows kept.now
         → bytes.items ≡ segment_bytes L.packing placement.now.schema.columns.items rows) }
-    ensures only_memory { IsOkUnless result no_memory }
+    ensures only_oom { IsOkUnless result no_memory }
 {
     let count = placement.schema.columns.len();
     let mut bytes = Vec::with_capacity(alloc, placement.start::<L>(count))?;

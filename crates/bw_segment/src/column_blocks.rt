@@ -41,7 +41,7 @@ impl ColumnBlocks {
     pub(crate) fn push(&mut self, block: &[u8]) -> Result<(), Fault>
         ensures size { self.new.size ≡ self.old.size }
         ensures bytes { OnOk result (self.new.bytes.items ≡ self.old.bytes.items ++ block.now) }
-        ensures only_memory { IsOkUnless result no_memory }
+        ensures only_oom { IsOkUnless result no_memory }
     {
         ColumnBlocks::make_room(&mut self.bytes, block.len())?;
         if self.is_long && self.size >= 64 && block.len() == self.size && self.has_all_fronts() {
@@ -54,11 +54,11 @@ impl ColumnBlocks {
     /// Adds a block, and its first 64 bytes apart. Errors: 801 if memory is refused.
     fn push_both(&mut self, block: &[u8]) -> Result<(), Fault>
         requires size { length block.now ≡ self.old.size }
-        requires room { 64 ≤ self.old.size }
+        requires capacity { 64 ≤ self.old.size }
         requires all { HasFronts self.old.size self.old.bytes.items self.old.fronts.items }
         ensures size { self.new.size ≡ self.old.size }
         ensures bytes { OnOk result (self.new.bytes.items ≡ self.old.bytes.items ++ block.now) }
-        ensures only_memory { IsOkUnless result no_memory }
+        ensures only_oom { IsOkUnless result no_memory }
     {
         ColumnBlocks::make_room(&mut self.fronts, 64)?;
         self.bytes.extend_from_slice(block)?;
@@ -72,7 +72,7 @@ impl ColumnBlocks {
         ensures front { IfSome result (λ front. front.now
             ≡ take 64 (take self.now.size (drop (number * self.now.size) self.now.bytes.items))) }
         ensures size { IfSome result (λ front. length front.now ≡ 64) }
-        ensures room { IfSome result (λ _. number * self.now.size + self.now.size
+        ensures capacity { IfSome result (λ _. number * self.now.size + self.now.size
             ≤ length self.now.bytes.items) }
     {
         let fronts: &[u8] = &self.fronts;
@@ -99,7 +99,7 @@ impl ColumnBlocks {
     /// Errors: 801 if memory is refused.
     fn make_room(bytes: &mut Vec<u8>, count: usize) -> Result<(), Fault>
         ensures same { bytes.new.items ≡ bytes.old.items }
-        ensures only_memory { IsOkUnless result no_memory }
+        ensures only_oom { IsOkUnless result no_memory }
     {
         if bytes.capacity() - bytes.len() < count {
             let more = count.max(bytes.len() / 16);

@@ -48,7 +48,7 @@ impl ColumnCodes {
 pub fn no_rows(alloc: Global, count: usize) -> Result<Vec<ColumnCodes>, Fault>
     ensures keeps { IfOk result (λ kept. (columns : List Column) → length columns ≡ count
         → KeepRows columns [] kept.items) }
-    ensures only_memory { IsOkUnless result no_memory }
+    ensures only_oom { IsOkUnless result no_memory }
 {
     let mut kept = Vec::with_capacity(alloc, count)?;
     for _ in 0..count {
@@ -89,7 +89,7 @@ pub fn columns_of(alloc: Global, schema: &Schema, rows: &[Row]) -> Result<Vec<Co
     requires { IsGroup (meaning_of schema.now rows.now) }
     ensures keeps { IfOk result (λ kept.
         KeepRows schema.now.columns.items (map values_of rows.now) kept.items) }
-    ensures only_memory { IsOkUnless result no_memory }
+    ensures only_oom { IsOkUnless result no_memory }
 {
     let mut kept = no_rows(alloc, schema.columns.len())?;
     for (lane, row) in rows.iter().enumerate() {

@@ -3,7 +3,7 @@
 ghost use Rattle.std.specs.Prelude.{All, ◌≡◌, ◌^◌, ◌<◌, ◌≤◌, length, max, min, IfSome, if◌then◌else◌};
 ghost use Rattle.std.specs.List.{reduce};
 ghost use Rattle.bw_lanes.specs.Lanes.{lanes_of_words};
-ghost use Rattle.bw_model.specs.Selection.{picked};
+ghost use Rattle.bw_model.specs.Selection.{selected_items};
 
 use crate::layout::CodeLayout;
 use bw_lanes::{LANES, Selection, count, last_between};
@@ -17,7 +17,7 @@ pub(crate) fn least_in<L: CodeLayout>(width: u32, bytes: &[u8], lanes: &Selectio
     requires size { length bytes.now ≡ L.packing.size width }
     requires small { All (λ code. code < 2 ^ width) (L.packing.codes width bytes.now) }
     ensures least { result
-        ≡ reduce min (picked (lanes_of_words lanes.now) (L.packing.codes width bytes.now)) }
+        ≡ reduce min (selected_items (lanes_of_words lanes.now) (L.packing.codes width bytes.now)) }
     ensures bound { IfSome result (λ code. code < 2 ^ 63) }
 {
     if count(lanes) <= FEW {
@@ -33,7 +33,7 @@ pub(crate) fn greatest_in<L: CodeLayout>(width: u32, bytes: &[u8], lanes: &Selec
     requires size { length bytes.now ≡ L.packing.size width }
     requires small { All (λ code. code < 2 ^ width) (L.packing.codes width bytes.now) }
     ensures greatest { result
-        ≡ reduce max (picked (lanes_of_words lanes.now) (L.packing.codes width bytes.now)) }
+        ≡ reduce max (selected_items (lanes_of_words lanes.now) (L.packing.codes width bytes.now)) }
     ensures bound { IfSome result (λ code. code < 2 ^ 63) }
 {
     if count(lanes) <= FEW {
@@ -55,7 +55,7 @@ fn extreme_of_few<L: CodeLayout>(
     requires size { length bytes.now ≡ L.packing.size width }
     requires small { All (λ code. code < 2 ^ width) (L.packing.codes width bytes.now) }
     ensures extreme { result ≡ reduce (if greatest then max else min)
-        (picked (lanes_of_words lanes.now) (L.packing.codes width bytes.now)) }
+        (selected_items (lanes_of_words lanes.now) (L.packing.codes width bytes.now)) }
     ensures bound { IfSome result (λ code. code < 2 ^ 63) }
 {
     L::keeps_codes();

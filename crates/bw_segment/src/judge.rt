@@ -19,7 +19,7 @@ impl<L: CodeLayout> PackedSegment<L> {
     /// with a code that isn't 0, 306 if its code is above the column's maximum. A code is what the
     /// layout reads from all bits of its bytes.
     #[tactic(auto, using(crate::proofs::PlacementLemmas::span_fits))]
-    pub fn judge(placement: &Placement, col: usize, rows: u32, block: &[u8]) -> Option<u16>
+    pub fn find_fault(placement: &Placement, col: usize, rows: u32, block: &[u8]) -> Option<u16>
         requires column { col < length placement.now.schema.columns.items }
         requires rows { rows ≤ group_size }
         requires size { length block.now

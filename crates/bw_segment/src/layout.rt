@@ -4,7 +4,7 @@ ghost use Rattle.std.specs.List.{list_any, reduce};
 ghost use Rattle.bw_lanes.specs.Lanes.{lanes_of_words};
 ghost use Rattle.bw_model.specs.Code.{has_bit};
 ghost use Rattle.bw_model.specs.Fault.{no_memory};
-ghost use Rattle.bw_model.specs.Selection.{picked};
+ghost use Rattle.bw_model.specs.Selection.{selected_items};
 ghost use Rattle.bw_model.specs.Stored.{byte_of};
 ghost use Rattle.bw_segment.specs.Packing.{Packing, IsPacking};
 
@@ -29,7 +29,7 @@ pub trait CodeLayout {
         requires { (1 ≤ width) × (width ≤ 63) }
         ensures added { OnOk result (bytes.new.items
             ≡ bytes.old.items ++ packing.bytes width codes.now) }
-        ensures only_memory { IsOkUnless result no_memory };
+        ensures only_oom { IsOkUnless result no_memory };
 
     /// Returns the lanes whose code isn't 0.
     fn used(width: u32, bytes: &[u8]) -> Plane
@@ -50,7 +50,7 @@ pub trait CodeLayout {
         requires width { (1 ≤ width) × (width ≤ 63) }
         requires size { length bytes.now ≡ packing.size width }
         ensures { result ≡ list_any (λ code. not (code == 0))
-            (picked (lanes_of_words lanes.now) (packing.codes width bytes.now)) };
+            (selected_items (lanes_of_words lanes.now) (packing.codes width bytes.now)) };
 
     /// Returns whether a code is above `most`, a number of `width` digits.
     fn any_above(width: u32, bytes: &[u8], most: u64) -> bool
@@ -89,7 +89,7 @@ pub trait CodeLayout {
         requires size { length bytes.now ≡ packing.size width }
         requires small { All (λ code. code < 2 ^ width) (packing.codes width bytes.now) }
         ensures sum { result
-            ≡ sum (picked (lanes_of_words lanes.now) (packing.codes width bytes.now)) }
+            ≡ sum (selected_items (lanes_of_words lanes.now) (packing.codes width bytes.now)) }
         ensures bound { result ≤ 2 ^ 72 };
 
     /// Returns the minimum of the codes in these lanes, or None if there are no lanes.
@@ -98,7 +98,8 @@ pub trait CodeLayout {
         requires size { length bytes.now ≡ packing.size width }
         requires small { All (λ code. code < 2 ^ width) (packing.codes width bytes.now) }
         ensures least { result
-            ≡ reduce min (picked (lanes_of_words lanes.now) (packing.codes width bytes.now)) }
+            ≡ reduce min (selected_items (lanes_of_words lanes.now)
+            (packing.codes width bytes.now)) }
         ensures bound { IfSome result (λ code. code < 2 ^ 63) };
 
     /// Returns the maximum of the codes in these lanes, or None if there are no lanes.
@@ -107,7 +108,8 @@ pub trait CodeLayout {
         requires size { length bytes.now ≡ packing.size width }
         requires small { All (λ code. code < 2 ^ width) (packing.codes width bytes.now) }
         ensures greatest { result
-            ≡ reduce max (picked (lanes_of_words lanes.now) (packing.codes width bytes.now)) }
+            ≡ reduce max (selected_items (lanes_of_words lanes.now)
+            (packing.codes width bytes.now)) }
         ensures bound { IfSome result (λ code. code < 2 ^ 63) };
 
     /// Returns the code in a lane.

@@ -29,7 +29,7 @@ pub fn no_blocks<L: CodeLayout>(
 ) -> Result<Vec<ColumnBlocks>, Fault>
     ensures keep { IfOk result
         (λ kept. KeepBlocks L.packing placement.now.schema.columns.items 0 kept.items) }
-    ensures only_memory { IsOkUnless result no_memory }
+    ensures only_oom { IsOkUnless result no_memory }
 {
     let mut kept = Vec::with_capacity(alloc, placement.schema.columns.len())?;
     for col in 0..placement.schema.columns.len() {
@@ -57,7 +57,7 @@ pub fn push_blocks<L: CodeLayout>(
     ensures others { OnOk result ((count number : ℕ)
         → KeepBlocks L.packing segment.now.placement.value.schema.columns.items count kept.old
         → number < count → segment_numbered kept.new number ≡ segment_numbered kept.old number) }
-    ensures only_memory { IsOkUnless result no_memory }
+    ensures only_oom { IsOkUnless result no_memory }
 {
     for (col, blocks) in kept.iter_mut().enumerate() {
         blocks.push(segment.block(col))?;
@@ -104,8 +104,8 @@ impl<'a, L: CodeLayout> PackedSegment<L, NumberedBlocks<'a>> {
         number: usize,
     ) -> Self
         requires placed { IsPlaced L.packing placement.value }
-        requires some { 1 ≤ rows }
-        requires few { rows ≤ group_size }
+        requires nonempty { 1 ≤ rows }
+        requires within_limit { rows ≤ group_size }
         requires kept { (count : ℕ) × (number < count)
             × KeepBlocks L.packing placement.value.schema.columns.items count columns.now }
         requires sound { IsSound L.packing placement.value.schema.columns.items rows

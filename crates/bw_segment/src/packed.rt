@@ -48,7 +48,7 @@ impl<L: CodeLayout, B: Blocks> Segment for PackedSegment<L, B> {
     #[tactic(auto, unfolding(crate::specs::Picked::bit_lanes))]
     #[inline(always)]
     fn bit(&self, col: usize, bit: u32) -> Plane {
-        let (width, codes) = self.kept(col);
+        let (width, codes) = self.column_codes(col);
         L::bit(width, codes, bit)
     }
 
@@ -62,36 +62,36 @@ impl<L: CodeLayout, B: Blocks> Segment for PackedSegment<L, B> {
 
     #[inline(always)]
     fn byte_lt(&self, col: usize, slice: usize, c: u8) -> Plane {
-        let (width, codes) = self.kept(col);
+        let (width, codes) = self.column_codes(col);
         L::byte_lt(width, codes, slice, c)
     }
 
     #[inline(always)]
     fn byte_eq(&self, col: usize, slice: usize, c: u8) -> Plane {
-        let (width, codes) = self.kept(col);
+        let (width, codes) = self.column_codes(col);
         L::byte_eq(width, codes, slice, c)
     }
 
     #[tactic(auto, unfolding(crate::specs::Picked::codes_in))]
     fn sum_of_codes(&self, col: usize, rows: &Selection) -> u128 {
-        let (width, codes) = self.kept(col);
+        let (width, codes) = self.column_codes(col);
         L::sum(width, codes, rows)
     }
 
     #[tactic(auto, unfolding(crate::specs::Picked::codes_in))]
-    fn least_code(&self, col: usize, rows: &Selection) -> Option<u64> {
-        let (width, codes) = self.kept(col);
+    fn min_code(&self, col: usize, rows: &Selection) -> Option<u64> {
+        let (width, codes) = self.column_codes(col);
         least_in::<L>(width, codes, rows)
     }
 
     #[tactic(auto, unfolding(crate::specs::Picked::codes_in))]
-    fn greatest_code(&self, col: usize, rows: &Selection) -> Option<u64> {
-        let (width, codes) = self.kept(col);
+    fn max_code(&self, col: usize, rows: &Selection) -> Option<u64> {
+        let (width, codes) = self.column_codes(col);
         greatest_in::<L>(width, codes, rows)
     }
 
     fn codes(&self, col: usize, codes: &mut [u64; LANES]) {
-        let (width, kept) = self.kept(col);
+        let (width, kept) = self.column_codes(col);
         L::unpack(width, kept, codes);
     }
 
@@ -100,7 +100,7 @@ impl<L: CodeLayout, B: Blocks> Segment for PackedSegment<L, B> {
         if lane(&self.nulls(col), row) {
             return None;
         }
-        let (width, codes) = self.kept(col);
+        let (width, codes) = self.column_codes(col);
         Some(self.placement.schema.value(col, L::code(width, codes, row)))
     }
 
@@ -114,8 +114,8 @@ impl<L: CodeLayout> PackedSegment<L> {
     /// valid.
     pub fn of_blocks(placement: Rc<Placement>, rows: u32, bytes: SharedBytes) -> Self
         requires placed { IsPlaced L.packing placement.value }
-        requires some { 1 ≤ rows }
-        requires few { rows ≤ group_size }
+        requires nonempty { 1 ≤ rows }
+        requires within_limit { rows ≤ group_size }
         requires sound { IsSound L.packing placement.value.schema.columns.items rows
             (bytes_in bytes) }
         ensures means { ⟦<PackedSegment<L> as Segment>⟧.meaning result
@@ -163,8 +163,8 @@ impl<L: CodeLayout, B: Blocks> PackedSegment<L, B> {
     /// valid.
     pub(crate) fn of_held_blocks(placement: Rc<Placement>, rows: u32, bytes: B) -> Self
         requires placed { IsPlaced L.packing placement.value }
-        requires some { 1 ≤ rows }
-        requires few { rows ≤ group_size }
+        requires nonempty { 1 ≤ rows }
+        requires within_limit { rows ≤ group_size }
         requires sound { IsSound L.packing placement.value.schema.columns.items rows
             (B.bytes bytes) }
         requires held { HoldBlocks (B.holds bytes) L.packing placement.value.schema.columns.items }
@@ -214,7 +214,7 @@ impl<L: CodeLayout, B: Blocks> PackedSegment<L, B> {
     /// Returns how many digits a column's codes have, and the bytes of these codes, which end its
     /// block.
     #[inline(always)]
-    fn kept(&self, col: usize) -> (u32, &[u8])
+    fn column_codes(&self, col: usize) -> (u32, &[u8])
         requires { col < length self.now.placement.value.schema.columns.items }
         ensures width { result.0 ≡ width_at self.now.placement.value.schema.columns.items col }
         ensures bounds { (1 ≤ result.0) × (result.0 ≤ 63) }

@@ -19,7 +19,7 @@ impl Placement {
         ensures columns { IfOk result (λ placement.
             placement.schema.columns.items ≡ schema.now.columns.items) }
         ensures placed { IfOk result (IsPlaced L.packing) }
-        ensures only_memory { IsOkUnless result no_memory }
+        ensures only_oom { IsOkUnless result no_memory }
     {
         let copied = schema.copy(alloc)?;
         let mut starts = Vec::with_capacity(alloc, copied.columns.len() + 1)?;

@@ -15,7 +15,7 @@ pub struct Placement {
     pub starts: Vec<u32>,
     /// How many binary digits each column's codes have.
     pub(crate) widths: Vec<u32>,
-    ghost wide: { widths.items
+    ghost same_width: { widths.items
         ≡ map (width_at schema.columns.items) (range_with_len 0 (length schema.columns.items)) },
     ghost bounded: { All (λ width. (1 ≤ width) × (width ≤ 63)) widths.items },
 }

@@ -63,7 +63,7 @@ pub trait Segment {
 
     /// Returns the minimum of a column's codes in these rows, or None if there are no rows. Null,
     /// and the rows past the last one, have code 0.
-    fn least_code(&self, col: usize, rows: &Selection) -> Option<u64>
+    fn min_code(&self, col: usize, rows: &Selection) -> Option<u64>
         requires { col < length (meaning self.now).columns }
         ensures least { result
             ≡ reduce min (codes_in (meaning self.now) col (lanes_of_words rows.now)) }
@@ -71,7 +71,7 @@ pub trait Segment {
 
     /// Returns the maximum of a column's codes in these rows, or None if there are no rows. Null,
     /// and the rows past the last one, have code 0.
-    fn greatest_code(&self, col: usize, rows: &Selection) -> Option<u64>
+    fn max_code(&self, col: usize, rows: &Selection) -> Option<u64>
         requires { col < length (meaning self.now).columns }
         ensures greatest { result
             ≡ reduce max (codes_in (meaning self.now) col (lanes_of_words rows.now)) }

@@ -8,7 +8,7 @@ use Rattle.std.specs.Io.KnownBytes.{Appends}
 use Rattle.bw_model.specs.declared.fault.Fault.{Fault}
 use Rattle.bw_model.specs.declared.schema.Schema.{Schema}
 use Rattle.bw_model.specs.Row.{Value}
-use Rattle.bw_io.specs.Sink.{TookPart, Wrote, beginning, everything, is_write_fault, none_aside, nothing}
+use Rattle.bw_io.specs.Sink.{TookPart, WriteOutcome, beginning, everything, is_write_fault, none_aside, nothing}
 use Rattle.bw_query.specs.MemoryAnswer.{IsMemoryAnswer, RowsText}
 use Rattle.bw_query.specs.TableAnswer.{by_statement}
 use Rattle.bw_sql.specs.Statement.{IsReadAs}
@@ -55,7 +55,7 @@ statement_fault schema sql fault (inr program) = absurd program.refused
 pub answered : (T : Type 0) (schema : Schema) (rows : List (List Value)) (sql : List ℕ)
     (old mid new : Option (List ℕ)) (before between after : ℕ) (given : Result (List ℕ) Fault) (served : T)
     (result : Result (Option Fault) Fault)
-    → IsMemoryAnswer (by_statement None sql) schema rows given → Wrote none_aside old mid before between given (Ok served)
+    → IsMemoryAnswer (by_statement None sql) schema rows given → WriteOutcome none_aside old mid before between given (Ok served)
     → EndsLine mid new between after None result → AnswersOne schema rows sql old new before after result
 answered T schema rows sql old mid new before between after given served (Ok fault) is (everything text gave went count) line = (
   record {
@@ -81,7 +81,7 @@ answered T schema rows sql old mid new before between after given served (Err fa
 pub answer_failed : (T : Type 0) (schema : Schema) (rows : List (List Value)) (sql : List ℕ)
     (old new : Option (List ℕ)) (before after : ℕ) (given : Result (List ℕ) Fault) (fault : Fault)
     → IsMemoryAnswer (by_statement None sql) schema rows given
-    → Wrote {T = T} none_aside old new before after given (Err fault) → is_write_fault fault ≡ true
+    → WriteOutcome {T = T} none_aside old new before after given (Err fault) → is_write_fault fault ≡ true
     → AnswersOne schema rows sql old new before after (Err fault)
 answer_failed T schema rows sql old new before after given _ is (beginning text gave part count) write = (
   refl,
@@ -101,7 +101,7 @@ pub refused : (T : Type 0) (schema : Schema) (rows : List (List Value)) (sql : L
     (old mid new : Option (List ℕ)) (before between after : ℕ) (given : Result (List ℕ) Fault) (fault : Fault)
     (result : Result (Option Fault) Fault) → (AsksNothing sql → ⊥)
     → IsMemoryAnswer (by_statement None sql) schema rows given
-    → Wrote {T = T} none_aside old mid before between given (Err fault) → is_write_fault fault ≡ false
+    → WriteOutcome {T = T} none_aside old mid before between given (Err fault) → is_write_fault fault ≡ false
     → EndsLine mid new between after (Some fault) result → AnswersOne schema rows sql old new before after result
 refused T schema rows sql old mid new before between after given _ result asks is (beginning text gave part count) other line =
     absurd (true_is_not_false other)
@@ -133,11 +133,11 @@ silent schema rows sql known count asks =
 
 -- no write failed
 pub count_kept : (T : Type 0) (old new : Option (List ℕ)) (before after : ℕ) (given : Result (List ℕ) Fault)
-    (fault : Fault) → Wrote {T = T} none_aside old new before after given (Err fault) → is_write_fault fault ≡ false
+    (fault : Fault) → WriteOutcome {T = T} none_aside old new before after given (Err fault) → is_write_fault fault ≡ false
     → after ≡ before
 count_kept T old new before after given _ (beginning text gave part count) other = absurd (true_is_not_false other)
 count_kept T old new before after given fault (nothing _ gave same count) other = count
 
 pub count_same : (T : Type 0) (old new : Option (List ℕ)) (before after : ℕ) (given : Result (List ℕ) Fault) (x : T)
-    → Wrote {T = T} none_aside old new before after given (Ok x) → after ≡ before
+    → WriteOutcome {T = T} none_aside old new before after given (Ok x) → after ≡ before
 count_same T old new before after given x (everything text gave went count) = count

@@ -12,7 +12,8 @@ most_kept = 65537
 
 -- a statement of which so many are kept, with a byte more
 abbrev pub with_byte : List ℕ → ℕ → List ℕ
-with_byte statement byte = if ltb (length statement) most_kept then statement ++ byte ∷ [] else statement
+with_byte statement byte = if ltb (length statement) most_kept then statement ++ byte ∷ []
+    else statement
 
 -- a byte came, or the end
 abbrev pub TookByte : Option (List ℕ) → Option (List ℕ) → Option ℕ → Type 0
@@ -21,7 +22,8 @@ TookByte old new None = Consumes old new [] × IsAtEnd new
 
 -- These bytes came, and are a statement with what ends it, if there is more; else they are the last bytes of the source,
 -- in which none ends. So many of them are kept.
-pub record TookStatement (old new : Option (List ℕ)) (statement : List ℕ) (more : Bool) : Type 0 where
+pub record TookStatement (old new : Option (List ℕ)) (statement : List ℕ)
+    (more : Bool) : Type 0 where
   pub bytes : List ℕ
   pub came : Consumes old new bytes
   pub kept : statement ≡ take most_kept bytes
@@ -36,7 +38,8 @@ pub record TookBeginning (old new : Option (List ℕ)) : Type 0 where
   pub begun : IsBegun bytes
 
 -- These bytes came of a statement that hasn't ended, and it stands so after them.
-pub record Reads (old new : Option (List ℕ)) (statement : List ℕ) (standing : Standing) : Type 0 where
+pub record Reads (old new : Option (List ℕ)) (statement : List ℕ)
+    (standing : Standing) : Type 0 where
   pub bytes : List ℕ
   pub came : Consumes old new bytes
   pub kept : statement ≡ take most_kept bytes

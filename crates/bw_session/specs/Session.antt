@@ -23,15 +23,19 @@ AsksNothing sql = (length sql ≤ longest_statement) × HasNoToken sql
 -- What a statement over rows is answered by, and its fault if it is refused. One that asks for nothing writes nothing. One
 -- that spells a query writes the CSV text of its meaning, and an LF. One that is refused writes an LF alone; where memory
 -- runs out any statement may be.
-pub data IsOutput (schema : Schema) (rows : List (List Value)) (sql : List ℕ) : Option Fault → List ℕ → Type 0 where
+pub data IsOutput (schema : Schema) (rows : List (List Value)) (sql : List ℕ) : Option Fault
+    → List ℕ → Type 0 where
   nothing : AsksNothing sql → IsOutput schema rows sql None []
   answer : (query : Query) → IsReadAs schema sql (Ok query)
-      → IsOutput schema rows sql None (csv_text (meaning (names_of schema.columns.items) query rows) ++ 10 ∷ [])
+      → IsOutput schema rows sql None (csv_text (meaning (names_of schema.columns.items) query rows)
+      ++ 10 ∷ [])
   refusal : {fault : Fault} → (AsksNothing sql → ⊥)
-      → (is_memory fault ≡ false → IsReadAs schema sql (Err fault)) → IsOutput schema rows sql (Some fault) (10 ∷ [])
+      → (is_memory fault ≡ false → IsReadAs schema sql (Err fault))
+      → IsOutput schema rows sql (Some fault) (10 ∷ [])
 
 -- what a statement is answered by went out
-pub record WroteOutput (schema : Schema) (rows : List (List Value)) (sql : List ℕ) (old new : Option (List ℕ))
+pub record WroteOutput (schema : Schema) (rows : List (List Value)) (sql : List ℕ)
+    (old new : Option (List ℕ))
     (fault : Option Fault) : Type 0 where
   pub out : List ℕ
   pub is : IsOutput schema rows sql fault out
@@ -56,20 +60,23 @@ first_of None other = other
 
 -- A text is statements one after another, each with what ends it, and what they are answered by follows one another too;
 -- so does their first fault.
-pub data AreAnswered (schema : Schema) (rows : List (List Value)) : List ℕ → Option Fault → List ℕ → Type 0 where
+pub data AreAnswered (schema : Schema) (rows : List (List Value)) : List ℕ → Option Fault → List ℕ
+    → Type 0 where
   begun : AreAnswered schema rows [] None []
   more : {text output : List ℕ} {first : Option Fault} (sql out : List ℕ) (fault : Option Fault) →
       AreAnswered schema rows text first output → IsWhole sql → IsOutput schema rows sql fault out
       → AreAnswered schema rows (text ++ sql) (first_of first fault) (output ++ out)
 
 -- A whole text is answered: its statements, and then what is left after the last one that ends.
-pub data IsAnswered (schema : Schema) (rows : List (List Value)) : List ℕ → Option Fault → List ℕ → Type 0 where
+pub data IsAnswered (schema : Schema) (rows : List (List Value)) : List ℕ → Option Fault → List ℕ
+    → Type 0 where
   whole : {text output : List ℕ} {first : Option Fault} (sql out : List ℕ) (fault : Option Fault) →
       AreAnswered schema rows text first output → IsOpen sql → IsOutput schema rows sql fault out
       → IsAnswered schema rows (text ++ sql) (first_of first fault) (output ++ out)
 
 -- What went on so far in a session: a text came, and what its statements are answered by went out.
-pub record SoFar (schema : Schema) (rows : List (List Value)) (old now taken_old taken_now : Option (List ℕ))
+pub record SoFar (schema : Schema) (rows : List (List Value))
+    (old now taken_old taken_now : Option (List ℕ))
     (first : Option Fault) : Type 0 where
   pub text : List ℕ
   pub output : List ℕ
@@ -78,7 +85,8 @@ pub record SoFar (schema : Schema) (rows : List (List Value)) (old now taken_old
   pub answered : AreAnswered schema rows text first output
 
 -- A session over all of a source: its text came, and what it is answered by went out.
-pub record Ended (schema : Schema) (rows : List (List Value)) (old new taken_old taken_new : Option (List ℕ))
+pub record Ended (schema : Schema) (rows : List (List Value))
+    (old new taken_old taken_new : Option (List ℕ))
     (first : Option Fault) : Type 0 where
   pub text : List ℕ
   pub output : List ℕ
@@ -93,12 +101,15 @@ CameWhole new sql = IsWhole sql ⊎ (IsOpen sql × IsAtEnd new)
 
 -- A session that ended early, by this fault. A text came, whose statements are answered. Then a read failed, or memory ran
 -- out, before the next statement had come whole; or it came whole, and a write failed after a part of what it is answered by.
-pub data Stopped (schema : Schema) (rows : List (List Value)) (old new taken_old taken_new : Option (List ℕ))
+pub data Stopped (schema : Schema) (rows : List (List Value))
+    (old new taken_old taken_new : Option (List ℕ))
     : Fault → Type 0 where
-  reading : {fault : Fault} {first : Option Fault} (text begun output : List ℕ) → IsTrue (is_input_fault fault)
+  reading : {fault : Fault} {first : Option Fault} (text begun output : List ℕ)
+      → IsTrue (is_input_fault fault)
       → AreAnswered schema rows text first output → Consumes old new (text ++ begun) → IsBegun begun
       → Appends taken_old taken_new output → Stopped schema rows old new taken_old taken_new fault
-  writing : {first refused : Option Fault} (text sql output out : List ℕ) → AreAnswered schema rows text first output
+  writing : {first refused : Option Fault} (text sql output out : List ℕ)
+      → AreAnswered schema rows text first output
       → Consumes old new (text ++ sql) → CameWhole new sql → IsOutput schema rows sql refused out
       → TookPart taken_old taken_new (output ++ out)
       → Stopped schema rows old new taken_old taken_new (nowhere WRITE_FAILED)
@@ -106,17 +117,21 @@ pub data Stopped (schema : Schema) (rows : List (List Value)) (old new taken_old
 -- A session answered all statements of its source, and gives their first fault; or it ended early. The counts of failures
 -- rise by one where a failed read or write ended it, and else stay.
 abbrev pub Answers : Schema → List (List Value) → (old new taken_old taken_new : Option (List ℕ))
-    → (reads_before reads_after writes_before writes_after : ℕ) → Result (Option Fault) Fault → Type 0
-Answers schema rows old new taken_old taken_new reads_before reads_after writes_before writes_after (Ok first) =
+    → (reads_before reads_after writes_before writes_after : ℕ) → Result (Option Fault) Fault
+    → Type 0
+Answers schema rows old new taken_old taken_new reads_before reads_after writes_before writes_after
+    (Ok first) =
     Ended schema rows old new taken_old taken_new first
     × (reads_after ≡ reads_before) × (writes_after ≡ writes_before)
-Answers schema rows old new taken_old taken_new reads_before reads_after writes_before writes_after (Err fault) =
+Answers schema rows old new taken_old taken_new reads_before reads_after writes_before writes_after
+    (Err fault) =
     Stopped schema rows old new taken_old taken_new fault
-    × (reads_after ≡ reads_before + failed_reads fault) × (writes_after ≡ writes_before + failed_writes fault)
+    × (reads_after ≡ reads_before + failed_reads fault)
+    × (writes_after ≡ writes_before + failed_writes fault)
 
 -- one statement is answered, or a write failed
-abbrev pub AnswersOne : Schema → List (List Value) → List ℕ → (old new : Option (List ℕ)) → (before after : ℕ)
-    → Result (Option Fault) Fault → Type 0
+abbrev pub AnswersOne : Schema → List (List Value) → List ℕ → (old new : Option (List ℕ))
+    → (before after : ℕ) → Result (Option Fault) Fault → Type 0
 AnswersOne schema rows sql old new before after (Ok fault) =
     WroteOutput schema rows sql old new fault × (after ≡ before)
 AnswersOne schema rows sql old new before after (Err fault) =

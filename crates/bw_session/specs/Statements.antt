@@ -10,7 +10,8 @@ is_blank byte = (byte == 32) || (byte == 9) || (byte == 13)
 -- the last line of a text: a line so far, and then a text that goes on with it
 unfoldable pub line_from : List ℕ → List ℕ → List ℕ
 line_from line [] = line
-line_from line (byte ∷ rest) = if byte == 10 then line_from [] rest else line_from (line ++ byte ∷ []) rest
+line_from line (byte ∷ rest) = if byte == 10 then line_from [] rest
+    else line_from (line ++ byte ∷ []) rest
 
 -- the last line of a text: what follows its last LF
 abbrev pub last_line : List ℕ → List ℕ
@@ -25,11 +26,13 @@ has_comment (first ∷ rest) = begins_comment (first ∷ rest) || has_comment re
 -- but for blanks.
 abbrev pub ends_statement : List ℕ → ℕ → Bool
 ends_statement bytes byte =
-    ((byte == 59) && not (has_comment (last_line bytes))) || ((byte == 10) && list_all is_blank (last_line bytes))
+    ((byte == 59) && not (has_comment (last_line bytes)))
+    || ((byte == 10) && list_all is_blank (last_line bytes))
 
 -- no statement ends in these bytes
 abbrev pub IsOpen : List ℕ → Type 0
-IsOpen bytes = (front rest : List ℕ) (byte : ℕ) → bytes ≡ front ++ byte ∷ rest → ends_statement front byte ≡ false
+IsOpen bytes = (front rest : List ℕ) (byte : ℕ) → bytes ≡ front ++ byte ∷ rest
+    → ends_statement front byte ≡ false
 
 -- these bytes are a statement with what ends it: none ends before their last one, and it ends there
 pub record IsWhole (bytes : List ℕ) : Type 0 where

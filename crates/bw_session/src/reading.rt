@@ -29,7 +29,8 @@ pub(crate) fn next_statement<S: Source>(
         (TookStatement (S.to_come source.old) (S.to_come source.new) statement.new.items) }
     ensures failed { TellsFailure (S.failures source.old) (S.failures source.new) result }
     ensures fault { IfErr result (λ fault. IsTrue (is_input_fault fault)) }
-    ensures begun { IfErr result (λ _. TookBeginning (S.to_come source.old) (S.to_come source.new)) }
+    ensures begun { IfErr result
+        (λ _. TookBeginning (S.to_come source.old) (S.to_come source.new)) }
 {
     statement.clear();
     let mut standing = Standing::Blank;

@@ -35,7 +35,8 @@ pub fn answer_statements<S: Source, K: Sink, L: Listener>(
     requires serves { Serves (schema_of table.now).columns.items programs.old }
     requires input { S.failures input.old < 2 ^ 64 - 1 }
     requires sink { K.failures sink.old < 2 ^ 64 - 1 }
-    ensures { Answers (schema_of table.now) (rows_of table.now) (S.to_come input.old) (S.to_come input.new)
+    ensures { Answers (schema_of table.now) (rows_of table.now) (S.to_come input.old)
+        (S.to_come input.new)
         (K.taken sink.old) (K.taken sink.new) (S.failures input.old) (S.failures input.new)
         (K.failures sink.old) (K.failures sink.new) result }
 {
@@ -72,8 +73,8 @@ fn answer_one<K: Sink, L: Listener>(
 ) -> Result<Option<Fault>, Fault>
     requires serves { Serves (schema_of table.now).columns.items programs.old }
     requires sink { K.failures sink.old < 2 ^ 64 - 1 }
-    ensures answers { AnswersOne (schema_of table.now) (rows_of table.now) sql.now (K.taken sink.old) (K.taken sink.new)
-        (K.failures sink.old) (K.failures sink.new) result }
+    ensures answers { AnswersOne (schema_of table.now) (rows_of table.now) sql.now
+        (K.taken sink.old) (K.taken sink.new) (K.failures sink.old) (K.failures sink.new) result }
     ensures serves { Serves (schema_of table.now).columns.items programs.new }
 {
     if asks_nothing(sql) {
@@ -97,8 +98,8 @@ fn answer_one<K: Sink, L: Listener>(
 /// Writes an LF, and returns the error of the statement before it. Errors: 702.
 fn end_line<K: Sink>(sink: &mut K, fault: Option<Fault>) -> Result<Option<Fault>, Fault>
     requires { K.failures sink.old < 2 ^ 64 - 1 }
-    ensures { EndsLine (K.taken sink.old) (K.taken sink.new) (K.failures sink.old) (K.failures sink.new) fault
-        result }
+    ensures { EndsLine (K.taken sink.old) (K.taken sink.new) (K.failures sink.old)
+        (K.failures sink.new) fault result }
 {
     match write_whole(sink, b"\n") {
         Ok(()) => Ok(fault),

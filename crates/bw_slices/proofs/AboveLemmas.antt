@@ -18,7 +18,7 @@ use Rattle.bw_lanes.proofs.ByteLemmas.{compared, part_by_rows}
 use Rattle.bw_lanes.proofs.PickedLemmas.{greater_computed, kept_computed}
 use Rattle.bw_lanes.proofs.WordLemmas.{either_is_zero, mapped_right, before_and_part, part_is, words_made}
 use Rattle.bw_model.specs.Groups.{group_size}
-use Rattle.bw_model.specs.Selection.{picked}
+use Rattle.bw_model.specs.Selection.{selected_items}
 use Rattle.bw_model.specs.Stored.{byte_of}
 use Rattle.bw_segment.proofs.LowLemmas.{above_ones}
 use Rattle.bw_segment.proofs.PickedLemmas.{any_picked}
@@ -166,7 +166,7 @@ front_tells bytes count low most slices small ones all =
     ∙ any_mapped (ltb most) codes ∙ ap (λ k. list_any (ltb most) (slices_codes k bytes)) all
 
 -- what is used, by lanes and by rows
-pub used_any : (bytes : List ℕ) (lanes : List Bool) (count : ℕ) → list_any (λ lane. lane) (zip2 (λ among row. among && not (are_zero bytes row count)) lanes (range_with_len 0 512)) ≡ list_any set (picked lanes (slices_codes count bytes))
+pub used_any : (bytes : List ℕ) (lanes : List Bool) (count : ℕ) → list_any (λ lane. lane) (zip2 (λ among row. among && not (are_zero bytes row count)) lanes (range_with_len 0 512)) ≡ list_any set (selected_items lanes (slices_codes count bytes))
 used_any bytes lanes count =
     let rows = range_with_len 0 512 in
     ap (list_any (λ lane. lane)) (sym (mapped_right (λ x y. x && y) (λ row. not (are_zero bytes row count)) lanes rows) ∙ ap (zip2 (λ x y. x && y) lanes) (sym (map-map not (λ row. are_zero bytes row count) rows) ∙ used_is bytes count))

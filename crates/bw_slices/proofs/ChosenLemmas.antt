@@ -4,7 +4,7 @@ use Rattle.std.specs.List.{reduce, AllByRecursion}
 use Rattle.std.proofs.lemmas.Bool.{eqb-true, eqb-false, eq-eqb}
 use Rattle.std.proofs.lemmas.Bool.Decides.{nat_tests}
 use Rattle.bw_lanes.specs.Picked.{bytes_picked}
-use Rattle.bw_model.specs.Selection.{picked}
+use Rattle.bw_model.specs.Selection.{selected_items}
 use Rattle.bw_segment.proofs.PickedLemmas.{is_none}
 use Rattle.bw_segment.proofs.DescentLemmas.{choice, one_of, of_both, Chooses, IsDescended, descended_as, all_kept, reduce_kept, below}
 use Rattle.bw_model.specs.Stored.{byte_of}
@@ -31,7 +31,7 @@ chosen_below g k code [] small is = cc
 chosen_below g k code (n ∷ ns) small is = let same : code ≡ fold (choice g) n ns = cc in omega (arith, same, chosen_has (λ n. n < k) g n ns small.0 small.1)
 
 -- the bytes that are picked are those of the numbers that are picked
-pub chosen_picked : (g : Bool) (bit a : ℕ) (lanes : List Bool) (ns : List ℕ) → a < 256 → fold (choice g) a (bytes_picked (blank g) lanes (map (λ n. n / 2 ^ bit % 256) ns)) ≡ fold (choice g) a (map (λ n. n / 2 ^ bit % 256) (picked lanes ns))
+pub chosen_picked : (g : Bool) (bit a : ℕ) (lanes : List Bool) (ns : List ℕ) → a < 256 → fold (choice g) a (bytes_picked (blank g) lanes (map (λ n. n / 2 ^ bit % 256) ns)) ≡ fold (choice g) a (map (λ n. n / 2 ^ bit % 256) (selected_items lanes ns))
 chosen_picked g bit a [] ns small = refl
 chosen_picked g bit a (lane ∷ lanes) [] small = refl
 chosen_picked g bit a (true ∷ lanes) (n ∷ ns) small = chosen_picked g bit (choice g a (n / 2 ^ bit % 256)) lanes ns (of_both (λ k. k < 256) g a (n / 2 ^ bit % 256) small (omega arith))

@@ -10,7 +10,7 @@ use lib.Lanes.{zip2}
 use Rattle.bw_lanes.specs.Lanes.{lanes_of_words, are_zero, bits_from_least}
 use Rattle.bw_lanes.proofs.WordLemmas.{length-lanes_of_words, zero_bits, no_lanes, lanes_more, length-first, before_and_part, part_is}
 use Rattle.bw_model.specs.Groups.{group_size}
-use Rattle.bw_model.specs.Selection.{picked}
+use Rattle.bw_model.specs.Selection.{selected_items}
 use Rattle.bw_segment.proofs.PickedLemmas.{all_picked, is_none, none_picked, word_more, words_summed}
 use Rattle.bw_segment.proofs.ByteLemmas.{with_byte, codes_from, top_byte, byte_more as byte_below, codes_whole}
 use Rattle.bw_slices.specs.Slices.{number_from, slices_codes}
@@ -98,7 +98,7 @@ used_is bytes count =
     map-map not (λ row. are_zero bytes row count) rows ∙ (λ i. map (λ row. not (zero_is bytes row count i)) rows) ∙ sym (map-map (λ code. not (code == 0)) (λ row. number_from (bytes_in bytes row) count) rows)
 
 -- no code is left where no lane is 1
-pub none_left : (bytes words : List ℕ) (count : ℕ) → length words ≡ 8 → list_all not (lanes_of_words words) ≡ is_none (picked (lanes_of_words words) (slices_codes count bytes))
+pub none_left : (bytes words : List ℕ) (count : ℕ) → length words ≡ 8 → list_all not (lanes_of_words words) ≡ is_none (selected_items (lanes_of_words words) (slices_codes count bytes))
 none_left bytes words count eight = none_picked (lanes_of_words words) (slices_codes count bytes) (omega (arith, length-slices_codes count bytes, length-lanes_of_words words))
 
 pub ruleset of_bytes = (map-map)
@@ -107,10 +107,10 @@ pub within_slices : (n width slices : ℕ) → slices ≡ (width + 7) / 8 → n 
 within_slices n width slices all small = let wide = pow_mono {i = width} {j = 8 * slices} (omega arith) in omega arith
 
 -- the bytes that are picked are those of the numbers that are picked
-pub sum_picked : (f : ℕ → ℕ) (lanes : List Bool) (ns : List ℕ) → sum (bytes_picked 0 lanes (map f ns)) ≡ sum_by f (picked lanes ns)
+pub sum_picked : (f : ℕ → ℕ) (lanes : List Bool) (ns : List ℕ) → sum (bytes_picked 0 lanes (map f ns)) ≡ sum_by f (selected_items lanes ns)
 sum_picked f [] ns = refl
 sum_picked f (lane ∷ lanes) [] = refl
-sum_picked f (true ∷ lanes) (n ∷ ns) = sum_by-cons (λ k. k) (f n) (bytes_picked 0 lanes (map f ns)) ∙ ap (λ k. f n + k) (sum_picked f lanes ns) ∙ sym (sum_by-cons f n (picked lanes ns))
+sum_picked f (true ∷ lanes) (n ∷ ns) = sum_by-cons (λ k. k) (f n) (bytes_picked 0 lanes (map f ns)) ∙ ap (λ k. f n + k) (sum_picked f lanes ns) ∙ sym (sum_by-cons f n (selected_items lanes ns))
 sum_picked f (false ∷ lanes) (n ∷ ns) = sum_by-cons (λ k. k) 0 (bytes_picked 0 lanes (map f ns)) ∙ omega (arith, sum_picked f lanes ns)
 
 sum_next : (bit : ℕ) (ns : List ℕ) → sum_by (λ n. n / 2 ^ bit) ns ≡ 256 * sum_by (λ n. n / 2 ^ (bit + 8)) ns + sum_by (λ n. n / 2 ^ bit % 256) ns
@@ -128,19 +128,19 @@ sum_of_all bit (n ∷ ns) none =
     let whole : n / 2 ^ bit ≡ n = ap (λ k. n / 2 ^ k) none ∙ omega arith in sum_by-cons (λ n. n / 2 ^ bit) n ns ∙ ap₂ ◌+◌ whole (sum_of_all bit ns none) ∙ sym (sum_by-cons (λ n. n) n ns)
 
 -- numbers below 2 ^ 63 in some lanes
-small_sums : (lanes : List Bool) (ns : List ℕ) → AllByRecursion (λ n. n < 2 ^ 63) ns → sum (picked lanes ns) ≤ length ns * 2 ^ 63
+small_sums : (lanes : List Bool) (ns : List ℕ) → AllByRecursion (λ n. n < 2 ^ 63) ns → sum (selected_items lanes ns) ≤ length ns * 2 ^ 63
 small_sums [] ns small = omega arith
 small_sums (lane ∷ lanes) [] small = omega arith
-small_sums (true ∷ lanes) (n ∷ ns) small = let first = small.0 in omega (arith, sum_by-cons (λ n. n) n (picked lanes ns), small_sums lanes ns small.1, first)
+small_sums (true ∷ lanes) (n ∷ ns) small = let first = small.0 in omega (arith, sum_by-cons (λ n. n) n (selected_items lanes ns), small_sums lanes ns small.1, first)
 small_sums (false ∷ lanes) (n ∷ ns) small = omega (arith, small_sums lanes ns small.1)
 
-pub sum_small : (width most : ℕ) (lanes : List Bool) (ns : List ℕ) → width ≤ 63 → length ns ≤ most → All (λ n. n < 2 ^ width) ns → sum (picked lanes ns) ≤ most * 2 ^ 63
+pub sum_small : (width most : ℕ) (lanes : List Bool) (ns : List ℕ) → width ≤ 63 → length ns ≤ most → All (λ n. n < 2 ^ width) ns → sum (selected_items lanes ns) ≤ most * 2 ^ 63
 sum_small width most lanes ns few long small =
     omega (arith, small_sums lanes ns (all_within width 63 ns few small), mul-le-mul_right {m = length ns} {n = most} (2 ^ 63) long)
 
 -- the sum of the numbers that the first bytes, so many, of the codes in some lanes spell
 unfoldable pub high_sum : ℕ → ℕ → List Bool → List ℕ → ℕ
-high_sum width place lanes bytes = sum_by (λ n. n / 2 ^ (8 * ((width + 7) / 8 - place))) (picked lanes (slices_codes ((width + 7) / 8) bytes))
+high_sum width place lanes bytes = sum_by (λ n. n / 2 ^ (8 * ((width + 7) / 8 - place))) (selected_items lanes (slices_codes ((width + 7) / 8) bytes))
 
 pub high_none : (width : ℕ) (lanes : List Bool) (bytes : List ℕ) → All (λ code. code < 2 ^ width) (slices_codes ((width + 7) / 8) bytes) → high_sum width 0 lanes bytes ≡ 0
 unfolding high_sum
@@ -156,15 +156,15 @@ high_more width place lanes bytes lt =
     let codes = slices_codes ((width + 7) / 8) bytes in
     let next : 8 * ((width + 7) / 8 - (place + 1)) ≡ 8 * slice = omega arith in
     let above : 8 * slice + 8 ≡ 8 * ((width + 7) / 8 - place) = omega arith in
-    ap (λ bit. sum_by (λ n. n / 2 ^ bit) (picked lanes codes)) next ∙ sum_next (8 * slice) (picked lanes codes)
-    ∙ ap₂ (λ bit part. 256 * sum_by (λ n. n / 2 ^ bit) (picked lanes codes) + part) above (sym (sum_picked (byte_of slice) lanes codes))
+    ap (λ bit. sum_by (λ n. n / 2 ^ bit) (selected_items lanes codes)) next ∙ sum_next (8 * slice) (selected_items lanes codes)
+    ∙ ap₂ (λ bit part. 256 * sum_by (λ n. n / 2 ^ bit) (selected_items lanes codes) + part) above (sym (sum_picked (byte_of slice) lanes codes))
 
-pub high_whole : (width place : ℕ) (lanes : List Bool) (bytes : List ℕ) → (width + 7) / 8 ≤ place → high_sum width place lanes bytes ≡ sum (picked lanes (slices_codes ((width + 7) / 8) bytes))
+pub high_whole : (width place : ℕ) (lanes : List Bool) (bytes : List ℕ) → (width + 7) / 8 ≤ place → high_sum width place lanes bytes ≡ sum (selected_items lanes (slices_codes ((width + 7) / 8) bytes))
 unfolding high_sum
-high_whole width place lanes bytes le = sum_of_all (8 * ((width + 7) / 8 - place)) (picked lanes (slices_codes ((width + 7) / 8) bytes)) (omega arith)
+high_whole width place lanes bytes le = sum_of_all (8 * ((width + 7) / 8 - place)) (selected_items lanes (slices_codes ((width + 7) / 8) bytes)) (omega arith)
 
 pub all_summed : (width : ℕ) (lanes : List Bool) (bytes : List ℕ) → width ≤ 63 → All (λ code. code < 2 ^ width) (slices_codes ((width + 7) / 8) bytes)
-    → sum (picked lanes (slices_codes ((width + 7) / 8) bytes)) ≤ 2 ^ 72
+    → sum (selected_items lanes (slices_codes ((width + 7) / 8) bytes)) ≤ 2 ^ 72
 all_summed width lanes bytes few small = omega (arith, sum_small width 512 lanes _ few (omega (arith, length-slices_codes ((width + 7) / 8) bytes)) small)
 
 pub next_power : (place : ℕ) → 2 ^ (8 * (place + 1)) ≡ 256 * 2 ^ (8 * place)
@@ -173,19 +173,19 @@ next_power place = let next : 8 * (place + 1) ≡ 8 * place + 8 = omega arith in
 pub ruleset sum_steps = (high_none, high_more, high_whole, all_summed, next_power)
 
 -- 64 of some codes
-pub picked_small : (lanes : List Bool) (first width : ℕ) (codes : List ℕ) → width ≤ 63 → All (λ code. code < 2 ^ width) codes → sum (picked lanes (take 64 (drop first codes))) ≤ 2 ^ 69
+pub picked_small : (lanes : List Bool) (first width : ℕ) (codes : List ℕ) → width ≤ 63 → All (λ code. code < 2 ^ width) codes → sum (selected_items lanes (take 64 (drop first codes))) ≤ 2 ^ 69
 picked_small lanes first width codes few small =
     sum_small width 64 lanes (take 64 (drop first codes)) few (omega (arith, length-take 64 (drop first codes))) (All-take (λ code. code < 2 ^ width) 64 (drop first codes) (All-drop (λ code. code < 2 ^ width) first codes small))
 
-first_item : (lane : Bool) (lanes : List Bool) (item : ℕ) (items : List ℕ) → sum (picked (lane ∷ lanes) (item ∷ items)) ≡ cond lane item 0 + sum (picked lanes items)
-first_item true lanes item items = sum_by-cons (λ k. k) item (picked lanes items)
+first_item : (lane : Bool) (lanes : List Bool) (item : ℕ) (items : List ℕ) → sum (selected_items (lane ∷ lanes) (item ∷ items)) ≡ cond lane item 0 + sum (selected_items lanes items)
+first_item true lanes item items = sum_by-cons (λ k. k) item (selected_items lanes items)
 first_item false lanes item items = omega arith
 
 -- without one of the lanes
-one_less : (lanes : List Bool) (items : List ℕ) (t : ℕ) → get_or lanes t false ≡ true → t < length items → sum (picked lanes items) ≡ get_or items t 0 + sum (picked (set lanes t false) items)
+one_less : (lanes : List Bool) (items : List ℕ) (t : ℕ) → get_or lanes t false ≡ true → t < length items → sum (selected_items lanes items) ≡ get_or items t 0 + sum (selected_items (set lanes t false) items)
 one_less [] items t is lt = cc
 one_less (lane ∷ lanes) [] t is lt = absurd (omega arith)
-one_less (lane ∷ lanes) (item ∷ items) zero is lt = first_item lane lanes item items ∙ ap (λ b. cond b item 0 + sum (picked lanes items)) is
+one_less (lane ∷ lanes) (item ∷ items) zero is lt = first_item lane lanes item items ∙ ap (λ b. cond b item 0 + sum (selected_items lanes items)) is
 one_less (lane ∷ lanes) (item ∷ items) (suc t) is lt =
     omega (arith, first_item lane lanes item items, first_item lane (set lanes t false) item items, one_less lanes items t is (omega arith))
 
@@ -203,10 +203,10 @@ without_is n t lt =
       | inr apart ↦ get_or-set_other bits t i false false apart ∙ get_or-map-range_with_len (λ i. bit_at n i == 1) 0 64 i i false below (omega arith) ∙ ap (λ b. b == 1) (sym (bit_at_clear_other w64 n t lt i (omega arith) apart))
     ])
 
-pub bit_cleared : (n t : ℕ) (items : List ℕ) → t < 64 → length items ≡ 64 → bit_at n t ≡ 1 → sum (picked (bits_from_least 64 n) items) ≡ get_or items t 0 + sum (picked (bits_from_least 64 (without n t)) items)
+pub bit_cleared : (n t : ℕ) (items : List ℕ) → t < 64 → length items ≡ 64 → bit_at n t ≡ 1 → sum (selected_items (bits_from_least 64 n) items) ≡ get_or items t 0 + sum (selected_items (bits_from_least 64 (without n t)) items)
 unfolding bits_from_least
 bit_cleared n t items lt long one =
-    one_less (bits_from_least 64 n) items t (get_or-map-range_with_len (λ i. bit_at n i == 1) 0 64 t t false lt (omega arith) ∙ eq-eqb (bit_at n t) 1 one) (omega arith) ∙ ap (λ l. get_or items t 0 + sum (picked l items)) (without_is n t lt)
+    one_less (bits_from_least 64 n) items t (get_or-map-range_with_len (λ i. bit_at n i == 1) 0 64 t t false lt (omega arith) ∙ eq-eqb (bit_at n t) 1 one) (omega arith) ∙ ap (λ l. get_or items t 0 + sum (selected_items l items)) (without_is n t lt)
 
 -- is less than with it
 pub without_less : (n t : ℕ) → t < 64 → bit_at n t ≡ 1 → without n t < n

@@ -15,7 +15,7 @@ use std::simd::prelude::*;
 #[tactic(auto, using(crate::proofs::AboveLemmas::above_steps))]
 pub(crate) fn above(bytes: &[u8], slices: usize, most: u64) -> Plane
     requires size { 512 * slices ≤ length bytes.now }
-    requires few { slices ≤ 8 }
+    requires within_limit { slices ≤ 8 }
     requires most { most < 2 ^ (8 * slices) }
     ensures { lanes_of_words result ≡ map (nat_lt most) (slices_codes slices bytes.now) }
 {
@@ -30,7 +30,7 @@ pub(crate) fn above(bytes: &[u8], slices: usize, most: u64) -> Plane
 #[inline(always)]
 pub(crate) fn any_above(bytes: &[u8], slices: usize, most: u64) -> bool
     requires size { 512 * slices ≤ length bytes.now }
-    requires few { slices ≤ 8 }
+    requires within_limit { slices ≤ 8 }
     requires most { most < 2 ^ (8 * slices) }
     ensures { result ≡ list_any (nat_lt most) (slices_codes slices bytes.now) }
 {
@@ -46,7 +46,7 @@ pub(crate) fn any_above(bytes: &[u8], slices: usize, most: u64) -> bool
 #[inline(always)]
 fn set_above(bytes: &[u8], slices: usize, first: usize, most: u64) -> u8x64
     requires size { 512 * slices ≤ length bytes.now }
-    requires few { slices ≤ 8 }
+    requires within_limit { slices ≤ 8 }
     requires rows { first + 64 ≤ 512 }
     requires most { most < 2 ^ (8 * slices) }
     ensures { map (λ byte. not (byte == 0)) result

@@ -3,7 +3,7 @@
 ghost use Rattle.std.specs.Prelude.{◌≡◌, ◌==◌, ◌*◌, ◌^◌, ◌<◌, ◌≤◌, length, nat_lt, not};
 ghost use Rattle.std.specs.List.{list_any};
 ghost use Rattle.bw_lanes.specs.Lanes.{lanes_of_words};
-ghost use Rattle.bw_model.specs.Selection.{picked};
+ghost use Rattle.bw_model.specs.Selection.{selected_items};
 ghost use Rattle.bw_slices.specs.Slices.{slices_codes};
 
 use crate::above::any_above;
@@ -13,7 +13,7 @@ use bw_lanes::{Plane, bytes_any};
 #[tactic(auto, using(crate::proofs::AboveLemmas::none_above_none))]
 pub(crate) fn is_any_above(bytes: &[u8], slices: usize, most: u64) -> bool
     requires size { 512 * slices ≤ length bytes.now }
-    requires few { slices ≤ 8 }
+    requires within_limit { slices ≤ 8 }
     requires most { most < 2 ^ (8 * slices) }
     ensures { result ≡ list_any (nat_lt most) (slices_codes slices bytes.now) }
 {
@@ -31,7 +31,7 @@ pub(crate) fn is_any_above(bytes: &[u8], slices: usize, most: u64) -> bool
 pub(crate) fn is_any_used(bytes: &[u8], slices: usize, lanes: &Plane) -> bool
     requires { 512 * slices ≤ length bytes.now }
     ensures { result ≡ list_any (λ code. not (code == 0))
-        (picked (lanes_of_words lanes.now) (slices_codes slices bytes.now)) }
+        (selected_items (lanes_of_words lanes.now) (slices_codes slices bytes.now)) }
 {
     match slices {
         1 => any_used(bytes, 1, lanes),
@@ -47,7 +47,7 @@ pub(crate) fn is_any_used(bytes: &[u8], slices: usize, lanes: &Plane) -> bool
 fn any_used(bytes: &[u8], slices: usize, lanes: &Plane) -> bool
     requires { 512 * slices ≤ length bytes.now }
     ensures { result ≡ list_any (λ code. not (code == 0))
-        (picked (lanes_of_words lanes.now) (slices_codes slices bytes.now)) }
+        (selected_items (lanes_of_words lanes.now) (slices_codes slices bytes.now)) }
 {
     bytes_any(bytes, slices, lanes)
 }

@@ -4,7 +4,7 @@ ghost use Rattle.std.specs.Prelude.{All, ◌≡◌, ◌^◌, ◌+◌, ◌*◌, �
 ghost use Rattle.std.specs.List.{fold, reduce};
 ghost use Rattle.bw_lanes.specs.Lanes.{lanes_of_words};
 ghost use Rattle.bw_lanes.specs.Picked.{as_byte, bytes_picked};
-ghost use Rattle.bw_model.specs.Selection.{picked};
+ghost use Rattle.bw_model.specs.Selection.{selected_items};
 ghost use Rattle.bw_slices.specs.Slices.{slices_codes};
 
 use crate::read::{slice_of, slices_in};
@@ -23,7 +23,7 @@ pub(crate) fn chosen_code(
     requires size { length bytes.now ≡ 512 * ((width + 7) / 8) }
     requires small { All (λ code. code < 2 ^ width) (slices_codes ((width + 7) / 8) bytes.now) }
     ensures chosen { result ≡ reduce (if greatest then max else min)
-        (picked (lanes_of_words lanes.now) (slices_codes ((width + 7) / 8) bytes.now)) }
+        (selected_items (lanes_of_words lanes.now) (slices_codes ((width + 7) / 8) bytes.now)) }
     ensures bound { IfSome result (λ code. code < 2 ^ 63) }
 {
     if is_zero(lanes) {

@@ -1,7 +1,7 @@
 //! The sum of the codes in few lanes, one code after the other.
 ghost use Rattle.std.specs.Prelude.{All, ◌≡◌, ◌^◌, ◌+◌, ◌*◌, ◌/◌, ◌<◌, ◌≤◌, drop, length, sum, take};
 ghost use Rattle.bw_lanes.specs.Lanes.{bits_from_least, lanes_of_words};
-ghost use Rattle.bw_model.specs.Selection.{picked};
+ghost use Rattle.bw_model.specs.Selection.{selected_items};
 ghost use Rattle.bw_slices.specs.Slices.{slices_codes};
 
 use crate::layout::Slices;
@@ -14,7 +14,7 @@ pub(crate) fn sum_of_few(width: u32, bytes: &[u8], lanes: &Selection) -> u128
     requires width { (1 ≤ width) × (width ≤ 63) }
     requires size { length bytes.now ≡ 512 * ((width + 7) / 8) }
     requires small { All (λ code. code < 2 ^ width) (slices_codes ((width + 7) / 8) bytes.now) }
-    ensures { result ≡ sum (picked (lanes_of_words lanes.now)
+    ensures { result ≡ sum (selected_items (lanes_of_words lanes.now)
         (slices_codes ((width + 7) / 8) bytes.now)) }
 {
     let mut sum = 0;
@@ -31,7 +31,7 @@ fn sum_of_word(width: u32, bytes: &[u8], word: usize, rows: u64) -> u128
     requires size { length bytes.now ≡ 512 * ((width + 7) / 8) }
     requires small { All (λ code. code < 2 ^ width) (slices_codes ((width + 7) / 8) bytes.now) }
     requires word { word < 8 }
-    ensures sum { result ≡ sum (picked (bits_from_least 64 rows)
+    ensures sum { result ≡ sum (selected_items (bits_from_least 64 rows)
         (take 64 (drop (64 * word) (slices_codes ((width + 7) / 8) bytes.now)))) }
     ensures bound { result ≤ 2 ^ 69 }
 {

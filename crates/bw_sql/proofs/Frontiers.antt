@@ -19,7 +19,7 @@ use Rattle.bw_sql.proofs.Cases.{bool_cases}
 use Rattle.bw_sql.proofs.Machine.{Symbol, AWord, AnArgument, PartTail, SignedDigits, Choice, Ask, Pass, Stop, decide, ask, step, left_at, proceed, run, all_may_end, AStatement}
 use Rattle.bw_sql.proofs.Viable.{Path, here, there, path_viable}
 use Rattle.std.proofs.lemmas.List.{append-nil}
-use Rattle.bw_sql.specs.Asked.{Asked}
+use Rattle.bw_sql.specs.Asked.{QueryShape}
 use Rattle.bw_sql.specs.Grammar.{StatementIs}
 use Rattle.bw_sql.proofs.Runs.{statement_runs}
 use Rattle.bw_sql.proofs.Spelled.{Outcome, reads, excused, statement_read}
@@ -304,11 +304,11 @@ module _ (schema : Schema) where
   not_asked why d e u m =
       let equal : (code_of why == code_of why) ≡ true = grind (arith, nat_tests) in let f = rw (e, equal, u) at m in cc
 
-  refused_unspelled : (halt : Halt) (tokens : List Lexeme) (q : Asked) →
+  refused_unspelled : (halt : Halt) (tokens : List Lexeme) (q : QueryShape) →
       run schema false (AStatement ∷ []) tokens ≡ Err halt →
       StatementIs schema.columns.items (asked_for schema halt.why) tokens q → ⊥
   refused_unspelled halt tokens q e spelled = go (statement_read schema (asked_for schema halt.why) spelled) where
-    read : (r : Result Asked Halt) → statement_at schema tokens ≡ r → ◌≡◌ {A = Result (Unit {0}) Halt} (r >>= λ q. Ok tt) (Err halt)
+    read : (r : Result QueryShape Halt) → statement_at schema tokens ≡ r → ◌≡◌ {A = Result (Unit {0}) Halt} (r >>= λ q. Ok tt) (Err halt)
     read r f = sym (statement_runs schema tokens ∙ ap (λ r. r >>= λ q. Ok tt) f) ∙ e
 
     go : Outcome schema (asked_for schema halt.why) (statement_at schema tokens) q → ⊥
@@ -330,7 +330,7 @@ module _ (schema : Schema) where
 -- where the tokens end, and no statement does
 module _ (schema : Schema) (tokens : List Lexeme) (last : List Symbol) (p : Path (is_met schema) (AStatement ∷ []) tokens last) where
   pub only_at_end : (other : Refusal) (at : ℕ) → Stands schema tokens other at → (at ≡ length tokens) × (other ≡ Syntax) ×
-      ((query : Asked) → StatementIs schema.columns.items (asked_for schema Syntax) tokens query → ⊥)
+      ((query : QueryShape) → StatementIs schema.columns.items (asked_for schema Syntax) tokens query → ⊥)
   only_at_end other at (at_token before after t e v unless) =
       absurd (unless (begun schema other (before ++ t ∷ []) after tokens last p (e ∙ sym (append_assoc before (t ∷ []) after))))
   only_at_end other at (at_sign before after t digits s e v unless) = absurd (unless (begun schema Literal
@@ -484,7 +484,7 @@ module _ (schema : Schema) (tokens before after : List Lexeme) (t : Lexeme) (las
   stop_first why signed s stop = at_the_token why stop (literal_alone why stop (λ l. cc))
 
 -- how a statement's tokens are read
-pub ran_so : (schema : Schema) (tokens : List Lexeme) (r : Result Asked Halt) → statement_at schema tokens ≡ r →
+pub ran_so : (schema : Schema) (tokens : List Lexeme) (r : Result QueryShape Halt) → statement_at schema tokens ≡ r →
     Ran schema false (AStatement ∷ []) tokens (r >>= λ q. Ok tt)
 ran_so schema tokens r e = subst (Ran schema false (AStatement ∷ []) tokens)
     (statement_runs schema tokens ∙ ap (λ r. r >>= λ q. Ok tt) e) (ran schema false (AStatement ∷ []) tokens)

@@ -16,7 +16,7 @@ use Rattle.bw_sql.specs.declared.items.Aggregate.TheVariants as aggregate
 use Rattle.bw_sql.specs.declared.reader.Refusal.{Refusal}
 use Rattle.bw_sql.specs.declared.reader.Refusal.TheVariants.{Syntax, Literal}
 use Rattle.bw_sql.specs.declared.token.Mark.TheVariants as mark
-use Rattle.bw_sql.specs.Asked.{Asked}
+use Rattle.bw_sql.specs.Asked.{QueryShape}
 use Rattle.bw_model.specs.CondTree.{CondTree, CondTrees}
 use Rattle.bw_model.specs.Column.{column_named}
 use Rattle.bw_sql.specs.Demand.{Depth, is_met, meets}
@@ -381,7 +381,7 @@ module _ (schema : Schema) where
   list_runs stack (Reserved word.Max ∷ tokens) = first_aggregate aggregate.Max stack tokens
   list_runs stack _ = refl
 
-  ended : (m : Result (Unit {0}) Halt) (q : Asked) → m ≡ ((m >>= λ end. Ok q) >>= λ q. Ok tt)
+  ended : (m : Result (Unit {0}) Halt) (q : QueryShape) → m ≡ ((m >>= λ end. Ok q) >>= λ q. Ok tt)
   ended (Ok u) q = refl
   ended (Err halt) q = refl
 

@@ -3,7 +3,7 @@ use Rattle.std.proofs.Common.{◌≡◌, ℕ, List, ap, subst}
 use Rattle.bw_model.specs.declared.column.Column.{Column}
 use Rattle.bw_model.specs.declared.schema.Schema.{Schema}
 use Rattle.bw_model.specs.SchemaText.{SchemaShape, schema_shape}
-use Rattle.bw_sql.specs.Asked.{Asked}
+use Rattle.bw_sql.specs.Asked.{QueryShape}
 use Rattle.bw_sql.specs.Demand.{meets}
 use Rattle.bw_sql.specs.Grammar.{StatementIs}
 use Rattle.bw_sql.specs.Statement.{Spells, tokens_of}
@@ -12,7 +12,7 @@ use Rattle.bw_model.proofs.SameColumns.{columns_same}
 pub columns_too : (s t : Schema) → schema_shape s ≡ schema_shape t → s.columns.items ≡ t.columns.items
 columns_too s t same = columns_same s.columns.items t.columns.items (ap (λ (h : SchemaShape). h.columns) same)
 
-pub spells_too : (s t : Schema) (text : List ℕ) (query : Asked) → schema_shape s ≡ schema_shape t → Spells s text query →
+pub spells_too : (s t : Schema) (text : List ℕ) (query : QueryShape) → schema_shape s ≡ schema_shape t → Spells s text query →
     Spells t text query
 spells_too s t text query same spells =
     let tokens = tokens_of spells.tokens in

@@ -14,13 +14,13 @@ use Rattle.bw_sql.specs.declared.items.Aggregate.TheVariants as kind
 use Rattle.bw_sql.specs.declared.reader.Refusal.TheVariants.{UnknownColumn, Literal}
 use Rattle.bw_sql.specs.declared.token.Mark.TheVariants as mark
 use Rattle.bw_text.specs.Text.{same_text}
-use Rattle.bw_sql.specs.Asked.{Asked}
+use Rattle.bw_sql.specs.Asked.{QueryShape}
 use Rattle.bw_model.specs.CondTree.{CondTree}
 use Rattle.bw_model.specs.Column.{column_named}
 use Rattle.bw_sql.specs.Demand.{Demand, NamesTable, NamesColumn, Fits, OfOneKind, Depth, column_number, column_or_first, is_met, meets, refusal, signed}
 use Rattle.bw_sql.specs.Grammar.{TruthIs, OperandIs, CommaList, RangeIs, ComparedIs, JoinedIs, MoreParts, PartIs, FactorIs, TestIs, PrimaryIs, ItemIs, NextItemIs, ItemsAre, SelectionIs, EndIs, StatementIs, IsQuery, true_word, null, column, unsigned, plus, minus, no_more, one_more, between, among, compared, comparison, range, not_range, is_null, is_not_null, parts, last_part, next_part, factor, term, test, not_test, tested, untested, is, is_not, predicate, bracket, plain, count_all, aggregate, next_item, star, items, all_rows, rows_where, bare, statement}
 use Rattle.bw_sql.specs.Limits.{deepest_nesting}
-use Rattle.bw_sql.specs.Reading.{Halt, ◌>>=◌, wanted, begins_with_name, after_keyword, after_mark, keyword_at, mark_at, name_at, digits_at, sign_at, literal_at, column_at, table_at, operand_at, repeated, range_or_list_at, null_test_at, after_comparison, predicate_after, predicate_at, truth_value_at, truth_test_at, primary_in, test_in, factor_in, part_in, term_in, condition_in, joined_in, nested, selection_at, table_expression_at, end_at, after_aggregate, aggregated_at, item_at, of_one_kind, next_item_at, items_at, statement_at}
+use Rattle.bw_sql.specs.Reading.{Halt, ◌>>=◌, ok_or_refuse, begins_with_name, after_keyword, after_mark, keyword_at, mark_at, name_at, digits_at, sign_at, literal_at, column_at, table_at, operand_at, repeated, range_or_list_at, null_test_at, after_comparison, predicate_after, predicate_at, truth_value_at, truth_test_at, primary_in, test_in, factor_in, part_in, term_in, condition_in, joined_in, nested, selection_at, table_expression_at, end_at, after_aggregate, aggregated_at, item_at, of_one_kind, next_item_at, items_at, statement_at}
 use Rattle.bw_sql.specs.Token.{Lexeme, Name, Reserved}
 use Rattle.bw_sql.specs.Words.{word_of, aggregate_word, of_column}
 use Rattle.bw_sql.proofs.Cases.{bool_cases, option_cases}
@@ -82,18 +82,18 @@ module _ (schema : Schema) (met : Demand → Bool) where
   and_then f o p = and_from f o (λ e. p)
 
   column_wanted : (text : List ℕ) (tokens : List Lexeme) → met (NamesColumn text) ≡ true →
-      Outcome schema met (wanted (column_named schema.columns.items text) UnknownColumn tokens) (column_number columns text)
+      Outcome schema met (ok_or_refuse (column_named schema.columns.items text) UnknownColumn tokens) (column_number columns text)
   unfolding meets
   column_wanted text tokens m = option_cases (column_named columns text)
-      (λ e. excused (NamesColumn text) (length tokens) m (ap is_some e) (ap (λ o. wanted o UnknownColumn tokens) e))
-      (λ n e. reads (ap (λ o. wanted o UnknownColumn tokens) e ∙ ap Ok (sym (ap column_or_first e))))
+      (λ e. excused (NamesColumn text) (length tokens) m (ap is_some e) (ap (λ o. ok_or_refuse o UnknownColumn tokens) e))
+      (λ n e. reads (ap (λ o. ok_or_refuse o UnknownColumn tokens) e ∙ ap Ok (sym (ap column_or_first e))))
 
   number_wanted : (is_negative : Bool) (digits : List ℕ) (tokens : List Lexeme) → met (Fits is_negative digits) ≡ true →
-      Outcome schema met (wanted (number_of is_negative digits) Literal tokens) (signed is_negative digits)
+      Outcome schema met (ok_or_refuse (number_of is_negative digits) Literal tokens) (signed is_negative digits)
   unfolding meets
   number_wanted is_negative digits tokens m = option_cases (number_of is_negative digits)
-      (λ e. excused (Fits is_negative digits) (length tokens) m (ap is_some e) (ap (λ o. wanted o Literal tokens) e))
-      (λ n e. reads (ap (λ o. wanted o Literal tokens) e ∙ ap Ok (fitting is_negative digits n e)))
+      (λ e. excused (Fits is_negative digits) (length tokens) m (ap is_some e) (ap (λ o. ok_or_refuse o Literal tokens) e))
+      (λ n e. reads (ap (λ o. ok_or_refuse o Literal tokens) e ∙ ap Ok (fitting is_negative digits n e)))
 
   operand_read : {tokens rest : List Lexeme} {x : Operand} → OperandIs columns met tokens rest x →
       Outcome schema met (operand_at schema tokens) (x, rest)
@@ -265,14 +265,14 @@ module _ (schema : Schema) (met : Demand → Bool) where
   table_read {table = table} {rest = rest} m = bool_cases (same_text schema.name table) (λ e. rw e (reads refl))
       (λ e. excused (NamesTable table) (suc (length rest)) m e (rw e refl))
 
-  pub statement_read : {tokens : List Lexeme} {q : Asked} → StatementIs columns met tokens q →
+  pub statement_read : {tokens : List Lexeme} {q : QueryShape} → StatementIs columns met tokens q →
       Outcome schema met (statement_at schema tokens) q
   unfolding statement_at table_expression_at keyword_at after_keyword after_mark
   statement_read (statement xs m c e) =
       and_then _ (list_read xs refl) (and_then _ (and_then _ (table_read m) (selection_read c e)) (rw (end_read e).0 (reads refl)))
 
 -- what is spelled with all demands met is read
-pub query_read : (schema : Schema) (tokens : List Lexeme) (q : Asked) → IsQuery schema tokens q →
+pub query_read : (schema : Schema) (tokens : List Lexeme) (q : QueryShape) → IsQuery schema tokens q →
     statement_at schema tokens ≡ Ok q
 query_read schema tokens q spelled = go (statement_read schema (is_met schema) spelled) where
   go : Outcome schema (is_met schema) (statement_at schema tokens) q → statement_at schema tokens ≡ Ok q

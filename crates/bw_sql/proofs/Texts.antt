@@ -13,12 +13,12 @@ use Rattle.bw_sql.specs.declared.reader.Refusal.TheVariants.{Syntax, UnknownTabl
 use Rattle.bw_sql.specs.declared.reader.Stop.{Stop}
 use Rattle.bw_sql.specs.declared.reader.Stop.TheVariants.{Refused, OutOfMemory}
 use Rattle.bw_sql.specs.declared.token.Placed.{Placed}
-use Rattle.bw_sql.specs.Asked.{Asked, asked}
+use Rattle.bw_sql.specs.Asked.{QueryShape, query_shape}
 use Rattle.bw_sql.specs.Cut.{IsCut, Spot, spots}
 use Rattle.bw_sql.specs.Demand.{is_met}
 use Rattle.bw_sql.specs.Frontier.{Stands, IsFirst, asked_for}
 use Rattle.bw_sql.specs.Grammar.{IsQuery}
-use Rattle.bw_sql.specs.Judged.{Answers, IsFaultOf, IsRead, fault_at, judged}
+use Rattle.bw_sql.specs.Judged.{Answers, IsFaultOf, IsRead, fault_at, parse_verdict}
 use Rattle.bw_sql.specs.Limits.{longest_statement}
 use Rattle.bw_sql.specs.Reader.{Reads}
 use Rattle.bw_sql.specs.Reading.{Halt, statement_at}
@@ -33,7 +33,7 @@ use Rattle.bw_sql.proofs.Spelled.{query_read}
 use Rattle.bw_sql.proofs.Viable.{Path, path_spelled}
 
 -- the machine reads all tokens of what is read
-accepted : (schema : Schema) (tokens : List Lexeme) (q : Asked) → statement_at schema tokens ≡ Ok q →
+accepted : (schema : Schema) (tokens : List Lexeme) (q : QueryShape) → statement_at schema tokens ≡ Ok q →
     (last : List Symbol) × Path (is_met schema) (AStatement ∷ []) tokens last × (all_may_end last ≡ true)
 accepted schema tokens q e = go (ran_so schema tokens (Ok q) e) where
   go : Ran schema false (AStatement ∷ []) tokens (Ok tt) →
@@ -41,19 +41,19 @@ accepted schema tokens q e = go (ran_so schema tokens (Ok q) e) where
   go (whole last p m) = (last, p, m)
 
 -- what is read is spelled by the grammar, with all demands met
-pub query_spelled : (schema : Schema) (tokens : List Lexeme) (q : Asked) → statement_at schema tokens ≡ Ok q →
+pub query_spelled : (schema : Schema) (tokens : List Lexeme) (q : QueryShape) → statement_at schema tokens ≡ Ok q →
     IsQuery schema tokens q
 query_spelled schema tokens q e =
     let p = accepted schema tokens q e in
     let other = path_spelled schema (is_met schema) (λ d m. m) tokens p.0 p.1 p.2 in
-    let both : ◌≡◌ {A = Result Asked Halt} (Ok other.0) (Ok q) = sym (query_read schema tokens other.0 other.1) ∙ e in
+    let both : ◌≡◌ {A = Result QueryShape Halt} (Ok other.0) (Ok q) = sym (query_read schema tokens other.0 other.1) ∙ e in
     let same : other.0 ≡ q = cc in
     subst (λ q. IsQuery schema tokens q) same other.1
 
-pub same_query : (schema : Schema) (tokens : List Lexeme) (query other : Asked) → IsQuery schema tokens query →
+pub same_query : (schema : Schema) (tokens : List Lexeme) (query other : QueryShape) → IsQuery schema tokens query →
     IsQuery schema tokens other → query ≡ other
 same_query schema tokens query other a b =
-    let both : ◌≡◌ {A = Result Asked Halt} (Ok query) (Ok other) =
+    let both : ◌≡◌ {A = Result QueryShape Halt} (Ok query) (Ok other) =
     sym (query_read schema tokens query a) ∙ query_read schema tokens other b in cc
 
 -- from what the readers answer to what a text is read as
@@ -62,24 +62,24 @@ tokens_are [] = refl
 tokens_are (placed ∷ items) = ap (λ tokens. lexeme placed.token ∷ tokens) (tokens_are items)
 
 pub read_so : (schema : Schema) (text : List ℕ) (items : List Placed) (stop : Option ℕ) → IsCut 0 text (spots items) stop →
-    (reading : Result Asked Halt) (outcome : Result Asked Fault) → statement_at schema (lexemes items) ≡ reading →
-    outcome ≡ judged (spots items) stop (length text) reading → IsRead schema text outcome
+    (reading : Result QueryShape Halt) (outcome : Result QueryShape Fault) → statement_at schema (lexemes items) ≡ reading →
+    outcome ≡ parse_verdict (spots items) stop (length text) reading → IsRead schema text outcome
 read_so schema text items stop cut reading outcome e f =
     record { tokens = spots items; stop = stop; cut = cut; is = f ∙ (rw (tokens_are items, e) refl) }
 
 pub refused_so : (schema : Schema) (text : List ℕ) (items : List Placed) (stop : Option ℕ) → IsCut 0 text (spots items) stop →
-    (why : Stop) (fault : Fault) → Reads asked (Err why) (statement_at schema (lexemes items)) →
+    (why : Stop) (fault : Fault) → Reads query_shape (Err why) (statement_at schema (lexemes items)) →
     IsFaultOf (spots items) stop (length text) why fault → Answers schema text (Err fault)
 refused_so schema text items stop cut (Refused why left) fault read is m = read_so schema text items stop cut _ (Err fault) read (ap Err is)
 refused_so schema text items stop cut OutOfMemory fault read is m = absurd (let e : is_memory fault ≡ true = ap is_memory is in cc)
 
 -- a text is read in one way, and as what it spells
-read_same : (schema : Schema) (text : List ℕ) (a b : Result Asked Fault) → IsRead schema text a → IsRead schema text b → a ≡ b
+read_same : (schema : Schema) (text : List ℕ) (a b : Result QueryShape Fault) → IsRead schema text a → IsRead schema text b → a ≡ b
 read_same schema text a b r s =
     let same = one_cut_of 0 text r.tokens s.tokens r.stop s.stop r.cut s.cut in
     r.is ∙ (rw (same.0, same.1) (sym s.is))
 
-spelled_read : (schema : Schema) (text : List ℕ) (query : Asked) → Spells schema text query → IsRead schema text (Ok query)
+spelled_read : (schema : Schema) (text : List ℕ) (query : QueryShape) → Spells schema text query → IsRead schema text (Ok query)
 spelled_read schema text query s = record {
   tokens = s.tokens;
   stop = None;
@@ -87,13 +87,13 @@ spelled_read schema text query s = record {
   is = rw (query_read schema (tokens_of s.tokens) query s.spelled) refl;
 }
 
-judged_ok : (tokens : List Spot) (stop : Option ℕ) (end : ℕ) (reading : Result Asked Halt) (query : Asked) →
-    Ok query ≡ judged tokens stop end reading → (stop ≡ None) × (reading ≡ Ok query)
+judged_ok : (tokens : List Spot) (stop : Option ℕ) (end : ℕ) (reading : Result QueryShape Halt) (query : QueryShape) →
+    Ok query ≡ parse_verdict tokens stop end reading → (stop ≡ None) × (reading ≡ Ok query)
 judged_ok tokens None end (Ok q) query f = (refl, cc)
 judged_ok tokens (Some at) end (Ok q) query f = cc
 judged_ok tokens stop end (Err halt) query f = cc
 
-read_spelled : (schema : Schema) (text : List ℕ) → length text ≤ longest_statement → (query : Asked) →
+read_spelled : (schema : Schema) (text : List ℕ) → length text ≤ longest_statement → (query : QueryShape) →
     IsRead schema text (Ok query) → Spells schema text query
 read_spelled schema text short query r =
     let p = judged_ok r.tokens r.stop (length text) (statement_at schema (tokens_of r.tokens)) query r.is in
@@ -104,19 +104,19 @@ read_spelled schema text short query r =
       spelled = query_spelled schema (tokens_of r.tokens) query p.1;
     }
 
-pub text_query : (schema : Schema) (text : List ℕ) (query other : Asked) → Spells schema text query → Spells schema text other →
+pub text_query : (schema : Schema) (text : List ℕ) (query other : QueryShape) → Spells schema text query → Spells schema text other →
     query ≡ other
 text_query schema text query other a b =
-    let both : ◌≡◌ {A = Result Asked Fault} (Ok query) (Ok other) =
+    let both : ◌≡◌ {A = Result QueryShape Fault} (Ok query) (Ok other) =
     read_same schema text (Ok query) (Ok other) (spelled_read schema text query a) (spelled_read schema text other b) in cc
 
-not_refused : (schema : Schema) (text : List ℕ) (query : Asked) (fault : Fault) → Spells schema text query →
+not_refused : (schema : Schema) (text : List ℕ) (query : QueryShape) (fault : Fault) → Spells schema text query →
     IsRead schema text (Err fault) → ⊥
 not_refused schema text query fault s r =
     let both = read_same schema text (Err fault) (Ok query) r (spelled_read schema text query s) in cc
 
 pub err_is_memory : (schema : Schema) (text : List ℕ) (result : Result Query Fault) →
-    (length text ≤ longest_statement → Answers schema text result) → (query : Asked) → Spells schema text query →
+    (length text ≤ longest_statement → Answers schema text result) → (query : QueryShape) → Spells schema text query →
     IfErr result (λ fault. is_memory fault ≡ true)
 err_is_memory schema text (Ok query) exact q s = tt
 err_is_memory schema text (Err fault) exact q s = bool_cases (is_memory fault) (λ m. m)
@@ -152,13 +152,13 @@ past tokens place e = elim (slice_get_cases tokens place).1 [
 
 module _ (schema : Schema) (text : List ℕ) (tokens : List Spot) where
   -- where all tokens are read no fault stands
-  none_stands : (q : Asked) → statement_at schema (tokens_of tokens) ≡ Ok q → (why : Refusal) (place : ℕ) →
+  none_stands : (q : QueryShape) → statement_at schema (tokens_of tokens) ≡ Ok q → (why : Refusal) (place : ℕ) →
       Stands schema (tokens_of tokens) why place → ⊥
   none_stands q e why place stands =
       let p = accepted schema (tokens_of tokens) q e in
-      let asked = path_spelled schema (asked_for schema Syntax) (asked_for_weaker schema Syntax) (tokens_of tokens) p.0
+      let query_shape = path_spelled schema (asked_for schema Syntax) (asked_for_weaker schema Syntax) (tokens_of tokens) p.0
       (path_weaker schema (asked_for schema Syntax) (asked_for_weaker schema Syntax) p.1) p.2 in
-      (only_at_end schema (tokens_of tokens) p.0 p.1 why place stands).2 asked.0 asked.1
+      (only_at_end schema (tokens_of tokens) p.0 p.1 why place stands).2 query_shape.0 query_shape.1
 
   -- a refusal, by its place among the tokens and after them
   refused_at : (stop : Option ℕ) (why : Refusal) (place : ℕ) → IsCut 0 text tokens stop →
@@ -180,15 +180,15 @@ module _ (schema : Schema) (text : List ℕ) (tokens : List Spot) where
   -- where reading halts is the first fault
   halted_at : (stop : Option ℕ) (halt : Halt) → statement_at schema (tokens_of tokens) ≡ Err halt → (why : Refusal) (place : ℕ) →
       IsFirst schema (tokens_of tokens) why place →
-      Err (fault_at (slice_get tokens place) stop (length text) why) ≡ judged tokens stop (length text) (Err halt)
+      Err (fault_at (slice_get tokens place) stop (length text) why) ≡ parse_verdict tokens stop (length text) (Err halt)
   halted_at stop halt e why place f =
       let g = first_fault schema (tokens_of tokens) halt e in
       let same = first_same schema (tokens_of tokens) why halt.why place g.place f g.first in
       let index : length tokens - halt.left ≡ place = omega (arith, g.left, length-map tokens (λ spot. spot.token), same.1) in
       rw (index, ← same.0) refl
 
-  judged_fault : (stop : Option ℕ) (fault : Fault) (reading : Result Asked Halt) → IsCut 0 text tokens stop →
-      statement_at schema (tokens_of tokens) ≡ reading → Err fault ≡ judged tokens stop (length text) reading →
+  judged_fault : (stop : Option ℕ) (fault : Fault) (reading : Result QueryShape Halt) → IsCut 0 text tokens stop →
+      statement_at schema (tokens_of tokens) ≡ reading → Err fault ≡ parse_verdict tokens stop (length text) reading →
       IsRefusal schema text fault
   judged_fault None fault (Ok q) cut e f = cc
   judged_fault (Some at) fault (Ok q) cut e f =
@@ -209,14 +209,14 @@ module _ (schema : Schema) (text : List ℕ) (tokens : List Spot) where
 
   -- what has a fault is read as that fault
   first_read : (stop : Option ℕ) (why : Refusal) (place : ℕ) (found : Option Spot) → IsFirst schema (tokens_of tokens) why place →
-      slice_get tokens place ≡ found → (reading : Result Asked Halt) → statement_at schema (tokens_of tokens) ≡ reading →
-      Err (fault_at found stop (length text) why) ≡ judged tokens stop (length text) reading
+      slice_get tokens place ≡ found → (reading : Result QueryShape Halt) → statement_at schema (tokens_of tokens) ≡ reading →
+      Err (fault_at found stop (length text) why) ≡ parse_verdict tokens stop (length text) reading
   first_read stop why place found f s (Ok q) e = absurd (none_stands q e why place f.stands)
   first_read stop why place found f s (Err halt) e = rw s at (halted_at stop halt e why place f)
 
-  byte_read : (at : ℕ) (reading : Result Asked Halt) → statement_at schema (tokens_of tokens) ≡ reading →
+  byte_read : (at : ℕ) (reading : Result QueryShape Halt) → statement_at schema (tokens_of tokens) ≡ reading →
       ((why : Refusal) (place : ℕ) → IsFirst schema (tokens_of tokens) why place → length tokens ≤ place) →
-      Err (at_byte 401 at) ≡ judged tokens (Some at) (length text) reading
+      Err (at_byte 401 at) ≡ parse_verdict tokens (Some at) (length text) reading
   byte_read at (Ok q) e h = refl
   byte_read at (Err halt) e h =
       let g = first_fault schema (tokens_of tokens) halt e in
@@ -254,7 +254,7 @@ parsed schema text result long exact = go result long exact (cases_lt longest_st
   go : (result : Result Query Fault) → (longest_statement < length text → result ≡ Err (at_byte 407 longest_statement)) →
       (length text ≤ longest_statement → Answers schema text result) →
       (longest_statement < length text) ⊎ (length text ≤ longest_statement) → Parses schema text result
-  go (Ok query) long exact (inr short) = read_spelled schema text short (asked query) (exact short)
+  go (Ok query) long exact (inr short) = read_spelled schema text short (query_shape query) (exact short)
   go (Err fault) long exact (inr short) = λ e. refused short (read_fault schema text fault (exact short e))
   go result long exact (inl h) = rw (long h) (λ e. too_long h)
 
@@ -264,10 +264,10 @@ same_fault schema text fault other (too_long long) (too_long more) = refl
 same_fault schema text fault other (too_long long) (refused short g) = absurd (omega arith)
 same_fault schema text fault other (refused short f) (too_long long) = absurd (omega arith)
 same_fault schema text fault other (refused short f) (refused also g) =
-    let both : ◌≡◌ {A = Result Asked Fault} (Err fault) (Err other) =
+    let both : ◌≡◌ {A = Result QueryShape Fault} (Err fault) (Err other) =
     read_same schema text (Err fault) (Err other) (fault_read schema text fault f) (fault_read schema text other g) in cc
 
-pub spelled_or_refused : (schema : Schema) (text : List ℕ) (query : Asked) (fault : Fault) → Spells schema text query →
+pub spelled_or_refused : (schema : Schema) (text : List ℕ) (query : QueryShape) (fault : Fault) → Spells schema text query →
     IsFault schema text fault → ⊥
 spelled_or_refused schema text query fault s (too_long long) = absurd (omega (arith, s.short))
 spelled_or_refused schema text query fault s (refused short f) = not_refused schema text query fault s (fault_read schema text fault f)
@@ -275,7 +275,7 @@ spelled_or_refused schema text query fault s (refused short f) = not_refused sch
 -- a text that is cut is read
 pub query_or_fault_of : (schema : Schema) (text : List ℕ) → SpellsOrFails schema text
 query_or_fault_of schema text = go (cases_lt longest_statement (length text)) where
-  read : length text ≤ longest_statement → (outcome : Result Asked Fault) → IsRead schema text outcome → SpellsOrFails schema text
+  read : length text ≤ longest_statement → (outcome : Result QueryShape Fault) → IsRead schema text outcome → SpellsOrFails schema text
   read short (Ok query) r = inl (query, read_spelled schema text short query r)
   read short (Err fault) r = inr (fault, refused short (read_fault schema text fault r))
 
@@ -283,5 +283,5 @@ query_or_fault_of schema text = go (cases_lt longest_statement (length text)) wh
   go (inl long) = inr (at_byte 407 longest_statement, too_long long)
   go (inr short) =
       let cut = cut_of_text text in
-      read short (judged cut.tokens cut.stop (length text) (statement_at schema (tokens_of cut.tokens)))
+      read short (parse_verdict cut.tokens cut.stop (length text) (statement_at schema (tokens_of cut.tokens)))
       (record { tokens = cut.tokens; stop = cut.stop; cut = cut.cut; is = refl })

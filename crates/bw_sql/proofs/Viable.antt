@@ -23,7 +23,7 @@ use Rattle.bw_sql.specs.declared.items.Aggregate.{Aggregate}
 use Rattle.bw_sql.specs.declared.items.Aggregate.TheVariants as aggregate
 use Rattle.bw_sql.specs.declared.reader.Refusal.{Refusal}
 use Rattle.bw_sql.specs.declared.token.Mark.TheVariants as mark
-use Rattle.bw_sql.specs.Asked.{Asked}
+use Rattle.bw_sql.specs.Asked.{QueryShape}
 use Rattle.bw_model.specs.CondTree.{CondTree, Always, Cmp, Between, IsNull, Test, Not, Among}
 use Rattle.bw_model.specs.Column.{column_named}
 use Rattle.bw_sql.specs.Demand.{Demand, NamesTable, NamesColumn, Fits, OfOneKind, Depth, every_column, is_met, meets}
@@ -70,7 +70,7 @@ module _ (columns : List Column) (met : Demand → Bool) where
   Means ATable tokens rest = (text : List ℕ) × (met (NamesTable text) ≡ true) × IsToken (Name text) tokens rest
   Means ASelection tokens rest = (c : CondTree) × SelectionIs columns met tokens rest c
   Means AnEnd tokens rest = rest ≡ [] → EndIs tokens
-  Means AStatement tokens rest = rest ≡ [] → (q : Asked) × StatementIs columns met tokens q
+  Means AStatement tokens rest = rest ≡ [] → (q : QueryShape) × StatementIs columns met tokens q
 
   abbrev pub Sequence : List Symbol → List Lexeme → List Lexeme → Type 0
   Sequence [] tokens rest = tokens ≡ rest
@@ -367,7 +367,7 @@ module _ (schema : Schema) (met : Demand → Bool) (weaker : (d : Demand) → is
       let p = and_parts (may_end s) (all_may_end stack) e in ([], ended s p.0, all_ended stack p.1)
 
   pub path_spelled : (tokens : List Lexeme) (last : List Symbol) → Path met (AStatement ∷ []) tokens last →
-      all_may_end last ≡ true → (q : Asked) × StatementIs columns met tokens q
+      all_may_end last ≡ true → (q : QueryShape) × StatementIs columns met tokens q
   path_spelled tokens last p e =
       let whole = path_fair columns met p [] (all_ended last e) in
-      subst (λ ts. (q : Asked) × StatementIs columns met ts q) (append-nil tokens) (whole.1 whole.2)
+      subst (λ ts. (q : QueryShape) × StatementIs columns met ts q) (append-nil tokens) (whole.1 whole.2)

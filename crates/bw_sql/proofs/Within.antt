@@ -19,9 +19,9 @@ use Rattle.bw_model.specs.Total.{item_within}
 use Rattle.bw_sql.specs.declared.condition.Connective.{Connective}
 use Rattle.bw_sql.specs.declared.condition.Connective.TheVariants as connective
 use Rattle.bw_sql.specs.declared.items.Aggregate.TheVariants as kind
-use Rattle.bw_sql.specs.Asked.{Asked, asked}
+use Rattle.bw_sql.specs.Asked.{QueryShape, query_shape}
 use Rattle.bw_sql.specs.Demand.{NamesColumn, OfOneKind, column_number, column_or_first, is_met, meets}
-use Rattle.bw_sql.specs.Grammar.{OperandIs, CommaList, RangeIs, ComparedIs, JoinedIs, MoreParts, PartIs, FactorIs, TestIs, PrimaryIs, ItemIs, NextItemIs, ItemsAre, SelectionIs, IsQuery, joined, null, column, no_more, one_more, between, among, compared, comparison, range, not_range, is_null, is_not_null, parts, last_part, next_part, factor, term, test, not_test, tested, untested, is, is_not, predicate, bracket, plain, count_all, aggregate, next_item, star, items, all_rows, rows_where, statement}
+use Rattle.bw_sql.specs.Grammar.{OperandIs, CommaList, RangeIs, ComparedIs, JoinedIs, MoreParts, PartIs, FactorIs, TestIs, PrimaryIs, ItemIs, NextItemIs, ItemsAre, SelectionIs, IsQuery, fold_operands, null, column, no_more, one_more, between, among, compared, comparison, range, not_range, is_null, is_not_null, parts, last_part, next_part, factor, term, test, not_test, tested, untested, is, is_not, predicate, bracket, plain, count_all, aggregate, next_item, star, items, all_rows, rows_where, statement}
 use Rattle.bw_sql.specs.Items.{AreOfOneKind, is_of_kind, are_of_kind}
 use Rattle.bw_sql.specs.Statement.{Parses, tokens_of}
 use Rattle.bw_sql.specs.Token.{Lexeme}
@@ -45,7 +45,7 @@ several_good columns c d ds g gs =
     (all.0, and_from _ _ (le-leb 2 (count_of (trees_of (c ∷ d ∷ ds))) (omega arith)) all.1)
 
 joined_good : (columns : ℕ) (by : Connective) (c : CondTree) (cs : List CondTree) → Good columns c → AreGood columns cs →
-    Good columns (joined (join_of by) c cs)
+    Good columns (fold_operands (join_of by) c cs)
 joined_good columns by c [] g gs = g
 joined_good columns connective.And c (d ∷ ds) g gs = several_good columns c d ds g gs
 joined_good columns _ c (d ∷ ds) g gs = several_good columns c d ds g gs
@@ -165,14 +165,14 @@ module _ (schema : Schema) where
       )
 
 -- what a query that is spelled names, and of what kinds its items are
-pub record GoodQuery (columns : ℕ) (query : Asked) : Type 0 where
+pub record GoodQuery (columns : ℕ) (query : QueryShape) : Type 0 where
   pub within : tree_within columns query.cond ≡ true
   pub whole : is_whole_tree query.cond ≡ true
   pub items : list_all (item_within columns) query.items ≡ true
   pub some : 1 ≤ length query.items
   pub kinds : AreOfOneKind query.items
 
-pub query_good : (schema : Schema) (tokens : List Lexeme) (query : Asked) → IsQuery schema tokens query →
+pub query_good : (schema : Schema) (tokens : List Lexeme) (query : QueryShape) → IsQuery schema tokens query →
     GoodQuery (vec_len schema.columns) query
 query_good schema tokens query (statement list m selection end) =
     let xs = items_good schema list in
@@ -182,6 +182,6 @@ query_good schema tokens query (statement list m selection end) =
 
 -- so it is with the query that a text is read as
 pub if_good : (schema : Schema) (text : List ℕ) (result : Result Query Fault) (P : Query → Type 0) → Parses schema text result →
-    ((query : Query) → GoodQuery (vec_len schema.columns) (asked query) → P query) → IfOk result P
-if_good schema text (Ok query) P spells then = then query (query_good schema (tokens_of spells.tokens) (asked query) spells.spelled)
+    ((query : Query) → GoodQuery (vec_len schema.columns) (query_shape query) → P query) → IfOk result P
+if_good schema text (Ok query) P spells then = then query (query_good schema (tokens_of spells.tokens) (query_shape query) spells.spelled)
 if_good schema text (Err fault) P spells then = tt

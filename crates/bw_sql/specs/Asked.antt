@@ -5,9 +5,9 @@ use Rattle.bw_model.specs.declared.query.Query.{Query}
 use Rattle.bw_model.specs.CondTree.{CondTree, tree_of}
 
 -- a query as its items and its condition
-pub record Asked : Type 0 where
+pub record QueryShape : Type 0 where
   pub items : List Item
   pub cond : CondTree
 
-abbrev pub asked : Query → Asked
-asked query = record { items = query.items.items; cond = tree_of query.cond }
+abbrev pub query_shape : Query → QueryShape
+query_shape query = record { items = query.items.items; cond = tree_of query.cond }

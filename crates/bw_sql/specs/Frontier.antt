@@ -5,7 +5,7 @@ use Rattle.bw_model.specs.declared.schema.Schema.{Schema}
 use Rattle.bw_sql.specs.declared.reader.Refusal.{Refusal}
 use Rattle.bw_sql.specs.declared.reader.Refusal.TheVariants.{Syntax, Literal}
 use Rattle.bw_sql.specs.declared.token.Mark.TheVariants.{Plus, Minus}
-use Rattle.bw_sql.specs.Asked.{Asked}
+use Rattle.bw_sql.specs.Asked.{QueryShape}
 use Rattle.bw_sql.specs.Demand.{Demand, is_met, refusal}
 use Rattle.bw_sql.specs.Grammar.{StatementIs}
 use Rattle.bw_sql.specs.Refusal.{code_of}
@@ -14,7 +14,7 @@ use Rattle.bw_sql.specs.Token.{Lexeme, Digits, Punct}
 -- some statement begins with these tokens
 pub record Viable (schema : Schema) (met : Demand → Bool) (tokens : List Lexeme) : Type 0 where
   pub more : List Lexeme
-  pub query : Asked
+  pub query : QueryShape
   pub spelled : StatementIs schema.columns.items met (tokens ++ more) query
 
 -- Only the demands of one number are imposed; all others count as met. Syntax has no demand: only
@@ -44,8 +44,8 @@ pub data Stands (schema : Schema) (tokens : List Lexeme) : Refusal → ℕ → T
       Begins schema Literal before → (Begins schema Literal (before ++ t ∷ Digits digits ∷ []) → ⊥)
       → Stands schema tokens Literal (length before)
   at_end : Begins schema Syntax tokens →
-      ((query : Asked) → StatementIs schema.columns.items (asked_for schema Syntax) tokens query →
-      ⊥) → Stands schema tokens Syntax (length tokens)
+      ((query : QueryShape) → StatementIs schema.columns.items (asked_for schema Syntax) tokens
+      query → ⊥) → Stands schema tokens Syntax (length tokens)
 
 -- the first place of an error, and the lowest number there
 pub record IsFirst (schema : Schema) (tokens : List Lexeme) (why : Refusal)

@@ -16,7 +16,7 @@ use Rattle.bw_sql.specs.declared.condition.Connective.{Connective}
 use Rattle.bw_sql.specs.declared.condition.Connective.TheVariants as connective
 use Rattle.bw_sql.specs.declared.items.Aggregate.{Aggregate}
 use Rattle.bw_sql.specs.declared.token.Mark.TheVariants as mark
-use Rattle.bw_sql.specs.Asked.{Asked}
+use Rattle.bw_sql.specs.Asked.{QueryShape}
 use Rattle.bw_model.specs.CondTree.{CondTree, CondTrees, Always, Cmp, Between, Among, IsNull, Not, Test, trees_of}
 use Rattle.bw_sql.specs.Demand.{Demand, NamesTable, NamesColumn, Fits, OfOneKind, Depth, column_number, every_column, is_met, signed}
 use Rattle.bw_sql.specs.Words.{word_of, join_of, aggregate_word, of_column}
@@ -29,9 +29,9 @@ pub data TruthIs : List Lexeme → List Lexeme → Truth → Type 0 where
   unknown_word : {rest : List Lexeme} → TruthIs (Reserved word.Unknown ∷ rest) rest Unknown
 
 -- a single part is itself, and several are joined
-abbrev pub joined : (CondTrees → CondTree) → CondTree → List CondTree → CondTree
-joined join first [] = first
-joined join first (c ∷ others) = join (trees_of (first ∷ c ∷ others))
+abbrev pub fold_operands : (CondTrees → CondTree) → CondTree → List CondTree → CondTree
+fold_operands join first [] = first
+fold_operands join first (c ∷ others) = join (trees_of (first ∷ c ∷ others))
 
 -- operand = name | [ + | - ] digits | NULL
 pub data OperandIs (columns : List Column) (met : Demand → Bool) : List Lexeme → List Lexeme
@@ -108,7 +108,7 @@ mutual
         {cs : List CondTree} →
         PartIs columns met by depth tokens others c →
         MoreParts columns met by depth others rest cs →
-        JoinedIs columns met by depth tokens rest (joined (join_of by) c cs)
+        JoinedIs columns met by depth tokens rest (fold_operands (join_of by) c cs)
 
   -- { OR term }, or { AND factor }
   pub data MoreParts (columns : List Column) (met : Demand → Bool) : Connective → ℕ → List Lexeme
@@ -206,14 +206,14 @@ pub data EndIs : List Lexeme → Type 0 where
   semicolon : EndIs (Punct mark.Semicolon ∷ [])
 
 -- query = SELECT list FROM name [ WHERE cond ] [ ; ]
-pub data StatementIs (columns : List Column) (met : Demand → Bool) : List Lexeme → Asked
+pub data StatementIs (columns : List Column) (met : Demand → Bool) : List Lexeme → QueryShape
     → Type 0 where
-  statement : {tokens selection last : List Lexeme} {table : List ℕ} {asked : Asked} →
+  statement : {tokens selection last : List Lexeme} {table : List ℕ} {asked : QueryShape} →
       ItemsAre columns met tokens (Reserved word.From ∷ Name table ∷ selection) asked.items
       → IsTrue (met (NamesTable table)) →
       SelectionIs columns met selection last asked.cond → EndIs last →
       StatementIs columns met (Reserved word.Select ∷ tokens) asked
 
 -- the tokens spell the query: by the productions, and with all demands met
-abbrev pub IsQuery : Schema → List Lexeme → Asked → Type 0
+abbrev pub IsQuery : Schema → List Lexeme → QueryShape → Type 0
 IsQuery schema tokens asked = StatementIs schema.columns.items (is_met schema) tokens asked

@@ -8,7 +8,7 @@ use Rattle.bw_model.specs.Fault.{at_byte, no_memory, is_memory}
 use Rattle.bw_sql.specs.declared.reader.Refusal.{Refusal}
 use Rattle.bw_sql.specs.declared.reader.Stop.{Stop}
 use Rattle.bw_sql.specs.declared.reader.Stop.TheVariants.{Refused, OutOfMemory}
-use Rattle.bw_sql.specs.Asked.{Asked, asked}
+use Rattle.bw_sql.specs.Asked.{QueryShape, query_shape}
 use Rattle.bw_sql.specs.Cut.{IsCut, Spot}
 use Rattle.bw_sql.specs.Reading.{Halt, statement_at}
 use Rattle.bw_sql.specs.Refusal.{code_of}
@@ -26,21 +26,25 @@ abbrev pub spot_from : ℕ → List Spot → Option Spot
 spot_from left tokens = slice_get tokens (length tokens - left)
 
 -- what was read, if the whole text was cut into tokens; else the error
-abbrev pub judged : List Spot → Option ℕ → ℕ → Result Asked Halt → Result Asked Fault
-judged tokens None end (Ok query) = Ok query
-judged tokens (Some at) end (Ok query) = Err (at_byte CHARACTER at)
-judged tokens stop end (Err halt) = Err (fault_at (spot_from halt.left tokens) stop end halt.why)
+abbrev pub parse_verdict : List Spot → Option ℕ → ℕ → Result QueryShape Halt
+    → Result QueryShape Fault
+parse_verdict tokens None end (Ok query) = Ok query
+parse_verdict tokens (Some at) end (Ok query) = Err (at_byte CHARACTER at)
+parse_verdict tokens stop end (Err halt) = Err
+    (fault_at (spot_from halt.left tokens) stop end halt.why)
 
 -- a text is read as its tokens are
-pub record IsRead (schema : Schema) (text : List ℕ) (outcome : Result Asked Fault) : Type 0 where
+pub record IsRead (schema : Schema) (text : List ℕ) (outcome : Result QueryShape Fault) : Type
+    0 where
   pub tokens : List Spot
   pub stop : Option ℕ
   pub cut : IsCut 0 text tokens stop
-  pub is : outcome ≡ judged tokens stop (length text) (statement_at schema (tokens_of tokens))
+  pub is : outcome ≡ parse_verdict tokens stop (length text)
+      (statement_at schema (tokens_of tokens))
 
 -- the result is what the text is read as, unless memory ran out
 abbrev pub Answers : Schema → List ℕ → Result Query Fault → Type 0
-Answers schema text (Ok query) = IsRead schema text (Ok (asked query))
+Answers schema text (Ok query) = IsRead schema text (Ok (query_shape query))
 Answers schema text (Err fault) = is_memory fault ≡ false → IsRead schema text (Err fault)
 
 -- the error of a reader that stopped

@@ -15,7 +15,7 @@ use Rattle.bw_model.specs.declared.schema.Schema.{Schema}
 use Rattle.bw_text.specs.Keyword.{spelling}
 use Rattle.bw_text.specs.Number.{number_of}
 use Rattle.bw_text.specs.Text.{same_text}
-use Rattle.bw_sql.specs.Asked.{Asked}
+use Rattle.bw_sql.specs.Asked.{QueryShape}
 use Rattle.bw_model.specs.CondTree.{CondTree, CondTrees, Always, Cmp, Between, Among, IsNull, And, Or, Not, Test, trees_of}
 use Rattle.bw_sql.specs.declared.condition.Connective.{Connective}
 use Rattle.bw_sql.specs.declared.condition.Connective.TheVariants as connective
@@ -51,9 +51,9 @@ abbrev pub refuse : {A : Type 0} → Refusal → List Lexeme → Result A Halt
 refuse why tokens = Err (record { why = why; left = length tokens })
 
 -- what is first, if it is there, or else a refusal
-abbrev pub wanted : {A : Type 0} → Option A → Refusal → List Lexeme → Result A Halt
-wanted (Some x) why tokens = Ok x
-wanted None why tokens = refuse why tokens
+abbrev pub ok_or_refuse : {A : Type 0} → Option A → Refusal → List Lexeme → Result A Halt
+ok_or_refuse (Some x) why tokens = Ok x
+ok_or_refuse None why tokens = refuse why tokens
 
 -- reserved words and marks are compared by their spelling
 abbrev pub same_keyword : Keyword → Keyword → Bool
@@ -80,10 +80,10 @@ after_mark mark (Compare op ∷ tokens) = None
 after_mark mark (Reserved found ∷ tokens) = None
 
 unfoldable pub keyword_at : Keyword → List Lexeme → Result (List Lexeme) Halt
-keyword_at word tokens = wanted (after_keyword word tokens) Syntax tokens
+keyword_at word tokens = ok_or_refuse (after_keyword word tokens) Syntax tokens
 
 unfoldable pub mark_at : Mark → List Lexeme → Result (List Lexeme) Halt
-mark_at mark tokens = wanted (after_mark mark tokens) Syntax tokens
+mark_at mark tokens = ok_or_refuse (after_mark mark tokens) Syntax tokens
 
 unfoldable pub name_at : List Lexeme → Read (List ℕ)
 name_at [] = refuse Syntax []
@@ -116,13 +116,13 @@ sign_at tokens = after_minus (after_mark mark.Minus tokens) tokens
 unfoldable pub literal_at : List Lexeme → Read ℤ
 literal_at tokens = do
   digits ← digits_at (sign_at tokens).1
-  n ← wanted (number_of (sign_at tokens).0 digits.0) Literal tokens
+  n ← ok_or_refuse (number_of (sign_at tokens).0 digits.0) Literal tokens
   Ok (n, digits.1)
 
 unfoldable pub column_at : Schema → List Lexeme → Read ℕ
 column_at schema tokens = do
   name ← name_at tokens
-  column ← wanted (column_named schema.columns.items name.0) UnknownColumn tokens
+  column ← ok_or_refuse (column_named schema.columns.items name.0) UnknownColumn tokens
   Ok (column, name.1)
 
 unfoldable pub table_at : Schema → List Lexeme → Result (List Lexeme) Halt
@@ -275,14 +275,14 @@ value_test_at c tokens = do
   t ← truth_value_at tokens
   Ok (Test c t.0, t.1)
 
-abbrev pub tested : CondTree → Option (List Lexeme) → List Lexeme → Read CondTree
-tested c (Some next) tokens = do
+abbrev pub value_test_after : CondTree → Option (List Lexeme) → List Lexeme → Read CondTree
+value_test_after c (Some next) tokens = do
   d ← value_test_at c next
   Ok (Not d.0, d.1)
-tested c None tokens = value_test_at c tokens
+value_test_after c None tokens = value_test_at c tokens
 
 abbrev pub truth_after : CondTree → Option (List Lexeme) → List Lexeme → Read CondTree
-truth_after c (Some next) tokens = tested c (after_keyword word.Not next) next
+truth_after c (Some next) tokens = value_test_after c (after_keyword word.Not next) next
 truth_after c None tokens = Ok (c, tokens)
 
 unfoldable pub truth_test_at : CondTree → List Lexeme → Read CondTree
@@ -400,12 +400,12 @@ column_of schema kind tokens = do
   column ← column_at schema tokens
   Ok (of_column kind column.0, column.1)
 
-abbrev pub counted : Schema → Option (List Lexeme) → List Lexeme → Read Item
-counted schema (Some rest) tokens = Ok (CountAll, rest)
-counted schema None tokens = column_of schema aggregate.Count tokens
+abbrev pub count_item : Schema → Option (List Lexeme) → List Lexeme → Read Item
+count_item schema (Some rest) tokens = Ok (CountAll, rest)
+count_item schema None tokens = column_of schema aggregate.Count tokens
 
 unfoldable pub aggregated_at : Schema → Aggregate → List Lexeme → Read Item
-aggregated_at schema aggregate.Count tokens = counted schema (after_mark mark.Star tokens) tokens
+aggregated_at schema aggregate.Count tokens = count_item schema (after_mark mark.Star tokens) tokens
 aggregated_at schema aggregate.Sum tokens = column_of schema aggregate.Sum tokens
 aggregated_at schema aggregate.Min tokens = column_of schema aggregate.Min tokens
 aggregated_at schema aggregate.Max tokens = column_of schema aggregate.Max tokens
@@ -473,7 +473,7 @@ table_expression_at schema tokens = do
   rest ← table_at schema rest
   selection_at schema rest
 
-unfoldable pub statement_at : Schema → List Lexeme → Result Asked Halt
+unfoldable pub statement_at : Schema → List Lexeme → Result QueryShape Halt
 statement_at schema tokens = do
   rest ← keyword_at word.Select tokens
   items ← items_at schema rest

@@ -7,7 +7,7 @@ use Rattle.bw_model.specs.declared.schema.Schema.{Schema}
 use Rattle.bw_model.specs.Fault.{at_byte, is_memory}
 use Rattle.bw_sql.specs.declared.reader.Refusal.{Refusal}
 use Rattle.bw_sql.specs.declared.reader.Refusal.TheVariants.{Syntax}
-use Rattle.bw_sql.specs.Asked.{Asked, asked}
+use Rattle.bw_sql.specs.Asked.{QueryShape, query_shape}
 use Rattle.bw_sql.specs.Cut.{IsCut, Spot}
 use Rattle.bw_sql.specs.Frontier.{IsFirst}
 use Rattle.bw_sql.specs.Grammar.{IsQuery}
@@ -19,7 +19,7 @@ abbrev pub tokens_of : List Spot → List Lexeme
 tokens_of tokens = map (λ spot. spot.token) tokens
 
 -- the text isn't too long, and is cut to its end into tokens that spell the query
-pub record Spells (schema : Schema) (text : List ℕ) (query : Asked) : Type 0 where
+pub record Spells (schema : Schema) (text : List ℕ) (query : QueryShape) : Type 0 where
   pub short : length text ≤ longest_statement
   pub tokens : List Spot
   pub cut : IsCut 0 text tokens None
@@ -49,7 +49,7 @@ pub data IsFault (schema : Schema) (text : List ℕ) : Fault → Type 0 where
 
 -- a text is read as the query that it spells, or as its error
 abbrev pub IsReadAs : Schema → List ℕ → Result Query Fault → Type 0
-IsReadAs schema text (Ok query) = Spells schema text (asked query)
+IsReadAs schema text (Ok query) = Spells schema text (query_shape query)
 IsReadAs schema text (Err fault) = IsFault schema text fault
 
 -- the same for a call, unless memory ran out
@@ -59,5 +59,5 @@ Parses schema text (Err fault) = is_memory fault ≡ false → IsReadAs schema t
 
 -- a text spells a query or has an error
 abbrev pub SpellsOrFails : Schema → List ℕ → Type 0
-SpellsOrFails schema text = ((query : Asked) × Spells schema text query)
+SpellsOrFails schema text = ((query : QueryShape) × Spells schema text query)
     ⊎ ((fault : Fault) × IsFault schema text fault)

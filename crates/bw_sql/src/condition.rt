@@ -65,16 +65,16 @@ pub fn condition<'t>(
 ) -> Read<'t, Cond>
     ensures read { ReadsFrom tree_of tokens.now result
         (condition_in schema.now (nested schema.now levels)) }
-    ensures shorter { IfOk result (λ read. length read.1.now ≤ length tokens.now) }
+    ensures consumes_input { IfOk result (λ read. length read.1.now ≤ length tokens.now) }
 {
-    joined(alloc, schema, levels, Connective::Or, tokens)
+    read_connected(alloc, schema, levels, Connective::Or, tokens)
 }
 
 /// Reads a required part and those after it, each behind the connective's word: a condition of
 /// terms, or a term of factors.
 #[cycle(condition)]
 #[tactic(auto, unfolding(crate::specs::Reading::joined_in))]
-fn joined<'t>(
+fn read_connected<'t>(
     alloc: Global,
     schema: &Schema,
     levels: usize,
@@ -83,7 +83,7 @@ fn joined<'t>(
 ) -> Read<'t, Cond>
     ensures read { ReadsFrom tree_of tokens.now result
         (joined_in schema.now (nested schema.now levels) connective) }
-    ensures shorter { IfOk result (λ read. length read.1.now ≤ length tokens.now) }
+    ensures consumes_input { IfOk result (λ read. length read.1.now ≤ length tokens.now) }
 {
     let (first, rest) = part(alloc, schema, levels, connective, tokens)?;
     if after_keyword(connective.keyword(), rest).is_none() {
@@ -107,7 +107,7 @@ fn more_parts<'t>(
     ensures read { ReadsFrom (λ parts. map tree_of parts.items) tokens.now result
         (λ tokens. with_front (map tree_of parts.items)
         (more_parts_in schema.now (nested schema.now levels) connective tokens)) }
-    ensures shorter { IfOk result (λ read. length read.1.now ≤ length tokens.now) }
+    ensures consumes_input { IfOk result (λ read. length read.1.now ≤ length tokens.now) }
 {
     let mut left = Left { tokens };
     while let Some(next) = after_keyword(connective.keyword(), left.tokens) {
@@ -130,11 +130,11 @@ fn part<'t>(
 ) -> Read<'t, Cond>
     ensures read { ReadsFrom tree_of tokens.now result
         (part_in schema.now (nested schema.now levels) connective) }
-    ensures shorter { IfOk result (λ read. length read.1.now ≤ length tokens.now) }
+    ensures consumes_input { IfOk result (λ read. length read.1.now ≤ length tokens.now) }
 {
     match connective {
         Connective::And => factor(alloc, schema, levels, tokens),
-        Connective::Or => joined(alloc, schema, levels, Connective::And, tokens),
+        Connective::Or => read_connected(alloc, schema, levels, Connective::And, tokens),
     }
 }
 
@@ -149,7 +149,7 @@ fn factor<'t>(
 ) -> Read<'t, Cond>
     ensures read { ReadsFrom tree_of tokens.now result
         (factor_in schema.now (nested schema.now levels)) }
-    ensures shorter { IfOk result (λ read. length read.1.now ≤ length tokens.now) }
+    ensures consumes_input { IfOk result (λ read. length read.1.now ≤ length tokens.now) }
 {
     let Some(next) = after_keyword(Keyword::Not, tokens) else {
         return test(alloc, schema, levels, tokens);
@@ -172,7 +172,7 @@ fn test<'t>(
 ) -> Read<'t, Cond>
     ensures read { ReadsFrom tree_of tokens.now result
         (test_in schema.now (nested schema.now levels)) }
-    ensures shorter { IfOk result (λ read. length read.1.now ≤ length tokens.now) }
+    ensures consumes_input { IfOk result (λ read. length read.1.now ≤ length tokens.now) }
 {
     let (cond, rest) = primary(alloc, schema, levels, tokens)?;
     truth_test(alloc, cond, rest)
@@ -182,7 +182,7 @@ fn test<'t>(
 #[tactic(auto, unfolding(crate::specs::Reading::truth_test_at, bw_model::specs::CondTree::tree_of))]
 fn truth_test<'t>(alloc: Global, cond: Cond, tokens: &'t [Placed<'t>]) -> Read<'t, Cond>
     ensures read { ReadsFrom tree_of tokens.now result (truth_test_at (tree_of cond)) }
-    ensures shorter { IfOk result (λ read. length read.1.now ≤ length tokens.now) }
+    ensures consumes_input { IfOk result (λ read. length read.1.now ≤ length tokens.now) }
 {
     let Some(next) = after_keyword(Keyword::Is, tokens) else {
         return Ok((cond, tokens));
@@ -197,15 +197,15 @@ fn truth_test<'t>(alloc: Global, cond: Cond, tokens: &'t [Placed<'t>]) -> Read<'
 /// Reads a truth value's word, which is required here, and returns the test for it.
 fn value_test<'t>(alloc: Global, cond: Cond, tokens: &'t [Placed<'t>]) -> Read<'t, Cond>
     ensures read { ReadsFrom tree_of tokens.now result (value_test_at (tree_of cond)) }
-    ensures shorter { IfOk result (λ read. length read.1.now ≤ length tokens.now) }
+    ensures consumes_input { IfOk result (λ read. length read.1.now ≤ length tokens.now) }
 {
     let (t, rest) = truth_value(tokens)?;
-    Ok((tested(alloc, cond, t)?, rest))
+    Ok((test_condition(alloc, cond, t)?, rest))
 }
 
 /// Returns the test whether a condition has a truth value.
 #[tactic(auto, unfolding(bw_model::specs::CondTree::tree_of))]
-fn tested(alloc: Global, cond: Cond, t: Truth) -> Result<Cond, AllocError>
+fn test_condition(alloc: Global, cond: Cond, t: Truth) -> Result<Cond, AllocError>
     ensures { IfOk result (λ tested. tree_of tested ≡ Test (tree_of cond) t) }
 {
     Ok(Cond::Test(Box::new(alloc, cond)?, t))
@@ -215,7 +215,7 @@ fn tested(alloc: Global, cond: Cond, t: Truth) -> Result<Cond, AllocError>
 #[tactic(auto, unfolding(crate::specs::Reading::truth_value_at))]
 fn truth_value<'t>(tokens: &'t [Placed<'t>]) -> Read<'t, Truth>
     ensures read { ReadsFrom (λ x. x) tokens.now result truth_value_at }
-    ensures shorter { IfOk result (λ read. length read.1.now < length tokens.now) }
+    ensures consumes_input { IfOk result (λ read. length read.1.now < length tokens.now) }
 {
     if let Some(rest) = after_keyword(Keyword::True, tokens) {
         return Ok((Truth::Yes, rest));
@@ -240,7 +240,7 @@ fn primary<'t>(
 ) -> Read<'t, Cond>
     ensures read { ReadsFrom tree_of tokens.now result
         (primary_in schema.now (nested schema.now levels)) }
-    ensures shorter { IfOk result (λ read. length read.1.now ≤ length tokens.now) }
+    ensures consumes_input { IfOk result (λ read. length read.1.now ≤ length tokens.now) }
 {
     let Some(next) = after_mark(Mark::Open, tokens) else {
         return predicate(alloc, schema, tokens);

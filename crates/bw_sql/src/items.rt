@@ -67,7 +67,7 @@ fn more_items<'t>(
 #[tactic(auto, unfolding(crate::specs::Reading::next_item_at))]
 fn next_item<'t>(schema: &Schema, are_columns: bool, tokens: &'t [Placed<'t>]) -> Read<'t, Item>
     ensures read { ReadsFrom (λ x. x) tokens.now result (next_item_at schema.now are_columns) }
-    ensures shorter { IfOk result (λ read. length read.1.now < length tokens.now) }
+    ensures consumes_input { IfOk result (λ read. length read.1.now < length tokens.now) }
 {
     of_one_kind(schema, are_columns, tokens)?;
     item(schema, tokens)
@@ -107,7 +107,7 @@ enum Aggregate {
 fn after_aggregate<'t>(tokens: &'t [Placed<'t>]) -> Option<(Aggregate, &'t [Placed<'t>])>
     ensures is { option_map (λ found. (found.0, lexemes found.1.now)) result
         ≡ after_aggregate (lexemes tokens.now) }
-    ensures shorter { IfSome result (λ found. length found.1.now < length tokens.now) }
+    ensures consumes_input { IfSome result (λ found. length found.1.now < length tokens.now) }
 {
     if let Some(rest) = after_keyword(Keyword::Count, tokens) {
         return Some((Aggregate::Count, rest));
@@ -126,7 +126,7 @@ fn after_aggregate<'t>(tokens: &'t [Placed<'t>]) -> Option<(Aggregate, &'t [Plac
 #[tactic(auto, unfolding(crate::specs::Reading::item_at))]
 fn item<'t>(schema: &Schema, tokens: &'t [Placed<'t>]) -> Read<'t, Item>
     ensures read { ReadsFrom (λ x. x) tokens.now result (item_at schema.now) }
-    ensures shorter { IfOk result (λ read. length read.1.now < length tokens.now) }
+    ensures consumes_input { IfOk result (λ read. length read.1.now < length tokens.now) }
 {
     if begins_with_name(tokens) {
         let (column, rest) = column(schema, tokens)?;
@@ -141,19 +141,23 @@ fn item<'t>(schema: &Schema, tokens: &'t [Placed<'t>]) -> Read<'t, Item>
 /// Reads an aggregate's argument in brackets, which is required here.
 fn argument<'t>(schema: &Schema, aggregate: Aggregate, tokens: &'t [Placed<'t>]) -> Read<'t, Item>
     ensures read { ReadsFrom (λ x. x) tokens.now result (argument_at schema.now aggregate) }
-    ensures shorter { IfOk result (λ read. length read.1.now < length tokens.now) }
+    ensures consumes_input { IfOk result (λ read. length read.1.now < length tokens.now) }
 {
     let rest = mark(Mark::Open, tokens)?;
-    let (item, rest) = aggregated(schema, aggregate, rest)?;
+    let (item, rest) = read_aggregate(schema, aggregate, rest)?;
     let rest = mark(Mark::Close, rest)?;
     Ok((item, rest))
 }
 
 /// Reads an aggregate's argument: a column, or for COUNT also `*`.
 #[tactic(auto, unfolding(crate::specs::Reading::aggregated_at))]
-fn aggregated<'t>(schema: &Schema, aggregate: Aggregate, tokens: &'t [Placed<'t>]) -> Read<'t, Item>
+fn read_aggregate<'t>(
+    schema: &Schema,
+    aggregate: Aggregate,
+    tokens: &'t [Placed<'t>],
+) -> Read<'t, Item>
     ensures read { ReadsFrom (λ x. x) tokens.now result (aggregated_at schema.now aggregate) }
-    ensures shorter { IfOk result (λ read. length read.1.now < length tokens.now) }
+    ensures consumes_input { IfOk result (λ read. length read.1.now < length tokens.now) }
 {
     if aggregate == Aggregate::Count
         && let Some(rest) = after_mark(Mark::Star, tokens)

@@ -25,7 +25,7 @@ ghost use Rattle.bw_model.specs.Cond.{names_within, is_whole};
 ghost use Rattle.bw_model.specs.SchemaText.{schema_shape};
 ghost use Rattle.bw_model.specs.Standing.{StandsAsListed};
 ghost use Rattle.bw_model.specs.Total.{item_within};
-ghost use Rattle.bw_sql.specs.Asked.{Asked};
+ghost use Rattle.bw_sql.specs.Asked.{QueryShape};
 ghost use Rattle.bw_sql.specs.Cut.{IsCut, Spot, spots};
 ghost use Rattle.bw_sql.specs.Grammar.{IsQuery};
 ghost use Rattle.bw_sql.specs.Items.{AreOfOneKind};
@@ -67,7 +67,7 @@ pub const MAX_LEN: usize = 65_536;
 /// 100 deep (408). 801 if memory runs out.
 pub fn parse(alloc: Global, schema: &Schema, text: &[u8]) -> Result<Query, Fault>
     ensures read { Parses schema.now text.now result }
-    ensures refused { (query : Asked) → Spells schema.now text.now query
+    ensures refused { (query : QueryShape) → Spells schema.now text.now query
         → IfErr result (λ fault. IsTrue (is_memory fault)) }
     ensures too_long { longest_statement < length text.now
         → result ≡ Err (at_byte STATEMENT_TOO_LONG longest_statement) }
@@ -76,7 +76,7 @@ pub fn parse(alloc: Global, schema: &Schema, text: &[u8]) -> Result<Query, Fault
     ensures whole { IfOk result (λ query. IsTrue (is_whole query.cond)) }
     ensures items { IfOk result (λ query.
         IsTrue (list_all (item_within (vec_len schema.now.columns)) query.items.items)) }
-    ensures some { IfOk result (λ query. 1 ≤ length query.items.items) }
+    ensures nonempty { IfOk result (λ query. 1 ≤ length query.items.items) }
     ensures kinds { IfOk result (λ query. AreOfOneKind query.items.items) }
     ensures fault { IfErr result IsStatementFault }
 {
@@ -114,22 +114,22 @@ pub fn one_cut()
 /// A theorem: the reading functions read a query from the tokens that spell it, and no other.
 #[tactic(auto, using(crate::proofs::Spelled::query_read, crate::proofs::Texts::query_spelled))]
 pub fn read_as_spelled()
-    ensures read { (schema : Schema) (tokens : List Lexeme) (query : Asked)
+    ensures read { (schema : Schema) (tokens : List Lexeme) (query : QueryShape)
         → IsQuery schema tokens query → statement_at schema tokens ≡ Ok query }
-    ensures spelled { (schema : Schema) (tokens : List Lexeme) (query : Asked)
+    ensures spelled { (schema : Schema) (tokens : List Lexeme) (query : QueryShape)
         → statement_at schema tokens ≡ Ok query → IsQuery schema tokens query }
 {}
 
 /// A theorem: a list of tokens spells at most one query.
 #[tactic(auto, using(crate::proofs::Texts::same_query))]
 pub fn one_query()
-    ensures { (schema : Schema) (tokens : List Lexeme) (query other : Asked)
+    ensures { (schema : Schema) (tokens : List Lexeme) (query other : QueryShape)
         → IsQuery schema tokens query → IsQuery schema tokens other → query ≡ other }
 {}
 
 /// A theorem: a text spells at most one query.
 pub fn one_query_of_a_text()
-    ensures { (schema : Schema) (text : List ℕ) (query other : Asked)
+    ensures { (schema : Schema) (text : List ℕ) (query other : QueryShape)
         → Spells schema text query → Spells schema text other → query ≡ other }
 {}
 
@@ -139,7 +139,7 @@ pub fn one_query_of_a_text()
 pub fn schemas_of_one_shape()
     ensures columns { (schema other : Schema) → schema_shape schema ≡ schema_shape other
         → schema.columns.items ≡ other.columns.items }
-    ensures spelled { (schema other : Schema) (text : List ℕ) (query : Asked)
+    ensures spelled { (schema other : Schema) (text : List ℕ) (query : QueryShape)
         → schema_shape schema ≡ schema_shape other
         → Spells schema text query → Spells other text query }
 {}
@@ -148,7 +148,7 @@ pub fn schemas_of_one_shape()
 pub fn one_fault()
     ensures one { (schema : Schema) (text : List ℕ) (fault other : Fault)
         → IsFault schema text fault → IsFault schema text other → fault ≡ other }
-    ensures none_spelled { (schema : Schema) (text : List ℕ) (query : Asked) (fault : Fault)
+    ensures none_spelled { (schema : Schema) (text : List ℕ) (query : QueryShape) (fault : Fault)
         → Spells schema text query → IsFault schema text fault → ⊥ }
 {}
 

@@ -12,7 +12,7 @@ use bw_text::whole_number;
 #[tactic(auto, unfolding(crate::specs::Reading::literal_at))]
 pub fn literal<'t>(tokens: &'t [Placed<'t>]) -> Read<'t, i64>
     ensures read { ReadsFrom (λ x. x) tokens.now result literal_at }
-    ensures shorter { IfOk result (λ read. length read.1.now < length tokens.now) }
+    ensures consumes_input { IfOk result (λ read. length read.1.now < length tokens.now) }
 {
     let (is_negative, unsigned) = sign(tokens);
     let (digits, rest) = digits(unsigned)?;
@@ -26,7 +26,7 @@ pub fn literal<'t>(tokens: &'t [Placed<'t>]) -> Read<'t, i64>
 #[tactic(auto, unfolding(crate::specs::Reading::sign_at))]
 fn sign<'t>(tokens: &'t [Placed<'t>]) -> (bool, &'t [Placed<'t>])
     ensures is { (result.0, lexemes result.1.now) ≡ sign_at (lexemes tokens.now) }
-    ensures shorter { length result.1.now ≤ length tokens.now }
+    ensures consumes_input { length result.1.now ≤ length tokens.now }
 {
     if let Some(rest) = after_mark(Mark::Minus, tokens) {
         return (true, rest);
@@ -41,7 +41,7 @@ fn sign<'t>(tokens: &'t [Placed<'t>]) -> (bool, &'t [Placed<'t>])
 #[tactic(auto, unfolding(crate::specs::Reading::digits_at))]
 fn digits<'t>(tokens: &'t [Placed<'t>]) -> Read<'t, &'t [u8]>
     ensures read { ReadsFrom (λ text. text.now) tokens.now result digits_at }
-    ensures shorter { IfOk result (λ read. length read.1.now < length tokens.now) }
+    ensures consumes_input { IfOk result (λ read. length read.1.now < length tokens.now) }
 {
     if let Some((first, rest)) = tokens.split_first()
         && let Token::Digits(text) = first.token

@@ -14,7 +14,7 @@ use bw_text::Keyword;
 #[tactic(auto, unfolding(crate::specs::Reading::operand_at))]
 pub fn operand<'t>(schema: &Schema, tokens: &'t [Placed<'t>]) -> Read<'t, Operand>
     ensures read { ReadsFrom (λ x. x) tokens.now result (operand_at schema.now) }
-    ensures shorter { IfOk result (λ read. length read.1.now < length tokens.now) }
+    ensures consumes_input { IfOk result (λ read. length read.1.now < length tokens.now) }
 {
     if let Some(rest) = after_keyword(Keyword::Null, tokens) {
         return Ok((Operand::Null, rest));
@@ -31,7 +31,7 @@ pub fn operand<'t>(schema: &Schema, tokens: &'t [Placed<'t>]) -> Read<'t, Operan
 #[tactic(auto, unfolding(crate::specs::Reading::column_at))]
 pub fn column<'t>(schema: &Schema, tokens: &'t [Placed<'t>]) -> Read<'t, usize>
     ensures read { ReadsFrom (λ x. x) tokens.now result (column_at schema.now) }
-    ensures shorter { IfOk result (λ read. length read.1.now < length tokens.now) }
+    ensures consumes_input { IfOk result (λ read. length read.1.now < length tokens.now) }
 {
     let (text, rest) = name(tokens)?;
     match schema.column_named(text) {

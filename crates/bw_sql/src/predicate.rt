@@ -28,7 +28,7 @@ use std::alloc::{AllocError, Global};
 #[tactic(auto, unfolding(crate::specs::Reading::predicate_at, bw_model::specs::CondTree::tree_of))]
 pub fn predicate<'t>(alloc: Global, schema: &Schema, tokens: &'t [Placed<'t>]) -> Read<'t, Cond>
     ensures read { ReadsFrom tree_of tokens.now result (predicate_at schema.now) }
-    ensures shorter { IfOk result (λ read. length read.1.now ≤ length tokens.now) }
+    ensures consumes_input { IfOk result (λ read. length read.1.now ≤ length tokens.now) }
 {
     let (x, rest) = operand(schema, tokens)?;
     predicate_of(alloc, schema, x, rest)
@@ -43,7 +43,7 @@ fn predicate_of<'t>(
     tokens: &'t [Placed<'t>],
 ) -> Read<'t, Cond>
     ensures read { ReadsFrom tree_of tokens.now result (predicate_of schema.now x) }
-    ensures shorter { IfOk result (λ read. length read.1.now ≤ length tokens.now) }
+    ensures consumes_input { IfOk result (λ read. length read.1.now ≤ length tokens.now) }
 {
     if let Some((op, next)) = after_comparison(tokens) {
         let (y, rest) = operand(schema, next)?;
@@ -64,7 +64,7 @@ fn predicate_of<'t>(
 fn after_comparison<'t>(tokens: &'t [Placed<'t>]) -> Option<(Op, &'t [Placed<'t>])>
     ensures is { option_map (λ found. (found.0, lexemes found.1.now)) result
         ≡ after_comparison (lexemes tokens.now) }
-    ensures shorter { IfSome result (λ found. length found.1.now < length tokens.now) }
+    ensures consumes_input { IfSome result (λ found. length found.1.now < length tokens.now) }
 {
     if let Some((first, rest)) = tokens.split_first()
         && let Token::Compare(op) = first.token
@@ -86,7 +86,7 @@ pub fn negation(alloc: Global, cond: Cond) -> Result<Cond, AllocError>
 #[tactic(auto, unfolding(crate::specs::Reading::null_test_at, bw_model::specs::CondTree::tree_of))]
 fn null_test<'t>(alloc: Global, x: Operand, tokens: &'t [Placed<'t>]) -> Read<'t, Cond>
     ensures read { ReadsFrom tree_of tokens.now result (null_test_at x) }
-    ensures shorter { IfOk result (λ read. length read.1.now ≤ length tokens.now) }
+    ensures consumes_input { IfOk result (λ read. length read.1.now ≤ length tokens.now) }
 {
     if let Some(next) = after_keyword(Keyword::Not, tokens) {
         let rest = keyword(Keyword::Null, next)?;
@@ -105,7 +105,7 @@ fn range_or_list<'t>(
     tokens: &'t [Placed<'t>],
 ) -> Read<'t, Cond>
     ensures read { ReadsFrom tree_of tokens.now result (range_or_list_at schema.now x) }
-    ensures shorter { IfOk result (λ read. length read.1.now ≤ length tokens.now) }
+    ensures consumes_input { IfOk result (λ read. length read.1.now ≤ length tokens.now) }
 {
     match after_keyword(Keyword::Between, tokens) {
         Some(next) => range(schema, x, next),
@@ -117,7 +117,7 @@ fn range_or_list<'t>(
 #[tactic(auto, unfolding(bw_model::specs::CondTree::tree_of))]
 fn range<'t>(schema: &Schema, x: Operand, tokens: &'t [Placed<'t>]) -> Read<'t, Cond>
     ensures read { ReadsFrom tree_of tokens.now result (range_at schema.now x) }
-    ensures shorter { IfOk result (λ read. length read.1.now ≤ length tokens.now) }
+    ensures consumes_input { IfOk result (λ read. length read.1.now ≤ length tokens.now) }
 {
     let (low, rest) = operand(schema, tokens)?;
     let rest = keyword(Keyword::And, rest)?;
@@ -129,7 +129,7 @@ fn range<'t>(schema: &Schema, x: Operand, tokens: &'t [Placed<'t>]) -> Read<'t, 
 #[tactic(auto, unfolding(bw_model::specs::CondTree::tree_of))]
 fn list<'t>(alloc: Global, schema: &Schema, x: Operand, tokens: &'t [Placed<'t>]) -> Read<'t, Cond>
     ensures read { ReadsFrom tree_of tokens.now result (list_at schema.now x) }
-    ensures shorter { IfOk result (λ read. length read.1.now ≤ length tokens.now) }
+    ensures consumes_input { IfOk result (λ read. length read.1.now ≤ length tokens.now) }
 {
     let rest = keyword(Keyword::In, tokens)?;
     let rest = mark(Mark::Open, rest)?;
@@ -141,7 +141,7 @@ fn list<'t>(alloc: Global, schema: &Schema, x: Operand, tokens: &'t [Placed<'t>]
 /// Reads a required operand and those after it, each behind a comma.
 fn operands<'t>(alloc: Global, schema: &Schema, tokens: &'t [Placed<'t>]) -> Read<'t, Vec<Operand>>
     ensures read { ReadsFrom (λ xs. xs.items) tokens.now result (operands_at schema.now) }
-    ensures shorter { IfOk result (λ read. length read.1.now ≤ length tokens.now) }
+    ensures consumes_input { IfOk result (λ read. length read.1.now ≤ length tokens.now) }
 {
     let (first, rest) = operand(schema, tokens)?;
     more_operands(schema, vec![in alloc; first]?, rest)
@@ -155,7 +155,7 @@ fn more_operands<'t>(
 ) -> Read<'t, Vec<Operand>>
     ensures read { ReadsFrom (λ xs. xs.items) tokens.now result
         (λ tokens. with_front items.items (more_operands schema.now tokens)) }
-    ensures shorter { IfOk result (λ read. length read.1.now ≤ length tokens.now) }
+    ensures consumes_input { IfOk result (λ read. length read.1.now ≤ length tokens.now) }
 {
     let mut left = Left { tokens };
     while let Some(next) = after_mark(Mark::Comma, left.tokens) {

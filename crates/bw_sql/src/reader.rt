@@ -91,7 +91,7 @@ impl<T: Drop> From<AllocFailed<T>> for Stop {
 pub fn after_keyword<'t>(word: Keyword, tokens: &'t [Placed<'t>]) -> Option<&'t [Placed<'t>]>
     ensures is { option_map (λ rest. lexemes rest.now) result
         ≡ after_keyword word (lexemes tokens.now) }
-    ensures shorter { IfSome result (λ rest. length rest.now < length tokens.now) }
+    ensures consumes_input { IfSome result (λ rest. length rest.now < length tokens.now) }
 {
     if let Some((first, rest)) = tokens.split_first()
         && let Token::Keyword(found) = first.token
@@ -107,7 +107,7 @@ pub fn after_keyword<'t>(word: Keyword, tokens: &'t [Placed<'t>]) -> Option<&'t 
 pub fn after_mark<'t>(mark: Mark, tokens: &'t [Placed<'t>]) -> Option<&'t [Placed<'t>]>
     ensures is { option_map (λ rest. lexemes rest.now) result
         ≡ after_mark mark (lexemes tokens.now) }
-    ensures shorter { IfSome result (λ rest. length rest.now < length tokens.now) }
+    ensures consumes_input { IfSome result (λ rest. length rest.now < length tokens.now) }
 {
     if let Some((first, rest)) = tokens.split_first()
         && let Token::Mark(found) = first.token
@@ -122,7 +122,7 @@ pub fn after_mark<'t>(mark: Mark, tokens: &'t [Placed<'t>]) -> Option<&'t [Place
 #[tactic(auto, unfolding(crate::specs::Reading::keyword_at))]
 pub fn keyword<'t>(word: Keyword, tokens: &'t [Placed<'t>]) -> Result<&'t [Placed<'t>], Stop>
     ensures read { Reads (λ rest. lexemes rest.now) result (keyword_at word (lexemes tokens.now)) }
-    ensures shorter { IfOk result (λ rest. length rest.now < length tokens.now) }
+    ensures consumes_input { IfOk result (λ rest. length rest.now < length tokens.now) }
 {
     match after_keyword(word, tokens) {
         Some(rest) => Ok(rest),
@@ -134,7 +134,7 @@ pub fn keyword<'t>(word: Keyword, tokens: &'t [Placed<'t>]) -> Result<&'t [Place
 #[tactic(auto, unfolding(crate::specs::Reading::mark_at))]
 pub fn mark<'t>(mark: Mark, tokens: &'t [Placed<'t>]) -> Result<&'t [Placed<'t>], Stop>
     ensures read { Reads (λ rest. lexemes rest.now) result (mark_at mark (lexemes tokens.now)) }
-    ensures shorter { IfOk result (λ rest. length rest.now < length tokens.now) }
+    ensures consumes_input { IfOk result (λ rest. length rest.now < length tokens.now) }
 {
     match after_mark(mark, tokens) {
         Some(rest) => Ok(rest),
@@ -146,7 +146,7 @@ pub fn mark<'t>(mark: Mark, tokens: &'t [Placed<'t>]) -> Result<&'t [Placed<'t>]
 #[tactic(auto, unfolding(crate::specs::Reading::name_at))]
 pub fn name<'t>(tokens: &'t [Placed<'t>]) -> Read<'t, &'t [u8]>
     ensures read { ReadsFrom (λ text. text.now) tokens.now result name_at }
-    ensures shorter { IfOk result (λ read. length read.1.now < length tokens.now) }
+    ensures consumes_input { IfOk result (λ read. length read.1.now < length tokens.now) }
 {
     if let Some((first, rest)) = tokens.split_first()
         && let Token::Name(text) = first.token

@@ -6,7 +6,7 @@
 ghost use Rattle.std.specs.Prelude.{◌<◌};
 ghost use Rattle.bw_sql.specs.Reader.{Reads, ReadsFrom};
 ghost use Rattle.bw_model.specs.CondTree.{tree_of};
-ghost use Rattle.bw_sql.specs.Asked.{asked};
+ghost use Rattle.bw_sql.specs.Asked.{query_shape};
 ghost use Rattle.bw_sql.specs.Reading.{end_at, selection_at, statement_at, table_at, table_expression_at};
 ghost use Rattle.bw_sql.specs.Token.{lexemes};
 
@@ -24,7 +24,7 @@ const MAX_NESTING: usize = 100;
 /// Returns the query that all tokens spell under a schema.
 #[tactic(auto, unfolding(crate::specs::Reading::statement_at))]
 pub fn statement(alloc: Global, schema: &Schema, tokens: &[Placed<'_>]) -> Result<Query, Stop>
-    ensures { Reads asked result (statement_at schema.now (lexemes tokens.now)) }
+    ensures { Reads query_shape result (statement_at schema.now (lexemes tokens.now)) }
 {
     let rest = keyword(Keyword::Select, tokens)?;
     let (items, rest) = items(alloc, schema, rest)?;

@@ -17,7 +17,8 @@ pub fn calls_new(item: &Item) -> Totals
 
 pub fn calls_add<S: Segment>(totals: &mut Totals, segment: &S, plane: &Plane)
     requires aggregate { IsTrue (is_aggregate totals.old.picked.item) }
-    requires column { IsTrue (item_within (length (S.meaning segment.now).columns) totals.old.picked.item) }
+    requires column { IsTrue
+        (item_within (length (S.meaning segment.now).columns) totals.old.picked.item) }
     requires plane { IsWithin (length (S.meaning segment.now).rows) (lanes_of_words plane.now) }
     requires count { totals.old.rows + length (S.meaning segment.now).rows ≤ 2 ^ 24 }
 {

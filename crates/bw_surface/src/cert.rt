@@ -13,8 +13,8 @@ use bw_segment::Segment;
 use std::alloc::Global;
 
 pub fn calls_parse(alloc: Global, first_line: u64, text: &[u8]) -> Result<Certificate, Fault>
-    requires some { 1 ≤ first_line }
-    requires few { first_line ≤ 2 ^ 32 }
+    requires nonempty { 1 ≤ first_line }
+    requires within_limit { first_line ≤ 2 ^ 32 }
 {
     Certificate::parse(alloc, first_line, text)
 }

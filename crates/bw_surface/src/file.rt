@@ -91,8 +91,9 @@ pub fn calls_encode(
     schema: &Schema,
     rows: &[Row],
 ) -> Result<Vec<u8>, Fault>
-    requires few { length rows.now ≤ 2 ^ 24 }
-    requires admitted { list_all (admits_values schema.now.columns.items) (map values_of rows.now) ≡ true }
+    requires within_limit { length rows.now ≤ 2 ^ 24 }
+    requires admitted { list_all (admits_values schema.now.columns.items) (map values_of rows.now)
+        ≡ true }
 {
     bw_file::encode(alloc, layout, schema, rows)
 }

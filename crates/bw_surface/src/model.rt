@@ -45,8 +45,8 @@ pub fn takes_column(column: Column) -> (Name, i64, i64, bool) {
 }
 
 pub fn makes_schema(name: Name, columns: Vec<Column>) -> Schema
-    requires some { 1 ≤ length columns.items }
-    requires few { length columns.items ≤ 64 }
+    requires nonempty { 1 ≤ length columns.items }
+    requires within_limit { length columns.items ≤ 64 }
     requires apart { IsTrue (are_apart (names_of columns.items)) }
 {
     Schema { name, columns }

@@ -16,9 +16,10 @@ pub fn calls_plane_build(
     schema: &Schema,
     rows: &[Row],
 ) -> Result<PlaneSegment, Fault>
-    requires some { 1 ≤ length rows.now }
-    requires few { length rows.now ≤ 512 }
-    requires admitted { list_all (admits_values schema.now.columns.items) (map values_of rows.now) ≡ true }
+    requires nonempty { 1 ≤ length rows.now }
+    requires within_limit { length rows.now ≤ 512 }
+    requires admitted { list_all (admits_values schema.now.columns.items) (map values_of rows.now)
+        ≡ true }
 {
     PlaneSegment::build(alloc, schema, rows)
 }
@@ -29,9 +30,10 @@ pub fn calls_slice_build(
     schema: &Schema,
     rows: &[Row],
 ) -> Result<SliceSegment, Fault>
-    requires some { 1 ≤ length rows.now }
-    requires few { length rows.now ≤ 512 }
-    requires admitted { list_all (admits_values schema.now.columns.items) (map values_of rows.now) ≡ true }
+    requires nonempty { 1 ≤ length rows.now }
+    requires within_limit { length rows.now ≤ 512 }
+    requires admitted { list_all (admits_values schema.now.columns.items) (map values_of rows.now)
+        ≡ true }
 {
     SliceSegment::build(alloc, schema, rows)
 }

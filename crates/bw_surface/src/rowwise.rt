@@ -16,14 +16,16 @@ pub fn calls_truth(cond: &Cond, row: &Row) -> Truth
 
 pub fn calls_select(alloc: Global, cond: &Cond, rows: &[Row]) -> Result<Vec<Row>, Fault>
     requires whole { IsTrue (is_whole cond.now) }
-    requires columns { All (λ row. IsTrue (names_within (length (values_of row)) cond.now)) rows.now }
+    requires columns { All (λ row. IsTrue (names_within (length (values_of row)) cond.now))
+        rows.now }
 {
     bw_rowwise::select(alloc, cond, rows)
 }
 
 pub fn calls_aggregate(item: &Item, rows: &[Row]) -> Option<i128>
     requires aggregate { IsTrue (is_aggregate item.now) }
-    requires columns { All (λ row. IsTrue (item_within (length (values_of row)) item.now)) rows.now }
+    requires columns { All (λ row. IsTrue (item_within (length (values_of row)) item.now))
+        rows.now }
     requires count { length rows.now ≤ 2 ^ 24 }
 {
     bw_rowwise::aggregate(item, rows)

@@ -9,7 +9,7 @@ ghost use Rattle.bw_text.specs.Printed.{is_plain_word, line_text};
 /// A law: a line that is written of plain words is cut off the text that begins with it, and has
 /// these words. If its first word begins a comment, it is skipped, and counts.
 pub fn written_lines_are_read()
-    ensures said { (number : ℕ) (word : List ℕ) (words : List (List ℕ)) (rest : List ℕ)
+    ensures parsed { (number : ℕ) (word : List ℕ) (words : List (List ℕ)) (rest : List ℕ)
         → IsTrue (is_plain_word word) → begins_comment word ≡ false
         → IsTrue (list_all is_plain_word words)
         → numbered_from number (cut_lines (line_text (word ∷ words) ++ rest))

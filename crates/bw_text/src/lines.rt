@@ -116,7 +116,7 @@ fn split_line(text: &[u8]) -> (&[u8], &[u8])
     requires { 0 < length text.now }
     ensures cut { cut_lines text.now ≡ result.0.now ∷ cut_lines result.1.now }
     ensures split { IsFirstLine text.now result.0.now result.1.now }
-    ensures shorter { length result.1.now < length text.now }
+    ensures consumes_input { length result.1.now < length text.now }
 {
     match line_feed_in(text) {
         Some(at) => (&text[..at], &text[at + 1..]),

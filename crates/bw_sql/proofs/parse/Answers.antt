@@ -20,8 +20,8 @@ returns-clause-whole c = if_good c.args.schema.now c.args.text.now c.read.result
 pub returns-clause-items : goal.returns-clause-items
 returns-clause-items c = if_good c.args.schema.now c.args.text.now c.read.result _ (returns-clause-read c) (λ query good. good.items)
 
-pub returns-clause-some : goal.returns-clause-some
-returns-clause-some c = if_good c.args.schema.now c.args.text.now c.read.result _ (returns-clause-read c) (λ query good. good.some)
+pub returns-clause-nonempty : goal.returns-clause-nonempty
+returns-clause-nonempty c = if_good c.args.schema.now c.args.text.now c.read.result _ (returns-clause-read c) (λ query good. good.some)
 
 pub returns-clause-kinds : goal.returns-clause-kinds
 returns-clause-kinds c = if_good c.args.schema.now c.args.text.now c.read.result _ (returns-clause-read c) (λ query good. good.kinds)

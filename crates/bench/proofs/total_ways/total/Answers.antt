@@ -6,8 +6,8 @@ pub mask-requires : goal.mask-requires
 unfolding group_size
 mask-requires g c = c.rows_in.ensures.bounds.1
 
-pub add-requires-clause-room : goal.add-requires-clause-room
+pub add-requires-clause-capacity : goal.add-requires-clause-capacity
 unfolding group_size
-add-requires-clause-room g c =
+add-requires-clause-capacity g c =
     let few = c.rows_in.ensures.bounds.1 in
     omega (arith, few, c.rows_in.ensures.count, c.new-totals.ensures.rows)

@@ -3,10 +3,10 @@ use Rattle.std.proofs.Common.{◌≡◌, ◌∙◌, ◌-◌, ◌≤◌, ◌++◌
 use Rattle.std.proofs.lemmas.List.Elements.{filter-append}
 use Rattle.std.specs.List.{filter_map}
 use Rattle.bw_lanes.specs.Lanes.{lanes_of_words}
-use Rattle.bw_model.specs.Cond.{is_kept}
+use Rattle.bw_model.specs.Cond.{is_match}
 use Rattle.bw_model.specs.Groups.{group_size}
 use Rattle.bw_model.specs.Row.{Value}
-use Rattle.bw_model.specs.Selection.{kept, picked}
+use Rattle.bw_model.specs.Selection.{matching_rows, selected_items}
 use Rattle.bw_rowwise.specs.Accumulator.{Tally, tally_of}
 use Rattle.bw_aggregate.specs.Picked.{with_picked}
 use Rattle.bw_answer.specs.Aggregates.{aggregates_of}
@@ -18,26 +18,26 @@ use Rattle.bw_answer.proofs.ColumnLemmas.{map_listed, some_column}
 use Rattle.bw_answer.proofs.PickedLemmas.{all_totals, few_kept, is_of-later, is_of-picked, picked_as_kept}
 use Rattle.bw_answer.proofs.answer.put_picked.Goals as goal
 
-pub push_picked-requires-clause-some : goal.push_picked-requires-clause-some
-push_picked-requires-clause-some g c =
+pub push_picked-requires-clause-nonempty : goal.push_picked-requires-clause-nonempty
+push_picked-requires-clause-nonempty g c =
     let named = c.requires.names c.if-lists.true in
     let some = some_column c.args.query.now.items.items (sym c.requires.lists ∙ c.if-lists.true) in
     omega (arith, some, ap length named.0, c.args.records.now.columns.ok.0)
 
-pub returns-in_ok-push_picked-clause-over : goal.returns-in_ok-push_picked-clause-over
-returns-in_ok-push_picked-clause-over g c = λ names rows over.
+pub returns-in_ok-push_picked-clause-covers : goal.returns-in_ok-push_picked-clause-covers
+returns-in_ok-push_picked-clause-covers g c = λ names rows over.
     let query = c.args.query.now in
     let more = (g.S.Segment.meaning c.args.segment.now).rows in
     let lists = sym c.requires.lists ∙ c.if-lists.true in
-    let kept_all : picked (lanes_of_words c.args.selection.now) more ≡ kept query.cond more =
-    ap (λ lanes. picked lanes more) c.requires.picks ∙ picked_as_kept query.cond more (group_size - length more) in
+    let kept_all : selected_items (lanes_of_words c.args.selection.now) more ≡ matching_rows query.cond more =
+    ap (λ lanes. selected_items lanes more) c.requires.picks ∙ picked_as_kept query.cond more (group_size - length more) in
     let items = query.items.items in
     let named = (c.requires.names c.if-lists.true).0 in
-    let fields : map (fields_of c.args.records.now.columns.items) (kept query.cond more) ≡ map (λ row. filter_map (field_of row) items) (kept query.cond more) =
-    rw named (map_listed items (kept query.cond more)) in
+    let fields : map (fields_of c.args.records.now.columns.items) (matching_rows query.cond more) ≡ map (λ row. filter_map (field_of row) items) (matching_rows query.cond more) =
+    rw named (map_listed items (matching_rows query.cond more)) in
     let records = ap (map (fields_of c.args.records.now.columns.items)) kept_all ∙ fields in
     record {
-      written = c.in_ok-push_picked.ensures.records ∙ ap (λ (l : List ℕ). l ++ csv_text (map (fields_of c.args.records.now.columns.items) (picked (lanes_of_words c.args.selection.now) more))) over.written
+      written = c.in_ok-push_picked.ensures.records ∙ ap (λ (l : List ℕ). l ++ csv_text (map (fields_of c.args.records.now.columns.items) (selected_items (lanes_of_words c.args.selection.now) more))) over.written
           ∙ ap (λ (those : List (List (List ℕ))). text_over names query rows ++ csv_text those) records ∙ text_over_more names query rows more lists;
       totalled = λ totals. absurd (cc (lists, totals));
     }
@@ -46,21 +46,21 @@ pub returns-in_ok-push_picked-clause-counts : goal.returns-in_ok-push_picked-cla
 returns-in_ok-push_picked-clause-counts g c = λ width rows e.
     is_of-later width rows (length (g.S.Segment.meaning c.args.segment.now).rows) c.args.totals.now e
 
-pub returns-else-lists-clause-over : goal.returns-else-lists-clause-over
-returns-else-lists-clause-over g c = λ names rows over.
+pub returns-else-lists-clause-covers : goal.returns-else-lists-clause-covers
+returns-else-lists-clause-covers g c = λ names rows over.
     let query = c.args.query.now in
     let more = (g.S.Segment.meaning c.args.segment.now).rows in
     let lists = sym c.requires.lists ∙ c.if-lists.false in
     let items = aggregates_of query.items.items in
-    let those = picked (lanes_of_words c.args.selection.now) more in
-    let kept_all : those ≡ kept query.cond more =
-    ap (λ lanes. picked lanes more) c.requires.picks ∙ picked_as_kept query.cond more (group_size - length more) in
-    let kept_more : kept query.cond rows ++ those ≡ kept query.cond (rows ++ more) =
-    ap (λ (l : List (List Value)). kept query.cond rows ++ l) kept_all ∙ sym (filter-append (is_kept query.cond) rows more) in
+    let those = selected_items (lanes_of_words c.args.selection.now) more in
+    let kept_all : those ≡ matching_rows query.cond more =
+    ap (λ lanes. selected_items lanes more) c.requires.picks ∙ picked_as_kept query.cond more (group_size - length more) in
+    let kept_more : matching_rows query.cond rows ++ those ≡ matching_rows query.cond (rows ++ more) =
+    ap (λ (l : List (List Value)). matching_rows query.cond rows ++ l) kept_all ∙ sym (filter-append (is_match query.cond) rows more) in
     record {
       written = over.written ∙ text_over_same names query rows (rows ++ more) lists;
       totalled = λ _. c.total_picked.ensures ∙ ap (map (λ (tally : Tally). with_picked tally those)) (over.totalled lists)
-          ∙ all_totals items (kept query.cond rows) those c.totals_join.ensures
+          ∙ all_totals items (matching_rows query.cond rows) those c.totals_join.ensures
           ∙ ap (λ (all : List (List Value)). map (λ item. tally_of item all) items) kept_more;
     }
 
@@ -68,8 +68,8 @@ pub returns-else-lists-clause-counts : goal.returns-else-lists-clause-counts
 returns-else-lists-clause-counts g c = λ width rows e.
     let query = c.args.query.now in
     let more = (g.S.Segment.meaning c.args.segment.now).rows in
-    let those = picked (lanes_of_words c.args.selection.now) more in
-    let kept_all : those ≡ kept query.cond more =
-    ap (λ lanes. picked lanes more) c.requires.picks ∙ picked_as_kept query.cond more (group_size - length more) in
+    let those = selected_items (lanes_of_words c.args.selection.now) more in
+    let kept_all : those ≡ matching_rows query.cond more =
+    ap (λ lanes. selected_items lanes more) c.requires.picks ∙ picked_as_kept query.cond more (group_size - length more) in
     let few : length those ≤ length more = omega (arith, ap length kept_all, few_kept query.cond more) in
     rw c.total_picked.ensures (is_of-picked width rows (length more) those c.args.totals.now few e)

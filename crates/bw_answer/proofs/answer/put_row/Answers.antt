@@ -11,19 +11,19 @@ use Rattle.bw_answer.proofs.Rows.{text_of_kept, text_with_dropped}
 use Rattle.bw_answer.proofs.TotalsLemmas.{is_of-more, kept_more}
 use Rattle.bw_answer.proofs.answer.put_row.Goals as goal
 
-pub push_row-requires-clause-some : goal.push_row-requires-clause-some
-push_row-requires-clause-some c =
+pub push_row-requires-clause-nonempty : goal.push_row-requires-clause-nonempty
+push_row-requires-clause-nonempty c =
     let named = c.requires.names c.if-not-lists.false in
     let some = some_column c.args.query.now.items.items (sym c.requires.lists ∙ c.if-not-lists.false) in
     omega (arith, some, ap length named.0, c.args.records.now.columns.ok.0)
 
-pub returns-in_ok-push_row-clause-over : goal.returns-in_ok-push_row-clause-over
-returns-in_ok-push_row-clause-over c = λ names rows over.
+pub returns-in_ok-push_row-clause-covers : goal.returns-in_ok-push_row-clause-covers
+returns-in_ok-push_row-clause-covers c = λ names rows over.
     let query = c.args.query.now in
     let row = values_of c.args.row.now in
     let lists = sym c.requires.lists ∙ c.if-not-lists.false in
     let named = (c.requires.names c.if-not-lists.false).0 in
-    let kept = sym (c.is_kept.ensures query.cond c.requires.prepared) ∙ c.if-is_kept.true in
+    let kept = sym (c.is_match.ensures query.cond c.requires.prepared) ∙ c.if-is_match.true in
     let record_ = ap (λ columns. record_text (fields_of columns row)) named ∙ ap record_text (fields_listed query.items.items row) ∙ sym (text_of_kept query row kept) in
     record {
       written = c.in_ok-push_row.ensures.record ∙ rw (over.written, record_) (text_over_more names query rows (row ∷ []) lists);
@@ -33,22 +33,22 @@ returns-in_ok-push_row-clause-over c = λ names rows over.
 pub returns-in_ok-push_row-clause-counts : goal.returns-in_ok-push_row-clause-counts
 returns-in_ok-push_row-clause-counts c = λ rows e. is_of-more _ rows c.args.totals.now e
 
-pub returns-else-is_kept-clause-over : goal.returns-else-is_kept-clause-over
-returns-else-is_kept-clause-over c = λ names rows over.
+pub returns-else-is_match-clause-covers : goal.returns-else-is_match-clause-covers
+returns-else-is_match-clause-covers c = λ names rows over.
     let query = c.args.query.now in
     let row = values_of c.args.row.now in
     let lists = sym c.requires.lists ∙ c.if-not-lists.false in
-    let dropped = sym (c.is_kept.ensures query.cond c.requires.prepared) ∙ c.if-is_kept.false in
+    let dropped = sym (c.is_match.ensures query.cond c.requires.prepared) ∙ c.if-is_match.false in
     record {
       written = over.written ∙ sym (text_with_dropped query row _ dropped) ∙ text_over_more names query rows (row ∷ []) lists;
       totalled = λ totals. absurd (cc (lists, totals));
     }
 
-pub returns-else-is_kept-clause-counts : goal.returns-else-is_kept-clause-counts
-returns-else-is_kept-clause-counts c = λ rows e. is_of-more _ rows c.args.totals.now e
+pub returns-else-is_match-clause-counts : goal.returns-else-is_match-clause-counts
+returns-else-is_match-clause-counts c = λ rows e. is_of-more _ rows c.args.totals.now e
 
-pub returns-then-not-lists-clause-over : goal.returns-then-not-lists-clause-over
-returns-then-not-lists-clause-over c = λ names rows over.
+pub returns-then-not-lists-clause-covers : goal.returns-then-not-lists-clause-covers
+returns-then-not-lists-clause-covers c = λ names rows over.
     let query = c.args.query.now in
     let row = values_of c.args.row.now in
     let lists = sym c.requires.lists ∙ c.if-not-lists.true in

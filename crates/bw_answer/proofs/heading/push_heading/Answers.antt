@@ -15,6 +15,6 @@ returns-clause-heading c =
     let headings = map (heading_of (names_of c.args.columns.now)) items in
     let all : take c.loop-item.item-index items ≡ items = take_all c.loop-item.item-index items (omega arith) in
     on_ok_weaker c.end_record.result
-    (λ ends ended held. ends ended headings (begun_map (heading_of (names_of c.args.columns.now)) items c.requires.some)
+    (λ ends ended held. ends ended headings (begun_map (heading_of (names_of c.args.columns.now)) items c.requires.nonempty)
     (subst (λ (those : List Item). Holds c.loop-item.text ended (map (heading_of (names_of c.args.columns.now)) those)) all (c.loop-item.invariant ended held)))
     c.end_record.ensures.ended

@@ -12,4 +12,4 @@ loop-total-preserved g c =
     let f = λ (tally : Tally). with_picked tally more in
     let i = c.loop-total.total-index in
     let here = get_or c.loop-total.totals i c.total-item.result in
-    rw c.add_picked.ensures.step (map_over_more f c.args.totals.now c.loop-total.totals i here c.loop-total-test.true c.loop-total.invariant (ap (λ (d : Tally). get_or c.loop-total.totals i d) c.total-item.is))
+    rw c.add_selected.ensures.step (map_over_more f c.args.totals.now c.loop-total.totals i here c.loop-total-test.true c.loop-total.invariant (ap (λ (d : Tally). get_or c.loop-total.totals i d) c.total-item.is))

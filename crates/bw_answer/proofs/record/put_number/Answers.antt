@@ -11,12 +11,12 @@ put_byte-requires c =
     let long = length-decimal-le 19 c.unsigned_abs.result (omega arith) (omega arith) (omega arith) in
     (omega (arith, long, c.write_digits-start.ensures.start, c.requires), omega (arith, c.write_digits-start.ensures.start, c.requires, c.write_digits-start.auto.buf))
 
-pub returns-then-n-lt0-clause-room : goal.returns-then-n-lt0-clause-room
-returns-then-n-lt0-clause-room c =
+pub returns-then-n-lt0-clause-capacity : goal.returns-then-n-lt0-clause-capacity
+returns-then-n-lt0-clause-capacity c =
     let long = length-decimal-le 19 c.unsigned_abs.result (omega arith) (omega arith) (omega arith) in
-    (omega (arith, c.put_byte.ensures.room, c.write_digits-start.ensures.start), omega (arith, long, c.put_byte.ensures.room, c.write_digits-start.ensures.start))
+    (omega (arith, c.put_byte.ensures.capacity, c.write_digits-start.ensures.start), omega (arith, long, c.put_byte.ensures.capacity, c.write_digits-start.ensures.start))
 
-pub returns-else-n-lt0-clause-room : goal.returns-else-n-lt0-clause-room
-returns-else-n-lt0-clause-room c =
+pub returns-else-n-lt0-clause-capacity : goal.returns-else-n-lt0-clause-capacity
+returns-else-n-lt0-clause-capacity c =
     let long = length-decimal-le 19 c.unsigned_abs.result (omega arith) (omega arith) (omega arith) in
     (omega (arith, c.write_digits-start.ensures.start), omega (arith, long, c.write_digits-start.ensures.start))

@@ -13,7 +13,7 @@ loop-last-init c =
     let fields = fields_in_lane c.args.lanes.now c.args.columns.now in
     record {
       rows = (c.requires.rows.0, omega arith);
-      room = (c.requires.room, omega arith);
+      room = (c.requires.capacity, omega arith);
       written = drop_all (length c.args.draft.now) c.args.draft.now (omega arith) ∙ sym (ap (λ l. csv_text (map fields l)) (positions_none c.args.past (lanes_of_words c.args.selection.now)));
     }
 

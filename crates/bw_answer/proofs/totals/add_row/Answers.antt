@@ -6,8 +6,8 @@ use Rattle.bw_rowwise.specs.Accumulator.{Tally, tally_with}
 use Rattle.bw_answer.proofs.TotalsLemmas.{AddsRow, adds_at, all_added, is_of-with, room_at, rows_added}
 use Rattle.bw_answer.proofs.totals.add_row.Goals as goal
 
-pub add-requires-clause-room : goal.add-requires-clause-room
-add-requires-clause-room c = room_at _ (λ (tally : Tally). tally_with tally (values_of c.args.row.now)) c.args.totals.now c.loop-total.totals c.loop-total.total-index _ c.loop-total-test.true c.loop-total.invariant.step c.requires
+pub add-requires-clause-capacity : goal.add-requires-clause-capacity
+add-requires-clause-capacity c = room_at _ (λ (tally : Tally). tally_with tally (values_of c.args.row.now)) c.args.totals.now c.loop-total.totals c.loop-total.total-index _ c.loop-total-test.true c.loop-total.invariant.step c.requires
 
 pub loop-total-preserved : goal.loop-total-preserved
 loop-total-preserved c =

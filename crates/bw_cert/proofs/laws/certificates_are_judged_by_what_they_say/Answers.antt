@@ -8,7 +8,7 @@ use Rattle.bw_cert_text.specs.declared.lines.BodyLine.{BodyLine}
 use Rattle.bw_cert_text.specs.declared.lines.EndLine.{EndLine}
 use Rattle.bw_cert_text.specs.CertificateFields.{CertificateFields}
 use Rattle.bw_cert_rules.specs.Pair.{pair_of}
-use Rattle.bw_cert_rules.specs.Walk.{judged}
+use Rattle.bw_cert_rules.specs.Walk.{check_lines}
 use Rattle.bw_cert.specs.Stated.{facts_stated}
 use Rattle.bw_cert.specs.Valid.{end_on}
 use Rattle.bw_cert.proofs.SameLemmas.{then-same, stated-same, after_pair, after_walk, end-same}
@@ -17,7 +17,7 @@ use Rattle.bw_cert.proofs.laws.certificates_are_judged_by_what_they_say.Goals as
 pub returns : goal.returns
 returns c columns cond same program certificate other trees say =
     let after : Cond → EndLine → List BodyLine → Facts → Result Facts Fault = λ (cond : Cond) (end : EndLine) (body : List BodyLine) (facts : Facts).
-    pair_of columns facts end.line cond body >>= λ read. judged facts program.instrs end.line read.1 >>= λ taken. end_on facts end.line taken program.result read.0.yes end.row in
+    pair_of columns facts end.line cond body >>= λ read. check_lines facts program.instrs end.line read.1 >>= λ taken. end_on facts end.line taken program.result read.0.yes end.row in
     let end : certificate.end ≡ other.end = ap (λ (said : CertificateFields). said.end) say in
     ap (λ (stated : Result Facts Fault). stated >>= after cond certificate.end certificate.body) (stated-same columns certificate other say)
     ∙ ap (λ (end : EndLine). facts_stated columns other >>= after cond end certificate.body) end

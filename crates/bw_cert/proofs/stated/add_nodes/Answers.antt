@@ -6,7 +6,7 @@ use Rattle.bw_cert.proofs.stated.add_nodes.Goals as goal
 
 pub returns-in-Err-clause-stated : goal.returns-in-Err-clause-stated
 returns-in-Err-clause-stated c = λ aside.
-    c.loop-line.invariant.told ∙ with_refused _ _ _ _ _ _ c.loop-line-test.true (fault_placed _ c.in-Err.fault _ _ c.in-Err.ensures.exact c.placed.ensures.memory c.placed.ensures.line aside)
+    c.loop-line.invariant.told ∙ with_refused _ _ _ _ _ _ c.loop-line-test.true (fault_placed _ c.in-Err.fault _ _ c.in-Err.ensures.exact c.fault_on_line.ensures.memory c.fault_on_line.ensures.line aside)
 
 pub loop-line-preserved : goal.loop-line-preserved
 loop-line-preserved c = record { told = c.loop-line.invariant.told ∙ with_next _ _ _ _ _ _ c.loop-line-test.true (ap (on_line _) c.in-Ok.ensures.exact) }

@@ -4,12 +4,12 @@ use Rattle.bw_model.specs.declared.cond.Cond.TheViews.{the_lemmas}
 use Rattle.bw_model.proofs.CondLemmas.{names_within-And, names_within-Or, names_within-Not, names_within-Test}
 use Rattle.bw_cert_rules.proofs.steps.+pair.Goals as goal
 
-pub pair-joined-requires : goal.pair-joined-requires
-pair-joined-requires t c =
+pub pair-combine_parts-requires : goal.pair-combine_parts-requires
+pair-combine_parts-requires t c =
     (search (rules, the_lemmas), let parts = names_within-And (length c.args.schema.now.columns.items) c.in-And.parts in cc)
 
-pub pair-joined-requires-in-Or : goal.pair-joined-requires-in-Or
-pair-joined-requires-in-Or t c =
+pub pair-combine_parts-requires-in-Or : goal.pair-combine_parts-requires-in-Or
+pair-combine_parts-requires-in-Or t c =
     (search (rules, the_lemmas), let parts = names_within-Or (length c.args.schema.now.columns.items) c.in-Or.parts in cc)
 
 pub pair-pair-requires : goal.pair-pair-requires

@@ -39,7 +39,7 @@ loop-number-preserved c =
         told = walking.told ∙ walked_on _ _ _ _ _ _ _ _ _ _ _ c.instr-instr.ensures.instr c.in_ok-rest.ensures.taken (sym (suc-is c.loop-number.number))
             (c.into_place.ensures _ holds) c.in_ok-rest-2.ensures.taken;
       };
-      room = c.add.ensures.room ∙ c.loop-number.invariant.room;
+      room = c.add.ensures.capacity ∙ c.loop-number.invariant.room;
     }
 
 pub returns-clause-judged : goal.returns-clause-judged

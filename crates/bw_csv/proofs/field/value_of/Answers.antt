@@ -1,12 +1,12 @@
 -- A field of digits, alone or after a minus sign, spells their number.
 use Rattle.std.proofs.Common.{◌∙◌, sym, subst}
-use Rattle.bw_csv.specs.Rows.{GivesButAside}
+use Rattle.bw_csv.specs.Rows.{MatchesUnlessExempt}
 use Rattle.bw_csv.proofs.DigitsAlone.{read_digits}
 use Rattle.bw_csv.proofs.field.value_of.Goals as goal
 
 pub returns-in-Some-clause-value : goal.returns-in-Some-clause-value
 returns-in-Some-clause-value c =
-    subst (λ expected. GivesButAside (λ value. value) c.within_bounds.result expected)
+    subst (λ expected. MatchesUnlessExempt (λ value. value) c.within_bounds.result expected)
     (sym (read_digits c.args.number c.args.column.now c.args.field.now c.in-Some.n
     c.is_minus.result c.after_minus.result.now c.is_minus.ensures c.after_minus.ensures (sym c.in-Some.is ∙ c.number_in.ensures)))
     c.within_bounds.ensures.value

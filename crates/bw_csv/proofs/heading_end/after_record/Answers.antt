@@ -20,7 +20,7 @@ returns-then-ends_record-clause-rest c = λ fields more all.
     let i = c.loop-i.i in
     let here = drop_at text i c.loop-i-test.true in
     let on = subst (λ (rest : List ℕ). GoesOn text rest c.loop-i.inside) here c.loop-i.invariant in
-    goes-end text c.after.result.now i c.loop-i.inside fields more on (c.ends_record.ensures.line c.if-ends_record.true) (sym c.ends_record.ensures.end ∙ c.if-ends_record.true) (c.after.ensures ∙ here) all
+    goes-end text c.skip_bytes.result.now i c.loop-i.inside fields more on (c.ends_record.ensures.line c.if-ends_record.true) (sym c.ends_record.ensures.end ∙ c.if-ends_record.true) (c.skip_bytes.ensures ∙ here) all
 
 pub returns-clause-rest : goal.returns-clause-rest
 returns-clause-rest c = λ fields more all.

@@ -7,7 +7,7 @@ use Rattle.bw_csv.proofs.plain_field.number_at.Goals as goal
 pub returns-then-is_within-clause-plain : goal.returns-then-is_within-clause-plain
 returns-then-is_within-clause-plain c =
     let field = take c.in-Some.spelled.len c.args.text.now in
-    (omega (arith, c.in-Some.ensures.within), plain_number field c.in-Some.ensures.digits, ap is_field_end (sym c.after.ensures) ∙ sym c.is_field_end.ensures ∙ c.if-is_field_end.true)
+    (omega (arith, c.in-Some.ensures.within), plain_number field c.in-Some.ensures.digits, ap is_field_end (sym c.skip_bytes.ensures) ∙ sym c.is_field_end.ensures ∙ c.if-is_field_end.true)
 
 pub returns-then-is_within-clause-value : goal.returns-then-is_within-clause-value
 returns-then-is_within-clause-value c = λ number.

@@ -6,4 +6,4 @@ use Rattle.bw_csv.proofs.plain_row.after_line_ends.Goals as goal
 pub loop-rest-preserved : goal.loop-rest-preserved
 loop-rest-preserved c =
     c.loop-rest.invariant
-    ∙ records-after c.loop-rest.rest.now c.after-rest.result.now (sym c.is_empty.ensures ∙ c.loop-rest-test.true) (sym c.ends_line.ensures ∙ c.if-ends_line.true) c.after-rest.ensures
+    ∙ records-after c.loop-rest.rest.now c.skip_bytes-rest.result.now (sym c.is_empty.ensures ∙ c.loop-rest-test.true) (sym c.ends_line.ensures ∙ c.if-ends_line.true) c.skip_bytes-rest.ensures

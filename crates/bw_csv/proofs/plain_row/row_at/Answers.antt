@@ -14,14 +14,14 @@ returns-then-i-columns-clause-row c =
     let all : c.loop-i.i + 1 ≡ length c.args.columns.now = c.if-i-columns.true in
     let here = drop-column _ _ _ c.loop-i-test.true c.index-columns-i.is in
     let end : is_line_end (drop c.in-Some.found.len c.loop-i.rest.now) ≡ true =
-    ap is_line_end (sym c.after-left.ensures) ∙ sym c.is_line_end.ensures ∙ c.if-is_line_end.true in
-    rw (c.after-left.ensures, c.in-Ok.ensures.items)
-    (read-last _ _ _ _ _ _ _ _ _ c.loop-i.invariant here c.in-Some.ensures.plain c.in-Some.ensures.value end c.requires.few all (drop_all (c.loop-i.i + 1) c.args.columns.now (omega arith)))
+    ap is_line_end (sym c.skip_bytes-left.ensures) ∙ sym c.is_line_end.ensures ∙ c.if-is_line_end.true in
+    rw (c.skip_bytes-left.ensures, c.in-Ok.ensures.items)
+    (read-last _ _ _ _ _ _ _ _ _ c.loop-i.invariant here c.in-Some.ensures.plain c.in-Some.ensures.value end c.requires.within_limit all (drop_all (c.loop-i.i + 1) c.args.columns.now (omega arith)))
 
 pub loop-i-preserved : goal.loop-i-preserved
 loop-i-preserved c =
     let here = drop-column _ _ _ c.loop-i-test.true c.index-columns-i.is in
     let more : is_line_end (drop c.in-Some.found.len c.loop-i.rest.now) ≡ false =
-    ap is_line_end (sym c.after-left.ensures) ∙ sym c.is_line_end.ensures ∙ c.if-is_line_end.false in
-    rw (c.after-rest.ensures, c.after-left.ensures, c.in-Ok.ensures.items)
+    ap is_line_end (sym c.skip_bytes-left.ensures) ∙ sym c.is_line_end.ensures ∙ c.if-is_line_end.false in
+    rw (c.skip_bytes-rest.ensures, c.skip_bytes-left.ensures, c.in-Ok.ensures.items)
     (read-next _ _ _ _ _ _ _ _ _ c.loop-i.invariant here c.in-Some.ensures.plain c.in-Some.ensures.value more)

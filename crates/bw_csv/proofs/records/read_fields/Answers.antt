@@ -4,8 +4,8 @@ use Rattle.csv.specs.Records.{fields_of}
 use Rattle.bw_csv.proofs.RecordLemmas.{next-found, next-none}
 use Rattle.bw_csv.proofs.records.read_fields.Goals as goal
 
-pub returns-in-Ok-clause-some : goal.returns-in-Ok-clause-some
-returns-in-Ok-clause-some c = λ found.
+pub returns-in-Ok-clause-nonempty : goal.returns-in-Ok-clause-nonempty
+returns-in-Ok-clause-nonempty c = λ found.
     let reads = rw found at (c.in-Ok.ensures.reads c.requires.1 c.requires.2) in
     (next-found c.args.reader.now c.read_byte_record.new.self (fields_of c.read_byte_record.new.row) c.requires reads).0
 

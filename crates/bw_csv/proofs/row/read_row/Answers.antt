@@ -9,5 +9,5 @@ pub returns-in_err-read_record-clause-row : goal.returns-in_err-read_record-clau
 returns-in_err-read_record-clause-row c =
     let p = err_from_is_err_and c.from_residual-in_err-read_record.result c.from_residual-in_err-read_record.ensures.1 in
     rw (p.1, p.2) (λ aside.
-    ap (rows_from c.args.columns.now c.args.number) (c.in_ok-next.ensures.some c.if-not-branch.false)
+    ap (rows_from c.args.columns.now c.args.number) (c.in_ok-next.ensures.nonempty c.if-not-branch.false)
     ∙ rows_from-fault c.args.columns.now c.args.number _ _ _ (c.in_err-read_record.ensures.first aside))

@@ -5,5 +5,5 @@ use Rattle.bw_csv.proofs.rows.rows_are_admitted.Goals as goal
 pub returns : goal.returns
 returns c = record {
   admitted = λ columns text. text_admitted columns (records default_config (strip_bom text));
-  few = λ columns text. text_few columns (records default_config (strip_bom text));
+  within_limit = λ columns text. text_few columns (records default_config (strip_bom text));
 }

@@ -33,7 +33,7 @@ loop-col-preserved g c =
     record {
       on = rw front (blocks_more layout columns c.args.rows _ c.loop-col.col (take start (bytes_held c.loop-col.bytes)) block _ _ _ lt c.loop-col.invariant.on c.in_ok-read_block.ensures.reads);
       failures = c.in_ok-read_block.ensures.reads.failures ∙ c.loop-col.invariant.failures;
-      room = omega (arith, c.in_ok-read_block.ensures.counted, size, c.block_size-start.ensures.bound);
+      room = omega (arith, c.in_ok-read_block.ensures.advanced, size, c.block_size-start.ensures.bound);
       start = before_more _ _ _ _ _ c.loop-col.invariant.start size;
       sound = rw front (sound_more layout columns c.args.rows c.loop-col.col (take start (bytes_held c.loop-col.bytes)) block long c.loop-col.invariant.sound c.in_ok-read_block.ensures.good);
       next = rw size c.in_ok-read_block.ensures.next;

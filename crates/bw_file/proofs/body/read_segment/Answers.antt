@@ -13,7 +13,7 @@ returns-in_err-read_blocks-clause-reads g c =
 pub returns-in_err-shared-clause-reads : goal.returns-in_err-shared-clause-reads
 returns-in_err-shared-clause-reads g c =
     let p = err_from_is_err_and c.from_residual-in_err-shared.result c.from_residual-in_err-shared.ensures.1 in
-    rw (p.1, p.2, c.in_err-shared.ensures.only_memory, ← c.deref-2.ensures) (stops_memory _ _ _ _ (segment_read _ _ _ _ _ _ c.in_ok-read_blocks.ensures.reads))
+    rw (p.1, p.2, c.in_err-shared.ensures.only_oom, ← c.deref-2.ensures) (stops_memory _ _ _ _ (segment_read _ _ _ _ _ _ c.in_ok-read_blocks.ensures.reads))
 
 pub returns-clause-reads : goal.returns-clause-reads
 returns-clause-reads g c =

@@ -10,4 +10,4 @@ returns-in_err-take-clause-reads g c =
 
 pub returns-clause-reads : goal.returns-clause-reads
 returns-clause-reads g c =
-    rw (c.placed.ensures, c.bounds_say.ensures.bounds) (judged_done 16 (bounds_say c.args.version) c.take.new.buffer _ _ c.in_ok-take.ensures.reads)
+    rw (c.at_offset.ensures, c.bounds_say.ensures.bounds) (judged_done 16 (bounds_say c.args.version) c.take.new.buffer _ _ c.in_ok-take.ensures.reads)

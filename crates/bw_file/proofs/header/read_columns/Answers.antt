@@ -37,7 +37,7 @@ loop-preserved g c =
       on = rw (pushed, map_push column_shape c.loop.found.items c.in_ok-column.column)
           (columns_more c.args.version c.args.count c.loop.counter (map column_shape c.loop.found.items) (column_shape c.in_ok-column.column) _ _ _ _ c.loop-test.true (names_in _ _ c.deref.ensures.value) c.loop.invariant.on c.in_ok-column.ensures.reads);
       failures = c.in_ok-column.ensures.reads.failures ∙ c.loop.invariant.failures;
-      room = omega (arith, c.in_ok-column.ensures.counted);
+      room = omega (arith, c.in_ok-column.ensures.advanced);
       many = rw (pushed, length_push c.loop.found.items c.in_ok-column.column) (omega arith);
       apart = rw (pushed, map_push (λ (column : Column). column.name) c.loop.found.items c.in_ok-column.column)
           (are_apart-push (names_of c.loop.found.items) c.in_ok-column.column.name c.loop.invariant.apart (rw c.deref.ensures.value at c.in_ok-column.ensures.apart));

@@ -16,8 +16,8 @@ returns-in_err-name-clause-reads g c =
     let p = err_from_is_err_and c.from_residual-in_err-name.result c.from_residual-in_err-name.ensures.1 in
     rw (p.1, p.2) (stops _ _ _ _ _ _ _ (header_fronted _ _ _ c.in_ok-front.ensures.reads) c.in_err-name.ensures.reads)
 
-pub read_columns-requires-clause-room : goal.read_columns-requires-clause-room
-read_columns-requires-clause-room g c = omega (arith, c.in_ok-front.ensures.counted, c.in_ok-name.ensures.counted)
+pub read_columns-requires-clause-capacity : goal.read_columns-requires-clause-capacity
+read_columns-requires-clause-capacity g c = omega (arith, c.in_ok-front.ensures.advanced, c.in_ok-name.ensures.advanced)
 
 pub returns-in_err-columns-clause-reads : goal.returns-in_err-columns-clause-reads
 returns-in_err-columns-clause-reads g c =

@@ -10,4 +10,4 @@ returns-in_err-take-clause-reads g c =
 
 pub returns-clause-reads : goal.returns-clause-reads
 returns-clause-reads g c =
-    rw (c.placed.ensures, c.rows_say.ensures.rows) (judged_done 4 rows_say c.take.new.buffer _ _ c.in_ok-take.ensures.reads)
+    rw (c.at_offset.ensures, c.rows_say.ensures.rows) (judged_done 4 rows_say c.take.new.buffer _ _ c.in_ok-take.ensures.reads)

@@ -2,14 +2,14 @@ use Rattle.std.proofs.Common.{◌≡◌, ◌-◌, List, map, Some, None}
 use Rattle.bw_model.specs.Groups.{together}
 use Rattle.bw_model.specs.Row.{Value, values_of}
 use Rattle.bw_file.specs.Reading.{state}
-use Rattle.bw_file.specs.TableReader.{SoFar, settled}
+use Rattle.bw_file.specs.TableReader.{ReadProgress, final_result}
 use Rattle.bw_file.proofs.table.decode.Given as goal
 
 -- the groups so far came, and their rows were kept
 abbrev pub invariant-loop-rows : goal.invariant-loop-rows
 invariant-loop-rows l = record {
-  goes_on : settled l.reader ≡ None;
-  came : (groups : List (List (List Value))) × SoFar (state (Some l.fn.bytes) 0 0) (state (Some l.source.rest.now) l.reader.offset 0) l.reader groups
+  goes_on : final_result l.reader ≡ None;
+  came : (groups : List (List (List Value))) × ReadProgress (state (Some l.fn.bytes) 0 0) (state (Some l.source.rest.now) l.reader.offset 0) l.reader groups
       × (map values_of l.rows.items ≡ together groups);
 }
 

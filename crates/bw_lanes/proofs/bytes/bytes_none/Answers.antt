@@ -7,7 +7,7 @@ use Rattle.bw_lanes.proofs.bytes.bytes_none.Goals as goal
 pub loop-word-preserved : goal.loop-word-preserved
 loop-word-preserved c = record {
   eight = search rules;
-  lanes = lanes_set _ _ _ c.loop-word.invariant.eight (omega arith) ∙ ap₂ ◌++◌ c.loop-word.invariant.lanes (c.eq.ensures ∙ c.joined.ensures) ∙ sym (none_more _ _ (omega arith));
+  lanes = lanes_set _ _ _ c.loop-word.invariant.eight (omega arith) ∙ ap₂ ◌++◌ c.loop-word.invariant.lanes (c.eq.ensures ∙ c.or_slices.ensures) ∙ sym (none_more _ _ (omega arith));
 }
 
 pub returns : goal.returns

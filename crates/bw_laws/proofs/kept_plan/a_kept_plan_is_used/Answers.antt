@@ -4,7 +4,7 @@ use Rattle.bw_model.specs.CondTree.{tree_of}
 use Rattle.bw_model.specs.SchemaText.{IsSchemaText, schema_shape}
 use Rattle.bw_file.specs.TableReading.{Found}
 use Rattle.bw_program.specs.Program.{ProgramShape}
-use Rattle.bw_sql.specs.Asked.{Asked, asked}
+use Rattle.bw_sql.specs.Asked.{QueryShape, query_shape}
 use Rattle.bw_query.specs.Served.{ByProgram}
 use Rattle.bw_laws.proofs.KeptPlanLemmas.{certified_too, plan_written}
 use Rattle.bw_laws.proofs.kept_plan.a_kept_plan_is_used.Goals as goal
@@ -16,15 +16,15 @@ pub returns-clause-accepted : goal.returns-clause-accepted
 returns-clause-accepted c = λ text sql plan schema kept spelled.
     let shape = c.a_schema_text_spells_one_schema_or_has_one_fault.ensures.one_schema text (schema_shape kept.schema) (schema_shape schema) kept.spelled spelled in
     let columns = c.schemas_of_one_shape.ensures.columns kept.schema schema shape in
-    let there = c.schemas_of_one_shape.ensures.spelled kept.schema schema sql (asked kept.query) shape kept.asked in
+    let there = c.schemas_of_one_shape.ensures.spelled kept.schema schema sql (query_shape kept.query) shape kept.asked in
     (kept.query, (there, (kept.program, kept.certificate, rw columns at kept.certifies)))
 
 pub returns-clause-each : goal.returns-clause-each
 returns-clause-each c = λ text sql plan schema query kept spelled is.
     let shape = c.a_schema_text_spells_one_schema_or_has_one_fault.ensures.one_schema text (schema_shape kept.schema) (schema_shape schema) kept.spelled spelled in
     let columns = c.schemas_of_one_shape.ensures.columns kept.schema schema shape in
-    let there = c.schemas_of_one_shape.ensures.spelled kept.schema schema sql (asked kept.query) shape kept.asked in
-    let trees : tree_of kept.query.cond ≡ tree_of query.cond = ap (λ (query : Asked). query.cond) (c.one_query_of_a_text.ensures schema sql (asked kept.query) (asked query) there is) in
+    let there = c.schemas_of_one_shape.ensures.spelled kept.schema schema sql (query_shape kept.query) shape kept.asked in
+    let trees : tree_of kept.query.cond ≡ tree_of query.cond = ap (λ (query : QueryShape). query.cond) (c.one_query_of_a_text.ensures schema sql (query_shape kept.query) (query_shape query) there is) in
     let certified = rw columns at kept.certifies in
     let judged = c.certificates_are_judged_by_what_they_say.ensures schema.columns.items kept.query.cond query.cond kept.program kept.certificate kept.certificate trees refl in
     let complete = c.valid_exactly_where_checked.ensures.complete schema.columns.items kept.query.cond kept.program kept.certificate certified.valid in

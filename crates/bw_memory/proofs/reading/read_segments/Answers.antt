@@ -46,7 +46,7 @@ returns-in_err-pushed-clause-refused g c =
     let gave = segment_of (rw c.in-Some.is at c.in_ok-segment.ensures) in
     rw (p.1, p.2) (λ start read. memory_answers start _ _ c.in_err-pushed.field-0.0
     (c.bytes_were_taken.ensures start _ c.next_segment.new.self _ (gave.after start _ (so_far.read start read))).0
-    (omega (arith, gave.failures, so_far.failures)) c.in_err-pushed.ensures.only_memory)
+    (omega (arith, gave.failures, so_far.failures)) c.in_err-pushed.ensures.only_oom)
 
 pub loop-segment-smaller : goal.loop-segment-smaller
 loop-segment-smaller g c =
@@ -82,4 +82,4 @@ returns-clause-kept g c =
     let so_far = c.loop-segment.invariant in
     let ended = end_of (rw c.in_default.is at c.in_ok-segment.ensures) so_far.reading in
     all_kept _ _ c.args.reader.now c.loop-segment.reader c.next_segment.new.self c.loop-segment.count _ so_far.same so_far.kept ended.counted
-    (omega (arith, c.next_segment.new.self.within, c.next_segment.new.self.few)) (λ start read. ended.whole start _ (so_far.read start read)) (λ start read. ended.groups start _ (so_far.read start read))
+    (omega (arith, c.next_segment.new.self.within, c.next_segment.new.self.within_limit)) (λ start read. ended.whole start _ (so_far.read start read)) (λ start read. ended.groups start _ (so_far.read start read))

@@ -10,12 +10,12 @@ use Rattle.bw_memory.proofs.reading.read_table.Goals as goal
 pub returns-in_err-placement-clause-refused : goal.returns-in_err-placement-clause-refused
 returns-in_err-placement-clause-refused g c =
     let p = err_from_is_err_and c.from_residual.result c.from_residual.ensures.1 in
-    rw (p.1, p.2) (λ start read. memory_answers start _ _ c.in_err-placement.field-0.0 (c.bytes_were_taken.ensures start _ c.args.reader.now [] read).0 refl c.in_err-placement.ensures.only_memory)
+    rw (p.1, p.2) (λ start read. memory_answers start _ _ c.in_err-placement.field-0.0 (c.bytes_were_taken.ensures start _ c.args.reader.now [] read).0 refl c.in_err-placement.ensures.only_oom)
 
 pub returns-in_err-columns-clause-refused : goal.returns-in_err-columns-clause-refused
 returns-in_err-columns-clause-refused g c =
     let p = err_from_is_err_and c.from_residual-in_err-columns.result c.from_residual-in_err-columns.ensures.1 in
-    rw (p.1, p.2) (λ start read. memory_answers start _ _ c.in_err-columns.field-0.0 (c.bytes_were_taken.ensures start _ c.args.reader.now [] read).0 refl c.in_err-columns.ensures.only_memory)
+    rw (p.1, p.2) (λ start read. memory_answers start _ _ c.in_err-columns.field-0.0 (c.bytes_were_taken.ensures start _ c.args.reader.now [] read).0 refl c.in_err-columns.ensures.only_oom)
 
 pub invariant_of-result : goal.invariant_of-result
 invariant_of-result g c =
@@ -28,7 +28,7 @@ invariant_of-result g c =
     let began = c.requires.began in
     record {
       placed = made.placed;
-      few = omega (arith, c.given.ensures, all.few);
+      within_limit = omega (arith, c.given.ensures, all.few);
       kept = segments_made c.args.reader.now c.layout-layout.result schema _ c.given.result c.in_ok-segments.segments _ _ c.layout-layout.ensures name columns c.given.ensures items all.segments;
       cut = cut_made c.args.reader.now c.layout-layout.result schema _ c.given.result c.in_ok-segments.segments _ _ c.layout-layout.ensures name columns c.given.ensures items _ _ all began.0 began.1;
     }

@@ -17,7 +17,7 @@ loop-columns-init c = rw c.new-columns.ensures.items (record { limited = omega a
 pub loop-columns-preserved : goal.loop-columns-preserved
 loop-columns-preserved c =
     let before = c.loop-columns.columns.items in
-    let room : length before < 64 = rw (← c.deref.ensures.value) c.in_ok-column.ensures.room in
+    let room : length before < 64 = rw (← c.deref.ensures.value) c.in_ok-column.ensures.capacity in
     let fresh = are_apart-push (names_of before) c.in_ok-column.column.name c.loop-columns.invariant.apart (rw (← c.deref.ensures.value) c.in_ok-column.ensures.apart) in
     let line = rw c.in-Some-2.is at c.in_ok-line.ensures.line in
     let column : column_on (names_of before) (line_of c.in-Some-2.line) ≡ Ok (column_shape c.in_ok-column.column) = rw (← c.deref.ensures.value) c.in_ok-column.ensures.column in

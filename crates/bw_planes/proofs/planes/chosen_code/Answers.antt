@@ -13,15 +13,15 @@ loop-place-init c = all_left c.args.greatest c.args.width c.args.bytes.now c.arg
 pub loop-place-preserved : goal.loop-place-preserved
 loop-place-preserved c =
     let so_far = c.loop-place in
-    let found : length c.narrowed-sought.result ≡ 8 = search rules in
+    let found : length c.equal_step-sought.result ≡ 8 = search rules in
     let none = sym c.is_zero-in-loop-place.ensures in
     elim c.if-is_zero-2.branch [
       | then-is_zero-2 w ↦
           next_left c.args.greatest c.args.width c.args.bytes.now c.args.lanes.now false so_far.left _ _ _ so_far.place so_far.code _ c.loop-place-test.true found
-          c.narrowed-sought.ensures c.bit-plane.ensures (none ∙ w.if-is_zero-2.true) w.left-is (omega (arith, w.code-is, w.from-code.ensures)) so_far.invariant
+          c.equal_step-sought.ensures c.bit-plane.ensures (none ∙ w.if-is_zero-2.true) w.left-is (omega (arith, w.code-is, w.from-code.ensures)) so_far.invariant
       | else-is_zero-2 w ↦
           next_left c.args.greatest c.args.width c.args.bytes.now c.args.lanes.now true so_far.left _ _ _ so_far.place so_far.code _ c.loop-place-test.true found
-          c.narrowed-sought.ensures c.bit-plane.ensures (none ∙ w.if-is_zero-2.false) w.left-is (omega (arith, w.code-is, w.from-code-else-is_zero-2.ensures)) so_far.invariant
+          c.equal_step-sought.ensures c.bit-plane.ensures (none ∙ w.if-is_zero-2.false) w.left-is (omega (arith, w.code-is, w.from-code-else-is_zero-2.ensures)) so_far.invariant
     ]
 
 pub returns-clause-chosen : goal.returns-clause-chosen

@@ -3,7 +3,7 @@ use lib.Lanes.{zip2}
 use Rattle.std.proofs.lemmas.Grind.{pow_more}
 use Rattle.bw_lanes.specs.Lanes.{bits_from_least}
 use Rattle.bw_model.specs.Code.{has_bit}
-use Rattle.bw_model.specs.Selection.{picked}
+use Rattle.bw_model.specs.Selection.{selected_items}
 use Rattle.bw_segment.proofs.PickedLemmas.{count_both}
 use Rattle.bw_planes.specs.Planes.{planes_codes, codes_in_word}
 use Rattle.bw_planes.proofs.SumLemmas.{numbers_more, no_numbers}
@@ -11,7 +11,7 @@ use Rattle.bw_planes.proofs.sum.sum_of_bits.Goals as goal
 
 pub loop-place-init : goal.loop-place-init
 loop-place-init c = record {
-  sum = no_numbers (c.args.low + c.args.count - 0) (picked (bits_from_least 64 c.args.rows) (codes_in_word c.args.word (planes_codes c.args.width c.args.bytes.now)));
+  sum = no_numbers (c.args.low + c.args.count - 0) (selected_items (bits_from_least 64 c.args.rows) (codes_in_word c.args.word (planes_codes c.args.width c.args.bytes.now)));
   small = omega arith;
 }
 
@@ -26,14 +26,14 @@ loop-place-preserved c =
     let there : c.args.width - 1 - (c.args.width - c.args.low - c.args.count + place) ≡ bit = omega (arith, c.loop-place-test.true, c.requires.bits) in
     let ones = c.ones_in.ensures.ones ∙ ap (λ plane. count_by (λ lane. lane) (zip2 (λ a b. a && b) rows plane)) (c.word_of.ensures ∙ ap (λ n. map (λ code. has_bit code n) codes) there) ∙ count_both (λ code. has_bit code bit) rows codes in
     record {
-      sum = ap₂ (λ s n. 2 * s + n) (c.loop-place.invariant.sum ∙ ap (λ k. sum_by (λ code. code / 2 ^ k % 2 ^ place) (picked rows codes)) above) (c.from.ensures ∙ ones)
-          ∙ sym (numbers_more bit place (picked rows codes)) ∙ ap (λ k. sum_by (λ code. code / 2 ^ k % 2 ^ (place + 1)) (picked rows codes)) next;
+      sum = ap₂ (λ s n. 2 * s + n) (c.loop-place.invariant.sum ∙ ap (λ k. sum_by (λ code. code / 2 ^ k % 2 ^ place) (selected_items rows codes)) above) (c.from.ensures ∙ ones)
+          ∙ sym (numbers_more bit place (selected_items rows codes)) ∙ ap (λ k. sum_by (λ code. code / 2 ^ k % 2 ^ (place + 1)) (selected_items rows codes)) next;
       small = omega (arith, c.loop-place.invariant.small, c.from.ensures, c.ones_in.ensures.bound, pow_more 2 place);
     }
 
 pub returns : goal.returns
 returns c =
-    let codes = picked (bits_from_least 64 c.args.rows) (codes_in_word c.args.word (planes_codes c.args.width c.args.bytes.now)) in
+    let codes = selected_items (bits_from_least 64 c.args.rows) (codes_in_word c.args.word (planes_codes c.args.width c.args.bytes.now)) in
     let count = c.args.count in
     let end : c.loop-place.place ≡ count = omega arith in
     let low : c.args.low + count - count ≡ c.args.low = omega arith in

@@ -34,7 +34,7 @@ returns-in_err-instr-clause-fault c =
     let line = rw c.in-Some.is at c.in_ok-line.ensures.line in
     let count : c.len-in-Some.result ≡ length c.loop-line.placed.items = c.len-in-Some.ensures ∙ c.loop-line.placed.ok.0 in
     let room : length c.loop-line.placed.items < most_instructions = omega (arith, c.len.ensures, c.loop-line.placed.ok.0) in
-    let read = sym c.in_err-instr.was ∙ c.instr_of.ensures.said ∙ ap (λ (n : ℕ). instr_on columns n (line_of c.in-Some.line)) count in
+    let read = sym c.in_err-instr.was ∙ c.instr_of.ensures.parsed ∙ ap (λ (n : ℕ). instr_on columns n (line_of c.in-Some.line)) count in
     rw (p.1, p.2) (λ _. c.loop-line.invariant.told ∙ instr_read columns _ _ _ _ _ _ line (sym c.is_result_line.ensures ∙ c.if-is_result_line.false) room read)
 
 pub loop-line-preserved : goal.loop-line-preserved
@@ -43,7 +43,7 @@ loop-line-preserved c =
     let line = rw c.in-Some.is at c.in_ok-line.ensures.line in
     let count : c.len-in-Some.result ≡ length c.loop-line.placed.items = c.len-in-Some.ensures ∙ c.loop-line.placed.ok.0 in
     let room : length c.loop-line.placed.items < most_instructions = omega (arith, c.len.ensures, c.loop-line.placed.ok.0) in
-    let read = sym c.in_ok-instr.was ∙ c.instr_of.ensures.said ∙ ap (λ (n : ℕ). instr_on columns n (line_of c.in-Some.line)) count in
+    let read = sym c.in_ok-instr.was ∙ c.instr_of.ensures.parsed ∙ ap (λ (n : ℕ). instr_on columns n (line_of c.in-Some.line)) count in
     let next = instr_read columns _ _ _ _ _ _ line (sym c.is_result_line.ensures ∙ c.if-is_result_line.false) room read in
     rw c.in_ok-push.ensures.items (record {
       few = omega (arith, length-append c.loop-line.placed.items (record { line = c.in-Some.line.number; instr = c.in_ok-instr.instr } ∷ []));

@@ -22,13 +22,13 @@ returns-in_err-prepared-clause-accepted c =
     rw (p.1, p.2) (λ query asks. accepted (schema_of c.args.table.now) query refl asks)
 
 pub returns-clause-answer : goal.returns-clause-answer
-returns-clause-answer c = λ other. let e : true ≡ false = sym (ap is_memory c.in-Err.ensures.only_memory) ∙ other in absurd (cc e)
+returns-clause-answer c = λ other. let e : true ≡ false = sym (ap is_memory c.in-Err.ensures.only_oom) ∙ other in absurd (cc e)
 
 pub returns-clause-accepted : goal.returns-clause-accepted
-returns-clause-accepted c = λ query asks. ap is_memory c.in-Err.ensures.only_memory
+returns-clause-accepted c = λ query asks. ap is_memory c.in-Err.ensures.only_oom
 
 pub returns-clause-fault : goal.returns-clause-fault
-returns-clause-fault c = memory_writes_nothing c.in-Err.fault c.in-Err.ensures.only_memory
+returns-clause-fault c = memory_writes_nothing c.in-Err.fault c.in-Err.ensures.only_oom
 
 pub returns-in-Ok-clause-answer : goal.returns-in-Ok-clause-answer
 returns-in-Ok-clause-answer c =

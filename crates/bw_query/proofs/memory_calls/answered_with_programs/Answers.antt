@@ -5,7 +5,7 @@ use Rattle.bw_io.proofs.SinkLemmas.{no_write_fault}
 use Rattle.bw_model.specs.Fault.{is_memory}
 use Rattle.bw_model.specs.Row.{Value}
 use Rattle.bw_memory.specs.MemoryTable.{rows_of, schema_of}
-use Rattle.bw_sql.specs.Asked.{asked}
+use Rattle.bw_sql.specs.Asked.{query_shape}
 use Rattle.bw_query.specs.Among.{IsServedAmong}
 use Rattle.bw_query.specs.Served.{report_of}
 use Rattle.bw_query.specs.TableText.{IsScanOf}
@@ -23,7 +23,7 @@ pub returns-in_err-query-clause-accepted : goal.returns-in_err-query-clause-acce
 returns-in_err-query-clause-accepted c =
     let p = err_from_is_err_and c.from_residual.result c.from_residual.ensures.1 in
     let refused = rw c.schema-schema.ensures at c.in_err-query.ensures.refused in
-    rw (p.1, p.2) (λ query asks. refused (asked query) asks.0)
+    rw (p.1, p.2) (λ query asks. refused (query_shape query) asks.0)
 
 pub returns-in_err-query-clause-fault : goal.returns-in_err-query-clause-fault
 returns-in_err-query-clause-fault c =
@@ -33,17 +33,17 @@ returns-in_err-query-clause-fault c =
 pub returns-in_err-number-clause-answer : goal.returns-in_err-number-clause-answer
 returns-in_err-number-clause-answer c =
     let p = err_from_is_err_and c.from_residual-in_err-number.result c.from_residual-in_err-number.ensures.1 in
-    rw (p.1, p.2) (λ other. let e : true ≡ false = sym c.in_err-number.ensures.only_memory ∙ other in absurd (cc e))
+    rw (p.1, p.2) (λ other. let e : true ≡ false = sym c.in_err-number.ensures.only_oom ∙ other in absurd (cc e))
 
 pub returns-in_err-number-clause-accepted : goal.returns-in_err-number-clause-accepted
 returns-in_err-number-clause-accepted c =
     let p = err_from_is_err_and c.from_residual-in_err-number.result c.from_residual-in_err-number.ensures.1 in
-    rw (p.1, p.2) (λ query asks. c.in_err-number.ensures.only_memory)
+    rw (p.1, p.2) (λ query asks. c.in_err-number.ensures.only_oom)
 
 pub returns-in_err-number-clause-fault : goal.returns-in_err-number-clause-fault
 returns-in_err-number-clause-fault c =
     let p = err_from_is_err_and c.from_residual-in_err-number.result c.from_residual-in_err-number.ensures.1 in
-    rw (p.1, p.2) (no_write_fault is_memory c.in_err-number.field-0.0 c.in_err-number.ensures.only_memory refl)
+    rw (p.1, p.2) (no_write_fault is_memory c.in_err-number.field-0.0 c.in_err-number.ensures.only_oom refl)
 
 pub memory_text-requires-clause-scan : goal.memory_text-requires-clause-scan
 memory_text-requires-clause-scan c =
@@ -51,13 +51,13 @@ memory_text-requires-clause-scan c =
     c.scan-scan.ensures.certified (schema_of c.args.table.now).columns.items c.in_ok-query.query.cond found
 
 pub returns-clause-answer : goal.returns-clause-answer
-returns-clause-answer c = λ other. let e : true ≡ false = sym (ap is_memory c.in-Err.ensures.only_memory) ∙ other in absurd (cc e)
+returns-clause-answer c = λ other. let e : true ≡ false = sym (ap is_memory c.in-Err.ensures.only_oom) ∙ other in absurd (cc e)
 
 pub returns-clause-accepted : goal.returns-clause-accepted
-returns-clause-accepted c = λ query asks. ap is_memory c.in-Err.ensures.only_memory
+returns-clause-accepted c = λ query asks. ap is_memory c.in-Err.ensures.only_oom
 
 pub returns-clause-fault : goal.returns-clause-fault
-returns-clause-fault c = memory_writes_nothing c.in-Err.fault c.in-Err.ensures.only_memory
+returns-clause-fault c = memory_writes_nothing c.in-Err.fault c.in-Err.ensures.only_oom
 
 pub returns-in-Ok-clause-answer : goal.returns-in-Ok-clause-answer
 returns-in-Ok-clause-answer c = record {

@@ -7,5 +7,5 @@ use Rattle.bw_query.proofs.memory_text.memory_text.Goals as goal
 pub returns-clause-text : goal.returns-clause-text
 returns-clause-text c =
     let names = names_of (schema_of c.args.table.now).columns.items in
-    let over = rw c.schema.ensures at c.in_ok-answer.ensures.over in
-    c.in_ok-into_text.ensures.text names c.args.query.now (rows_of c.args.table.now) (c.in_ok-scanned.ensures.over.over names c.args.query.now [] over)
+    let over = rw c.schema.ensures at c.in_ok-answer.ensures.covers in
+    c.in_ok-into_text.ensures.text names c.args.query.now (rows_of c.args.table.now) (c.in_ok-scanned.ensures.covers.over names c.args.query.now [] over)

@@ -29,12 +29,12 @@ pub take_numbered-requires-clause-scan : goal.take_numbered-requires-clause-scan
 take_numbered-requires-clause-scan c =
     subst (λ (query : Query). IsFor (schema_of c.args.table.now).columns.items query.cond c.args.scan.now) (sym c.loop-number.invariant.asked) c.requires.scan
 
-pub take_numbered-requires-clause-room : goal.take_numbered-requires-clause-room
-take_numbered-requires-clause-room c =
+pub take_numbered-requires-clause-capacity : goal.take_numbered-requires-clause-capacity
+take_numbered-requires-clause-capacity c =
     let table = c.args.table.now in
     let number = c.loop-number.number in
     let there : number < table.segments = omega (arith, c.segments-number-end.ensures) in
-    omega (arith, table.few, room_for table.layout (schema_of table).columns.items table.rows number c.loop-number.answer.rows table.columns.items (table.kept.some number there) c.loop-number.invariant.rows)
+    omega (arith, table.within_limit, room_for table.layout (schema_of table).columns.items table.rows number c.loop-number.answer.rows table.columns.items (table.kept.some number there) c.loop-number.invariant.rows)
 
 pub loop-number-preserved : goal.loop-number-preserved
 loop-number-preserved c =

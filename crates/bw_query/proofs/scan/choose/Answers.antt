@@ -21,6 +21,6 @@ loop-number-preserved c =
 
 pub returns-clause-chosen : goal.returns-clause-chosen
 returns-clause-chosen c =
-    chosen_if_found (texts_of c.args.files.now) c.args.schema.now.columns.items c.args.cond.now c.planned.result
+    chosen_if_found (texts_of c.args.files.now) c.args.schema.now.columns.items c.args.cond.now c.plan_and_certify.result
     (files_all (IsRejected c.args.schema.now.columns.items c.args.cond.now) c.args.files.now c.loop-number.number c.loop-number-test.false c.loop-number.invariant)
-    c.planned.ensures.chosen
+    c.plan_and_certify.ensures.chosen

@@ -3,7 +3,7 @@ use Rattle.std.proofs.Common.{List, ap, inl, inr, refl, subst, sym}
 use Rattle.std.proofs.lemmas.Result.{err_from_is_err_and}
 use Rattle.bw_cert.specs.Judged.{is_file_fault}
 use Rattle.bw_model.specs.declared.column.Column.{Column}
-use Rattle.bw_sql.specs.Asked.{Asked, asked}
+use Rattle.bw_sql.specs.Asked.{QueryShape, query_shape}
 use Rattle.bw_sql.specs.Refusal.{is_statement_fault}
 use Rattle.bw_query.specs.Scan.{IsUsable, given_file}
 use Rattle.bw_query.proofs.ScanLemmas.{usable}
@@ -27,16 +27,16 @@ pub returns-in_err-query-clause-accepted : goal.returns-in_err-query-clause-acce
 returns-in_err-query-clause-accepted c =
     let p = err_from_is_err_and c.from_residual.result c.from_residual.ensures.1 in
     rw (p.1, p.2) (λ other query same asks.
-    let spelled = c.schemas_of_one_shape.ensures.spelled other c.args.schema.now c.args.sql.now (asked query) (sym same) asks.0 in
-    c.in_err-query.ensures.refused (asked query) spelled)
+    let spelled = c.schemas_of_one_shape.ensures.spelled other c.args.schema.now c.args.sql.now (query_shape query) (sym same) asks.0 in
+    c.in_err-query.ensures.refused (query_shape query) spelled)
 
 pub returns-in_err-scan-clause-accepted : goal.returns-in_err-scan-clause-accepted
 returns-in_err-scan-clause-accepted c =
     let p = err_from_is_err_and c.from_residual-in_err-scan.result c.from_residual-in_err-scan.ensures.1 in
     rw (p.1, p.2) (λ other query same asks.
-    let spelled = c.schemas_of_one_shape.ensures.spelled other c.args.schema.now c.args.sql.now (asked query) (sym same) asks.0 in
+    let spelled = c.schemas_of_one_shape.ensures.spelled other c.args.schema.now c.args.sql.now (query_shape query) (sym same) asks.0 in
     let columns = c.schemas_of_one_shape.ensures.columns other c.args.schema.now (sym same) in
-    let conds = ap (λ (one : Asked). one.cond) (c.one_query_of_a_text.ensures c.args.schema.now c.args.sql.now (asked query) (asked c.in_ok-query.query) spelled c.in_ok-query.ensures.read) in
+    let conds = ap (λ (one : QueryShape). one.cond) (c.one_query_of_a_text.ensures c.args.schema.now c.args.sql.now (query_shape query) (query_shape c.in_ok-query.query) spelled c.in_ok-query.ensures.read) in
     let U : List Column → Type 0 = λ those. IsUsable (given_file c.args.program) those query.cond in
     c.in_err-scan.ensures.accepted query.cond conds (subst U columns asks.1))
 

@@ -3,5 +3,5 @@ use Rattle.std.proofs.Common.{[]}
 use Rattle.bw_model.specs.Column.{names_of}
 use Rattle.bw_query.proofs.table_text.empty_answer.Goals as goal
 
-pub returns-clause-over : goal.returns-clause-over
-returns-clause-over c = c.in_ok-reserve.ensures.over (names_of c.args.schema.now.columns.items) c.args.query.now [] c.in_ok-answer.ensures.over
+pub returns-clause-covers : goal.returns-clause-covers
+returns-clause-covers c = c.in_ok-reserve.ensures.covers (names_of c.args.schema.now.columns.items) c.args.query.now [] c.in_ok-answer.ensures.covers

@@ -10,7 +10,7 @@ use Rattle.bw_query.proofs.table_text.table_text.Goals as goal
 pub returns-in_err-answer-clause-refused : goal.returns-in_err-answer-clause-refused
 returns-in_err-answer-clause-refused g c =
     let p = err_from_is_err_and c.from_residual.result c.from_residual.ensures.1 in
-    rw (p.1, p.2) (λ start read. memory_answers start _ _ c.in_err-answer.field-0.0 (c.bytes_were_taken.ensures start _ c.args.reader.now [] read).0 refl c.in_err-answer.ensures.only_memory)
+    rw (p.1, p.2) (λ start read. memory_answers start _ _ c.in_err-answer.field-0.0 (c.bytes_were_taken.ensures start _ c.args.reader.now [] read).0 refl c.in_err-answer.ensures.only_oom)
 
 pub returns-in_err-into_text-clause-refused : goal.returns-in_err-into_text-clause-refused
 returns-in_err-into_text-clause-refused g c =
@@ -19,12 +19,12 @@ returns-in_err-into_text-clause-refused g c =
     rw (p.1, p.2) (λ start read.
     let whole = all.read start read in
     memory_answers start _ _ c.in_err-into_text.field-0.0 (whole.bytes, whole.took, whole.needed)
-    (whole.failures ∙ sym (c.bytes_were_taken.ensures start _ c.args.reader.now [] read).1) c.in_err-into_text.ensures.only_memory)
+    (whole.failures ∙ sym (c.bytes_were_taken.ensures start _ c.args.reader.now [] read).1) c.in_err-into_text.ensures.only_oom)
 
 pub returns-clause-text : goal.returns-clause-text
 returns-clause-text g c = λ start read.
     let all = c.in_ok-scanned.ensures.took in
-    let over = rw c.schema.ensures at c.in_ok-answer.ensures.over in
+    let over = rw c.schema.ensures at c.in_ok-answer.ensures.covers in
     record {
       found = found_so_far c.args.reader.now all.groups;
       groups = all.groups;

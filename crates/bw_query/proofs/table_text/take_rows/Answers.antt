@@ -46,7 +46,7 @@ returns-in_err-more-clause-refused g c =
     let gave = segment_of (rw c.in-Some.is at c.in_ok-segment.ensures) in
     rw (p.1, p.2) (λ start read. memory_answers start _ _ c.in_err-more.field-0.0
     (c.bytes_were_taken.ensures start _ c.next_segment.new.self _ (gave.after start so_far.groups (so_far.read start read))).0
-    (omega (arith, gave.failures, so_far.failures)) c.in_err-more.ensures.only_memory)
+    (omega (arith, gave.failures, so_far.failures)) c.in_err-more.ensures.only_oom)
 
 pub loop-segment-smaller : goal.loop-segment-smaller
 loop-segment-smaller g c =
@@ -69,10 +69,10 @@ take_either-taken-requires-clause-width g c =
     so_far.width ∙ ap (λ (columns : List Column). length columns)
     (sym (columns_of c.args.reader.now c.loop-segment.reader c.in-Some.segment so_far.same gave.of_table))
 
-pub take_either-taken-requires-clause-room : goal.take_either-taken-requires-clause-room
-take_either-taken-requires-clause-room g c =
+pub take_either-taken-requires-clause-capacity : goal.take_either-taken-requires-clause-capacity
+take_either-taken-requires-clause-capacity g c =
     let gave = segment_of (rw c.in-Some.is at c.in_ok-segment.ensures) in
-    omega (arith, c.loop-segment.invariant.rows, gave.counted, c.next_segment.new.self.within, c.next_segment.new.self.few)
+    omega (arith, c.loop-segment.invariant.rows, gave.counted, c.next_segment.new.self.within, c.next_segment.new.self.within_limit)
 
 pub loop-segment-preserved : goal.loop-segment-preserved
 loop-segment-preserved g c =

@@ -4,7 +4,7 @@ use Rattle.bw_model.specs.Row.{Value}
 use Rattle.bw_answer.specs.AreOver.{CountsRows}
 use Rattle.bw_answer.specs.Over.{GoesOver, asked_by}
 use Rattle.bw_file.specs.Reading.{State, state}
-use Rattle.bw_file.specs.TableReader.{SameTable, SoFar, bytes_taken, rows_given, rows_stated, schema_in, settled}
+use Rattle.bw_file.specs.TableReader.{SameTable, ReadProgress, bytes_taken, rows_given, rows_stated, schema_in, final_result}
 use Rattle.bw_query.specs.TableText.{IsScanOf}
 use Rattle.bw_query.proofs.table_text.take_rows.Given as goal
 
@@ -13,14 +13,14 @@ abbrev pub invariant-loop-segment : goal.invariant-loop-segment
 invariant-loop-segment g l = record {
   groups : List (List (List Value));
   read : (start : State)
-      → SoFar start (state (g.S.Source.to_come l.initial.source) (bytes_taken l.initial.reader) (g.S.Source.failures l.initial.source)) l.initial.reader []
-      → SoFar start (state (g.S.Source.to_come l.source) (bytes_taken l.reader) (g.S.Source.failures l.source)) l.reader groups;
+      → ReadProgress start (state (g.S.Source.to_come l.initial.source) (bytes_taken l.initial.reader) (g.S.Source.failures l.initial.source)) l.initial.reader []
+      → ReadProgress start (state (g.S.Source.to_come l.source) (bytes_taken l.reader) (g.S.Source.failures l.source)) l.reader groups;
   over : GoesOver l.initial.answer (together groups) l.answer;
   scanned : IsScanOf (schema_in l.initial.reader).columns.items l.scan groups l.scanned;
   few_loads : l.scanned.loads ≤ 4096 * length groups;
   few_skips : l.scanned.skips ≤ 4096 * length groups;
   same : SameTable l.initial.reader l.reader;
-  reading : settled l.reader ≡ None;
+  reading : final_result l.reader ≡ None;
   failures : g.S.Source.failures l.source ≡ g.S.Source.failures l.initial.source;
   rows : l.answer.rows ≡ rows_given l.reader;
   few : length groups ≤ rows_given l.reader;

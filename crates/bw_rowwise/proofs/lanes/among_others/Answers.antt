@@ -3,7 +3,7 @@ use Rattle.std.proofs.Common.{◌∙◌, sym, ap, ℕ, ◌+◌, take, get_or}
 use Rattle.std.proofs.lemmas.List.{get_or_default}
 use Rattle.std.proofs.lemmas.Simd.{map-map}
 use Rattle.bw_model.specs.Cond.{operand_value}
-use Rattle.bw_model.specs.Truth.{any_of, compared, greatest}
+use Rattle.bw_model.specs.Truth.{any_of, compare_values, greatest}
 use Rattle.bw_model.specs.declared.cond.Op.TheVariants.{Eq}
 use Rattle.bw_model.specs.declared.cond.Operand.{Operand}
 use Rattle.bw_model.specs.declared.cond.Operand.TheVariants.{Col}
@@ -18,6 +18,6 @@ loop-other-preserved g c =
     let i = c.loop-other.other-index in
     let x : Operand = get_or others i (Col 0) in
     alike _ _ _ (c.either-greatest.ensures _ _ c.loop-other.invariant c.compared.ensures) (λ lane within.
-    let is = λ (operand : Operand). compared Eq (value lane c.args.x) (value lane operand) in
-    ap (λ l. greatest (any_of l) (is x)) (map-map (compared Eq (value lane c.args.x)) (value lane) (take i others)) ∙ any_more is others i x c.loop-other-test.true (get_or_default others i (Col 0) x c.loop-other-test.true)
-    ∙ sym (ap any_of (map-map (compared Eq (value lane c.args.x)) (value lane) (take (i + 1) others))))
+    let is = λ (operand : Operand). compare_values Eq (value lane c.args.x) (value lane operand) in
+    ap (λ l. greatest (any_of l) (is x)) (map-map (compare_values Eq (value lane c.args.x)) (value lane) (take i others)) ∙ any_more is others i x c.loop-other-test.true (get_or_default others i (Col 0) x c.loop-other-test.true)
+    ∙ sym (ap any_of (map-map (compare_values Eq (value lane c.args.x)) (value lane) (take (i + 1) others))))

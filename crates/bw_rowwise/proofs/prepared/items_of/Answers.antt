@@ -3,7 +3,7 @@ use Rattle.std.proofs.Common.{rules, ◌≡◌, ◌∙◌, List, map, take, ap, 
 use Rattle.std.proofs.lemmas.Int.{to_z-of_z}
 use Rattle.std.proofs.lemmas.List.{take_all}
 use Rattle.bw_model.specs.Cond.{operand_value}
-use Rattle.bw_model.specs.Truth.{among, greatest}
+use Rattle.bw_model.specs.Truth.{in_list, greatest}
 use Rattle.bw_model.specs.declared.cond.Operand.{Operand}
 use Rattle.bw_model.specs.declared.cond.Truth.{Truth}
 use Rattle.bw_rowwise.proofs.NumberLemmas.{number_more, other_more}
@@ -23,5 +23,5 @@ pub returns-clause-items : goal.returns-clause-items
 returns-clause-items c = λ row x.
     let items = c.args.items.now in
     let all : take c.loop-item.item-index items ≡ items = take_all c.loop-item.item-index items (omega arith) in
-    ap (λ (t : Truth). greatest t (among x (map (operand_value row) c.loop-item.others.items))) (c.in_ok-new.ensures x)
-    ∙ c.loop-item.invariant row x ∙ ap (λ (those : List Operand). among x (map (operand_value row) those)) all
+    ap (λ (t : Truth). greatest t (in_list x (map (operand_value row) c.loop-item.others.items))) (c.in_ok-new.ensures x)
+    ∙ c.loop-item.invariant row x ∙ ap (λ (those : List Operand). in_list x (map (operand_value row) those)) all

@@ -1,11 +1,11 @@
 use Rattle.std.proofs.Common.{◌≡◌, List, map, take}
 use Rattle.bw_model.specs.Cond.{operand_value}
 use Rattle.bw_model.specs.Row.{Value}
-use Rattle.bw_model.specs.Truth.{among, greatest}
+use Rattle.bw_model.specs.Truth.{in_list, greatest}
 use Rattle.bw_rowwise.specs.Numbers.{among_numbers}
 use Rattle.bw_rowwise.proofs.prepared.items_of.Given as goal
 
 -- the numbers and the others so far
 abbrev pub invariant-loop-item : goal.invariant-loop-item
 invariant-loop-item l =
-    (row : List Value) (x : Value) → greatest (among_numbers x l.numbers.items) (among x (map (operand_value row) l.others.items)) ≡ among x (map (operand_value row) (take l.item-index l.items))
+    (row : List Value) (x : Value) → greatest (among_numbers x l.numbers.items) (in_list x (map (operand_value row) l.others.items)) ≡ in_list x (map (operand_value row) (take l.item-index l.items))

@@ -1,5 +1,5 @@
 use Rattle.std.proofs.Common.{◌≡◌, map, drop}
-use Rattle.bw_model.specs.Truth.{greatest, among}
+use Rattle.bw_model.specs.Truth.{greatest, in_list}
 use Rattle.bw_model.specs.Cond.{operand_value}
 use Rattle.bw_model.specs.Row.{values_of}
 use Rattle.bw_rowwise.proofs.prepared_row.among.Given as goal
@@ -7,4 +7,4 @@ use Rattle.bw_rowwise.proofs.prepared_row.among.Given as goal
 -- the greatest so far, and what the items to come make
 abbrev pub invariant-loop-item : goal.invariant-loop-item
 invariant-loop-item l =
-    greatest l.greatest (among l.x (map (operand_value (values_of l.row)) (drop l.item-index l.items))) ≡ among l.x (map (operand_value (values_of l.row)) l.items)
+    greatest l.greatest (in_list l.x (map (operand_value (values_of l.row)) (drop l.item-index l.items))) ≡ in_list l.x (map (operand_value (values_of l.row)) l.items)

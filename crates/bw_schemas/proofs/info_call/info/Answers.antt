@@ -29,7 +29,7 @@ returns-in_err-text-clause-info g c =
     let p = err_from_is_err_and c.from_residual-in_err-text.result c.from_residual-in_err-text.ensures.1 in
     let reader = c.in_ok-reader.reader in
     let now : ℕ → State = λ offset. state (g.S.Source.to_come c.begin.new.source) offset (g.S.Source.failures c.begin.new.source) in
-    rw (p.1, p.2) (memory_exit _ now (bytes_taken reader) _ c.in_err-text.field-0.0 reader c.in_ok-reader.ensures.stated c.in_err-text.ensures.only_memory (refused_memory _ _ _ c.in_err-text.ensures.only_memory))
+    rw (p.1, p.2) (memory_exit _ now (bytes_taken reader) _ c.in_err-text.field-0.0 reader c.in_ok-reader.ensures.stated c.in_err-text.ensures.only_oom (refused_memory _ _ _ c.in_err-text.ensures.only_oom))
 
 pub returns-clause-info : goal.returns-clause-info
 returns-clause-info g c =

@@ -2,7 +2,7 @@
 use Rattle.std.proofs.Common.{◌∙◌, ◌+◌, [], ◌∷◌, ap, refl, sym, arith, length}
 use Rattle.std.proofs.lemmas.Result.{err_from_is_err_and}
 use Rattle.bw_csv.specs.Bare.{bare_rows}
-use Rattle.bw_csv.specs.Records.{coming}
+use Rattle.bw_csv.specs.Records.{remaining_records}
 use Rattle.bw_csv.proofs.BareLemmas.{bare_rows-end, bare_rows-next}
 use Rattle.bw_csv.proofs.Passed.{passed-next, passed-stops}
 use Rattle.bw_schemas.specs.Seen.{with_records}
@@ -24,7 +24,7 @@ rows-preserved c =
       width = c.rows.invariant.width;
       passed = (_, passed-next (bare_rows width) _ passed.0 number _ _ some.0 _ passed.1 some.1 (λ rest. bare_rows-next width number some.0 _ (some.0 ∷ rest) rest refl some.2));
       rest = c.rows.invariant.rest ∙ records-next _ _ _ _ _ _ (bare_rows-next width number some.0 _ _ _ some.1 some.2)
-          ∙ ap (λ columns. with_records columns width (number + 1) (coming c.read_bare_row.new.records)) (sym taken);
+          ∙ ap (λ columns. with_records columns width (number + 1) (remaining_records c.read_bare_row.new.records)) (sym taken);
     }
 
 pub returns-clause-seen : goal.returns-clause-seen

@@ -1,7 +1,7 @@
 -- Each turn one column more has taken its value.
 use Rattle.std.proofs.Common.{◌∙◌, ◌<◌, ◌≤◌, sym, ap, length, get_or, arith, None, length-set}
 use Rattle.bw_schemas.specs.Seen.{with_value}
-use Rattle.bw_schemas.specs.declared.seen.Seen.{Seen}
+use Rattle.bw_schemas.specs.declared.seen.ColumnStats.{ColumnStats}
 use Rattle.bw_schemas.proofs.SeenLemmas.{one_taken, taken_all}
 use Rattle.bw_schemas.proofs.seen.take_values.Goals as goal
 
@@ -13,9 +13,9 @@ loop-i-preserved c =
     let first : i < length columns = omega (arith, c.loop-i.invariant.size) in
     let value = get_or c.args.values.now i None in
     record {
-      size = omega (arith, length-set {A = Seen}, c.loop-i.invariant.size);
+      size = omega (arith, length-set {A = ColumnStats}, c.loop-i.invariant.size);
       rest = c.loop-i.invariant.rest ∙ one_taken columns c.args.values.now i c.index.result.now None c.with_value.result first second
-          (c.with_value.ensures ∙ ap (λ (s : Seen). with_value s value) c.index.ensures);
+          (c.with_value.ensures ∙ ap (λ (s : ColumnStats). with_value s value) c.index.ensures);
     }
 
 pub returns : goal.returns

@@ -2,7 +2,7 @@ use Rattle.std.proofs.Common.{◌≡◌, ◌∙◌, refl, sym, ap, ◌+◌, ◌-
 use lib.Lanes.{zip2}
 use Rattle.bw_lanes.specs.Lanes.{lanes_of_words}
 use Rattle.bw_lanes.specs.Picked.{as_byte, bytes_picked}
-use Rattle.bw_model.specs.Selection.{picked}
+use Rattle.bw_model.specs.Selection.{selected_items}
 use Rattle.bw_model.specs.Stored.{byte_of}
 use Rattle.bw_segment.proofs.PickedLemmas.{all_picked, picked_where}
 use Rattle.bw_segment.proofs.DescentLemmas.{choice, descended_as, descent_begins, descent_ends, none_chosen}
@@ -14,7 +14,7 @@ use Rattle.bw_slices.proofs.chosen.chosen_code.Goals as goal
 pub returns-then-is_zero-clause-chosen : goal.returns-then-is_zero-clause-chosen
 returns-then-is_zero-clause-chosen c =
     let slices = (c.args.width + 7) / 8 in
-    none_chosen (choice c.args.greatest) (picked (lanes_of_words c.args.lanes.now) (slices_codes slices c.args.bytes.now))
+    none_chosen (choice c.args.greatest) (selected_items (lanes_of_words c.args.lanes.now) (slices_codes slices c.args.bytes.now))
     (sym (none_left c.args.bytes.now c.args.lanes.now slices c.told-lanes) ∙ sym c.is_zero.ensures ∙ c.if-is_zero.true)
 
 pub loop-place-init : goal.loop-place-init
@@ -24,7 +24,7 @@ loop-place-init c =
     let lanes = lanes_of_words c.args.lanes.now in
     let bits = 8 * (c.slices_in-slices.result - 0) in
     let some = sym (none_left c.args.bytes.now c.args.lanes.now slices c.told-lanes) ∙ sym c.is_zero.ensures ∙ c.if-is_zero.false in
-    (lanes, c.bytes_of_plane-left.ensures, descent_begins c.args.greatest (picked lanes codes) bits (all_picked _ lanes codes (all_within c.args.width bits codes (omega arith) c.requires.small)) some)
+    (lanes, c.bytes_of_plane-left.ensures, descent_begins c.args.greatest (selected_items lanes codes) bits (all_picked _ lanes codes (all_within c.args.width bits codes (omega arith) c.requires.small)) some)
 
 pub overflow_mul-code : goal.overflow_mul-code
 overflow_mul-code c = bytes_before c.loop-place.code c.loop-place.place c.loop-place.invariant.2.small (omega arith)
@@ -45,7 +45,7 @@ loop-place-preserved c =
     let rows = c.keep_in.ensures lanes are ∙ ap (λ l. map as_byte (zip2 (λ lane b. lane && (b == byte)) lanes l)) c.slice_of-slice.ensures in (
       kept,
       rows,
-      next_chosen g _ (picked lanes codes) (picked kept codes) slice _ _ _ _ c.loop-place.code byte c.from.result (omega arith) (omega arith) (omega arith) c.from.ensures
+      next_chosen g _ (selected_items lanes codes) (selected_items kept codes) slice _ _ _ _ c.loop-place.code byte c.from.result (omega arith) (omega arith) (omega arith) c.from.ensures
           (picked_where (λ b. b == byte) (byte_of slice) lanes codes) (omega arith) is c.loop-place.invariant.2,
     )
 
@@ -59,4 +59,4 @@ pub returns-clause-bound : goal.returns-clause-bound
 returns-clause-bound c =
     let lanes = lanes_of_words c.args.lanes.now in
     let codes = slices_codes ((c.args.width + 7) / 8) c.args.bytes.now in
-    chosen_below c.args.greatest (2 ^ 63) c.loop-place.code (picked lanes codes) (all_picked _ lanes codes (all_within c.args.width 63 codes (omega arith) c.requires.small)) (returns-clause-chosen c)
+    chosen_below c.args.greatest (2 ^ 63) c.loop-place.code (selected_items lanes codes) (all_picked _ lanes codes (all_within c.args.width 63 codes (omega arith) c.requires.small)) (returns-clause-chosen c)

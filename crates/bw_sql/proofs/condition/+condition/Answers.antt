@@ -13,14 +13,14 @@ pub more_parts-returns-in_err-another-clause-read : goal.more_parts-returns-in_e
 more_parts-returns-in_err-another-clause-read t c =
     let p = err_from_is_err_and c.from_residual.result c.from_residual.ensures.1 in
     rw (p.1, p.2) (halts c.loop-next.invariant.read c.in_err-another.field-0.0 (rw c.keyword.ensures at (sym c.in-Some.ensures.is))
-    c.in_err-another.ensures.read (omega (arith, c.in-Some.ensures.shorter)))
+    c.in_err-another.ensures.read (omega (arith, c.in-Some.ensures.consumes_input)))
 
 pub more_parts-loop-next-preserved : goal.more_parts-loop-next-preserved
 more_parts-loop-next-preserved t c = record {
-  shorter = omega (arith, c.in-Some.ensures.shorter, c.in_ok-another.ensures.shorter);
+  shorter = omega (arith, c.in-Some.ensures.consumes_input, c.in_ok-another.ensures.consumes_input);
   read = steps c.loop-next.invariant.read (rw c.keyword.ensures at (sym c.in-Some.ensures.is)) c.in_ok-another.ensures.read
       (ap (map tree_of) c.in_ok-push.ensures.items ∙ map-append tree_of c.loop-next.parts.items (c.in_ok-another.another ∷ []))
-      (omega (arith, c.in-Some.ensures.shorter, c.in_ok-another.ensures.shorter));
+      (omega (arith, c.in-Some.ensures.consumes_input, c.in_ok-another.ensures.consumes_input));
 }
 
 pub more_parts-returns-clause-read : goal.more_parts-returns-clause-read

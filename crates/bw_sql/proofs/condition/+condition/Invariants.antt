@@ -29,8 +29,8 @@ decreases-part l = 16 * l.levels + 3 + rank l.connective
 abbrev pub decreases-more_parts : goal.decreases-more_parts
 decreases-more_parts l = 16 * l.levels + 4 + rank l.connective
 
-abbrev pub decreases-joined : goal.decreases-joined
-decreases-joined l = 16 * l.levels + 5 + rank l.connective
+abbrev pub decreases-read_connected : goal.decreases-read_connected
+decreases-read_connected l = 16 * l.levels + 5 + rank l.connective
 
 abbrev pub decreases-condition : goal.decreases-condition
 decreases-condition l = 16 * l.levels + 9

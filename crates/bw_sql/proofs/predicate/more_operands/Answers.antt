@@ -8,13 +8,13 @@ pub returns-in_err-item-clause-read : goal.returns-in_err-item-clause-read
 returns-in_err-item-clause-read c =
     let p = err_from_is_err_and c.from_residual.result c.from_residual.ensures.1 in
     rw (p.1, p.2) (halts c.loop-next.invariant.read c.in_err-item.field-0.0 (sym c.in-Some.ensures.is)
-    c.in_err-item.ensures.read (omega (arith, c.in-Some.ensures.shorter)))
+    c.in_err-item.ensures.read (omega (arith, c.in-Some.ensures.consumes_input)))
 
 pub loop-next-preserved : goal.loop-next-preserved
 loop-next-preserved c = record {
-  shorter = omega (arith, c.in-Some.ensures.shorter, c.in_ok-item.ensures.shorter);
+  shorter = omega (arith, c.in-Some.ensures.consumes_input, c.in_ok-item.ensures.consumes_input);
   read = steps c.loop-next.invariant.read (sym c.in-Some.ensures.is) c.in_ok-item.ensures.read c.in_ok-push.ensures.items
-      (omega (arith, c.in-Some.ensures.shorter, c.in_ok-item.ensures.shorter));
+      (omega (arith, c.in-Some.ensures.consumes_input, c.in_ok-item.ensures.consumes_input));
 }
 
 pub returns-clause-read : goal.returns-clause-read

@@ -6,7 +6,7 @@ use Rattle.bw_model.specs.Total.{is_aggregate}
 use Rattle.bw_model.specs.declared.query.Item.{Item}
 use Rattle.bw_model.specs.declared.query.Query.{Query}
 use Rattle.bw_answer.specs.Aggregates.{answer_for}
-use Rattle.bw_answer.specs.Answer.{lists_rows, record_text, totalled, value_text}
+use Rattle.bw_answer.specs.Answer.{lists_rows, record_text, totals_record, value_text}
 use Rattle.bw_answer.proofs.AnswerLemmas.{meaning_with_rows, meaning_with_totals, totals_fields}
 use Rattle.bw_answer.proofs.answer.Answer.into_text.Goals as goal
 
@@ -25,4 +25,4 @@ returns-clause-text c =
     let items = c.deref-else-lists.ensures.value ∙ ap (λ (q : Query). q.items.items) over.0 in
     record_ ∙ ap (λ (those : List Item). self.text.items ++ record_text (map (λ item. value_text (answer_for c.deref.result.now item)) those)) items
     ∙ ap (λ (those : List (List ℕ)). self.text.items ++ record_text those) fields
-    ∙ ap (λ (before : List ℕ). before ++ record_text (totalled query rows)) over.1.written ∙ sym (meaning_with_totals names query rows lists)) c.with_totals.ensures.record
+    ∙ ap (λ (before : List ℕ). before ++ record_text (totals_record query rows)) over.1.written ∙ sym (meaning_with_totals names query rows lists)) c.with_totals.ensures.record

@@ -20,8 +20,8 @@ within width columns items same = subst (λ (n : ℕ). list_all (item_within n) 
 pub invariant_of-result-clause-items : goal.invariant_of-result-clause-items
 invariant_of-result-clause-items c = within _ _ c.args.query.now.items.items c.len-width.ensures c.requires.items
 
-pub invariant_of-result-clause-room : goal.invariant_of-result-clause-room
-invariant_of-result-clause-room c =
+pub invariant_of-result-clause-capacity : goal.invariant_of-result-clause-capacity
+invariant_of-result-clause-capacity c =
     rw (c.in_ok-totals_of.ensures.totals, c.deref-5.ensures.value)
     (is_of-new c.len-width.result c.args.query.now.items.items (within _ _ c.args.query.now.items.items c.len-width.ensures c.requires.items))
 
@@ -30,8 +30,8 @@ returns-clause-takes c = λ row admitted.
     let long = c.admitted_rows_have_each_value.ensures c.args.schema.now.columns.items row admitted in
     eq-eqb (length row) c.len-width.result (omega (arith, long, c.args.schema.now.columns.ok.0, c.len-width.ensures))
 
-pub returns-clause-over : goal.returns-clause-over
-returns-clause-over c =
+pub returns-clause-covers : goal.returns-clause-covers
+returns-clause-covers c =
     let names = names_of c.args.schema.now.columns.items in
     let query = c.args.query.now in (
       refl,

@@ -5,8 +5,8 @@ use Rattle.bw_rowwise.specs.Accumulator.{Tally}
 use Rattle.bw_answer.specs.AreOver.{AreOver}
 use Rattle.bw_answer.proofs.answer.Answer.take_picked.Goals as goal
 
-pub returns-clause-over : goal.returns-clause-over
-returns-clause-over g c = λ start before led. record {
+pub returns-clause-covers : goal.returns-clause-covers
+returns-clause-covers g c = λ start before led. record {
   same = led.same;
   over = λ names query first over.
       let self = c.args.self.now in
@@ -15,7 +15,7 @@ returns-clause-over g c = λ start before led. record {
       let size : length after ≡ self.totals.len = c.put_picked.auto.totals ∙ c.deref_mut.ensures.len in
       let so_far = led.over names query first over in
       let old : AreOver names self.query.now (first ++ before) self.text.items c.deref_mut.result.now = rw (so_far.0, c.deref_mut.ensures.value) so_far.1 in
-      let put = c.in_ok-put_picked.ensures.over names (first ++ before) old in
+      let put = c.in_ok-put_picked.ensures.covers names (first ++ before) old in
       let there : AreOver names query (first ++ (before ++ more)) c.put_picked.new.text.items after =
       rw (sym so_far.0, sym (append_assoc first before more)) put in
       (so_far.0, subst (λ (tallies : List Tally). AreOver names query (first ++ (before ++ more)) c.put_picked.new.text.items tallies) (sym (with_items_is self.totals after size)) there);

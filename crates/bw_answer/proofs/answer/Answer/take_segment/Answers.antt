@@ -10,5 +10,5 @@ take_picked-requires-clause-picks g c =
     let rows = (g.S.Segment.meaning c.args.segment.now).rows in
     c.rows_kept-kept.ensures.kept ∙ ap (λ lanes. lanes ++ replicate (group_size - length rows) false) (kept_alike self.query.now.cond self.filter rows self.prepared)
 
-pub returns-clause-over : goal.returns-clause-over
-returns-clause-over g c = taken c.take_picked.result (λ over start before led. over start before (record { same = led.same; over = led.over })) c.take_picked.ensures.over
+pub returns-clause-covers : goal.returns-clause-covers
+returns-clause-covers g c = taken c.take_picked.result (λ over start before led. over start before (record { same = led.same; over = led.over })) c.take_picked.ensures.covers

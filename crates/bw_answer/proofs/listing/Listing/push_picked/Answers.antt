@@ -6,7 +6,7 @@ use Rattle.bw_model.specs.Row.{Value}
 use Rattle.bw_answer.specs.Answer.{csv_text}
 use Rattle.bw_answer.specs.Columns.{fields_of}
 use Rattle.bw_answer.specs.Fetched.{fields_in_lane}
-use Rattle.bw_model.specs.Selection.{picked, positions_of}
+use Rattle.bw_model.specs.Selection.{selected_items, positions_of}
 use Rattle.bw_answer.proofs.ColumnLemmas.{records_same}
 use Rattle.bw_answer.proofs.PickedLemmas.{none_picked}
 use Rattle.bw_answer.proofs.Rows.{no_records}
@@ -29,6 +29,6 @@ returns-clause-records g c =
     let size : length after ≡ self.lanes.len = c.fetch_picked.auto.lanes ∙ c.deref_mut.ensures.len in
     let lanes : c.deref-2.result.now ≡ after = c.deref-2.ensures.value ∙ with_items_is self.lanes after size in
     let fetched = rw c.deref.ensures.value at c.fetch_picked.ensures in
-    let same : map (fields_in_lane c.deref-2.result.now c.deref-3.result.now) (positions_of bits) ≡ map (fields_of self.columns.items) (picked bits rows) =
+    let same : map (fields_in_lane c.deref-2.result.now c.deref-3.result.now) (positions_of bits) ≡ map (fields_of self.columns.items) (selected_items bits rows) =
     rw (lanes, c.deref-3.ensures.value) (records_same self.columns.items after bits rows fetched c.requires.selection) in
     on_ok_weaker c.push_records.result (λ added. added ∙ ap (λ (records : List (List (List ℕ))). c.args.text.now.items ++ csv_text records) same) c.push_records.ensures.records

@@ -5,7 +5,7 @@ use Rattle.std.specs.Simd.Lanes.{zip2}
 use Rattle.std.proofs.lemmas.List.{length-map, length-replicate}
 use Rattle.bw_model.specs.declared.column.Column.{Column}
 use Rattle.bw_model.specs.Column.{admits_values}
-use Rattle.bw_model.specs.Cond.{is_kept}
+use Rattle.bw_model.specs.Cond.{is_match}
 use Rattle.bw_model.specs.Groups.{group_size, lanes_of}
 use Rattle.bw_model.specs.Row.{Value}
 use Rattle.bw_model.specs.Stored.{no_bits}
@@ -25,5 +25,5 @@ returns-clause-rows g c =
     c.run_segment.ensures.plane
     ∙ ap (λ (columns : List Column). zip2 (λ a b. a && b) ((end_state columns (lanes_of columns rows) self.program).registers self.program.result) (first_lanes (length rows))) c.requires
     ∙ ap (λ bits. zip2 (λ a b. a && b) bits (first_lanes (length rows))) (register_is self.schema.columns.items self.condition self.program rows self.selects c.bits_spell_row.ensures admitted)
-    ∙ ap (λ n. zip2 (λ a b. a && b) (map (is_kept self.condition) rows ++ others) (replicate n true ++ replicate (group_size - length rows) false)) (sym (length-map rows (is_kept self.condition)))
-    ∙ masked (map (is_kept self.condition) rows) others (group_size - length rows) count
+    ∙ ap (λ n. zip2 (λ a b. a && b) (map (is_match self.condition) rows ++ others) (replicate n true ++ replicate (group_size - length rows) false)) (sym (length-map rows (is_match self.condition)))
+    ∙ masked (map (is_match self.condition) rows) others (group_size - length rows) count

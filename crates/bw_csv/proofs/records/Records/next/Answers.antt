@@ -1,6 +1,6 @@
 -- The text is followed past the record that the reader read.
 use Rattle.std.proofs.Common.{◌∙◌}
-use Rattle.bw_csv.specs.Records.{IsOpen, coming}
+use Rattle.bw_csv.specs.Records.{IsOpen, remaining_records}
 use Rattle.bw_csv.proofs.records.Records.next.Goals as goal
 
 pub read_fields-requires : goal.read_fields-requires
@@ -8,12 +8,12 @@ unfolding IsOpen
 read_fields-requires c = c.requires.0
 
 pub returns-then-not-branch-clause-none : goal.returns-then-not-branch-clause-none
-unfolding coming
+unfolding remaining_records
 returns-then-not-branch-clause-none c = λ _. c.in_ok-read_fields.ensures.none c.if-not-branch.true
 
-pub returns-clause-some : goal.returns-clause-some
-unfolding coming
-returns-clause-some c = λ _. c.in_ok-read_fields.ensures.some c.if-not-branch.false
+pub returns-clause-nonempty : goal.returns-clause-nonempty
+unfolding remaining_records
+returns-clause-nonempty c = λ _. c.in_ok-read_fields.ensures.nonempty c.if-not-branch.false
 
 pub returns-clause-open : goal.returns-clause-open
 unfolding IsOpen
@@ -22,5 +22,5 @@ returns-clause-open c = λ _.
       read.open c.if-not-branch.false,
       λ on.
           let is = c.goes_on-self.ensures on in
-          c.followed-self.ensures is _ _ (c.requires.1 is ∙ read.some c.if-not-branch.false),
+          c.text_after_record-self.ensures is _ _ (c.requires.1 is ∙ read.some c.if-not-branch.false),
     )

@@ -6,8 +6,8 @@ use Rattle.bw_csv.proofs.RestLemmas.{found_still, plain-readable, plain-to_come,
 use Rattle.bw_csv.proofs.RowLemmas.{row_admitted, row_within}
 use Rattle.bw_csv.proofs.rest.Rest.next_row.Goals as goal
 
-pub returns-in-Some-clause-some : goal.returns-in-Some-clause-some
-returns-in-Some-clause-some c = λ _.
+pub returns-in-Some-clause-nonempty : goal.returns-in-Some-clause-nonempty
+returns-in-Some-clause-nonempty c = λ _.
     let r = c.in-Some.ensures.row in
     (r.fields, plain-to_come _ c.if-self.true ∙ r.first ∙ ap (λ (more : List (List (List ℕ))). r.fields ∷ more) (sym (plain-to_come _ c.if-self.true)), r.row)
 
@@ -19,10 +19,10 @@ returns-in-Some-clause-readable c = λ _.
 pub read_row-requires : goal.read_row-requires
 read_row-requires c = reader-open _ c.turn_to_reader.ensures.reader c.turn_to_reader.ensures.readable
 
-pub returns-clause-some : goal.returns-clause-some
-returns-clause-some c =
+pub returns-clause-nonempty : goal.returns-clause-nonempty
+returns-clause-nonempty c =
     let old = sym c.turn_to_reader.ensures.to_come ∙ reader-to_come _ c.turn_to_reader.ensures.reader in
-    rw old (found_still (λ fields. row_of_record c.args.number c.args.columns.now fields ≡ Ok (values_of c.read_row.new.row)) c.read_row.result _ _ c.turn_to_reader.ensures.reader c.read_row.ensures.some)
+    rw old (found_still (λ fields. row_of_record c.args.number c.args.columns.now fields ≡ Ok (values_of c.read_row.new.row)) c.read_row.result _ _ c.turn_to_reader.ensures.reader c.read_row.ensures.nonempty)
 
 pub returns-clause-readable : goal.returns-clause-readable
 returns-clause-readable c = readable_still _ _ c.read_row.result _ c.turn_to_reader.ensures.reader c.read_row.ensures.open

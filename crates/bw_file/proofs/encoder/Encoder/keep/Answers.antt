@@ -21,5 +21,5 @@ returns-clause-holds c = λ rows holds.
       kept = subst (KeepRows columns (holds.group ++ row ∷ [])) (sym (written c.keep_row.new.kept c.args.self.now.kept.items c.args.self.now.kept.len size)) (c.keep_row.ensures holds.group holds.filled given);
       filled = omega (arith, length-append holds.group (row ∷ []), holds.filled);
       count = omega (arith, length-append rows (row ∷ []), holds.count);
-      admitted = admitted_more columns rows row holds.admitted (omega (arith, holds.count, c.requires.room)) c.requires.admitted;
+      admitted = admitted_more columns rows row holds.admitted (omega (arith, holds.count, c.requires.capacity)) c.requires.admitted;
     }

@@ -20,5 +20,5 @@ returns-in_err-version-clause-fault g c =
     let p = err_from_is_err_and c.from_residual.result c.from_residual.ensures.1 in
     rw (p.1, p.2) (refused_by header _ _ _ header_own c.in_err-version.ensures.reads)
 
-pub invariant_of-result-clause-room : goal.invariant_of-result-clause-room
-invariant_of-result-clause-room g c = λ _. omega (arith, c.in_ok-version.ensures.counted, c.in_ok-version.ensures.few)
+pub invariant_of-result-clause-capacity : goal.invariant_of-result-clause-capacity
+invariant_of-result-clause-capacity g c = λ _. omega (arith, c.in_ok-version.ensures.advanced, c.in_ok-version.ensures.within_limit)

@@ -8,4 +8,4 @@ pub returns-in-Ended : goal.returns-in-Ended
 returns-in-Ended g c = ended_again (ap settled_by c.in-Ended.is) refl refl
 
 pub returns-in-Failed : goal.returns-in-Failed
-returns-in-Failed g c = refused_again c.in-Failed.fault (ap settled_by c.in-Failed.is) (c.args.self.now.own c.in-Failed.fault c.in-Failed.is) refl refl
+returns-in-Failed g c = refused_again c.in-Failed.fault (ap settled_by c.in-Failed.is) (c.args.self.now.not_reader c.in-Failed.fault c.in-Failed.is) refl refl

@@ -9,7 +9,7 @@ overflow_add-self g c = omega (arith, c.in-Ok.ensures.bound.0, length-drop 48 c.
 
 pub invariant_of-self-in-Ok-clause-within : goal.invariant_of-self-in-Ok-clause-within
 invariant_of-self-in-Ok-clause-within g c =
-    omega (arith, c.in-Ok.ensures.bound.0, length-drop 48 c.read_piece.new.memory, c.read_piece.ensures.long, c.deref_mut.ensures.len, c.args.self.now.some, ap vec_len c.in-Some.ensures.value)
+    omega (arith, c.in-Ok.ensures.bound.0, length-drop 48 c.read_piece.new.memory, c.read_piece.ensures.long, c.deref_mut.ensures.len, c.args.self.now.nonempty, ap vec_len c.in-Some.ensures.value)
 
 pub returns-in-Ok-clause-bytes : goal.returns-in-Ok-clause-bytes
 returns-in-Ok-clause-bytes g c =
@@ -25,4 +25,4 @@ returns-in-Ok-clause-ended g c = λ _ none.
     let same : (with_items c.in-Some.memory.now memory).items ≡ memory = with_items_is c.in-Some.memory.now memory (search rules) in
     nothing_read _ _ (drop 48 memory) c.in-Ok.count c.in-Ok.ensures.bound.0
     (ap (λ (l : List ℕ). slice_range l 48 (48 + c.in-Ok.count)) same ∙ piece_of memory c.in-Ok.count) none
-    (λ zero. c.in-Ok.ensures.bytes.1 zero (omega (arith, length-drop 48 memory, c.read_piece.ensures.long, c.deref_mut.ensures.len, c.args.self.now.some, ap vec_len c.in-Some.ensures.value)))
+    (λ zero. c.in-Ok.ensures.bytes.1 zero (omega (arith, length-drop 48 memory, c.read_piece.ensures.long, c.deref_mut.ensures.len, c.args.self.now.nonempty, ap vec_len c.in-Some.ensures.value)))

@@ -12,13 +12,13 @@ pub overflow_mul-number : goal.overflow_mul-number
 unfolding group_size
 overflow_mul-number g c = omega (arith, c.args.self.now.kept.some c.args.number c.requires.number)
 
-pub of_columns-requires-clause-some : goal.of_columns-requires-clause-some
+pub of_columns-requires-clause-nonempty : goal.of_columns-requires-clause-nonempty
 unfolding group_size
-of_columns-requires-clause-some g c = omega (arith, c.min-rows.ensures, c.args.self.now.kept.some c.args.number c.requires.number)
+of_columns-requires-clause-nonempty g c = omega (arith, c.min-rows.ensures, c.args.self.now.kept.some c.args.number c.requires.number)
 
-pub of_columns-requires-clause-few : goal.of_columns-requires-clause-few
+pub of_columns-requires-clause-within_limit : goal.of_columns-requires-clause-within_limit
 unfolding group_size
-of_columns-requires-clause-few g c = omega (arith, c.min-rows.ensures)
+of_columns-requires-clause-within_limit g c = omega (arith, c.min-rows.ensures)
 
 pub of_columns-requires-clause-sound : goal.of_columns-requires-clause-sound
 of_columns-requires-clause-sound g c =

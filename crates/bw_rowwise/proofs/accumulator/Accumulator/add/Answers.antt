@@ -2,8 +2,8 @@ use Rattle.std.proofs.Common.{◌^◌}
 use Rattle.bw_rowwise.proofs.TotalLemmas.{small_below, tally_append}
 use Rattle.bw_rowwise.proofs.accumulator.Accumulator.add.Goals as goal
 
-pub answer_with-requires-clause-few : goal.answer_with-requires-clause-few
-answer_with-requires-clause-few c =
+pub answer_with-requires-clause-within_limit : goal.answer_with-requires-clause-within_limit
+answer_with-requires-clause-within_limit c =
     small_below c.self.inside.rows (2 ^ 24) c.self.inside.total c.self.invariant.0 c.self.invariant.1
 
 pub returns-clause-total : goal.returns-clause-total

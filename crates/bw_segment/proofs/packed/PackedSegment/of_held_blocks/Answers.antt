@@ -12,7 +12,7 @@ invariant_of-result g c =
         law = law;
         placed = c.requires.placed;
         sound = c.requires.sound;
-        group = spelled_group packing law schema.columns.items c.args.rows bytes c.requires.few c.requires.sound schema.name c.requires.some;
+        group = spelled_group packing law schema.columns.items c.args.rows bytes c.requires.within_limit c.requires.sound schema.name c.requires.nonempty;
       };
       held = c.requires.held;
     }

@@ -3,4 +3,4 @@ use Rattle.bw_segment.proofs.PackedLemmas.{byte_tested}
 use Rattle.bw_segment.proofs.packed.PackedSegmentSegment.byte_eq.Goals as goal
 
 pub returns : goal.returns
-returns g c = c.byte_eq.ensures ∙ byte_tested c.args.self.now.packed c.args.col c.args.slice (λ byte. eqb byte c.args.c) _ c.requires.column c.requires.slice c.kept-width.ensures.lanes
+returns g c = c.byte_eq.ensures ∙ byte_tested c.args.self.now.packed c.args.col c.args.slice (λ byte. eqb byte c.args.c) _ c.requires.column c.requires.slice c.column_codes-width.ensures.lanes

@@ -9,7 +9,7 @@ use Rattle.bw_segment.proofs.packed.PackedSegmentSegment.value.Goals as goal
 
 pub value-requires-clause-code : goal.value-requires-clause-code
 value-requires-clause-code g c =
-    let code = c.code.ensures ∙ ap (λ l. get_or l c.args.row 0) c.kept-width.ensures.lanes in
+    let code = c.code.ensures ∙ ap (λ l. get_or l c.args.row 0) c.column_codes-width.ensures.lanes in
     let span = ap (λ (placement : Placement). span_at placement.schema.columns.items c.args.col) c.deref.ensures in
     omega (arith, code, span, code_within c.args.self.now.packed c.args.col c.args.row c.requires.column c.requires.row)
 
@@ -27,7 +27,7 @@ returns g c =
     let columns = segment.placement.value.schema.columns.items in
     let here = get_or (code_lanes (meaning_spelled g.L.CodeLayout.packing segment.placement.value.schema segment.rows (g.B.Blocks.bytes segment.bytes)) c.args.col) c.args.row 0 in
     let null = sym c.if-lane.false ∙ c.lane.ensures ∙ ap (λ l. get_or l c.args.row false) c.nulls.ensures in
-    let code = c.code.ensures ∙ ap (λ l. get_or l c.args.row 0) c.kept-width.ensures.lanes in
+    let code = c.code.ensures ∙ ap (λ l. get_or l c.args.row 0) c.column_codes-width.ensures.lanes in
     let value : c.value.result ≡ value_at columns c.args.col here = c.value.ensures ∙ ap₂ (λ (placement : Placement) (n : ℕ). value_at placement.schema.columns.items c.args.col n) c.deref.ensures code in
     let fits : FitsSigned w64 c.value.result = search rules in
     ap Some (to_z-of_z w64 c.value.result fits ∙ value) ∙ ap (λ b. value_held columns c.args.col b here) null ∙ row_held segment.packed c.args.col c.args.row c.requires.column c.requires.row

@@ -12,14 +12,14 @@ pub loop-line-init : goal.loop-line-init
 unfolding nothing_known
 loop-line-init c = record { told = refl }
 
-pub returns-then-not-is_kept-clause-fault : goal.returns-then-not-is_kept-clause-fault
-returns-then-not-is_kept-clause-fault c =
-    c.loop-line.invariant.told ∙ keep_refused _ _ _ _ _ _ _ _ _ c.in-Some.ensures.cases c.in-Keep.is (sym c.if-not-is_kept.ensures.kept) ∙ ap Err (sym c.at_line.ensures)
+pub returns-then-not-is_valid_keep-clause-fault : goal.returns-then-not-is_valid_keep-clause-fault
+returns-then-not-is_valid_keep-clause-fault c =
+    c.loop-line.invariant.told ∙ keep_refused _ _ _ _ _ _ _ _ _ c.in-Some.ensures.cases c.in-Keep.is (sym c.if-not-is_valid_keep.ensures.kept) ∙ ap Err (sym c.at_line.ensures)
 
 pub loop-line-preserved : goal.loop-line-preserved
 loop-line-preserved c =
     record {
-      told = c.loop-line.invariant.told ∙ keep_on _ _ _ _ _ _ _ _ _ c.in-Some.ensures.cases c.in-Keep.is (sym c.if-not-is_kept.ensures.kept)
+      told = c.loop-line.invariant.told ∙ keep_on _ _ _ _ _ _ _ _ _ c.in-Some.ensures.cases c.in-Keep.is (sym c.if-not-is_valid_keep.ensures.kept)
           ∙ ap (λ n. keeps_taken c.args.self.diagram.now c.args.known.now c.args.edges.now n (with_node c.loop-line.kept c.in-Keep.keep.register c.in-Keep.keep.node) (body_lines c.in-Some.more)) (suc-is c.in-Keep.keep.register);
     }
 

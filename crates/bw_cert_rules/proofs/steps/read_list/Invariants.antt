@@ -2,7 +2,7 @@ use Rattle.std.proofs.Common.{◌≡◌, drop}
 use Rattle.bw_cert_text.specs.BodyLines.{body_lines}
 use Rattle.bw_cert_rules.specs.declared.steps.Junction.TheVariants.{Any}
 use Rattle.bw_cert_rules.specs.Pair.{joined_parts, more_parts, equations}
-use Rattle.bw_cert_rules.proofs.steps.among.Given as goal
+use Rattle.bw_cert_rules.proofs.steps.read_list.Given as goal
 
 -- the pair so far, and what the items to come make of it
 abbrev pub invariant-loop-item : goal.invariant-loop-item

@@ -8,14 +8,14 @@ use Rattle.bw_rowwise.specs.Accumulator.{Tally, tally_of}
 use Rattle.bw_aggregate.specs.Picked.{picked_rows}
 use Rattle.bw_aggregate.proofs.ColumnLemmas.{rows_counted}
 use Rattle.bw_aggregate.proofs.PickedLemmas.{few_picked, joined_picked, none_picked, small_for_more, unpicked}
-use Rattle.bw_aggregate.proofs.picked.add_picked.Goals as goal
+use Rattle.bw_aggregate.proofs.picked.add_selected.Goals as goal
 
-pub add_total-requires-clause-room : goal.add_total-requires-clause-room
-add_total-requires-clause-room g c =
+pub add_total-requires-clause-capacity : goal.add_total-requires-clause-capacity
+add_total-requires-clause-capacity g c =
     let rows = (g.S.Segment.meaning c.args.segment.now).rows in
     let lanes = lanes_of_words c.args.selection.now in
     let number = c.count-number.ensures.ones ∙ rows_counted rows lanes c.requires.selection in
-    omega (arith, number, few_picked lanes rows, c.requires.room)
+    omega (arith, number, few_picked lanes rows, c.requires.capacity)
 
 pub add_total-requires-clause-small : goal.add_total-requires-clause-small
 add_total-requires-clause-small g c =

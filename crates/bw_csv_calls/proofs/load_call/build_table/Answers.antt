@@ -11,7 +11,7 @@ use Rattle.bw_csv.proofs.InputLemmas.{made_of_none}
 use Rattle.bw_csv_calls.specs.Arrived.{IsSchemaFrom}
 use Rattle.bw_csv_calls.specs.Load.{IsFile, file_of}
 use Rattle.bw_csv_calls.proofs.Exits.{Given, came_of, stopped_of, refused_exit, text_exit, not_reached}
-use Rattle.bw_csv_calls.proofs.load_call.loaded.Goals as goal
+use Rattle.bw_csv_calls.proofs.load_call.build_table.Goals as goal
 
 -- the schema was refused, or read
 refused_schema : (layout : Layout) (came : Arrival) (fault : Fault) → IsSchemaFrom came (Err fault) → IsFile layout came NotReached (Err fault)

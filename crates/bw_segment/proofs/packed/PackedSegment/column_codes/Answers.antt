@@ -2,7 +2,7 @@ use Rattle.std.proofs.Common.{◌∙◌, ap}
 use Rattle.bw_model.specs.Code.{width_at}
 use Rattle.bw_segment.specs.declared.placement.Placement.{Placement}
 use Rattle.bw_segment.proofs.PackedLemmas.{codes_held, codes_small, length-kept}
-use Rattle.bw_segment.proofs.packed.PackedSegment.kept.Goals as goal
+use Rattle.bw_segment.proofs.packed.PackedSegment.column_codes.Goals as goal
 
 pub returns-clause-size : goal.returns-clause-size
 returns-clause-size g c =

@@ -2,7 +2,7 @@ use Rattle.std.proofs.Common.{◌≡◌, ◌∙◌, sym, ap, length, length-drop
 use Rattle.bw_model.specs.Groups.{group_size}
 use Rattle.bw_segment.specs.BlockFault.{lanes_fault, block_fault}
 use Rattle.bw_segment.specs.Packing.{block_codes, null_size}
-use Rattle.bw_segment.proofs.judge.PackedSegment+L.judge.Goals as goal
+use Rattle.bw_segment.proofs.judge.PackedSegment+L.find_fault.Goals as goal
 
 pub returns-then-are_good : goal.returns-then-are_good
 unfolding block_fault block_codes
