@@ -8,7 +8,7 @@ use bw_model::Schema;
 use bw_program::ColumnIndex;
 
 /// A certificate has at most this many chains.
-pub(crate) const MAX_CHAINS: u32 = 65_536;
+pub(crate) const MAX_CHAINS: usize = 65_536;
 
 /// A chain: `len` bits of a column's code from bit `start` are compared with a number, or if there
 /// is a right column, the `len` low bits of both. It has the number of its node, and of the chain
@@ -45,8 +45,8 @@ impl Entry for Link {
 }
 
 impl Link {
-    /// What it compares, of so many bits, without a node.
-    fn shortened(self, len: u32) -> Self {
+    /// Returns the comparison of so many bits, without a node.
+    fn with_len(self, len: u32) -> Self {
         Link {
             len,
             bound: self.bound % (1 << len.min(63)),
@@ -114,7 +114,7 @@ pub(crate) fn chain(
 ) -> Result<Cited, Refusal> {
     let mut last: Option<Cited> = None;
     for len in 0..=whole.len.min(63) {
-        let wanted = whole.shortened(len);
+        let wanted = whole.with_len(len);
         let cited = match chains.find(wanted) {
             Some((number, link)) => Cited {
                 number,

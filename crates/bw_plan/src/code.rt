@@ -33,7 +33,7 @@ const MAX_ROWS_TO_SKIP_PARTS: usize = 10_000;
 /// The most product rows of a condition's lines if its columns have more than `MANY_BITS` bits.
 /// With more, planning and checking take longer than the row-by-row fallback takes for a small
 /// table.
-const MAX_LINE_PRODUCTS: u32 = 24_000;
+const MAX_LINE_PRODUCTS: usize = 24_000;
 
 /// The bits of seven columns of 63 bits.
 const MANY_BITS: u32 = 441;
@@ -75,7 +75,7 @@ pub(crate) struct Code<'a> {
     pub(crate) instrs: Vec<Instr>,
     /// The pairs of all lines KEEP.
     pub(crate) edges: Vec<EdgeProducts>,
-    /// The order of variables in which registers' nodes are worked out.
+    /// The order of variables by which registers' nodes are computed.
     pub(crate) order: VariableOrder,
     /// The digits of a byte of the column whose codes are compared, and those of its top byte,
     /// where they are kept.
@@ -197,8 +197,8 @@ impl<'a> Code<'a> {
         u8::try_from(number).map_err(|_| Refusal::NoProgram)
     }
 
-    /// How many instructions there is room for.
-    pub(crate) fn room(&self) -> usize {
+    /// Returns how many instructions can be added.
+    pub(crate) fn free_instructions(&self) -> usize {
         MAX_INSTRUCTIONS.saturating_sub(self.instrs.len())
     }
 
@@ -210,8 +210,8 @@ impl<'a> Code<'a> {
             .count()
     }
 
-    /// A register that isn't needed and holds a plane of this node, from now on needed.
-    fn held(&mut self, node: u32) -> Result<Option<Register>, Refusal> {
+    /// Reserves a free register that already holds this node's plane.
+    fn reserve_plane(&mut self, node: u32) -> Result<Option<Register>, Refusal> {
         self.meet()?;
         for (number, register) in self.registers.iter_mut().enumerate() {
             if !register.needed && register.is_plane && register.node == Some(node) {
@@ -243,7 +243,7 @@ impl<'a> Code<'a> {
     /// Returns a register with the plane of a column's bit.
     pub(crate) fn bit(&mut self, column: ColumnIndex, bit: u32) -> Result<Register, Refusal> {
         let node = self.facts.bit(column, bit)?;
-        if let Some(register) = self.held(node)? {
+        if let Some(register) = self.reserve_plane(node)? {
             return Ok(register);
         }
         let place = u8::try_from(bit).map_err(|_| Refusal::NoProgram)?;
@@ -259,7 +259,7 @@ impl<'a> Code<'a> {
         let Some(node) = self.facts.nulls(column)? else {
             return Ok(None);
         };
-        if let Some(register) = self.held(node)? {
+        if let Some(register) = self.reserve_plane(node)? {
             return Ok(Some(register));
         }
         let register = self.claim()?;
@@ -275,7 +275,7 @@ impl<'a> Code<'a> {
             return Ok(None);
         };
         let values = self.facts.row(self.order, Connective::Diff, 1, nulls)?;
-        if let Some(register) = self.held(values.node)? {
+        if let Some(register) = self.reserve_plane(values.node)? {
             return Ok(Some(register));
         }
         let Some(register) = self.nulls(column)? else {
@@ -297,7 +297,7 @@ impl<'a> Code<'a> {
         let start = u32::from(slice) * 8;
         let len = self.facts.width(column).saturating_sub(start).min(8);
         let cited = self.facts.bound(kind, column, start, len, u64::from(byte))?;
-        if let Some(register) = self.held(cited.node)? {
+        if let Some(register) = self.reserve_plane(cited.node)? {
             return Ok(register);
         }
         self.looks = self.looks.saturating_add(1);
@@ -337,8 +337,8 @@ impl<'a> Code<'a> {
         Ok(())
     }
 
-    /// A new register, which is made a connective of two.
-    pub(crate) fn joined(
+    /// Returns a new register with a connective of two.
+    pub(crate) fn emit_connective(
         &mut self,
         op: Connective,
         left: Register,
@@ -372,15 +372,15 @@ impl<'a> Code<'a> {
         Ok(())
     }
 
-    /// A new register, which is made the opposite of one.
-    pub(crate) fn opposite(&mut self, from: Register) -> Result<Register, Refusal> {
+    /// Returns a new register with the opposite of one.
+    pub(crate) fn emit_opposite(&mut self, from: Register) -> Result<Register, Refusal> {
         let register = self.claim()?;
         self.oppose(register, from)?;
         Ok(register)
     }
 
-    /// How many skips are still to meet, apart from those that meet here.
-    pub(crate) fn waiting(&mut self) -> Result<usize, Refusal> {
+    /// Returns how many skips have no target yet, after those that meet here.
+    pub(crate) fn open_skips(&mut self) -> Result<usize, Refusal> {
         self.meet()?;
         Ok(self.skips.len())
     }

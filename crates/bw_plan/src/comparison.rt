@@ -24,7 +24,7 @@ pub(crate) struct ColumnComparison {
     pub(crate) left: ColumnIndex,
     pub(crate) right: ColumnIndex,
     pub(crate) negated: bool,
-    /// The columns as they stand in the condition.
+    /// The columns in the condition's order.
     pub(crate) columns: [ColumnIndex; 2],
 }
 

@@ -85,7 +85,7 @@ impl Code<'_> {
         let high = self.two_bits(column, start.saturating_add(2))?;
         let mut made = [0; 16];
         for (number, slot) in made.iter_mut().enumerate() {
-            *slot = self.joined(Connective::And, high[number / 4], low[number % 4])?;
+            *slot = self.emit_connective(Connective::And, high[number / 4], low[number % 4])?;
         }
         for register in low.iter().chain(high.iter()) {
             self.release(*register);
@@ -97,11 +97,11 @@ impl Code<'_> {
     fn two_bits(&mut self, column: ColumnIndex, start: u32) -> Result<[Register; 4], Refusal> {
         let low = self.bit(column, start)?;
         let high = self.bit(column, start.saturating_add(1))?;
-        let none = self.joined(Connective::Or, low, high)?;
+        let none = self.emit_connective(Connective::Or, low, high)?;
         self.oppose(none, none)?;
-        let both = self.joined(Connective::And, low, high)?;
-        let first = self.joined(Connective::Xor, low, both)?;
-        let second = self.joined(Connective::Xor, high, both)?;
+        let both = self.emit_connective(Connective::And, low, high)?;
+        let first = self.emit_connective(Connective::Xor, low, both)?;
+        let second = self.emit_connective(Connective::Xor, high, both)?;
         self.release(low);
         self.release(high);
         Ok([none, first, second, both])
@@ -126,9 +126,9 @@ impl Code<'_> {
         self.top_digit = None;
     }
 
-    /// A register that is 1 where a byte is a number, and so is a mask, if there is one. `before`
-    /// is kept from number to number, in their order, and let go after them.
-    pub(crate) fn same_byte(
+    /// Returns a register that is 1 where a byte is a number, and a mask is 1 if there is one.
+    /// `before` is passed from number to number, in order, and released after them.
+    pub(crate) fn match_byte(
         &mut self,
         column: ColumnIndex,
         slice: SliceIndex,
@@ -137,7 +137,7 @@ impl Code<'_> {
         before: &mut Option<Upper>,
     ) -> Result<Register, Refusal> {
         if let Some(digits) = self.digits_of(slice) {
-            return self.same_digits(digits, byte, mask, before);
+            return self.match_digits(digits, byte, mask, before);
         }
         let same = self.byte(ChainKind::Equal, column, slice, byte)?;
         if let Some(mask) = mask {
@@ -152,8 +152,8 @@ impl Code<'_> {
         top.or(self.digits.filter(|digits| digits.slice == slice))
     }
 
-    /// The same by the digits of the byte.
-    fn same_digits(
+    /// Returns the same register by the digits of the byte.
+    fn match_digits(
         &mut self,
         digits: Digits,
         byte: u8,
@@ -164,13 +164,13 @@ impl Code<'_> {
         let upper = digits.upper.map(|upper| upper[usize::from(byte >> 4)]);
         let (Some(mask), Some(upper)) = (mask, upper) else {
             let other = mask.or(upper).unwrap_or(lower);
-            return self.joined(Connective::And, lower, other);
+            return self.emit_connective(Connective::And, lower, other);
         };
         let register = match *before {
             Some(known) if known.digit == byte >> 4 => known.register,
             _ => {
-                self.let_go(*before);
-                let register = self.joined(Connective::And, upper, mask)?;
+                self.release_upper(*before);
+                let register = self.emit_connective(Connective::And, upper, mask)?;
                 *before = Some(Upper {
                     digit: byte >> 4,
                     register,
@@ -178,11 +178,11 @@ impl Code<'_> {
                 register
             }
         };
-        self.joined(Connective::And, register, lower)
+        self.emit_connective(Connective::And, register, lower)
     }
 
-    /// Lets the register of an upper digit go.
-    pub(crate) fn let_go(&mut self, before: Option<Upper>) {
+    /// Releases the register of an upper digit.
+    pub(crate) fn release_upper(&mut self, before: Option<Upper>) {
         if let Some(upper) = before {
             self.release(upper.register);
         }

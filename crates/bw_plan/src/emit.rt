@@ -171,7 +171,8 @@ fn chain_lines(
     chains: &Ledger<Link>,
     first: u64,
 ) -> Result<Vec<ChainLine>, Refusal>
-    ensures { IfOk result (λ lines. IsTrue (are_chains_named schema.now.columns.items lines.items)) }
+    ensures { IfOk result
+        (λ lines. IsTrue (are_chains_named schema.now.columns.items lines.items)) }
 {
     let mut lines = Vec::with_capacity(alloc, chains.len())?;
     for number in 0..chains.len() {

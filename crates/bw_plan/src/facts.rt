@@ -78,7 +78,7 @@ impl<'a> Facts<'a> {
     }
 
     /// Sets the limit of product rows.
-    pub(crate) fn limit_products(&mut self, limit: u32) {
+    pub(crate) fn limit_products(&mut self, limit: usize) {
         self.products.set_limit(limit);
     }
 

@@ -1,4 +1,4 @@
-//! How many facts the parts of a condition take, foretold before all are joined.
+//! A forecast of how many facts the parts of a condition take, before all are joined.
 use crate::facts::{Extent, Facts};
 use crate::nodes::MAX_NODES;
 use crate::refusal::Refusal;
@@ -52,8 +52,8 @@ impl Growth {
         let limit = facts.products().limit();
         if now.products.saturating_sub(self.start.products) >= limit / FIRST_ROWS {
             let early = self.early.extent;
-            let nodes = self.foretold(early.nodes, now.nodes);
-            let rows = self.foretold(early.products, now.products);
+            let nodes = self.forecast(early.nodes, now.nodes);
+            let rows = self.forecast(early.products, now.products);
             if nodes > MAX_NODES || rows > limit {
                 return Err(Refusal::NoProgram);
             }
@@ -68,9 +68,9 @@ impl Growth {
         Ok(())
     }
 
-    /// How many there will be once all parts are joined, if there are so many now and were so many
-    /// early.
-    fn foretold(&self, early: usize, now: usize) -> usize {
+    /// Returns how many there will be when all parts are joined, from how many there are now and
+    /// were early.
+    fn forecast(&self, early: usize, now: usize) -> usize {
         let parts = self.joined.saturating_sub(self.early.joined).max(1);
         let each = now.saturating_sub(early) / parts;
         let left = self.parts.saturating_sub(self.joined);

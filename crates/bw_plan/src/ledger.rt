@@ -27,7 +27,7 @@ pub(crate) struct Ledger<T: Entry> {
     /// For each hash the number of the last entry that has it, from 1 on, or 0; a power of two of
     /// them.
     last: Vec<u32>,
-    limit: u32,
+    limit: usize,
 }
 
 /// The number of hashes at first.
@@ -35,7 +35,7 @@ const FEWEST_HASHES: usize = 256;
 
 impl<T: Entry> Ledger<T> {
     /// Returns no entries, of which there may be so many.
-    pub(crate) fn new(alloc: Global, limit: u32) -> Self {
+    pub(crate) fn new(alloc: Global, limit: usize) -> Self {
         Ledger {
             slots: Vec::new(alloc),
             last: Vec::new(alloc),
@@ -44,13 +44,13 @@ impl<T: Entry> Ledger<T> {
     }
 
     /// Sets how many there may be.
-    pub(crate) fn set_limit(&mut self, limit: u32) {
+    pub(crate) fn set_limit(&mut self, limit: usize) {
         self.limit = limit;
     }
 
     /// Returns how many there may be.
     pub(crate) fn limit(&self) -> usize {
-        self.limit as usize
+        self.limit
     }
 
     /// Returns how many there are.
@@ -82,10 +82,10 @@ impl<T: Entry> Ledger<T> {
     ///
     /// Errors: `NoProgram` past the limit.
     pub(crate) fn push(&mut self, entry: T) -> Result<u32, Refusal> {
-        let number = u32::try_from(self.slots.len()).unwrap_or(u32::MAX);
-        if number >= self.limit {
+        if self.slots.len() >= self.limit {
             return Err(Refusal::NoProgram);
         }
+        let number = u32::try_from(self.slots.len()).map_err(|_| Refusal::NoProgram)?;
         if self.slots.len() >= self.last.len() {
             self.spread()?;
         }
@@ -93,7 +93,7 @@ impl<T: Entry> Ledger<T> {
         let mut before = 0;
         if let Some(last) = self.last.get_mut(at) {
             before = *last;
-            *last = number + 1;
+            *last = number.saturating_add(1);
         }
         self.slots.push(Slot { entry, before })?;
         Ok(number)

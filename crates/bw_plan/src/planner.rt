@@ -8,10 +8,11 @@ ghost use Rattle.bw_plan.specs.Refused.{IsRefusal};
 
 use crate::code::Code;
 use crate::emit;
+use crate::expand::expand;
 use crate::facts::Facts;
 use crate::order::VariableOrder;
 use crate::refusal::Refusal;
-use crate::truths::Wanted;
+use crate::truth_pair::TruthPair;
 use bw_cert_text::Certificate;
 use bw_diagram::Connective;
 use bw_model::{Cond, Fault, Schema};
@@ -40,23 +41,33 @@ pub fn propose(alloc: Global, schema: &Schema, cond: &Cond) -> Result<Proposal, 
         IsTrue (has_columns schema.now.columns.items (certificate_fields proposal.certificate))) }
     ensures fault { IfErr result IsRefusal }
 {
-    match planned(alloc, schema, cond) {
+    match plan(alloc, schema, cond) {
         Ok(proposal) => Ok(proposal),
         Err(refusal) => Err(refusal.fault()),
     }
 }
 
-/// A program for a condition: with skips, or if that isn't to be had, without, when it takes fewer
-/// instructions and nodes.
-fn planned(alloc: Global, schema: &Schema, cond: &Cond) -> Result<Proposal, Refusal>
+/// Returns a program for a condition, and its certificate.
+fn plan(alloc: Global, schema: &Schema, cond: &Cond) -> Result<Proposal, Refusal>
     ensures program { IfOk result (λ proposal.
         IsTrue (fits schema.now.columns.items proposal.program)) }
     ensures certificate { IfOk result (λ proposal.
         IsTrue (has_columns schema.now.columns.items (certificate_fields proposal.certificate))) }
 {
-    let mut code = Code::new(alloc, Facts::new(alloc, schema, cond)?);
+    let facts = Facts::new(alloc, schema, cond)?;
+    let expanded = expand(&facts, cond)?;
+    proposal_of(schema, &expanded, Code::new(alloc, facts))
+}
+
+/// Returns a program for a condition without BETWEEN and IN, and its certificate.
+fn proposal_of(schema: &Schema, cond: &Cond, mut code: Code<'_>) -> Result<Proposal, Refusal>
+    ensures program { IfOk result (λ proposal.
+        IsTrue (fits schema.now.columns.items proposal.program)) }
+    ensures certificate { IfOk result (λ proposal.
+        IsTrue (has_columns schema.now.columns.items (certificate_fields proposal.certificate))) }
+{
     let (program, row) = program_of(schema, cond, &mut code)?;
-    match certified(schema, code, row) {
+    match certificate_of(schema, code, row) {
         Ok(certificate) => Ok(Proposal {
             program,
             certificate,
@@ -70,17 +81,18 @@ fn program_of(schema: &Schema, cond: &Cond, code: &mut Code<'_>) -> Result<(Prog
     ensures { IfOk result (λ made. IsTrue (fits schema.now.columns.items made.0)) }
 {
     let node = code.begin(cond)?;
-    match programmed(schema, cond, node, code) {
+    match emit_program(schema, cond, node, code) {
         Err(Refusal::NoProgram) => {
             code.begin_again();
-            programmed(schema, cond, node, code)
+            emit_program(schema, cond, node, code)
         }
         made => made,
     }
 }
 
-/// The program of a condition that has this node, and the row that says that its answer has it too.
-fn programmed(
+/// Returns the program of a condition that has this node, and the row that proves that its result
+/// has it too.
+fn emit_program(
     schema: &Schema,
     cond: &Cond,
     node: u32,
@@ -88,14 +100,14 @@ fn programmed(
 ) -> Result<(Program, u32), Refusal>
     ensures { IfOk result (λ made. IsTrue (fits schema.now.columns.items made.0)) }
 {
-    let answer = written(code, cond)?;
-    let row = agreeing(code, answer, node)?;
+    let answer = emit_condition(code, cond)?;
+    let row = agreement_row(code, answer, node)?;
     let program = emit::program(code.alloc, schema, &code.instrs, answer)?;
     Ok((program, row))
 }
 
-/// The row that says that a register holds a node.
-fn agreeing(code: &mut Code<'_>, register: Register, wanted: u32) -> Result<u32, Refusal> {
+/// Returns the row that proves that a register has a node.
+fn agreement_row(code: &mut Code<'_>, register: Register, wanted: u32) -> Result<u32, Refusal> {
     let node = code.node(register)?;
     let row = code
         .facts
@@ -107,9 +119,9 @@ fn agreeing(code: &mut Code<'_>, register: Register, wanted: u32) -> Result<u32,
     }
 }
 
-/// The certificate of the instructions, after as many lines as their program has, with the row that
-/// ends it.
-fn certified(schema: &Schema, code: Code<'_>, row: u32) -> Result<Certificate, Refusal>
+/// Returns the certificate of the instructions. Its lines come after those of the program, and
+/// `row` ends it.
+fn certificate_of(schema: &Schema, code: Code<'_>, row: u32) -> Result<Certificate, Refusal>
     ensures { IfOk result (λ certificate.
         IsTrue (has_columns schema.now.columns.items (certificate_fields certificate))) }
 {
@@ -125,9 +137,9 @@ fn certified(schema: &Schema, code: Code<'_>, row: u32) -> Result<Certificate, R
     emit::certificate(alloc, schema, &facts, &lines, &edges, row, before)
 }
 
-/// Writes the instructions of a condition, and gives the result register.
-fn written(code: &mut Code<'_>, cond: &Cond) -> Result<Register, Refusal> {
-    let wanted = Wanted {
+/// Appends the instructions of a condition, and returns the result register.
+fn emit_condition(code: &mut Code<'_>, cond: &Cond) -> Result<Register, Refusal> {
+    let wanted = TruthPair {
         yes: true,
         no: false,
     };
@@ -135,7 +147,7 @@ fn written(code: &mut Code<'_>, cond: &Cond) -> Result<Register, Refusal> {
     let answer = made.yes.ok_or(Refusal::NoProgram)?;
     code.meet()?;
     if !code.has_skips_from(0) {
-        let first = code.waiting()?;
+        let first = code.open_skips()?;
         code.skip(answer)?;
         code.meet_from(first);
         code.meet()?;

@@ -7,7 +7,7 @@ use bw_diagram::Connective;
 
 /// The planner's limit of product rows. A certificate may have more, but computing them takes
 /// longer than the row-by-row fallback takes for a small table.
-pub(crate) const MAX_PRODUCTS: u32 = 80_000;
+pub(crate) const MAX_PRODUCTS: usize = 80_000;
 
 /// More steps than the most rows take: each is begun, continued twice, and requested at most twice.
 const MAX_STEPS: u32 = 1_000_000;

@@ -25,10 +25,13 @@ struct Tops {
 }
 
 impl Code<'_> {
-    /// A register that is 1 where the code of a column is less than (equal to) that of another.
-    /// Their top bits are compared from the top down, with skips to where this ends if no row has
-    /// them equal so far, and the bits below from the lowest one up.
-    pub(crate) fn relation(&mut self, relation: ColumnComparison) -> Result<Register, Refusal> {
+    /// Returns a register that is 1 where the code of a column is less than (equal to) that of
+    /// another. Their top bits are compared from the top down, with skips to the end if no row has
+    /// them equal so far, and the bits below from the lowest up.
+    pub(crate) fn compare_columns(
+        &mut self,
+        relation: ColumnComparison,
+    ) -> Result<Register, Refusal> {
         let left = self.facts.width(relation.left);
         let bits = left.max(self.facts.width(relation.right));
         let low = bits.saturating_sub(self.skipped_bits());
@@ -93,7 +96,7 @@ impl Code<'_> {
         let Bits { differs, below } = self.bits(relation, bit)?;
         if let (Some(less), Some(below)) = (less, below) {
             let below = if below == differs {
-                self.copied(differs)?
+                self.copy(differs)?
             } else {
                 self.join(Connective::And, below, below, differs)?;
                 below

@@ -3,7 +3,7 @@ use crate::code::Code;
 use crate::digits::Upper;
 use crate::refusal::Refusal;
 use crate::sets::{
-    byte_of, first_group, going_on, groups_from, is_rare, is_soon_done, most_instructions,
+    byte_of, first_group, groups_from, is_rare, is_soon_done, most_instructions, open_bounds,
 };
 use bw_diagram::{ChainKind, Connective};
 use bw_program::{ColumnIndex, Register, SliceIndex};
@@ -28,7 +28,7 @@ impl Code<'_> {
             _ => {
                 self.split_bytes(column, bounds)?;
                 self.has_few_skips = most_instructions(bounds, top, self.split_slice())
-                    > self.room();
+                    > self.free_instructions();
                 let made = self.within(column, top, bounds, None, None)?;
                 self.forget_digits();
                 Ok(made)
@@ -43,7 +43,7 @@ impl Code<'_> {
         top: SliceIndex,
         code: u64,
     ) -> Result<Register, Refusal> {
-        let first = self.waiting()?;
+        let first = self.open_skips()?;
         let same = self.byte(ChainKind::Equal, column, top, byte_of(code, top))?;
         for slice in (0..top).rev() {
             self.skip(same)?;
@@ -68,7 +68,7 @@ impl Code<'_> {
     ) -> Result<Register, Refusal> {
         let here = self.bytes(column, slice, bounds)?;
         let masked = if out.is_some() { mask } else { None };
-        let mut out = self.added(here, masked, out)?;
+        let mut out = self.toggle_lanes(here, masked, out)?;
         if slice > 0 {
             let mut rest = bounds;
             let mut before = None;
@@ -77,7 +77,7 @@ impl Code<'_> {
                 out = self.below(column, slice, group, mask, out, &mut before)?;
                 rest = others;
             }
-            self.let_go(before);
+            self.release_upper(before);
         }
         match out {
             Some(register) => Ok(register),
@@ -97,15 +97,15 @@ impl Code<'_> {
         out: Option<Register>,
         before: &mut Option<Upper>,
     ) -> Result<Option<Register>, Refusal> {
-        let inner = going_on(group, slice);
+        let inner = open_bounds(group, slice);
         let Some(byte) = inner.first().map(|bound| byte_of(*bound, slice)) else {
             return Ok(out);
         };
         if slice == 0 {
             return Ok(out);
         }
-        let first = self.waiting()?;
-        let same = self.same_byte(column, slice, byte, mask, before)?;
+        let first = self.open_skips()?;
+        let same = self.match_byte(column, slice, byte, mask, before)?;
         if !(self.has_few_skips && is_soon_done(inner, slice)) {
             self.skip(same)?;
         }
@@ -171,13 +171,13 @@ impl Code<'_> {
             }
             before = match before {
                 Some(last) if last.checked_add(1) == Some(byte) => {
-                    let next = self.same_byte(column, slice, last, None, &mut upper)?;
-                    made = self.added(Some(next), None, made)?;
+                    let next = self.match_byte(column, slice, last, None, &mut upper)?;
+                    made = self.toggle_lanes(Some(next), None, made)?;
                     None
                 }
                 Some(last) => {
                     let next = self.byte(ChainKind::Less, column, slice, last)?;
-                    made = self.added(Some(next), None, made)?;
+                    made = self.toggle_lanes(Some(next), None, made)?;
                     Some(byte)
                 }
                 None => Some(byte),
@@ -186,15 +186,15 @@ impl Code<'_> {
         match before {
             Some(last) => {
                 let next = self.byte(ChainKind::Less, column, slice, last)?;
-                self.added(Some(next), None, made)
+                self.toggle_lanes(Some(next), None, made)
             }
             None => Ok(made),
         }
     }
 
-    /// A register, `out` if there is one, with the lanes turned round that are 1 in another and in
-    /// `mask`.
-    fn added(
+    /// Returns a register, `out` if there is one, with the lanes toggled that are 1 in another and
+    /// in `mask`.
+    fn toggle_lanes(
         &mut self,
         next: Option<Register>,
         mask: Option<Register>,

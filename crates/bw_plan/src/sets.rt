@@ -1,142 +1,175 @@
 //! Sets of a column's codes.
-use crate::comparison::LiteralComparison;
+use crate::comparison::{Comparison, LiteralComparison, compare};
 use crate::facts::Facts;
 use crate::refusal::Refusal;
 use bw_diagram::ChainKind;
-use bw_model::Operand;
+use bw_model::{Cond, Operand};
 use bw_program::{ColumnIndex, SliceIndex};
 use std::alloc::Global;
 
-/// A set of numbers of so many bits: those with an odd number of bounds above them, or, where it is
-/// inverted, with an even number.
+/// A set that takes more instructions is long.
+const FEW_INSTRUCTIONS: usize = 1200;
+
+/// A set of a column's codes: those with an odd number of bounds above them, or if it is inverted,
+/// with an even number. The bounds are sorted and different, and no code is above all of them or
+/// below 1.
 #[derive(Drop)]
 pub(crate) struct Set {
+    pub(crate) column: ColumnIndex,
     pub(crate) bounds: Vec<u64>,
     pub(crate) inverted: bool,
-    width: u32,
+}
+
+/// The bounds of some sets, and how many of the sets contain code 0.
+#[derive(Drop)]
+struct Union {
+    /// Each bound, doubled, plus 1 if its set contains the codes from there on.
+    bounds: Vec<u64>,
+    zeros: usize,
+}
+
+impl Union {
+    /// Adds a set, or its opposite.
+    fn add(&mut self, set: &Set, negated: bool) -> Result<(), Refusal> {
+        let mut inside = (set.bounds.len() % 2 == 1) != (set.inverted != negated);
+        self.zeros = self.zeros.saturating_add(usize::from(inside));
+        for bound in set.bounds.iter() {
+            inside = !inside;
+            self.bounds.push(*bound << 1 | u64::from(inside))?;
+        }
+        Ok(())
+    }
+
+    /// Returns the codes of a column that any of the sets contains.
+    fn set(mut self, alloc: Global, column: ColumnIndex) -> Result<Set, Refusal> {
+        self.bounds.sort_unstable();
+        let mut bounds: Vec<u64> = Vec::new(alloc);
+        let mut depth = self.zeros;
+        for bound in self.bounds.iter() {
+            let before = depth > 0;
+            depth = if bound & 1 == 1 {
+                depth.saturating_add(1)
+            } else {
+                depth.saturating_sub(1)
+            };
+            if before == (depth > 0) {
+                continue;
+            }
+            if bounds.last().copied() == Some(bound >> 1) {
+                bounds.pop();
+            } else {
+                bounds.push(bound >> 1)?;
+            }
+        }
+        Ok(Set {
+            column,
+            bounds,
+            inverted: depth > 0,
+        })
+    }
 }
 
 impl Set {
-    /// The empty set.
-    fn new(alloc: Global, width: u32) -> Self {
-        Set {
-            bounds: Vec::new(alloc),
-            inverted: false,
-            width,
-        }
-    }
-
-    /// Puts the numbers below a limit in where they aren't, and takes them out where they are.
-    fn toggle(&mut self, limit: i128) -> Result<(), Refusal> {
-        if limit >= 1 << self.width.min(63) {
-            self.inverted = !self.inverted;
-        } else if let Ok(limit) = u64::try_from(limit) {
-            self.bounds.push(limit)?;
-        }
-        Ok(())
-    }
-
-    /// Puts the numbers in from one on and below another.
-    fn add(&mut self, from: i128, below: i128) -> Result<(), Refusal> {
-        if from < below {
-            self.toggle(from)?;
-            self.toggle(below)?;
-        }
-        Ok(())
-    }
-
-    /// The set of a comparison with a number.
-    pub(crate) fn of(alloc: Global, width: u32, bound: LiteralComparison) -> Result<Self, Refusal> {
-        let mut set = Set::new(alloc, width);
-        match bound.kind {
-            ChainKind::Less => set.add(0, bound.limit)?,
-            ChainKind::Equal => set.add(bound.limit, bound.limit.saturating_add(1))?,
-        }
-        set.finish();
-        set.inverted ^= bound.negated;
-        Ok(set)
-    }
-
-    /// About how many instructions tell its numbers.
-    pub(crate) fn instructions(&self) -> usize {
-        let top = self.width.saturating_sub(1) / 8;
-        most_instructions(&self.bounds, top.min(7) as u8, None)
-    }
-
-    /// The set of the literals of a list with which a column is compared, if there are some.
-    pub(crate) fn listed(
-        facts: &Facts<'_>,
-        x: Operand,
-        items: &[Operand],
-    ) -> Result<Option<(ColumnIndex, Self)>, Refusal> {
-        let Operand::Col(column) = x else {
-            return Ok(None);
+    /// Returns the codes that a comparison with a literal is true of.
+    fn of_comparison(facts: &Facts<'_>, compared: LiteralComparison) -> Result<Self, Refusal> {
+        let limits = match compared.kind {
+            ChainKind::Less => [0, compared.limit],
+            ChainKind::Equal => [compared.limit, compared.limit.saturating_add(1)],
         };
-        let column = facts.column(column)?;
-        let codes = literal_codes(facts.alloc, items, facts.lo(column)?)?;
-        if codes.is_empty() {
-            return Ok(None);
-        }
-        match Set::of_codes(facts.alloc, facts.width(column), &codes) {
-            Ok(set) => Ok(Some((column, set))),
-            Err(refusal) => Err(refusal),
-        }
-    }
-
-    /// The set of some codes in order.
-    fn of_codes(alloc: Global, width: u32, codes: &[i128]) -> Result<Self, Refusal> {
-        let mut set = Set::new(alloc, width);
-        let mut last = None;
-        for code in codes {
-            if last != Some(*code) && *code >= 0 {
-                set.add(*code, code.saturating_add(1))?;
+        let mut set = Set {
+            column: compared.column,
+            bounds: Vec::new(facts.alloc),
+            inverted: compared.negated,
+        };
+        for limit in limits {
+            if limit >= 1 << facts.width(set.column).min(63) {
+                set.inverted = !set.inverted;
+            } else if let Ok(limit) = u64::try_from(limit.max(0)) {
+                if limit > 0 {
+                    set.bounds.push(limit)?;
+                }
             }
-            last = Some(*code);
         }
-        set.finish();
         Ok(set)
     }
 
-    /// The set of the codes from one on and up to another.
-    pub(crate) fn range(alloc: Global, width: u32, from: i128, to: i128) -> Result<Self, Refusal> {
-        let mut set = Set::new(alloc, width);
-        set.add(from.max(0), to.saturating_add(1))?;
-        set.finish();
-        Ok(set)
-    }
-
-    /// Sorts the bounds, and drops those that stand twice, which cancel.
-    fn finish(&mut self) {
-        self.bounds.sort_unstable();
-        let mut kept = 0;
-        for at in 0..self.bounds.len() {
-            let Some(bound) = self.bounds.get(at).copied() else {
-                break;
-            };
-            if bound == 0 {
-                continue;
-            }
-            if kept > 0 && self.bounds.get(kept - 1).copied() == Some(bound) {
-                kept -= 1;
-            } else if let Some(slot) = self.bounds.get_mut(kept) {
-                *slot = bound;
-                kept += 1;
-            }
-        }
-        self.bounds.truncate(kept);
+    /// Returns whether it takes many instructions to test its codes.
+    pub(crate) fn is_long(&self, facts: &Facts<'_>) -> bool {
+        let top = facts.width(self.column).saturating_sub(1) / 8;
+        most_instructions(&self.bounds, top.min(7) as u8, None) > FEW_INSTRUCTIONS
     }
 }
 
-/// How far the literals of a list are above a column's least value, in order.
-fn literal_codes(alloc: Global, items: &[Operand], lo: i64) -> Result<Vec<i128>, Refusal> {
-    let mut codes = Vec::new(alloc);
-    for item in items {
-        if let Operand::Lit(n) = *item {
-            codes.push(i128::from(n) - i128::from(lo))?;
+/// Returns the column that a condition compares with literals, if it does nothing else.
+#[cycle(column)]
+pub(crate) fn column_of(cond: &Cond) -> Option<usize> {
+    match cond {
+        Cond::Cmp(_, x, y) => match (*x, *y) {
+            (Operand::Col(column), Operand::Lit(_)) | (Operand::Lit(_), Operand::Col(column)) => {
+                Some(column)
+            }
+            _ => None,
+        },
+        Cond::And(parts) | Cond::Or(parts) => column_of_all(parts),
+        Cond::Not(part) => column_of(part),
+        _ => None,
+    }
+}
+
+/// Returns the column that all of some parts compare with literals.
+#[cycle(column)]
+fn column_of_all(parts: &[Cond]) -> Option<usize> {
+    let (first, others) = parts.split_first()?;
+    let column = column_of(first)?;
+    for part in others {
+        if column_of(part) != Some(column) {
+            return None;
         }
     }
-    codes.sort_unstable();
-    Ok(codes)
+    Some(column)
+}
+
+/// Returns the set of a condition that only compares this column with literals.
+#[cycle(set)]
+pub(crate) fn set_within(facts: &Facts<'_>, column: usize, cond: &Cond) -> Result<Set, Refusal> {
+    match cond {
+        Cond::Cmp(op, x, y) => match compare(facts, *op, *x, *y)? {
+            Comparison::Literal(compared) => Set::of_comparison(facts, compared),
+            _ => Err(Refusal::NoProgram),
+        },
+        Cond::And(parts) => joined_set(facts, column, false, parts),
+        Cond::Or(parts) => joined_set(facts, column, true, parts),
+        Cond::Not(part) => {
+            let mut set = set_within(facts, column, part)?;
+            set.inverted = !set.inverted;
+            Ok(set)
+        }
+        _ => Err(Refusal::NoProgram),
+    }
+}
+
+/// Returns the set of the parts of an OR, or else of an AND, that only compare this column with
+/// literals.
+#[cycle(set)]
+pub(crate) fn joined_set(
+    facts: &Facts<'_>,
+    column: usize,
+    any: bool,
+    parts: &[Cond],
+) -> Result<Set, Refusal> {
+    let mut union = Union {
+        bounds: Vec::new(facts.alloc),
+        zeros: 0,
+    };
+    for part in parts {
+        if column_of(part) == Some(column) {
+            let set = set_within(facts, column, part)?;
+            union.add(&set, !any)?;
+        }
+    }
+    let mut set = union.set(facts.alloc, facts.column(column)?)?;
+    set.inverted ^= !any;
+    Ok(set)
 }
 
 /// Returns a byte of a number.
@@ -205,8 +238,8 @@ pub(crate) fn is_soon_done(inner: &[u64], slice: SliceIndex) -> bool {
     slice == 1 && inner.len() <= 2
 }
 
-/// The bounds of a group that go on below a byte.
-pub(crate) fn going_on(group: &[u64], slice: SliceIndex) -> &[u64] {
+/// Returns the bounds of a group that go on below a byte.
+pub(crate) fn open_bounds(group: &[u64], slice: SliceIndex) -> &[u64] {
     match group {
         [first, rest @ ..] if below(*first, slice) == 0 => rest,
         _ => group,

@@ -4,52 +4,21 @@ use crate::facts::Facts;
 use crate::growth::Growth;
 use crate::line::PlannedLine;
 use crate::order::VariableOrder;
+use crate::products::Cited;
 use crate::refusal::Refusal;
-use crate::sets::Set;
+use crate::truth_pair::{TruthPair, of_truth};
 use bw_cert_text::ConditionEntry;
 use bw_diagram::Connective;
 use bw_model::{Cond, Op, Operand, Truth};
 use bw_program::ColumnIndex;
 
-/// A list has so many items at most: to plan a longer one takes longer than to look up the rows of
-/// a table that isn't very large.
-const MAX_LIST: usize = 400;
+/// The numbers of a condition's nodes.
+pub(crate) type TruthNodes = TruthPair<u32>;
 
-/// A list whose literals take more instructions takes so many product rows at most. With more it
-/// takes longer to plan the list and to scan a million rows for it than to look it up in each of
-/// them.
-const LONG_LIST: usize = 1200;
-
-const MAX_LONG_LIST_PRODUCTS: usize = 4000;
-
-/// The numbers of a condition's nodes: where it is TRUE, and where it is FALSE.
-#[derive(Clone, Copy)]
-pub(crate) struct TruthNodes {
-    pub(crate) yes: u32,
-    pub(crate) no: u32,
-}
-
-impl TruthNodes {
-    /// Those of a step with one truth on every row.
-    fn constant(truth: Truth) -> Self {
-        TruthNodes {
-            yes: u32::from(truth == Truth::Yes),
-            no: u32::from(truth == Truth::No),
-        }
-    }
-
-    /// Those of the opposite condition.
-    fn exchanged(self) -> Self {
-        TruthNodes {
-            yes: self.no,
-            no: self.yes,
-        }
-    }
-}
-
-/// The nodes of a condition, with the lines of its steps appended, operands first. Refused are, as
-/// `NoProgram`, AND, OR and IN of nothing, what [`compare`] refuses, and what would pass a limit of
-/// the facts.
+/// Returns the nodes of a condition, and appends the lines of its steps, operands first.
+///
+/// Errors: `NoProgram` for AND and OR of nothing, for BETWEEN and IN, for what [`compare`] rejects,
+/// and if a limit of the facts would be passed.
 #[cycle(steps)]
 pub(crate) fn steps_of(
     facts: &mut Facts<'_>,
@@ -58,31 +27,26 @@ pub(crate) fn steps_of(
 ) -> Result<TruthNodes, Refusal> {
     match cond {
         Cond::Always => constant(lines, Truth::Yes),
-        Cond::Cmp(op, x, y) => compared(facts, lines, *op, *x, *y),
-        Cond::Between(x, y, z) => {
-            let lower = compared(facts, lines, Op::Ge, *x, *y)?;
-            let upper = compared(facts, lines, Op::Le, *x, *z)?;
-            joined(facts, lines, false, lower, upper)
-        }
-        Cond::Among(x, items) => among(facts, lines, *x, items),
-        Cond::IsNull(x) => null_tested(facts, lines, *x),
-        Cond::And(parts) => all_joined(facts, lines, false, parts),
-        Cond::Or(parts) => all_joined(facts, lines, true, parts),
+        Cond::Cmp(op, x, y) => comparison(facts, lines, *op, *x, *y),
+        Cond::IsNull(x) => null_test(facts, lines, *x),
+        Cond::And(parts) => joined_steps(facts, lines, false, parts),
+        Cond::Or(parts) => joined_steps(facts, lines, true, parts),
         Cond::Not(part) => {
             let made = steps_of(facts, lines, part)?;
             put(lines, ConditionEntry::Not)?;
-            Ok(made.exchanged())
+            Ok(made.swapped_if(true))
         }
-        Cond::Test(part, wanted) => {
+        Cond::Test(part, truth) => {
             let made = steps_of(facts, lines, part)?;
-            tested(facts, lines, *wanted, made)
+            truth_test(facts, lines, *truth, made)
         }
+        Cond::Between(..) | Cond::Among(..) => Err(Refusal::NoProgram),
     }
 }
 
-/// The nodes of parts of which any, or else each, is to hold.
+/// Returns the nodes of the OR, or else the AND, of some parts.
 #[cycle(steps)]
-fn all_joined(
+fn joined_steps(
     facts: &mut Facts<'_>,
     lines: &mut Vec<PlannedLine>,
     any: bool,
@@ -95,64 +59,30 @@ fn all_joined(
     let mut growth = Growth::of(others.len(), facts);
     for part in others {
         let next = steps_of(facts, lines, part)?;
-        made = joined(facts, lines, any, made, next)?;
+        made = join(facts, lines, any, made, next)?;
         growth.join(facts)?;
     }
     Ok(made)
 }
 
-/// The nodes of a list of equations with one operand, of which one is to hold.
-fn among(
-    facts: &mut Facts<'_>,
-    lines: &mut Vec<PlannedLine>,
-    x: Operand,
-    items: &[Operand],
-) -> Result<TruthNodes, Refusal> {
-    if items.len() > MAX_LIST {
-        return Err(Refusal::NoProgram);
-    }
-    let most = most_products(facts, x, items)?;
-    let Some((first, others)) = items.split_first() else {
-        return Err(Refusal::NoProgram);
-    };
-    let mut made = compared(facts, lines, Op::Eq, x, *first)?;
-    for item in others {
-        let next = compared(facts, lines, Op::Eq, x, *item)?;
-        made = joined(facts, lines, true, made, next)?;
-        if facts.products().len() > most {
-            return Err(Refusal::NoProgram);
-        }
-    }
-    Ok(made)
-}
-
-/// How many product rows there may be once a list is planned.
-fn most_products(facts: &Facts<'_>, x: Operand, items: &[Operand]) -> Result<usize, Refusal> {
-    Ok(match Set::listed(facts, x, items)? {
-        Some((_, set)) if set.instructions() > LONG_LIST => {
-            facts
-                .products()
-                .len()
-                .saturating_add(MAX_LONG_LIST_PRODUCTS)
-        }
-        _ => usize::MAX,
-    })
-}
-
-/// Appends a line.
+/// Appends the line of a step.
 fn put(lines: &mut Vec<PlannedLine>, entry: ConditionEntry) -> Result<(), Refusal> {
     lines.push(PlannedLine::Condition(entry))?;
     Ok(())
 }
 
-/// The nodes of a step with one truth on every row.
+/// Returns the nodes of a step with one truth on every row.
 fn constant(lines: &mut Vec<PlannedLine>, truth: Truth) -> Result<TruthNodes, Refusal> {
     put(lines, ConditionEntry::Fixed)?;
-    Ok(TruthNodes::constant(truth))
+    let made = of_truth(truth);
+    Ok(TruthPair {
+        yes: u32::from(made.yes),
+        no: u32::from(made.no),
+    })
 }
 
-/// The nodes of two parts that are joined by OR, or else by AND.
-fn joined(
+/// Returns the nodes of the OR, or else the AND, of two parts.
+fn join(
     facts: &mut Facts<'_>,
     lines: &mut Vec<PlannedLine>,
     any: bool,
@@ -167,51 +97,53 @@ fn joined(
     let yes = facts.row(VariableOrder::Whole, yes, a.yes, b.yes)?;
     let no = facts.row(VariableOrder::Whole, no, a.no, b.no)?;
     let (i, j) = (u64::from(yes.number), u64::from(no.number));
-    put(
-        lines,
-        if any {
-            ConditionEntry::Or(i, j)
-        } else {
-            ConditionEntry::And(i, j)
-        },
-    )?;
-    Ok(TruthNodes {
-        yes: yes.node,
-        no: no.node,
-    })
+    let entry = if any {
+        ConditionEntry::Or(i, j)
+    } else {
+        ConditionEntry::And(i, j)
+    };
+    put(lines, entry)?;
+    Ok(nodes(yes, no))
 }
 
-/// The nodes of `IS TRUE`, `IS FALSE` or `IS UNKNOWN`.
-fn tested(
+/// Returns the nodes of two product rows.
+fn nodes(yes: Cited, no: Cited) -> TruthNodes {
+    TruthPair {
+        yes: yes.node,
+        no: no.node,
+    }
+}
+
+/// Returns the nodes of `IS TRUE`, `IS FALSE` or `IS UNKNOWN`.
+fn truth_test(
     facts: &mut Facts<'_>,
     lines: &mut Vec<PlannedLine>,
-    wanted: Truth,
+    truth: Truth,
     made: TruthNodes,
 ) -> Result<TruthNodes, Refusal> {
-    let half = match wanted {
+    let yes = match truth {
         Truth::Yes => made.yes,
         Truth::No => made.no,
         Truth::Unknown => {
             let known = facts.row(VariableOrder::Whole, Connective::Or, made.yes, made.no)?;
-            let other = facts.row(VariableOrder::Whole, Connective::Diff, 1, known.node)?;
-            let (i, j) = (u64::from(known.number), u64::from(other.number));
+            let yes = opposite(facts, known.node)?;
+            let (i, j) = (u64::from(known.number), u64::from(yes.number));
             put(lines, ConditionEntry::IsUnknown(i, j))?;
-            return Ok(TruthNodes {
-                yes: other.node,
-                no: known.node,
-            });
+            return Ok(nodes(yes, known));
         }
     };
-    let other = facts.row(VariableOrder::Whole, Connective::Diff, 1, half)?;
-    put(lines, ConditionEntry::Is(u64::from(other.number)))?;
-    Ok(TruthNodes {
-        yes: half,
-        no: other.node,
-    })
+    let no = opposite(facts, yes)?;
+    put(lines, ConditionEntry::Is(u64::from(no.number)))?;
+    Ok(TruthPair { yes, no: no.node })
 }
 
-/// The nodes of `IS NULL`.
-fn null_tested(
+/// Returns the product row of the opposite of a node.
+fn opposite(facts: &mut Facts<'_>, node: u32) -> Result<Cited, Refusal> {
+    facts.row(VariableOrder::Whole, Connective::Diff, 1, node)
+}
+
+/// Returns the nodes of `IS NULL`.
+fn null_test(
     facts: &mut Facts<'_>,
     lines: &mut Vec<PlannedLine>,
     x: Operand,
@@ -221,19 +153,16 @@ fn null_tested(
         Operand::Lit(_) => return constant(lines, Truth::No),
         Operand::Null => return constant(lines, Truth::Yes),
     };
-    let Some(nulls) = facts.nulls(column)? else {
+    let Some(yes) = facts.nulls(column)? else {
         return constant(lines, Truth::No);
     };
-    let values = facts.row(VariableOrder::Whole, Connective::Diff, 1, nulls)?;
-    put(lines, ConditionEntry::NullTest(u64::from(values.number)))?;
-    Ok(TruthNodes {
-        yes: nulls,
-        no: values.node,
-    })
+    let no = opposite(facts, yes)?;
+    put(lines, ConditionEntry::NullTest(u64::from(no.number)))?;
+    Ok(TruthPair { yes, no: no.node })
 }
 
-/// The nodes of a comparison.
-fn compared(
+/// Returns the nodes of a comparison.
+fn comparison(
     facts: &mut Facts<'_>,
     lines: &mut Vec<PlannedLine>,
     op: Op,
@@ -242,96 +171,76 @@ fn compared(
 ) -> Result<TruthNodes, Refusal> {
     match compare(facts, op, x, y)? {
         Comparison::Fixed(truth) => constant(lines, truth),
-        Comparison::Literal(bound) => bounded(facts, lines, bound),
-        Comparison::Columns(relation) => related(facts, lines, relation),
+        Comparison::Literal(compared) => literal_comparison(facts, lines, compared),
+        Comparison::Columns(compared) => column_comparison(facts, lines, compared),
     }
 }
 
-/// The row and the node of where a column has a value: none, and 1, where it always has.
+/// Returns the product row, if there is one, and the node of where a column has a value.
 fn values(facts: &mut Facts<'_>, column: ColumnIndex) -> Result<(Option<u64>, u32), Refusal> {
     let Some(nulls) = facts.nulls(column)? else {
         return Ok((None, 1));
     };
-    let values = facts.row(VariableOrder::Whole, Connective::Diff, 1, nulls)?;
+    let values = opposite(facts, nulls)?;
     Ok((Some(u64::from(values.number)), values.node))
 }
 
-/// The nodes of a comparison of a column with a number.
-fn bounded(
+/// Returns the nodes of a comparison of a column with a literal.
+fn literal_comparison(
     facts: &mut Facts<'_>,
     lines: &mut Vec<PlannedLine>,
-    bound: LiteralComparison,
+    compared: LiteralComparison,
 ) -> Result<TruthNodes, Refusal> {
-    let (value, m) = values(facts, bound.column)?;
-    let (chain, e) = match bound.terminal(facts.width(bound.column)) {
+    let (value, m) = values(facts, compared.column)?;
+    let width = facts.width(compared.column);
+    let (chain, e) = match compared.terminal(width) {
         Some(terminal) => (None, terminal),
         None => {
-            let len = facts.width(bound.column);
-            let limit = u64::try_from(bound.limit).map_err(|_| Refusal::NoProgram)?;
-            let cited = facts.bound(bound.kind, bound.column, 0, len, limit)?;
+            let limit = u64::try_from(compared.limit).map_err(|_| Refusal::NoProgram)?;
+            let cited = facts.bound(compared.kind, compared.column, 0, width, limit)?;
             (Some(u64::from(cited.number)), cited.node)
         }
     };
     let p = facts.row(VariableOrder::Whole, Connective::And, m, e)?;
     let q = facts.row(VariableOrder::Whole, Connective::Diff, m, e)?;
-    put(
-        lines,
-        ConditionEntry::Compare {
-            chain,
-            value,
-            yes: u64::from(p.number),
-            no: u64::from(q.number),
-        },
-    )?;
-    let made = TruthNodes {
-        yes: p.node,
-        no: q.node,
+    let entry = ConditionEntry::Compare {
+        chain,
+        value,
+        yes: u64::from(p.number),
+        no: u64::from(q.number),
     };
-    Ok(if bound.negated {
-        made.exchanged()
-    } else {
-        made
-    })
+    put(lines, entry)?;
+    Ok(nodes(p, q).swapped_if(compared.negated))
 }
 
-/// The nodes of a comparison of two columns.
-fn related(
+/// Returns the nodes of a comparison of two columns.
+fn column_comparison(
     facts: &mut Facts<'_>,
     lines: &mut Vec<PlannedLine>,
-    relation: ColumnComparison,
+    compared: ColumnComparison,
 ) -> Result<TruthNodes, Refusal> {
-    let order = relation.order();
-    let [c, d] = relation.columns;
+    let order = compared.order();
+    let [c, d] = compared.columns;
     let (left, first) = values(facts, c)?;
     let (right, second) = values(facts, d)?;
     let both = facts.row(order, Connective::And, first, second)?;
-    let (chain, e) = match relation.terminal() {
+    let (chain, e) = match compared.terminal() {
         Some(terminal) => (None, terminal),
         None => {
-            let cited = facts.columns(relation.kind, relation.left, relation.right)?;
+            let cited = facts.columns(compared.kind, compared.left, compared.right)?;
             (Some(u64::from(cited.number)), cited.node)
         }
     };
     let p = facts.row(order, Connective::And, both.node, e)?;
     let q = facts.row(order, Connective::Diff, both.node, e)?;
-    put(
-        lines,
-        ConditionEntry::CompareColumns {
-            chain,
-            left,
-            right,
-            both: u64::from(both.number),
-            yes: u64::from(p.number),
-            no: u64::from(q.number),
-        },
-    )?;
-    let made = TruthNodes {
-        yes: p.node,
-        no: q.node,
+    let entry = ConditionEntry::CompareColumns {
+        chain,
+        left,
+        right,
+        both: u64::from(both.number),
+        yes: u64::from(p.number),
+        no: u64::from(q.number),
     };
-    Ok(if relation.negated {
-        made.exchanged()
-    } else {
-        made
-    })
+    put(lines, entry)?;
+    Ok(nodes(p, q).swapped_if(compared.negated))
 }

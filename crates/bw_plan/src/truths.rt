@@ -1,124 +1,134 @@
-//! Instructions that work out where a condition is TRUE, and where it is FALSE.
+//! Instructions that compute where a condition is TRUE, and where it is FALSE.
 use crate::code::Code;
-use crate::comparison::{ColumnComparison, Comparison, LiteralComparison, compare};
+use crate::comparison::{ColumnComparison, Comparison, compare};
 use crate::growth::Growth;
 use crate::order::VariableOrder;
+use crate::parts::{Columns, is_at_once, is_done, is_quick, leading};
 use crate::refusal::Refusal;
-use crate::room::leading;
-use crate::sets::Set;
+use crate::sets::{Set, column_of, joined_set, set_within};
+use crate::truth_pair::{TruthPair, of_truth};
 use bw_diagram::Connective;
 use bw_model::{Cond, Op, Operand, Truth};
-use bw_program::{ColumnIndex, Register};
+use bw_program::Register;
 
-/// Which truths are wanted.
-#[derive(Clone, Copy)]
-pub(crate) struct Wanted {
-    pub(crate) yes: bool,
-    pub(crate) no: bool,
-}
+/// Whether the register where a condition is TRUE is needed, and that where it is FALSE.
+pub(crate) type Wanted = TruthPair<bool>;
 
-impl Wanted {
-    /// What is wanted of the opposite.
-    fn exchanged(self) -> Self {
-        Wanted {
-            yes: self.no,
-            no: self.yes,
-        }
-    }
+/// The registers that are 1 where a condition is TRUE, and where it is FALSE, if they are wanted.
+pub(crate) type Halves = TruthPair<Option<Register>>;
 
-    /// What is wanted of a condition that is negated, or isn't.
-    fn turned(self, negated: bool) -> Self {
-        if negated { self.exchanged() } else { self }
-    }
-}
+/// No registers.
+const NONE: Halves = TruthPair {
+    yes: None,
+    no: None,
+};
 
-/// The registers that are 1 where a condition is TRUE, and where it is FALSE, of those that are
-/// wanted.
-#[derive(Clone, Copy)]
-pub(crate) struct Halves {
-    pub(crate) yes: Option<Register>,
-    pub(crate) no: Option<Register>,
-}
-
-impl Halves {
-    /// The registers of the opposite.
-    fn exchanged(self) -> Self {
-        Halves {
-            yes: self.no,
-            no: self.yes,
-        }
-    }
-
-    /// The registers of a condition that is negated, or isn't.
-    fn turned(self, negated: bool) -> Self {
-        if negated { self.exchanged() } else { self }
-    }
-}
-
-/// So many parts of a condition are looked at for an early end.
+/// Only the first parts of a condition have a skip before them.
 const SKIPPED_PARTS: usize = 16;
 
 impl Code<'_> {
-    /// The registers of a condition.
+    /// Returns the registers of a condition.
     #[cycle(truths)]
     pub(crate) fn truths(&mut self, cond: &Cond, wanted: Wanted) -> Result<Halves, Refusal> {
+        if let Some(column) = column_of(cond) {
+            let set = set_within(&self.facts, column, cond)?;
+            if !set.is_long(&self.facts) {
+                return self.in_set(&set, wanted);
+            }
+        }
         match cond {
             Cond::Always => self.constant(Truth::Yes, wanted),
-            Cond::Cmp(op, x, y) => self.compared(*op, *x, *y, wanted),
-            Cond::Between(x, y, z) => self.between(*x, *y, *z, wanted),
-            Cond::Among(x, items) => self.among(*x, items, wanted),
-            Cond::IsNull(x) => self.null_tested(*x, wanted),
-            Cond::And(parts) => self.all_joined(false, parts, wanted),
-            Cond::Or(parts) => self.all_joined(true, parts, wanted),
-            Cond::Not(part) => Ok(self.truths(part, wanted.exchanged())?.exchanged()),
+            Cond::Cmp(op, x, y) => self.comparison(*op, *x, *y, wanted),
+            Cond::IsNull(x) => self.null_test(*x, wanted),
+            Cond::And(parts) => self.joined_parts(false, parts, wanted),
+            Cond::Or(parts) => self.joined_parts(true, parts, wanted),
+            Cond::Not(part) => Ok(self.truths(part, wanted.swapped_if(true))?.swapped_if(true)),
             Cond::Test(part, truth) => {
-                let needed = Wanted {
+                let needed = TruthPair {
                     yes: *truth != Truth::No,
                     no: *truth != Truth::Yes,
                 };
                 let made = self.truths(part, needed)?;
-                self.tested(*truth, made, wanted)
+                self.truth_test(*truth, made, wanted)
             }
+            Cond::Between(..) | Cond::Among(..) => Err(Refusal::NoProgram),
         }
     }
 
-    /// The registers of parts of which any, or else each, is to hold: first of the part that takes
-    /// many registers, if there is one.
+    /// Returns the registers of the OR, or else the AND, of some parts.
     #[cycle(truths)]
-    fn all_joined(&mut self, any: bool, parts: &[Cond], wanted: Wanted) -> Result<Halves, Refusal> {
-        let first = self.waiting()?;
+    fn joined_parts(
+        &mut self,
+        any: bool,
+        parts: &[Cond],
+        wanted: Wanted,
+    ) -> Result<Halves, Refusal> {
+        let first = self.open_skips()?;
         let leading = leading(parts);
+        let mut columns = [None; 64];
         let mut made = None;
         for (number, part) in parts.iter().enumerate() {
             if number == leading {
-                made = Some(self.truths(part, wanted)?);
+                let _ = is_done(&self.facts, any, parts, number, &mut columns)?;
+                made = match self.truths_of_set(any, part, parts, &columns, wanted)? {
+                    None => Some(self.truths(part, wanted)?),
+                    made => made,
+                };
             }
         }
+        let made = made.ok_or(Refusal::NoProgram)?;
         let mut growth = Growth::of(parts.len().saturating_sub(1), &self.facts);
         for (number, part) in parts.iter().enumerate() {
-            if number == leading || repeats(parts, number) {
+            if number == leading || is_done(&self.facts, any, parts, number, &mut columns)? {
                 continue;
             }
-            let Some(before) = made else {
-                break;
-            };
             if number < SKIPPED_PARTS && self.skips_parts && !is_quick(part) {
-                self.skip_if_settled(any, before)?;
+                self.skip_if_settled(any, made)?;
             }
-            let next = self.truths(part, wanted)?;
-            self.join_parts(any, before, next)?;
+            let next = match self.truths_of_set(any, part, parts, &columns, wanted)? {
+                None => self.truths(part, wanted)?,
+                Some(next) => next,
+            };
+            self.join_halves(any, made, next)?;
             growth.join(&self.facts)?;
         }
         self.meet_from(first);
-        made.ok_or(Refusal::NoProgram)
+        Ok(made)
     }
 
-    /// Skips to the end of parts where the others can change nothing.
+    /// Returns the registers of one part of an OR, or else of an AND, and of all parts that compare
+    /// the same column with literals, if this part does.
+    fn truths_of_set(
+        &mut self,
+        any: bool,
+        part: &Cond,
+        parts: &[Cond],
+        columns: &Columns,
+        wanted: Wanted,
+    ) -> Result<Option<Halves>, Refusal> {
+        let Some(column) = column_of(part) else {
+            return Ok(None);
+        };
+        let set = if is_at_once(columns, column) {
+            joined_set(&self.facts, column, any, parts)?
+        } else {
+            set_within(&self.facts, column, part)?
+        };
+        if set.is_long(&self.facts) {
+            return Ok(None);
+        }
+        match self.in_set(&set, wanted) {
+            Ok(made) => Ok(Some(made)),
+            Err(refusal) => Err(refusal),
+        }
+    }
+
+    /// Skips to the end of parts if the others can change nothing.
     fn skip_if_settled(&mut self, any: bool, made: Halves) -> Result<(), Refusal> {
-        let made = made.turned(any);
+        let made = made.swapped_if(any);
         match (made.yes, made.no) {
             (_, Some(excluded)) => {
-                let left = self.opposite(excluded)?;
+                let left = self.emit_opposite(excluded)?;
                 self.skip(left)?;
                 self.release(left);
                 Ok(())
@@ -128,9 +138,9 @@ impl Code<'_> {
         }
     }
 
-    /// Joins the registers of one part with those of another, which are let go.
-    fn join_parts(&mut self, any: bool, made: Halves, next: Halves) -> Result<(), Refusal> {
-        let (made, next) = (made.turned(any), next.turned(any));
+    /// Joins the registers of one part with those of another, which are released.
+    fn join_halves(&mut self, any: bool, made: Halves, next: Halves) -> Result<(), Refusal> {
+        let (made, next) = (made.swapped_if(any), next.swapped_if(any));
         if let (Some(to), Some(y)) = (made.yes, next.yes) {
             self.join_into(Connective::And, to, y)?;
         }
@@ -140,23 +150,26 @@ impl Code<'_> {
         Ok(())
     }
 
-    /// The registers of one truth on every row.
+    /// Returns the registers of one truth on every row.
     fn constant(&mut self, truth: Truth, wanted: Wanted) -> Result<Halves, Refusal> {
-        let mut made = Halves {
-            yes: None,
-            no: None,
-        };
+        let bits = of_truth(truth);
+        let mut made = NONE;
         if wanted.yes {
-            made.yes = Some(self.fill(truth == Truth::Yes)?);
+            made.yes = Some(self.fill(bits.yes)?);
         }
         if wanted.no {
-            made.no = Some(self.fill(truth == Truth::No)?);
+            made.no = Some(self.fill(bits.no)?);
         }
         Ok(made)
     }
 
-    /// The registers of `IS TRUE`, `IS FALSE` or `IS UNKNOWN`.
-    fn tested(&mut self, truth: Truth, made: Halves, wanted: Wanted) -> Result<Halves, Refusal> {
+    /// Returns the registers of `IS TRUE`, `IS FALSE` or `IS UNKNOWN`.
+    fn truth_test(
+        &mut self,
+        truth: Truth,
+        made: Halves,
+        wanted: Wanted,
+    ) -> Result<Halves, Refusal> {
         let (held, negated) = match (truth, made.yes, made.no) {
             (Truth::Yes, Some(held), _) | (Truth::No, _, Some(held)) => (held, false),
             (Truth::Unknown, Some(held), Some(other)) => {
@@ -165,36 +178,30 @@ impl Code<'_> {
             }
             _ => return Err(Refusal::NoProgram),
         };
-        Ok(
-            self.sides(held, &[], false, wanted.turned(negated))?
-                .turned(negated),
-        )
+        let made = self.sides(held, &[], false, wanted.swapped_if(negated))?;
+        Ok(made.swapped_if(negated))
     }
 
-    /// The registers of `IS NULL`.
-    fn null_tested(&mut self, x: Operand, wanted: Wanted) -> Result<Halves, Refusal> {
+    /// Returns the registers of `IS NULL`.
+    fn null_test(&mut self, x: Operand, wanted: Wanted) -> Result<Halves, Refusal> {
         let column = match x {
             Operand::Col(column) => self.facts.column(column)?,
             Operand::Lit(_) => return self.constant(Truth::No, wanted),
             Operand::Null => return self.constant(Truth::Yes, wanted),
         };
-        if !wanted.yes {
-            return match self.values(column)? {
-                Some(values) => Ok(Halves {
-                    yes: None,
-                    no: Some(values),
-                }),
-                None => self.constant(Truth::No, wanted),
-            };
+        if self.facts.nulls(column)?.is_none() {
+            return self.constant(Truth::No, wanted);
         }
-        match self.nulls(column)? {
-            Some(nulls) => self.sides(nulls, &[], false, wanted),
-            None => self.constant(Truth::No, wanted),
+        if wanted.yes {
+            let nulls = self.nulls(column)?.ok_or(Refusal::NoProgram)?;
+            return self.sides(nulls, &[], false, wanted);
         }
+        let no = self.values(column)?;
+        Ok(TruthPair { yes: None, no })
     }
 
-    /// The registers of a comparison.
-    fn compared(
+    /// Returns the registers of a comparison of two columns or two literals.
+    fn comparison(
         &mut self,
         op: Op,
         x: Operand,
@@ -203,131 +210,52 @@ impl Code<'_> {
     ) -> Result<Halves, Refusal> {
         match compare(&self.facts, op, x, y)? {
             Comparison::Fixed(truth) => self.constant(truth, wanted),
-            Comparison::Literal(bound) => self.bounded(bound, wanted),
-            Comparison::Columns(relation) => self.related(relation, wanted),
+            Comparison::Columns(columns) => self.column_comparison(columns, wanted),
+            Comparison::Literal(_) => Err(Refusal::NoProgram),
         }
     }
 
-    /// The registers of a comparison of a column with a number.
-    fn bounded(&mut self, bound: LiteralComparison, wanted: Wanted) -> Result<Halves, Refusal> {
-        let set = Set::of(self.alloc, self.facts.width(bound.column), bound)?;
-        self.in_set(bound.column, &set, wanted)
-    }
-
-    /// The registers of whether a column's code is in a set.
-    fn in_set(
-        &mut self,
-        column: ColumnIndex,
-        set: &Set,
-        wanted: Wanted,
-    ) -> Result<Halves, Refusal> {
-        let first = self.waiting()?;
+    /// Returns the registers of whether a column's code is in a set.
+    fn in_set(&mut self, set: &Set, wanted: Wanted) -> Result<Halves, Refusal> {
+        let first = self.open_skips()?;
         let start = self.instrs.len();
-        let inside = self.codes(column, &set.bounds)?;
+        let inside = self.codes(set.column, &set.bounds)?;
         let early = self.has_skips_from(start);
-        let made = self.sides(inside, &[column], early, wanted.turned(set.inverted))?;
+        let wanted = wanted.swapped_if(set.inverted);
+        let made = self.sides(inside, &[set.column], early, wanted)?;
         self.meet_from(first);
-        Ok(made.turned(set.inverted))
+        Ok(made.swapped_if(set.inverted))
     }
 
-    /// The registers of `BETWEEN`.
-    fn between(
-        &mut self,
-        x: Operand,
-        y: Operand,
-        z: Operand,
-        wanted: Wanted,
-    ) -> Result<Halves, Refusal> {
-        if let (Operand::Col(column), Operand::Lit(least), Operand::Lit(most)) = (x, y, z) {
-            return self.in_range(column, least, most, wanted);
-        }
-        let first = self.waiting()?;
-        let made = self.compared(Op::Ge, x, y, wanted)?;
-        self.skip_if_settled(false, made)?;
-        let next = self.compared(Op::Le, x, z, wanted)?;
-        self.join_parts(false, made, next)?;
-        self.meet_from(first);
-        Ok(made)
-    }
-
-    /// The registers of whether a column is from one number on and up to another.
-    fn in_range(
-        &mut self,
-        column: usize,
-        least: i64,
-        most: i64,
-        wanted: Wanted,
-    ) -> Result<Halves, Refusal> {
-        let column = self.facts.column(column)?;
-        let lo = i128::from(self.facts.lo(column)?);
-        let (from, to) = (i128::from(least) - lo, i128::from(most) - lo);
-        let set = Set::range(self.alloc, self.facts.width(column), from, to)?;
-        self.in_set(column, &set, wanted)
-    }
-
-    /// The registers of whether a column is one of the literals of a list, if it is a column and
-    /// there are some.
-    fn in_list(
-        &mut self,
-        x: Operand,
-        items: &[Operand],
-        wanted: Wanted,
-    ) -> Result<Option<Halves>, Refusal> {
-        match Set::listed(&self.facts, x, items)? {
-            Some((column, set)) => match self.in_set(column, &set, wanted) {
-                Ok(made) => Ok(Some(made)),
-                Err(refusal) => Err(refusal),
-            },
-            None => Ok(None),
-        }
-    }
-
-    /// The registers of `IN`: the literals at once, and then what else is in the list.
-    fn among(&mut self, x: Operand, items: &[Operand], wanted: Wanted) -> Result<Halves, Refusal> {
-        let first = self.waiting()?;
-        let mut made = self.in_list(x, items, wanted)?;
-        let at_once = made.is_some();
-        for item in items {
-            if at_once && matches!(item, Operand::Lit(_)) {
-                continue;
-            }
-            if let Some(made) = made {
-                self.skip_if_settled(true, made)?;
-            }
-            let next = self.compared(Op::Eq, x, *item, wanted)?;
-            match made {
-                Some(made) => self.join_parts(true, made, next)?,
-                None => made = Some(next),
-            }
-        }
-        self.meet_from(first);
-        made.ok_or(Refusal::NoProgram)
-    }
-
-    /// The registers of a comparison of two columns. Its skips meet right after its own
+    /// Returns the registers of a comparison of two columns. Its skips meet right after its own
     /// instructions: after a NOT or a null plane, "less so far" would differ by them.
-    fn related(&mut self, relation: ColumnComparison, wanted: Wanted) -> Result<Halves, Refusal> {
-        let first = self.waiting()?;
-        self.order = relation.order();
-        let held = match relation.terminal() {
+    fn column_comparison(
+        &mut self,
+        compared: ColumnComparison,
+        wanted: Wanted,
+    ) -> Result<Halves, Refusal> {
+        let first = self.open_skips()?;
+        self.order = compared.order();
+        let held = match compared.terminal() {
             Some(terminal) => self.fill(terminal == 1)?,
-            None => self.relation(relation)?,
+            None => self.compare_columns(compared)?,
         };
         self.meet_from(first);
         self.meet()?;
-        let [c, d] = relation.columns;
+        let [c, d] = compared.columns;
         let both = [c, d];
         let count = if c == d { 1 } else { 2 };
-        let made = self.sides(held, &both[..count], true, wanted.turned(relation.negated))?;
+        let wanted = wanted.swapped_if(compared.negated);
+        let made = self.sides(held, &both[..count], true, wanted)?;
         self.meet_from(first);
         self.meet()?;
         self.order = VariableOrder::Whole;
-        Ok(made.turned(relation.negated))
+        Ok(made.swapped_if(compared.negated))
     }
 
-    /// The registers that are 1 where all of some columns have values and a register is 1, and
-    /// where they have values and it is 0. Where there may be an early end, the null planes are
-    /// left out at one.
+    /// Returns the registers that are 1 where all of some columns have values and a register is 1,
+    /// and where they have values and it is 0. If `early`, a skip leaves the null planes out if the
+    /// register is 0 in all lanes.
     fn sides(
         &mut self,
         held: Register,
@@ -335,12 +263,9 @@ impl Code<'_> {
         early: bool,
         wanted: Wanted,
     ) -> Result<Halves, Refusal> {
-        let mut made = Halves {
-            yes: None,
-            no: None,
-        };
+        let mut made = NONE;
         if wanted.no {
-            let outside = if wanted.yes { self.copied(held)? } else { held };
+            let outside = if wanted.yes { self.copy(held)? } else { held };
             for column in columns {
                 if let Some(nulls) = self.nulls(*column)? {
                     self.join_into(Connective::Or, outside, nulls)?;
@@ -365,31 +290,10 @@ impl Code<'_> {
         Ok(made)
     }
 
-    /// A register with the same lanes as another.
-    pub(crate) fn copied(&mut self, register: Register) -> Result<Register, Refusal> {
+    /// Returns a new register with the same lanes as another.
+    pub(crate) fn copy(&mut self, register: Register) -> Result<Register, Refusal> {
         let copy = self.fill(false)?;
         self.join(Connective::Or, copy, copy, register)?;
         Ok(copy)
-    }
-}
-
-/// Whether a part is the same comparison as the one before it, so that nothing needs to be done for
-/// it.
-fn repeats(parts: &[Cond], number: usize) -> bool {
-    let before = number.checked_sub(1).and_then(|before| parts.get(before));
-    match (before, parts.get(number)) {
-        (Some(Cond::Cmp(op, x, y)), Some(Cond::Cmp(other, z, w))) => {
-            op == other && x == z && y == w
-        }
-        _ => false,
-    }
-}
-
-/// Whether a part takes but two instructions or three, which takes no longer than to ask whether
-/// they may be left out.
-fn is_quick(part: &Cond) -> bool {
-    match part {
-        Cond::Not(part) => matches!(**part, Cond::IsNull(_)),
-        _ => matches!(part, Cond::IsNull(_) | Cond::Always),
     }
 }
