@@ -165,7 +165,7 @@ fn between<'a>(
 }
 
 /// Returns the truth pair of a comparison, by the next line.
-#[tactic(auto, unfolding(crate::specs::TruthPair::by_line))]
+#[tactic(auto, unfolding(crate::specs::Pair::by_line))]
 fn read_comparison<'a>(
     schema: &Schema,
     diagram: &Diagram<'_>,
@@ -190,7 +190,7 @@ fn read_comparison<'a>(
 }
 
 /// Returns the truth pair of a step with the same truth on every row, by the next line.
-#[tactic(auto, unfolding(crate::specs::TruthPair::by_line))]
+#[tactic(auto, unfolding(crate::specs::Pair::by_line))]
 fn constant<'a>(truth: Truth, lines: BodyLines<'a>, end: u64) -> Read<'a>
     ensures pair { Answers result (by_line end (fixed_pair truth) (body_lines lines.entry)) }
     ensures code { IfErr result (λ fault. fault.code ≡ CONDITION_LINE) }
@@ -203,7 +203,7 @@ fn constant<'a>(truth: Truth, lines: BodyLines<'a>, end: u64) -> Read<'a>
 }
 
 /// Returns the truth pair of `IS NULL`, by the next line.
-#[tactic(auto, unfolding(crate::specs::TruthPair::by_line))]
+#[tactic(auto, unfolding(crate::specs::Pair::by_line))]
 fn null_tested<'a>(
     schema: &Schema,
     diagram: &Diagram<'_>,
@@ -225,7 +225,7 @@ fn null_tested<'a>(
 }
 
 /// Returns the truth pair of `IS NULL`, by this line.
-#[tactic(auto, unfolding(crate::specs::TruthPair::is_null_test))]
+#[tactic(auto, unfolding(crate::specs::Pair::is_null_test))]
 fn is_null_test(
     schema: &Schema,
     diagram: &Diagram<'_>,
@@ -256,7 +256,7 @@ fn null_test(diagram: &Diagram<'_>, variable: u32, entry: ConditionEntry) -> Opt
 }
 
 /// Returns the truth pair of two parts combined, by the next line.
-#[tactic(auto, unfolding(crate::specs::TruthPair::by_line))]
+#[tactic(auto, unfolding(crate::specs::Pair::by_line))]
 fn join<'a>(
     diagram: &Diagram<'_>,
     junction: Junction,
@@ -277,7 +277,7 @@ fn join<'a>(
 }
 
 /// Returns the truth pair of two parts combined, by this line.
-#[tactic(auto, unfolding(crate::specs::TruthPair::joined_pair))]
+#[tactic(auto, unfolding(crate::specs::Pair::joined_pair))]
 fn joined_pair(
     diagram: &Diagram<'_>,
     junction: Junction,
@@ -301,7 +301,7 @@ fn joined_pair(
 }
 
 /// Returns the truth pair of NOT, by the next line.
-#[tactic(auto, unfolding(crate::specs::TruthPair::by_line, crate::specs::TruthPair::negated_pair))]
+#[tactic(auto, unfolding(crate::specs::Pair::by_line, crate::specs::Pair::negated_pair))]
 fn read_negation<'a>(pair: TruthPair, lines: BodyLines<'a>, end: u64) -> Read<'a>
     ensures pair { Answers result (by_line end (negated_pair pair) (body_lines lines.entry)) }
     ensures code { IfErr result (λ fault. fault.code ≡ CONDITION_LINE) }
@@ -314,7 +314,7 @@ fn read_negation<'a>(pair: TruthPair, lines: BodyLines<'a>, end: u64) -> Read<'a
 }
 
 /// Returns the truth pair of `IS TRUE`, `IS FALSE` or `IS UNKNOWN`, by the next line.
-#[tactic(auto, unfolding(crate::specs::TruthPair::by_line))]
+#[tactic(auto, unfolding(crate::specs::Pair::by_line))]
 fn read_truth_test<'a>(
     diagram: &Diagram<'_>,
     wanted: Truth,
@@ -334,7 +334,7 @@ fn read_truth_test<'a>(
 }
 
 /// Returns the truth pair of `IS TRUE`, `IS FALSE` or `IS UNKNOWN`, by this line.
-#[tactic(auto, unfolding(crate::specs::TruthPair::tested_pair))]
+#[tactic(auto, unfolding(crate::specs::Pair::tested_pair))]
 fn tested_pair(
     diagram: &Diagram<'_>,
     wanted: Truth,

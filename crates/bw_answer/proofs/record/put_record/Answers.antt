@@ -14,7 +14,7 @@ loop-left-preserved c =
     let comma_size = c.put_byte-start-in-loop-left.auto.text in
     record {
       within = omega (arith, so_far.within);
-      room = (omega (arith, so_far.room.0, comma.room, field.room.0), omega (arith, so_far.room.1, comma.room, field.room.1, c.loop-left-test.true));
+      room = (omega (arith, so_far.room.0, comma.capacity, field.capacity.0), omega (arith, so_far.room.1, comma.capacity, field.capacity.1, c.loop-left-test.true));
       size = field_size ∙ comma_size ∙ so_far.size;
       written = record_grows (λ column. value_text (value_in_lane c.args.lanes.now c.args.number column)) c.args.columns.now c.loop-left.left _ _ _ (drop c.args.end c.args.text.now)
           c.loop-left-test.true so_far.within so_far.written comma.written (rw c.value_in_lane-in-loop-left.ensures at field.written);

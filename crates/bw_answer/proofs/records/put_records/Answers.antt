@@ -27,8 +27,8 @@ loop-last-preserved c =
     record {
       rows = (last.from, omega (arith, last.to, so_far.rows.1));
       room = (
-        room_left (21 * length c.args.columns.now) (lane - c.args.first) (number - c.args.first) c.loop-last.start c.put_record-start.result (omega (arith, last.from, last.to)) so_far.room.0 put.room.1,
-        omega (arith, put.room.0, so_far.room.1, c.put_record-start.auto.text),
+        room_left (21 * length c.args.columns.now) (lane - c.args.first) (number - c.args.first) c.loop-last.start c.put_record-start.result (omega (arith, last.from, last.to)) so_far.room.0 put.capacity.1,
+        omega (arith, put.capacity.0, so_far.room.1, c.put_record-start.auto.text),
       );
       written = record_last (fields_in_lane c.args.lanes.now c.args.columns.now) c.args.first number c.args.past lane (lanes_of_words c.args.selection.now) _ _ so_far.rows.1 last so_far.written put.written;
     }

@@ -11,8 +11,8 @@ returns-clause-came c = took_answer c.rows_are_admitted.ensures.admitted c.rows_
 pub returns-clause-alike : goal.returns-clause-alike
 returns-clause-alike c = λ layout other schema csv bytes others sql program old new second before after load file also more.
     let rows = c.rows_are_admitted.ensures in
-    took_alike schema csv sql old new before after (took_as_direct rows.admitted rows.few layout schema csv bytes sql program old new load file)
-    (took_as_direct rows.admitted rows.few other schema csv others sql second before after also more)
+    took_alike schema csv sql old new before after (took_as_direct rows.admitted rows.within_limit layout schema csv bytes sql program old new load file)
+    (took_as_direct rows.admitted rows.within_limit other schema csv others sql second before after also more)
 
 pub returns-clause-answerable : goal.returns-clause-answerable
 returns-clause-answerable c = answerable c.rows_are_admitted.ensures.admitted c.rows_are_admitted.ensures.within_limit

@@ -48,7 +48,7 @@ loop-number-preserved c =
     let more = groups_more table.layout columns table.rows number table.columns.items in
     let count = length-groups table.layout columns table.rows number table.columns.items in
     record {
-      over = rw more (goes_on _ _ _ groups rows so_far.over taken.over);
+      over = rw more (goes_on _ _ _ groups rows so_far.over taken.covers);
       scanned = rw more (record {
         segments = omega (arith, so_far.scanned.segments, count, length-groups table.layout columns table.rows (number + 1) table.columns.items, ap length more);
         loads = one_more (loads_in columns c.args.scan.now) groups rows _ _ so_far.scanned.loads taken.loads;
@@ -58,8 +58,8 @@ loop-number-preserved c =
       few_skips = omega (arith, so_far.few_skips, taken.bounded);
       rows = omega (arith, taken.rows, rows_before table.layout columns table.rows number c.loop-number.answer.rows table.columns.items so_far.rows);
       width = taken.width ∙ so_far.width;
-      asked = taken.over.same ∙ so_far.asked;
-      counts = λ is. subst CountsRows (sym taken.over.same) (so_far.counts is);
+      asked = taken.covers.same ∙ so_far.asked;
+      counts = λ is. subst CountsRows (sym taken.covers.same) (so_far.counts is);
     }
 
 pub overflow_add-scanned : goal.overflow_add-scanned

@@ -88,7 +88,7 @@ loop-segment-preserved g c =
     record {
       groups = so_far.groups ++ rows ∷ [];
       read = λ start read. gave.after start so_far.groups (so_far.read start read);
-      over = goes_on _ _ _ so_far.groups rows so_far.over taken.over;
+      over = goes_on _ _ _ so_far.groups rows so_far.over taken.covers;
       scanned = record {
         segments = omega (arith, so_far.scanned.segments, more);
         loads = one_more (loads_in (schema_in c.args.reader.now).columns.items c.args.scan.now) so_far.groups rows _ _ so_far.scanned.loads (taken.loads ∙ loads);
@@ -102,8 +102,8 @@ loop-segment-preserved g c =
       rows = taken.rows ∙ ap (λ (n : ℕ). n + length rows) so_far.rows ∙ sym gave.counted;
       few = omega (arith, more, so_far.few, gave.counted, group.some);
       width = taken.width ∙ so_far.width;
-      asked = taken.over.same ∙ so_far.asked;
-      counts = λ is. subst CountsRows (sym taken.over.same) (so_far.counts is);
+      asked = taken.covers.same ∙ so_far.asked;
+      counts = λ is. subst CountsRows (sym taken.covers.same) (so_far.counts is);
     }
 
 pub returns-clause-took : goal.returns-clause-took

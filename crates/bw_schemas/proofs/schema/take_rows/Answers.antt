@@ -15,7 +15,7 @@ rows-preserved c =
     let read = c.in_ok-read_bare_row.ensures in
     let width = c.len-width.result in
     let number = c.rows.number in
-    let some = read.some c.if-branch.true in
+    let some = read.nonempty c.if-branch.true in
     let passed = c.rows.invariant.passed in
     record {
       reads = (read.open c.if-branch.true).0;

@@ -2,7 +2,7 @@
 use Rattle.std.proofs.Common.{◌∙◌, sym, ap, Bool, ◌&&◌}
 use Rattle.bw_cert_rules.specs.Join.{keeps_by_skips}
 use Rattle.bw_cert_rules.proofs.JoinLemmas.{empty_is, skips_without_pair, skip_and_more, no_skips}
-use Rattle.bw_cert_rules.proofs.judge.Judge.keeps_by_skips.Goals as goal
+use Rattle.bw_cert_rules.proofs.judge.LineChecker.keeps_by_skips.Goals as goal
 
 pub returns-in_default-split_first : goal.returns-in_default-split_first
 returns-in_default-split_first c =

@@ -1,6 +1,6 @@
 use Rattle.std.proofs.Common.{◌≡◌, length}
 use Rattle.bw_cert_rules.specs.Join.{keeps_by_skips}
-use Rattle.bw_cert_rules.proofs.judge.Judge.keeps_by_skips.Given as goal
+use Rattle.bw_cert_rules.proofs.judge.LineChecker.keeps_by_skips.Given as goal
 
 -- what is left to show is so of the skips and the pairs that are left
 abbrev pub invariant-loop-edge : goal.invariant-loop-edge

@@ -2,7 +2,7 @@ use Rattle.std.proofs.Common.{◌≡◌, length}
 use Rattle.bw_cert_text.specs.BodyLines.{body_lines}
 use Rattle.bw_cert_rules.specs.Known.{nothing_known}
 use Rattle.bw_cert_rules.specs.Walk.{keeps_taken}
-use Rattle.bw_cert_rules.proofs.judge.Judge.take_keeps.Given as goal
+use Rattle.bw_cert_rules.proofs.judge.LineChecker.take_keeps.Given as goal
 
 -- what the lines say is what those that are left say, after the registers so far
 abbrev pub invariant-loop-line : goal.invariant-loop-line

@@ -22,5 +22,5 @@ returns-clause-open c = λ _.
       read.open c.if-not-branch.false,
       λ on.
           let is = c.goes_on-self.ensures on in
-          c.text_after_record-self.ensures is _ _ (c.requires.1 is ∙ read.some c.if-not-branch.false),
+          c.text_after_record-self.ensures is _ _ (c.requires.1 is ∙ read.nonempty c.if-not-branch.false),
     )
