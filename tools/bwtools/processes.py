@@ -43,7 +43,7 @@ class Child:
         try:
             done, found = pickle.load(self.reading)
         except (EOFError, pickle.UnpicklingError):
-            raise ChildProcessError(0, "a process that wrote a part of the numbers has ended") from None
+            raise ChildProcessError(0, "a process that did a part of the work has ended") from None
         if not done:
             raise found
         return found
