@@ -39,7 +39,7 @@ fn measure_check(
     rt: &(impl AllocGlobal + Print + Eprint + Clock),
     schema: &Schema,
     start: Instant,
-    certificate: &Certificate,
+    certificate: &Certificate<'_>,
 ) -> Result<(), Failure> {
     let parsed = start.elapsed(rt)?.as_micros();
     let start = Instant::now(rt)?;
@@ -58,7 +58,7 @@ fn measure_check(
 fn fault_of(
     alloc: Global,
     schema: &Schema,
-    certificate: &Certificate,
+    certificate: &Certificate<'_>,
 ) -> Result<Option<Fault>, Fault> {
     let program = Program::parse(alloc, schema, PROGRAM)?;
     match check(alloc, schema, &Cond::Always, program, certificate) {

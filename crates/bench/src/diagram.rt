@@ -4,7 +4,6 @@
 use crate::failure::Failure;
 use bw_diagram::{ChainColumns, ChainKind, Connective, Diagram, Reason};
 use bw_model::{Fault, Schema};
-use std::alloc::Global;
 use std::rt::Clock;
 use std::time::Instant;
 
@@ -37,7 +36,7 @@ fn fill_in_turn(
     add_nodes(diagram)?;
     let nodes = start.elapsed(rt)?.as_micros();
     let start = Instant::now(rt)?;
-    add_chains(rt.alloc(), diagram)?;
+    add_chains(diagram)?;
     let chains = start.elapsed(rt)?.as_micros();
     let start = Instant::now(rt)?;
     add_cited_rows(diagram)?;
@@ -60,11 +59,11 @@ fn add_nodes(diagram: &mut Diagram<'_>) -> Result<(), Fault> {
 }
 
 /// Chains over no bit and over one bit of the last column, in turn.
-fn add_chains(alloc: Global, diagram: &mut Diagram<'_>) -> Result<(), Fault> {
+fn add_chains(diagram: &mut Diagram<'_>) -> Result<(), Fault> {
     for n in 0..CHAINS {
         let columns = ChainColumns::One {
             kind: ChainKind::Less,
-            column: Vec::from_slice(alloc, b"d")?,
+            column: b"d",
             start: 0,
             len: n % 2,
             bound: n % 2,

@@ -36,7 +36,7 @@ pub fn check(
     schema: &Schema,
     condition: &Cond,
     program: Program,
-    certificate: &Certificate,
+    certificate: &Certificate<'_>,
 ) -> Result<Certified, (Program, Fault)>
     requires { IsTrue (names_within (length schema.now.columns.items) condition.now) }
     ensures checked { Checks result
@@ -66,7 +66,7 @@ fn judge(
     schema: &Schema,
     condition: &Cond,
     program: &Program,
-    certificate: &Certificate,
+    certificate: &Certificate<'_>,
 ) -> Result<(), Fault>
     requires { IsTrue (names_within (length schema.now.columns.items) condition.now) }
     ensures right { OnOk result ((facts : Facts)

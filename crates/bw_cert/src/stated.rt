@@ -15,7 +15,7 @@ use std::alloc::Global;
 pub(crate) fn diagram_of<'a>(
     alloc: Global,
     schema: &'a Schema,
-    certificate: &Certificate,
+    certificate: &Certificate<'_>,
 ) -> Result<Diagram<'a>, Fault>
     ensures stated { MatchesUnlessOom (λ diagram. diagram) result
         (facts_stated schema.now.columns.items certificate.now) }
@@ -44,7 +44,7 @@ fn add_nodes(diagram: &mut Diagram<'_>, lines: &[NodeLine]) -> Result<(), Fault>
 }
 
 /// Adds the chains of the lines.
-fn add_chains(diagram: &mut Diagram<'_>, lines: &[ChainLine]) -> Result<(), Fault>
+fn add_chains(diagram: &mut Diagram<'_>, lines: &[ChainLine<'_>]) -> Result<(), Fault>
     ensures stated { MatchesUnlessOom (λ _. diagram.new) result
         (with_lines with_chain_line diagram.old lines.now) }
     ensures code { IfErr result (λ fault. IsTrue (is_diagram_fault fault)) }
@@ -56,7 +56,7 @@ fn add_chains(diagram: &mut Diagram<'_>, lines: &[ChainLine]) -> Result<(), Faul
 }
 
 /// Adds the chain of a line.
-fn add_chain(diagram: &mut Diagram<'_>, line: &ChainLine) -> Result<(), Fault>
+fn add_chain(diagram: &mut Diagram<'_>, line: &ChainLine<'_>) -> Result<(), Fault>
     ensures stated { MatchesUnlessOom (λ _. diagram.new) result
         (with_chain_line diagram.old line.now) }
     ensures code { IfErr result (λ fault. IsTrue (is_diagram_fault fault)) }

@@ -53,9 +53,9 @@ pub record CertificateFields : Type 0 where
 
 -- the fields of the code's lines
 abbrev pub column_fields : ChainColumns → ColumnFields
-column_fields (columns.One kind column start len bound node prev) = One kind column.items start len
+column_fields (columns.One kind column start len bound node prev) = One kind column.now start len
     bound node prev
-column_fields (columns.Two kind left right len node prev) = Two kind left.items right.items len node
+column_fields (columns.Two kind left right len node prev) = Two kind left.now right.now len node
     prev
 
 abbrev pub chain_fields : ChainLine → ChainFields

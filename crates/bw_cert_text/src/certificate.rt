@@ -6,17 +6,17 @@ use crate::body::{Body, BodyLines};
 use crate::lines::{ChainLine, EndLine, NodeLine, ProductLine};
 use std::marker::Model;
 
-/// A certificate as its lines.
+/// A certificate as its lines. Columns' names are those of its text, or of the planner's schema.
 #[derive(Drop)]
-pub struct Certificate {
+pub struct Certificate<'a> {
     pub(crate) nodes: Vec<NodeLine>,
-    pub(crate) chains: Vec<ChainLine>,
+    pub(crate) chains: Vec<ChainLine<'a>>,
     pub(crate) products: Vec<ProductLine>,
     pub(crate) body: Body,
     pub(crate) end: EndLine,
 }
 
-impl Model for Certificate {
+impl<'a> Model for Certificate<'a> {
     ghost use Rattle.bw_cert_text.specs.CertificateShape.{CertificateShape};
 
     ghost Value = { CertificateShape };
@@ -30,18 +30,18 @@ impl Model for Certificate {
     } };
 }
 
-impl Certificate {
+impl<'a> Certificate<'a> {
     /// Returns the certificate of these lines.
     pub fn new(
         nodes: Vec<NodeLine>,
-        chains: Vec<ChainLine>,
+        chains: Vec<ChainLine<'a>>,
         products: Vec<ProductLine>,
         body: Body,
         end: EndLine,
     ) -> Self
         ensures { result ≡ record {
           nodes = nodes.items;
-          chains = chains.items;
+          chains = chains.entry.items;
           products = products.items;
           body = body;
           end = end;
@@ -85,7 +85,7 @@ impl Certificate {
     }
 
     /// Returns the lines of its chains, in order.
-    pub fn chain_lines(&self) -> &[ChainLine]
+    pub fn chain_lines(&self) -> &[ChainLine<'a>]
         ensures { result.now ≡ self.now.chains }
     {
         &self.chains

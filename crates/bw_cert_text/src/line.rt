@@ -1,8 +1,8 @@
 //! The fields of a certificate text's line.
 ghost use Rattle.std.specs.Prelude.{◌≡◌, List, ℕ, map, option_map, IfOk};
 ghost use Rattle.bw_text.specs.Lines.{line_of};
-ghost use Rattle.bw_cert_text.specs.CertificateFields.{column_fields, chain_fields, keep_fields, entry_fields};
-ghost use Rattle.bw_cert_text.specs.LineText.{node_in, one_column_in, two_columns_in, columns_after, chain_in, reason_in, row_in, compare_in, compare_columns_in, is_in, condition_in, byte_in, instruction_in, edges_in, keep_in, body_at, parse_line_after, parse_line_in};
+ghost use Rattle.bw_cert_text.specs.CertificateFields.{column_fields, chain_fields, keep_fields};
+ghost use Rattle.bw_cert_text.specs.LineText.{node_in, one_column_in, two_columns_in, columns_after, chain_in, reason_in, row_in, compare_in, compare_columns_in, is_in, condition_in, byte_in, instruction_in, edges_in, keep_in, parse_line_after, parse_line_in};
 ghost use Rattle.bw_text.specs.declared.line_kind.LineKind.TheVariants as kinds;
 ghost use Rattle.bw_cert_text.specs.SaidFields.{part_fields, parsed_fields};
 
@@ -19,19 +19,19 @@ use bw_text::{
 };
 use std::alloc::{AllocError, Global};
 
-/// A line before the end.
+/// A line before the end. Its words are those of the text, and its pairs stand elsewhere.
 #[derive(Drop)]
-pub(crate) enum Part<'a> {
+pub(crate) enum Part<'a, 'b> {
     Node(NodeLine),
-    Chain(ChainLine),
+    Chain(ChainLine<'a>),
     Row(ProductLine),
-    Body(BodyLine<'a>),
+    Body(BodyLine<'b>),
 }
 
 /// A line.
 #[derive(Drop)]
-pub(crate) enum ParsedLine<'a> {
-    Before(Part<'a>),
+pub(crate) enum ParsedLine<'a, 'b> {
+    Before(Part<'a, 'b>),
     End(EndLine),
 }
 
@@ -55,30 +55,20 @@ fn node_in(line: u64, words: &[&[u8]]) -> Option<NodeLine>
     })
 }
 
-/// Returns `column start len const node prev`, with a copy of the column's word.
-fn one_column_in(
-    alloc: Global,
-    kind: ChainKind,
-    words: &[&[u8]],
-) -> Result<Option<ChainColumns>, AllocError>
-    ensures { IfOk result (λ columns. option_map column_fields columns
-        ≡ one_column_in kind (map (λ word. word.now) words.now)) }
+/// Returns `column start len const node prev`.
+fn one_column_in<'a>(kind: ChainKind, words: &[&'a [u8]]) -> Option<ChainColumns<'a>>
+    ensures { option_map column_fields result
+        ≡ one_column_in kind (map (λ word. word.now) words.now) }
 {
     let [column, start, len, bound, node, prev] = words else {
-        return Ok(None);
+        return None;
     };
-    let (Some(start), Some(len), Some(bound)) = (
-        natural_number(start),
-        natural_number(len),
-        natural_number(bound),
-    ) else {
-        return Ok(None);
-    };
-    let (Some(node), Some(prev)) = (natural_number(node), optional_of(prev)) else {
-        return Ok(None);
-    };
-    let column = Vec::from_slice(alloc, column)?;
-    Ok(Some(ChainColumns::One {
+    let start = natural_number(start)?;
+    let len = natural_number(len)?;
+    let bound = natural_number(bound)?;
+    let node = natural_number(node)?;
+    let prev = optional_of(prev)?;
+    Some(ChainColumns::One {
         kind,
         column,
         start,
@@ -86,76 +76,55 @@ fn one_column_in(
         bound,
         node,
         prev,
-    }))
+    })
 }
 
-/// Returns `left right len node prev`, with copies of the columns' words.
-fn two_columns_in(
-    alloc: Global,
-    kind: ChainKind,
-    words: &[&[u8]],
-) -> Result<Option<ChainColumns>, AllocError>
-    ensures { IfOk result (λ columns. option_map column_fields columns
-        ≡ two_columns_in kind (map (λ word. word.now) words.now)) }
+/// Returns `left right len node prev`.
+fn two_columns_in<'a>(kind: ChainKind, words: &[&'a [u8]]) -> Option<ChainColumns<'a>>
+    ensures { option_map column_fields result
+        ≡ two_columns_in kind (map (λ word. word.now) words.now) }
 {
     let [left, right, len, node, prev] = words else {
-        return Ok(None);
+        return None;
     };
-    let (Some(len), Some(node), Some(prev)) = (
-        natural_number(len),
-        natural_number(node),
-        optional_of(prev),
-    ) else {
-        return Ok(None);
-    };
-    let left = Vec::from_slice(alloc, left)?;
-    let right = Vec::from_slice(alloc, right)?;
-    Ok(Some(ChainColumns::Two {
+    let len = natural_number(len)?;
+    let node = natural_number(node)?;
+    let prev = optional_of(prev)?;
+    Some(ChainColumns::Two {
         kind,
         left,
         right,
         len,
         node,
         prev,
-    }))
+    })
 }
 
 /// Returns the columns of a chain of this form, and what it compares.
-fn columns_after(
-    alloc: Global,
-    form: Form,
-    words: &[&[u8]],
-) -> Result<Option<ChainColumns>, AllocError>
-    ensures { IfOk result (λ columns. option_map column_fields columns
-        ≡ columns_after form (map (λ word. word.now) words.now)) }
+fn columns_after<'a>(form: Form, words: &[&'a [u8]]) -> Option<ChainColumns<'a>>
+    ensures { option_map column_fields result
+        ≡ columns_after form (map (λ word. word.now) words.now) }
 {
     match form {
-        Form::Less => one_column_in(alloc, ChainKind::Less, words),
-        Form::Equal => one_column_in(alloc, ChainKind::Equal, words),
-        Form::LessTwo => two_columns_in(alloc, ChainKind::Less, words),
-        Form::EqualTwo => two_columns_in(alloc, ChainKind::Equal, words),
+        Form::Less => one_column_in(ChainKind::Less, words),
+        Form::Equal => one_column_in(ChainKind::Equal, words),
+        Form::LessTwo => two_columns_in(ChainKind::Less, words),
+        Form::EqualTwo => two_columns_in(ChainKind::Equal, words),
     }
 }
 
 /// Returns a chain's number, its form and what it compares.
-fn chain_in(alloc: Global, line: u64, words: &[&[u8]]) -> Result<Option<ChainLine>, AllocError>
-    ensures { IfOk result
-        (λ chain. option_map chain_fields chain
-        ≡ chain_in line (map (λ word. word.now) words.now)) }
+fn chain_in<'a>(line: u64, words: &[&'a [u8]]) -> Option<ChainLine<'a>>
+    ensures { option_map chain_fields result
+        ≡ chain_in line (map (λ word. word.now) words.now) }
 {
     let [n, word, rest @ ..] = words else {
-        return Ok(None);
+        return None;
     };
-    let Some(n) = natural_number(n) else {
-        return Ok(None);
-    };
-    let Some(form) = Form::of(word) else {
-        return Ok(None);
-    };
-    let Some(columns) = columns_after(alloc, form, rest)? else {
-        return Ok(None);
-    };
-    Ok(Some(ChainLine { line, n, columns }))
+    let n = natural_number(n)?;
+    let form = Form::of(word)?;
+    let columns = columns_after(form, rest)?;
+    Some(ChainLine { line, n, columns })
 }
 
 /// Returns `S`, or `V v i j`.
@@ -385,11 +354,11 @@ fn keep_in<'a>(
 }
 
 /// Returns the fields of a line of any form. Its pairs are stored in `pairs`.
-pub(crate) fn parse_line_in<'a>(
+pub(crate) fn parse_line_in<'a, 'b>(
     alloc: Global,
-    line: &Line<'_>,
-    pairs: &'a mut Vec<EdgeProducts>,
-) -> Result<Option<ParsedLine<'a>>, AllocError>
+    line: &Line<'a>,
+    pairs: &'b mut Vec<EdgeProducts>,
+) -> Result<Option<ParsedLine<'a, 'b>>, AllocError>
     ensures { IfOk result (λ said. option_map parsed_fields said
         ≡ parse_line_in (line_of line.now)) }
 {
@@ -403,25 +372,20 @@ pub(crate) fn parse_line_in<'a>(
 }
 
 /// Returns the fields of a line of this kind, from the words after the first one.
-fn parse_line_after<'a>(
+fn parse_line_after<'a, 'b>(
     alloc: Global,
     line: u64,
     kind: LineKind,
-    words: &[&[u8]],
-    pairs: &'a mut Vec<EdgeProducts>,
-) -> Result<Option<ParsedLine<'a>>, AllocError>
+    words: &[&'a [u8]],
+    pairs: &'b mut Vec<EdgeProducts>,
+) -> Result<Option<ParsedLine<'a, 'b>>, AllocError>
     ensures { IfOk result
         (λ said. option_map parsed_fields said
         ≡ parse_line_after line kind (map (λ word. word.now) words.now)) }
 {
     match kind {
         LineKind::Node => Ok(node_said(line, words)),
-        LineKind::Chain => {
-            let Some(chain) = chain_in(alloc, line, words)? else {
-                return Ok(None);
-            };
-            Ok(Some(ParsedLine::Before(Part::Chain(chain))))
-        }
+        LineKind::Chain => Ok(chain_said(line, words)),
         LineKind::Row => Ok(row_said(line, words)),
         LineKind::Condition(kind) => Ok(condition_said(line, kind, words)),
         LineKind::Instruction(kind) => Ok(instruction_said(line, kind, words)),
@@ -430,14 +394,17 @@ fn parse_line_after<'a>(
             let Some(keep) = keep_in(alloc, words, pairs)? else {
                 return Ok(None);
             };
-            Ok(Some(in_body(line, Entry::Keep(keep))))
+            Ok(Some(ParsedLine::Before(Part::Body(BodyLine {
+                line,
+                entry: Entry::Keep(keep),
+            }))))
         }
         LineKind::End => Ok(end_said(line, words)),
     }
 }
 
 /// Returns the fields in the words after `NODE`.
-fn node_said<'a>(line: u64, words: &[&[u8]]) -> Option<ParsedLine<'a>>
+fn node_said<'a, 'b>(line: u64, words: &[&'a [u8]]) -> Option<ParsedLine<'a, 'b>>
     ensures { option_map parsed_fields result
         ≡ parse_line_after line kinds.Node (map (λ word. word.now) words.now) }
 {
@@ -445,8 +412,17 @@ fn node_said<'a>(line: u64, words: &[&[u8]]) -> Option<ParsedLine<'a>>
     Some(ParsedLine::Before(Part::Node(node)))
 }
 
+/// Returns the fields in the words after `CHAIN`.
+fn chain_said<'a, 'b>(line: u64, words: &[&'a [u8]]) -> Option<ParsedLine<'a, 'b>>
+    ensures { option_map parsed_fields result
+        ≡ parse_line_after line kinds.Chain (map (λ word. word.now) words.now) }
+{
+    let chain = chain_in(line, words)?;
+    Some(ParsedLine::Before(Part::Chain(chain)))
+}
+
 /// Returns the fields in the words after `ROW`.
-fn row_said<'a>(line: u64, words: &[&[u8]]) -> Option<ParsedLine<'a>>
+fn row_said<'a, 'b>(line: u64, words: &[&'a [u8]]) -> Option<ParsedLine<'a, 'b>>
     ensures { option_map parsed_fields result
         ≡ parse_line_after line kinds.Row (map (λ word. word.now) words.now) }
 {
@@ -455,44 +431,54 @@ fn row_said<'a>(line: u64, words: &[&[u8]]) -> Option<ParsedLine<'a>>
 }
 
 /// Returns the fields in the line of a condition's step.
-fn condition_said<'a>(line: u64, kind: ConditionKind, words: &[&[u8]]) -> Option<ParsedLine<'a>>
+fn condition_said<'a, 'b>(
+    line: u64,
+    kind: ConditionKind,
+    words: &[&'a [u8]],
+) -> Option<ParsedLine<'a, 'b>>
     ensures { option_map parsed_fields result
         ≡ parse_line_after line (kinds.Condition kind) (map (λ word. word.now) words.now) }
 {
     let entry = condition_in(kind, words)?;
-    Some(in_body(line, Entry::Condition(entry)))
+    Some(ParsedLine::Before(Part::Body(BodyLine {
+        line,
+        entry: Entry::Condition(entry),
+    })))
 }
 
 /// Returns the fields in the line of an instruction.
-fn instruction_said<'a>(line: u64, kind: InstructionKind, words: &[&[u8]]) -> Option<ParsedLine<'a>>
+fn instruction_said<'a, 'b>(
+    line: u64,
+    kind: InstructionKind,
+    words: &[&'a [u8]],
+) -> Option<ParsedLine<'a, 'b>>
     ensures { option_map parsed_fields result
         ≡ parse_line_after line (kinds.Instruction kind) (map (λ word. word.now) words.now) }
 {
     let entry = instruction_in(kind, words)?;
-    Some(in_body(line, Entry::Instruction(entry)))
+    Some(ParsedLine::Before(Part::Body(BodyLine {
+        line,
+        entry: Entry::Instruction(entry),
+    })))
 }
 
 /// Returns the fields in the words after `JOIN`.
-fn join_said<'a>(line: u64, words: &[&[u8]]) -> Option<ParsedLine<'a>>
+fn join_said<'a, 'b>(line: u64, words: &[&'a [u8]]) -> Option<ParsedLine<'a, 'b>>
     ensures { option_map parsed_fields result
         ≡ parse_line_after line kinds.Join (map (λ word. word.now) words.now) }
 {
     let target = number_in(words)?;
-    Some(in_body(line, Entry::Join(target)))
+    Some(ParsedLine::Before(Part::Body(BodyLine {
+        line,
+        entry: Entry::Join(target),
+    })))
 }
 
 /// Returns the fields in the words after `END`.
-fn end_said<'a>(line: u64, words: &[&[u8]]) -> Option<ParsedLine<'a>>
+fn end_said<'a, 'b>(line: u64, words: &[&'a [u8]]) -> Option<ParsedLine<'a, 'b>>
     ensures { option_map parsed_fields result
         ≡ parse_line_after line kinds.End (map (λ word. word.now) words.now) }
 {
     let row = number_in(words)?;
     Some(ParsedLine::End(EndLine { line, row }))
-}
-
-/// Returns a line after the product rows.
-fn in_body<'a>(line: u64, entry: Entry<'a>) -> ParsedLine<'a>
-    ensures { parsed_fields result ≡ body_at line (entry_fields entry.entry) }
-{
-    ParsedLine::Before(Part::Body(BodyLine { line, entry }))
 }

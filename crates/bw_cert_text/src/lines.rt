@@ -15,11 +15,11 @@ pub struct NodeLine {
 }
 
 /// `CHAIN n LT|EQ ..` or `CHAIN n LT2|EQ2 ..`: chain `n`.
-#[derive(Drop)]
-pub struct ChainLine {
+#[derive(Clone, Copy)]
+pub struct ChainLine<'a> {
     pub line: u64,
     pub n: u64,
-    pub columns: ChainColumns,
+    pub columns: ChainColumns<'a>,
 }
 
 /// `ROW n AND|OR|XOR|DIFF a b c S`, or `.. V v i j` in place of `S`: product row `n`.

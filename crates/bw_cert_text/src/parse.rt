@@ -17,13 +17,13 @@ use bw_model::{Fault, code};
 use bw_text::{Line, Lines};
 use std::alloc::{AllocError, Global};
 
-impl Certificate {
+impl<'a> Certificate<'a> {
     /// Reads a certificate text, the first line of which has this number, 1 to 2^32.
     ///
     /// Errors: 605 at the first line that has another form, that is a node, chain or product row
     /// after a line of a later section, or that follows `END`. If `END` is missing, 605 is at the
     /// end of the text, one line after the last. 801 if memory is refused.
-    pub fn parse(alloc: Global, first_line: u64, text: &[u8]) -> Result<Self, Fault>
+    pub fn parse(alloc: Global, first_line: u64, text: &'a [u8]) -> Result<Self, Fault>
         requires numbered { 1 ≤ first_line }
         requires within_limit { first_line ≤ 2 ^ 32 }
         // A text that is read spells the certificate, and every text that spells one is read.
@@ -58,16 +58,16 @@ pub fn certificates_are_read_as_spelled()
 
 /// The lines before the end that were read so far.
 #[derive(Drop)]
-pub(crate) struct Parts {
+pub(crate) struct Parts<'a> {
     nodes: Vec<NodeLine>,
-    chains: Vec<ChainLine>,
+    chains: Vec<ChainLine<'a>>,
     products: Vec<ProductLine>,
     body: Body,
 }
 
-impl Parts {
+impl<'a> Parts<'a> {
     /// Adds a line to those of its section.
-    fn push(&mut self, part: Part<'_>) -> Result<(), AllocError>
+    fn push(&mut self, part: Part<'a, '_>) -> Result<(), AllocError>
         ensures { OnOk result ((rest : CertificateFields) → append_fields self.new rest
             ≡ append_fields self.old (with_part (part_fields part.entry) rest)) }
     {
@@ -83,7 +83,7 @@ impl Parts {
 
 /// Returns the section of a line: 0 the nodes, 1 the chains, 2 the product rows, 3 the lines after
 /// them.
-fn section_of(part: &Part<'_>) -> u8
+fn section_of(part: &Part<'_, '_>) -> u8
     ensures { result ≡ section_of (part_fields part.now) }
 {
     match part {
@@ -95,7 +95,7 @@ fn section_of(part: &Part<'_>) -> u8
 }
 
 /// Reads a certificate text line by line.
-fn read_certificate(alloc: Global, first_line: u64, text: &[u8]) -> Result<Certificate, Fault>
+fn read_certificate(alloc: Global, first_line: u64, text: &[u8]) -> Result<Certificate<'_>, Fault>
     requires { first_line ≤ 2 ^ 32 }
     ensures read { MatchesUnlessOom certificate_fields result (certificate_of first_line text.now) }
     ensures code { IfErr result IsCertificateFault }
@@ -119,7 +119,11 @@ fn read_certificate(alloc: Global, first_line: u64, text: &[u8]) -> Result<Certi
 }
 
 /// Reads the lines up to `END`, and returns that.
-fn read_parts(alloc: Global, lines: &mut Lines<'_>, parts: &mut Parts) -> Result<EndLine, Fault>
+fn read_parts<'a>(
+    alloc: Global,
+    lines: &mut Lines<'a>,
+    parts: &mut Parts<'a>,
+) -> Result<EndLine, Fault>
     requires { (rest : CertificateFields) → append_fields parts.old rest ≡ rest }
     ensures read { IfOk result (λ end. certificate_from 0 (lines_in lines.old) (end_in lines.old)
         ≡ last_line (lines_in lines.new) (append_fields parts.new (end_alone end))) }
@@ -143,12 +147,12 @@ fn read_parts(alloc: Global, lines: &mut Lines<'_>, parts: &mut Parts) -> Result
 
 /// Returns the fields of a line, which must not be of a section before this one. Its pairs are
 /// stored in `pairs`.
-fn parse_line_on<'a>(
+fn parse_line_on<'a, 'b>(
     alloc: Global,
     section: u8,
-    line: &Line<'_>,
-    pairs: &'a mut Vec<EdgeProducts>,
-) -> Result<ParsedLine<'a>, Fault>
+    line: &Line<'a>,
+    pairs: &'b mut Vec<EdgeProducts>,
+) -> Result<ParsedLine<'a, 'b>, Fault>
     ensures parsed { MatchesUnlessOom parsed_fields result
         (parse_line_on section (line_of line.now)) }
     ensures code { IfErr result IsCertificateFault }
@@ -163,7 +167,7 @@ fn parse_line_on<'a>(
 }
 
 /// Returns whether a line is of a section before this one.
-fn is_before(section: u8, said: &ParsedLine<'_>) -> bool
+fn is_before(section: u8, said: &ParsedLine<'_, '_>) -> bool
     ensures { result ≡ is_before section (parsed_fields said.now) }
 {
     match said {

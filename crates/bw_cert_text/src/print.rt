@@ -27,7 +27,7 @@ use bw_model::{Fault, Schema};
 use bw_text::{Piece, push_line, push_spaced};
 use std::alloc::{AllocError, Global};
 
-impl Certificate {
+impl Certificate<'_> {
     /// Returns its canonical text, under a schema that must have the columns that its chains name:
     /// keywords in capitals, single blanks, columns in the schema's spelling, numbers without
     /// leading zeros, `-` for none, and one line feed after each line. The text spells the
@@ -61,7 +61,7 @@ impl Certificate {
 }
 
 /// Returns whether a schema has the columns that the chains name.
-fn are_all_named(schema: &Schema, chains: &[ChainLine]) -> bool
+fn are_all_named(schema: &Schema, chains: &[ChainLine<'_>]) -> bool
     ensures { result ≡ list_all
         (λ chain. are_columns schema.now.columns.items (column_fields chain.columns)) chains.now }
 {
@@ -69,10 +69,10 @@ fn are_all_named(schema: &Schema, chains: &[ChainLine]) -> bool
 }
 
 /// Returns whether a schema has the columns that a chain names.
-fn is_named(schema: &Schema, chain: &ChainLine) -> bool
+fn is_named(schema: &Schema, chain: &ChainLine<'_>) -> bool
     ensures { result ≡ are_columns schema.now.columns.items (column_fields chain.now.columns) }
 {
-    match &chain.columns {
+    match chain.columns {
         ChainColumns::One { column, .. } => schema.column_named(column).is_some(),
         ChainColumns::Two { left, right, .. } => {
             schema.column_named(left).is_some() && schema.column_named(right).is_some()
@@ -129,7 +129,7 @@ fn put_node(alloc: Global, node: NodeLine, text: &mut Vec<u8>) -> Result<(), All
 fn put_chains(
     alloc: Global,
     schema: &Schema,
-    chains: &[ChainLine],
+    chains: &[ChainLine<'_>],
     text: &mut Vec<u8>,
 ) -> Result<(), AllocError>
     ensures text { OnOk result (text.new.items ≡ text.old.items
@@ -148,7 +148,7 @@ fn put_chains(
 fn put_chain<'a>(
     alloc: Global,
     schema: &'a Schema,
-    chain: &'a ChainLine,
+    chain: &'a ChainLine<'a>,
     text: &mut Vec<u8>,
 ) -> Result<(), AllocError>
     ensures text { OnOk result (text.new.items ≡ text.old.items
@@ -156,7 +156,7 @@ fn put_chain<'a>(
         (respelled_chain schema.now.columns.items (chain_fields chain.now)))) }
     ensures fit { IsTrue (are_small (chain_tokens (chain_fields chain.now))) }
 {
-    match &chain.columns {
+    match chain.columns {
         ChainColumns::One {
             kind,
             column,
@@ -169,13 +169,13 @@ fn put_chain<'a>(
             let pieces = [
                 Piece::Word(b"CHAIN"),
                 number(chain.n),
-                Piece::Word(one_key(*kind)),
+                Piece::Word(one_key(kind)),
                 Piece::Word(name_of(schema, column)),
-                number(*start),
-                number(*len),
-                number(*bound),
-                number(*node),
-                perhaps(*prev),
+                number(start),
+                number(len),
+                number(bound),
+                number(node),
+                perhaps(prev),
             ];
             push_line(alloc, &pieces, text)
         }
@@ -190,12 +190,12 @@ fn put_chain<'a>(
             let pieces = [
                 Piece::Word(b"CHAIN"),
                 number(chain.n),
-                Piece::Word(two_key(*kind)),
+                Piece::Word(two_key(kind)),
                 Piece::Word(name_of(schema, left)),
                 Piece::Word(name_of(schema, right)),
-                number(*len),
-                number(*node),
-                perhaps(*prev),
+                number(len),
+                number(node),
+                perhaps(prev),
             ];
             push_line(alloc, &pieces, text)
         }

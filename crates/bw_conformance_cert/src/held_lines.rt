@@ -3,7 +3,6 @@
 //! out of memory.
 use bw_diagram::{ChainColumns, ChainKind, Connective, Diagram, Reason};
 use bw_model::{Fault, Schema};
-use std::alloc::Global;
 use std::process::Abort;
 use std::test::Fail;
 
@@ -42,7 +41,6 @@ impl Held {
 /// Adds a line after this many others of its kind: one that satisfies its rule whatever else the
 /// diagram contains, or one that breaks it.
 fn add(
-    alloc: Global,
     diagram: &mut Diagram<'_>,
     kind: Kind,
     before: u64,
@@ -56,7 +54,7 @@ fn add(
         Kind::Chain => {
             let columns = ChainColumns::One {
                 kind: ChainKind::Equal,
-                column: Vec::from_slice(alloc, b"a")?,
+                column: b"a",
                 start: 0,
                 len: 0,
                 bound: 0,
@@ -82,12 +80,12 @@ fn check_next(
 ) {
     let before = held.of(kind);
     assert_eq!(rt;
-        add(rt.alloc(), diagram, kind, before, false),
+        add(diagram, kind, before, false),
         Err(Fault::new(code)),
         "{kind:?} at {held:?}"
     );
     assert_eq!(rt;
-        add(rt.alloc(), diagram, kind, before, true),
+        add(diagram, kind, before, true),
         Ok(()),
         "{kind:?} at {held:?}"
     );
@@ -106,7 +104,7 @@ fn each_line_has_its_own_answer_whatever_is_held(rt: HostRuntime) -> Result<(), 
             let mut diagram = Diagram::new(rt.alloc(), &table);
             for (each, _) in KINDS {
                 for before in 0..held.of(each) {
-                    add(rt.alloc(), &mut diagram, each, before, true)?;
+                    add(&mut diagram, each, before, true)?;
                 }
             }
             check_next(&rt, &mut diagram, kind, code, held);

@@ -220,6 +220,6 @@ two_named columns kind left right len node prev =
 
 abbrev pub chain_named : List Column → ChainColumns → Option Chain
 chain_named columns (words.One kind column start len bound node prev) =
-    one_named columns kind column.items start len bound node prev
+    one_named columns kind column.now start len bound node prev
 chain_named columns (words.Two kind left right len node prev) =
-    two_named columns kind left.items right.items len node prev
+    two_named columns kind left.now right.now len node prev

@@ -180,12 +180,13 @@ pub(crate) fn is_choice(nodes: &[Node], v: u32, low: u32, high: u32, node: u32) 
 }
 
 /// The fields after a chain's number in its line. Columns are words, which may be no column's name.
-#[derive(Drop)]
-pub enum ChainColumns {
+/// They aren't copied: a text's lines lend theirs.
+#[derive(Clone, Copy)]
+pub enum ChainColumns<'a> {
     /// `LT|EQ column start len bound node prev`, the last a number or `-`.
     One {
         kind: ChainKind,
-        column: Vec<u8>,
+        column: &'a [u8],
         start: u64,
         len: u64,
         bound: u64,
@@ -195,8 +196,8 @@ pub enum ChainColumns {
     /// `LT2|EQ2 left right len node prev`.
     Two {
         kind: ChainKind,
-        left: Vec<u8>,
-        right: Vec<u8>,
+        left: &'a [u8],
+        right: &'a [u8],
         len: u64,
         node: u64,
         prev: Option<u64>,

@@ -84,7 +84,7 @@ impl<'a> Diagram<'a> {
     /// - the columns don't have these bits,
     /// - `prev` isn't the chain over the bits below the top bit, or
     /// - the node doesn't choose by the top bits between the nodes that follow from `prev`'s.
-    pub fn add_chain(&mut self, n: u64, columns: &ChainColumns) -> Result<(), Fault>
+    pub fn add_chain(&mut self, n: u64, columns: &ChainColumns<'_>) -> Result<(), Fault>
         ensures exact { MatchesUnlessOom (λ _. self.new) result
             (with_chain self.old n (chain_named self.old.columns columns.now)) }
         ensures refused { OnErr result (self.new ≡ self.old) }
@@ -142,7 +142,7 @@ impl<'a> Diagram<'a> {
 
     /// Returns the chain of a line, if it is valid as the next one.
     #[tactic(auto, unfolding(crate::specs::Facts::judged_chain, crate::specs::Chain::is_valid_chain))]
-    fn accepted_chain(&self, n: u64, columns: &ChainColumns) -> Result<Chain, Fault>
+    fn accepted_chain(&self, n: u64, columns: &ChainColumns<'_>) -> Result<Chain, Fault>
         ensures judged { result ≡ judged_chain self.now n
             (chain_named self.now.columns columns.now) }
         ensures code { IfErr result (λ fault. IsTrue (is_diagram_fault fault)) }

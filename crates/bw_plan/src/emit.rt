@@ -127,15 +127,15 @@ fn name_of(schema: &Schema, column: ColumnIndex) -> Piece<'_> {
 }
 
 /// Returns the certificate of facts and lines, numbered as in a program file.
-pub(crate) fn certificate(
+pub(crate) fn certificate<'a>(
     alloc: Global,
-    schema: &Schema,
+    schema: &'a Schema,
     facts: &Facts<'_>,
     entries: &[PlannedLine],
     edges: &[EdgeProducts],
     row: u32,
     before: usize,
-) -> Result<Certificate, Refusal>
+) -> Result<Certificate<'a>, Refusal>
     ensures { IfOk result (λ certificate.
         IsTrue (has_columns schema.now.columns.items (certificate_fields certificate))) }
 {
@@ -165,12 +165,12 @@ fn node_lines(alloc: Global, nodes: &[Branch], first: u64) -> Result<Vec<NodeLin
 }
 
 /// Returns the lines of chains.
-fn chain_lines(
+fn chain_lines<'a>(
     alloc: Global,
-    schema: &Schema,
+    schema: &'a Schema,
     chains: &Ledger<Link>,
     first: u64,
-) -> Result<Vec<ChainLine>, Refusal>
+) -> Result<Vec<ChainLine<'a>>, Refusal>
     ensures { IfOk result (λ lines. IsTrue
         (are_chains_named schema.now.columns.items lines.items)) }
 {
@@ -181,7 +181,7 @@ fn chain_lines(
         };
         let number = number as u64;
         let line = first.saturating_add(number);
-        lines.push(chain_line(alloc, schema, line, number, link)?)?;
+        lines.push(chain_line(schema, line, number, link)?)?;
     }
     Ok(lines)
 }
@@ -255,17 +255,16 @@ fn row_line(line: u64, number: u64, row: Row) -> ProductLine {
 
 /// Returns the line of a chain.
 fn chain_line(
-    alloc: Global,
     schema: &Schema,
     line: u64,
     number: u64,
     link: Link,
-) -> Result<ChainLine, Refusal>
+) -> Result<ChainLine<'_>, Refusal>
     ensures { IfOk result (λ line. IsTrue (is_chain_named schema.now.columns.items line)) }
 {
     let (kind, len) = (link.kind, u64::from(link.len));
     let (node, prev) = (u64::from(link.node), link.prev.map(u64::from));
-    let left = name(alloc, schema, link.left)?;
+    let left = name(schema, link.left)?;
     let columns = match link.right {
         None => ChainColumns::One {
             kind,
@@ -279,7 +278,7 @@ fn chain_line(
         Some(right) => ChainColumns::Two {
             kind,
             left,
-            right: name(alloc, schema, right)?,
+            right: name(schema, right)?,
             len,
             node,
             prev,
@@ -293,14 +292,14 @@ fn chain_line(
 }
 
 /// Returns the name of a column, by which the schema finds it.
-fn name(alloc: Global, schema: &Schema, column: ColumnIndex) -> Result<Vec<u8>, Refusal>
-    ensures { IfOk result (λ word. IsTrue (is_column schema.now.columns.items word.items)) }
+fn name(schema: &Schema, column: ColumnIndex) -> Result<&[u8], Refusal>
+    ensures { IfOk result (λ word. IsTrue (is_column schema.now.columns.items word.now)) }
 {
     let Some(column) = schema.columns.get(column as usize) else {
         return Err(Refusal::NoProgram);
     };
-    let word = Vec::from_slice(alloc, column.name.as_bytes())?;
-    if schema.column_named(&word).is_none() {
+    let word = column.name.as_bytes();
+    if schema.column_named(word).is_none() {
         return Err(Refusal::NoProgram);
     }
     Ok(word)

@@ -20,9 +20,9 @@ use std::alloc::Global;
 
 /// A program for a condition, and a certificate that is to prove that it selects the right rows.
 #[derive(Drop)]
-pub struct Proposal {
+pub struct Proposal<'a> {
     pub program: Program,
-    pub certificate: Certificate,
+    pub certificate: Certificate<'a>,
 }
 
 /// Proposes a program for a condition, and a certificate for it. Both fit the schema. Whether they
@@ -32,7 +32,11 @@ pub struct Proposal {
 /// Errors: 651, at no place, if a limit of instructions, registers, nodes, chains or rows would be
 /// passed, if two columns of unequal minimums are compared, or if the row-by-row fallback takes no
 /// longer. 801 if memory is refused.
-pub fn propose(alloc: Global, schema: &Schema, cond: &Cond) -> Result<Proposal, Fault>
+pub fn propose<'a>(
+    alloc: Global,
+    schema: &'a Schema,
+    cond: &Cond,
+) -> Result<Proposal<'a>, Fault>
     requires { IsTrue (names_within (length schema.now.columns.items) cond.now) }
     ensures program { IfOk result (λ proposal.
         IsTrue (fits schema.now.columns.items proposal.program)) }
@@ -48,7 +52,11 @@ pub fn propose(alloc: Global, schema: &Schema, cond: &Cond) -> Result<Proposal, 
 
 /// A program for a condition: with skips, or if that isn't to be had, without, when it takes fewer
 /// instructions and nodes.
-fn planned(alloc: Global, schema: &Schema, cond: &Cond) -> Result<Proposal, Refusal>
+fn planned<'a>(
+    alloc: Global,
+    schema: &'a Schema,
+    cond: &Cond,
+) -> Result<Proposal<'a>, Refusal>
     ensures program { IfOk result (λ proposal.
         IsTrue (fits schema.now.columns.items proposal.program)) }
     ensures certificate { IfOk result (λ proposal.
@@ -109,7 +117,7 @@ fn agreeing(code: &mut Code<'_>, register: Register, wanted: u32) -> Result<u32,
 
 /// The certificate of the instructions, after as many lines as their program has, with the row that
 /// ends it.
-fn certified(schema: &Schema, code: Code<'_>, row: u32) -> Result<Certificate, Refusal>
+fn certified<'a>(schema: &'a Schema, code: Code<'_>, row: u32) -> Result<Certificate<'a>, Refusal>
     ensures { IfOk result (λ certificate.
         IsTrue (has_columns schema.now.columns.items (certificate_fields certificate))) }
 {

@@ -72,7 +72,7 @@ fn proposed_file(alloc: Global, schema: &Schema, cond: &Cond) -> Result<Vec<u8>,
 }
 
 /// Returns the text of a program, the line CERTIFICATE, and the text of a certificate.
-fn file_of(alloc: Global, schema: &Schema, proposal: &Proposal) -> Result<Vec<u8>, Fault>
+fn file_of(alloc: Global, schema: &Schema, proposal: &Proposal<'_>) -> Result<Vec<u8>, Fault>
     requires program { IsTrue (fits schema.now.columns.items proposal.now.program) }
     requires certificate { IsTrue
         (has_columns schema.now.columns.items (certificate_fields proposal.now.certificate)) }

@@ -12,7 +12,7 @@ use bw_run::Counts;
 use bw_segment::Segment;
 use std::alloc::Global;
 
-pub fn calls_parse(alloc: Global, first_line: u64, text: &[u8]) -> Result<Certificate, Fault>
+pub fn calls_parse(alloc: Global, first_line: u64, text: &[u8]) -> Result<Certificate<'_>, Fault>
     requires nonempty { 1 ≤ first_line }
     requires within_limit { first_line ≤ 2 ^ 32 }
 {
@@ -20,7 +20,7 @@ pub fn calls_parse(alloc: Global, first_line: u64, text: &[u8]) -> Result<Certif
 }
 
 pub fn calls_print(
-    certificate: &Certificate,
+    certificate: &Certificate<'_>,
     alloc: Global,
     schema: &Schema,
 ) -> Result<Vec<u8>, Fault>
@@ -29,15 +29,15 @@ pub fn calls_print(
     certificate.print(alloc, schema)
 }
 
-pub fn calls_nodes(certificate: &Certificate) -> usize {
+pub fn calls_nodes(certificate: &Certificate<'_>) -> usize {
     certificate.nodes()
 }
 
-pub fn calls_chains(certificate: &Certificate) -> usize {
+pub fn calls_chains(certificate: &Certificate<'_>) -> usize {
     certificate.chains()
 }
 
-pub fn calls_rows(certificate: &Certificate) -> usize {
+pub fn calls_rows(certificate: &Certificate<'_>) -> usize {
     certificate.rows()
 }
 
@@ -46,7 +46,7 @@ pub fn calls_check(
     schema: &Schema,
     condition: &Cond,
     program: Program,
-    certificate: &Certificate,
+    certificate: &Certificate<'_>,
 ) -> Result<Certified, (Program, Fault)>
     requires whole { IsTrue (is_whole condition.now) }
     requires columns { IsTrue (names_within (length schema.now.columns.items) condition.now) }

@@ -37,7 +37,12 @@ pub fn tells_kinds(kind: ChainKind) -> u8 {
     }
 }
 
-pub fn makes_one(kind: ChainKind, column: Vec<u8>, number: u64, prev: Option<u64>) -> ChainColumns {
+pub fn makes_one(
+    kind: ChainKind,
+    column: &[u8],
+    number: u64,
+    prev: Option<u64>,
+) -> ChainColumns<'_> {
     ChainColumns::One {
         kind,
         column,
@@ -49,14 +54,14 @@ pub fn makes_one(kind: ChainKind, column: Vec<u8>, number: u64, prev: Option<u64
     }
 }
 
-pub fn makes_two(
+pub fn makes_two<'a>(
     kind: ChainKind,
-    left: Vec<u8>,
-    right: Vec<u8>,
+    left: &'a [u8],
+    right: &'a [u8],
     len: u64,
     node: u64,
     prev: Option<u64>,
-) -> ChainColumns {
+) -> ChainColumns<'a> {
     ChainColumns::Two {
         kind,
         left,
@@ -102,7 +107,7 @@ pub fn calls_add_node<'a>(
 pub fn calls_add_chain<'a>(
     diagram: &mut Diagram<'a>,
     n: u64,
-    columns: &ChainColumns,
+    columns: &ChainColumns<'_>,
 ) -> Result<(), Fault> {
     diagram.add_chain(n, columns)
 }

@@ -8,7 +8,7 @@ use bw_plan::Proposal;
 use bw_program::Program;
 use std::alloc::Global;
 
-pub fn takes_proposal(proposal: Proposal) -> (Program, Certificate) {
+pub fn takes_proposal<'a>(proposal: Proposal<'a>) -> (Program, Certificate<'a>) {
     let Proposal {
         program,
         certificate,
@@ -16,7 +16,11 @@ pub fn takes_proposal(proposal: Proposal) -> (Program, Certificate) {
     (program, certificate)
 }
 
-pub fn calls_propose(alloc: Global, schema: &Schema, cond: &Cond) -> Result<Proposal, Fault>
+pub fn calls_propose<'a>(
+    alloc: Global,
+    schema: &'a Schema,
+    cond: &Cond,
+) -> Result<Proposal<'a>, Fault>
     requires whole { IsTrue (is_whole cond.now) }
     requires columns { IsTrue (names_within (length schema.now.columns.items) cond.now) }
 {

@@ -13,13 +13,13 @@ impl Diagram<'_> {
     /// Returns the chain of a line's fields, if they name columns, a node, an earlier chain, and
     /// bits of the columns.
     #[tactic(auto, unfolding(crate::specs::Chain::is_in_range))]
-    pub(super) fn in_range(&self, columns: &ChainColumns) -> Option<Chain>
+    pub(super) fn in_range(&self, columns: &ChainColumns<'_>) -> Option<Chain>
         ensures range { result ≡ in_range self.now.columns self.now.nodes self.now.chains
             (chain_named self.now.columns columns.now) }
         ensures within { IfSome result (λ chain. IsTrue (is_within self.now.columns chain)) }
         ensures short { IfSome result (λ chain. end_of chain ≤ 63) }
     {
-        match columns {
+        match *columns {
             ChainColumns::One {
                 kind,
                 column,
@@ -31,22 +31,22 @@ impl Diagram<'_> {
             } => {
                 let col = self.schema.column_named(column)?;
                 let width = u64::from(self.schema.width(col));
-                if !self.is_node(*node)
-                    || !self.is_earlier(*prev)
-                    || *start > width
-                    || *len > width - *start
-                    || *bound >= 1 << *len
+                if !self.is_node(node)
+                    || !self.is_earlier(prev)
+                    || start > width
+                    || len > width - start
+                    || bound >= 1 << len
                 {
                     return None;
                 }
                 Some(Chain::One {
-                    kind: *kind,
+                    kind: kind,
                     col: col as u32,
-                    start: *start as u32,
-                    len: *len as u32,
-                    bound: *bound,
-                    node: *node as u32,
-                    prev: narrow(*prev),
+                    start: start as u32,
+                    len: len as u32,
+                    bound: bound,
+                    node: node as u32,
+                    prev: narrow(prev),
                 })
             }
             ChainColumns::Two {
@@ -60,20 +60,20 @@ impl Diagram<'_> {
                 let left = self.schema.column_named(left)?;
                 let right = self.schema.column_named(right)?;
                 let width = self.schema.width(left).max(self.schema.width(right));
-                if !self.is_node(*node)
-                    || !self.is_earlier(*prev)
+                if !self.is_node(node)
+                    || !self.is_earlier(prev)
                     || left == right
-                    || *len > u64::from(width)
+                    || len > u64::from(width)
                 {
                     return None;
                 }
                 Some(Chain::Two {
-                    kind: *kind,
+                    kind: kind,
                     left: left as u32,
                     right: right as u32,
-                    len: *len as u32,
-                    node: *node as u32,
-                    prev: narrow(*prev),
+                    len: len as u32,
+                    node: node as u32,
+                    prev: narrow(prev),
                 })
             }
         }
