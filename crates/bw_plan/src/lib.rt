@@ -1,10 +1,10 @@
 //! The planner: a scan program for a condition, with a certificate for the checker.
 //!
-//! The contract that the crates above use: [`propose`] returns on every condition of a schema. A
-//! program that it gives fits the schema, the certificate's chains name columns of the schema, and
-//! a refusal stands nowhere. That a proposal selects the right rows, and that what its certificate
-//! states is true, is no promise of this crate: the checker says so, judging each line anew, or
-//! else the proposal isn't used.
+//! The contract that the crates above use: [`propose`] and [`propose_in_order`] return on every
+//! condition of a schema. A program that they give fits the schema, the certificate's chains name
+//! columns of the schema, and a refusal stands nowhere. That a proposal selects the right rows, and
+//! that what its certificate states is true, is no promise of this crate: the checker says so,
+//! judging each line anew, or else the proposal isn't used.
 //!
 //! `facts.rt` has what a certificate states, nodes, chains and product rows, each worked out once;
 //! `steps.rt` has the lines of the condition's steps, which cite them. The diagrams and the
@@ -42,4 +42,4 @@ mod sets;
 mod steps;
 mod truths;
 
-pub use planner::{Proposal, propose};
+pub use planner::{Proposal, propose, propose_in_order};

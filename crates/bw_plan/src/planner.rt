@@ -44,7 +44,25 @@ pub fn propose<'a>(
         IsTrue (has_columns schema.now.columns.items (certificate_fields proposal.certificate))) }
     ensures fault { IfErr result IsRefusal }
 {
-    match planned(alloc, schema, cond) {
+    propose_in_order(alloc, schema, cond, cond)
+}
+
+/// Proposes a program for a condition as [`propose`] does. Its instructions take the parts of each
+/// AND and OR in the order of `order`, which is the condition with these parts exchanged. For
+/// another `order` the checker rejects the proposal. Errors are those of `propose`.
+pub fn propose_in_order<'a>(
+    alloc: Global,
+    schema: &'a Schema,
+    cond: &Cond,
+    order: &Cond,
+) -> Result<Proposal<'a>, Fault>
+    ensures program { IfOk result (λ proposal.
+        IsTrue (fits schema.now.columns.items proposal.program)) }
+    ensures certificate { IfOk result (λ proposal.
+        IsTrue (has_columns schema.now.columns.items (certificate_fields proposal.certificate))) }
+    ensures fault { IfErr result IsRefusal }
+{
+    match planned(alloc, schema, cond, order) {
         Ok(proposal) => Ok(proposal),
         Err(refusal) => Err(refusal.fault()),
     }
@@ -56,6 +74,7 @@ fn planned<'a>(
     alloc: Global,
     schema: &'a Schema,
     cond: &Cond,
+    order: &Cond,
 ) -> Result<Proposal<'a>, Refusal>
     ensures program { IfOk result (λ proposal.
         IsTrue (fits schema.now.columns.items proposal.program)) }
@@ -63,7 +82,7 @@ fn planned<'a>(
         IsTrue (has_columns schema.now.columns.items (certificate_fields proposal.certificate))) }
 {
     let mut code = Code::new(alloc, Facts::new(alloc, schema, cond)?);
-    let (program, row) = program_of(schema, cond, &mut code)?;
+    let (program, row) = program_of(schema, cond, order, &mut code)?;
     match certified(schema, code, row) {
         Ok(certificate) => Ok(Proposal {
             program,
@@ -74,14 +93,19 @@ fn planned<'a>(
 }
 
 /// Returns the program, with skips or without, and the row that ends the certificate.
-fn program_of(schema: &Schema, cond: &Cond, code: &mut Code<'_>) -> Result<(Program, u32), Refusal>
+fn program_of(
+    schema: &Schema,
+    cond: &Cond,
+    order: &Cond,
+    code: &mut Code<'_>,
+) -> Result<(Program, u32), Refusal>
     ensures { IfOk result (λ made. IsTrue (fits schema.now.columns.items made.0)) }
 {
     let node = code.begin(cond)?;
-    match emit_program(schema, cond, node, code) {
+    match emit_program(schema, order, node, code) {
         Err(Refusal::NoProgram) => {
             code.begin_again();
-            emit_program(schema, cond, node, code)
+            emit_program(schema, order, node, code)
         }
         made => made,
     }
