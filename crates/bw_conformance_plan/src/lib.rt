@@ -11,6 +11,8 @@ mod generated;
 #[cfg(test)]
 mod lists;
 #[cfg(test)]
+mod orders;
+#[cfg(test)]
 mod related;
 #[cfg(test)]
 mod rows;

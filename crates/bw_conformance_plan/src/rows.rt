@@ -7,7 +7,7 @@ ghost use Rattle.bw_segment.specs.Meaning.{IsGroup, meaning_of};
 use bw_cert::{Certified, check};
 use bw_lanes::lane;
 use bw_model::{Column, Cond, Fault, Row, Schema, Truth, Value};
-use bw_plan::propose;
+use bw_plan::propose_in_order;
 use bw_planes::PlaneSegment;
 use bw_rowwise::truth;
 use bw_slices::SliceSegment;
@@ -101,19 +101,20 @@ fn assert_group(rt: &impl Abort, schema: &Schema, rows: &[Row])
     }
 }
 
-/// Returns the certified program of a condition, or the error of `propose`. The checker must accept
-/// what is proposed.
+/// Returns the certified program of a condition with its parts in some order, or the error of
+/// `propose_in_order`. The checker must accept what is proposed.
 pub(crate) fn planned(
     rt: &impl Abort,
     alloc: Global,
     schema: &Schema,
     cond: &Cond,
+    order: &Cond,
     text: &str,
 ) -> Result<Certified, Fault>
     requires { IsTrue (names_within (length schema.now.columns.items) cond.now) }
     ensures { IfOk result (λ certified. certified.schema.columns.items ≡ schema.now.columns.items) }
 {
-    let proposal = propose(alloc, schema, cond)?;
+    let proposal = propose_in_order(alloc, schema, cond, order)?;
     match check(alloc, schema, cond, proposal.program, &proposal.certificate) {
         Ok(certified) => Ok(certified),
         Err((_, fault)) => panic!(rt; "{text}: {fault}"),
@@ -192,9 +193,23 @@ pub(crate) fn judged(
     text: &str,
     rows: &[Row],
 ) -> Result<Result<Cost, Fault>, Fail> {
+    judged_in_order(rt, alloc, schema, text, text, rows)
+}
+
+/// Returns the same of a condition whose parts are taken in the order of another text.
+pub(crate) fn judged_in_order(
+    rt: &impl Abort,
+    alloc: Global,
+    schema: &Schema,
+    text: &str,
+    order: &str,
+    rows: &[Row],
+) -> Result<Result<Cost, Fault>, Fail> {
     let sql = format!(in alloc; "SELECT COUNT(*) FROM t WHERE {text}")?;
     let cond = parse(alloc, schema, sql.as_bytes())?.cond;
-    match planned(rt, alloc, schema, &cond, text) {
+    let sql = format!(in alloc; "SELECT COUNT(*) FROM t WHERE {order}")?;
+    let order = parse(alloc, schema, sql.as_bytes())?.cond;
+    match planned(rt, alloc, schema, &cond, &order, text) {
         Ok(certified) => {
             let cost = picked_in_all(rt, alloc, schema, &certified, &cond, rows, text)?;
             Ok(Ok(cost))

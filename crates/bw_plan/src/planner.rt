@@ -48,8 +48,9 @@ pub fn propose<'a>(
 }
 
 /// Proposes a program for a condition as [`propose`] does. Its instructions take the parts of each
-/// AND and OR in the order of `order`, which is the condition with these parts exchanged. For
-/// another `order` the checker rejects the proposal. Errors are those of `propose`.
+/// AND and OR in the order of `order`, which is the condition with these parts exchanged.
+///
+/// Errors are those of `propose`, and 651 if `order` selects other rows.
 pub fn propose_in_order<'a>(
     alloc: Global,
     schema: &'a Schema,
