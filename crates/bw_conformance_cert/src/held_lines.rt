@@ -40,12 +40,7 @@ impl Held {
 
 /// Adds a line after this many others of its kind: one that satisfies its rule whatever else the
 /// diagram contains, or one that breaks it.
-fn add(
-    diagram: &mut Diagram<'_>,
-    kind: Kind,
-    before: u64,
-    obeys: bool,
-) -> Result<(), Fault> {
+fn add(diagram: &mut Diagram<'_>, kind: Kind, before: u64, obeys: bool) -> Result<(), Fault> {
     match kind {
         Kind::Node => {
             let variable = if obeys { 13 } else { 14 };

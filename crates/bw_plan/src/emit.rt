@@ -254,12 +254,7 @@ fn row_line(line: u64, number: u64, row: Row) -> ProductLine {
 }
 
 /// Returns the line of a chain.
-fn chain_line(
-    schema: &Schema,
-    line: u64,
-    number: u64,
-    link: Link,
-) -> Result<ChainLine<'_>, Refusal>
+fn chain_line(schema: &Schema, line: u64, number: u64, link: Link) -> Result<ChainLine<'_>, Refusal>
     ensures { IfOk result (λ line. IsTrue (is_chain_named schema.now.columns.items line)) }
 {
     let (kind, len) = (link.kind, u64::from(link.len));

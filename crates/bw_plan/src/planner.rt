@@ -32,11 +32,7 @@ pub struct Proposal<'a> {
 /// Errors: 651, at no place, if a limit of instructions, registers, nodes, chains or rows would be
 /// passed, if two columns of unequal minimums are compared, or if the row-by-row fallback takes no
 /// longer. 801 if memory is refused.
-pub fn propose<'a>(
-    alloc: Global,
-    schema: &'a Schema,
-    cond: &Cond,
-) -> Result<Proposal<'a>, Fault>
+pub fn propose<'a>(alloc: Global, schema: &'a Schema, cond: &Cond) -> Result<Proposal<'a>, Fault>
     requires { IsTrue (names_within (length schema.now.columns.items) cond.now) }
     ensures program { IfOk result (λ proposal.
         IsTrue (fits schema.now.columns.items proposal.program)) }

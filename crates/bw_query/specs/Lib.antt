@@ -7,3 +7,4 @@ pub mod Scan
 pub mod Served
 pub mod TableAnswer
 pub mod TableText
+pub mod Trial

@@ -18,6 +18,7 @@ mod scan;
 mod served;
 mod table_calls;
 mod table_text;
+mod trial;
 
 pub use memory_calls::{answer_in_memory, answer_with_programs};
 pub use plan_call::plan_text;

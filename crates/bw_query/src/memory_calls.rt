@@ -158,7 +158,7 @@ fn answered_with_programs(
 {
     let schema = table.schema();
     let query = parse(alloc, schema, sql)?;
-    let number = programs.find_or_add(alloc, schema, &query.cond)?;
+    let number = programs.find_or_add(alloc, table, &query.cond)?;
     let scan = programs.scan(number);
     match memory_text(alloc, table, &query, scan) {
         Ok(found) => Ok(AnswerText {

@@ -3,6 +3,7 @@ ghost use Rattle.std.specs.Prelude.{◌≤◌, length};
 
 use crate::file_text::read_file;
 use crate::scan::{Scan, certificates_are_for_equal_conditions, choose};
+use bw_memory::MemoryTable;
 use bw_model::{Cond, Fault, Schema};
 use std::alloc::Global;
 
@@ -40,6 +41,7 @@ impl ProgramCache {
     ghost use Rattle.bw_model.specs.Cond.{names_within};
     ghost use Rattle.bw_model.specs.Fault.{is_memory};
     ghost use Rattle.bw_cert.specs.Judged.{is_file_fault};
+    ghost use Rattle.bw_memory.specs.MemoryTable.{schema_of};
     ghost use Rattle.bw_query.specs.Among.{IsChosenAmong, IsFileRead, texts_of};
     ghost use Rattle.bw_query.specs.ProgramCache.{HasScan, IsForEqual, IsRejection, Serves, files_of};
     ghost use Rattle.bw_query.specs.Scan.{IsFor};
@@ -79,26 +81,26 @@ impl ProgramCache {
         self.kept.len()
     }
 
-    /// Returns the number of the scan for a condition. One that isn't kept is looked for, and kept
-    /// as the last one; then the first of more than 64 is dropped. Errors: 801 if memory is
+    /// Returns the number of the scan for a condition over a table. One that isn't kept is looked
+    /// for, and kept as the last one; then the first of more than 64 is dropped. Errors: 801 if memory is
     /// refused.
     pub(crate) fn find_or_add(
         &mut self,
         alloc: Global,
-        schema: &Schema,
+        table: &MemoryTable,
         cond: &Cond,
     ) -> Result<usize, Fault>
-        requires columns { IsTrue (names_within (length schema.now.columns.items) cond.now) }
-        requires serves { Serves schema.now.columns.items self.old }
-        ensures found { IfOk result (HasScan schema.now.columns.items self.new cond.now) }
-        ensures serves { Serves schema.now.columns.items self.new }
+        requires columns { IsTrue (names_within (length (schema_of table.now).columns.items) cond.now) }
+        requires serves { Serves (schema_of table.now).columns.items self.old }
+        ensures found { IfOk result (HasScan (schema_of table.now).columns.items self.new cond.now) }
+        ensures serves { Serves (schema_of table.now).columns.items self.new }
         ensures files { files_of self.new ≡ files_of self.old }
         ensures only_oom { IfErr result (λ fault. IsTrue (is_memory fault)) }
     {
         certificates_are_for_equal_conditions();
         match self.find(cond) {
             Some(number) => Ok(number),
-            None => self.add(alloc, schema, cond),
+            None => self.add(alloc, table, cond),
         }
     }
 
@@ -128,16 +130,16 @@ impl ProgramCache {
 
     /// Looks for a scan for a condition, and keeps it as the last one. Returns its number. Errors:
     /// 801 if memory is refused.
-    fn add(&mut self, alloc: Global, schema: &Schema, cond: &Cond) -> Result<usize, Fault>
-        requires columns { IsTrue (names_within (length schema.now.columns.items) cond.now) }
-        requires serves { Serves schema.now.columns.items self.old }
-        ensures found { IfOk result (HasScan schema.now.columns.items self.new cond.now) }
-        ensures serves { Serves schema.now.columns.items self.new }
+    fn add(&mut self, alloc: Global, table: &MemoryTable, cond: &Cond) -> Result<usize, Fault>
+        requires columns { IsTrue (names_within (length (schema_of table.now).columns.items) cond.now) }
+        requires serves { Serves (schema_of table.now).columns.items self.old }
+        ensures found { IfOk result (HasScan (schema_of table.now).columns.items self.new cond.now) }
+        ensures serves { Serves (schema_of table.now).columns.items self.new }
         ensures files { files_of self.new ≡ files_of self.old }
         ensures only_oom { IfErr result (λ fault. IsTrue (is_memory fault)) }
     {
         certificates_are_for_equal_conditions();
-        let scan = choose(alloc, schema, cond, &self.files)?;
+        let scan = choose(alloc, table, cond, &self.files)?;
         let same = cond.copy(alloc)?;
         self.drop_oldest();
         let number = self.kept.len();

@@ -9,18 +9,21 @@ ghost use Rattle.bw_program.specs.Program.{ProgramShape};
 ghost use Rattle.bw_cert_text.specs.CertificateShape.{CertificateShape};
 ghost use Rattle.bw_cert.specs.Judged.{is_file_fault};
 ghost use Rattle.bw_cert.specs.Valid.{Valid};
+ghost use Rattle.bw_memory.specs.MemoryTable.{schema_of};
 ghost use Rattle.bw_cert.specs.declared.certified.Certified.{Certified};
 ghost use Rattle.bw_model.specs.declared.fault.Fault.{Fault};
 ghost use Rattle.bw_query.specs.declared.scan.Scan.TheVariants.{Program};
 ghost use Rattle.bw_query.specs.Among.{IsChosenAmong, IsYield, texts_of};
 ghost use Rattle.bw_query.specs.Scan.{IsFor, IsChosen, IsScanFault, IsUsable, given_file, scan_by};
 
+use crate::trial::plan_for_table;
 use bw_cert::{
     Certified, certificates_are_judged_by_what_they_say, certify, check,
     valid_exactly_where_checked,
 };
+use bw_memory::MemoryTable;
 use bw_model::{Cond, Fault, Place, Schema, code};
-use bw_plan::propose;
+use bw_plan::propose_in_order;
 use std::alloc::Global;
 
 /// What finds the rows of a query: a scan program that was certified for its condition, or the
@@ -57,32 +60,33 @@ pub(crate) fn scan_for(
 {
     match program {
         Some(file) => Ok(Scan::Program(certify(alloc, schema, cond, file)?.certified)),
-        None => plan_and_certify(alloc, schema, cond),
+        None => plan_and_certify(alloc, schema, cond, cond),
     }
 }
 
 /// Returns how a condition is to be scanned if there are program files to choose among: by the
-/// program of the first one that is accepted for it; else by the planner's, if it proposes one that
-/// the checker accepts; else row by row. Errors: 801 if memory is refused.
+/// program of the first one that is accepted for it; else by the planner's that [`plan_for_table`]
+/// returns; else row by row. Errors: 801 if memory is refused.
 pub(crate) fn choose(
     alloc: Global,
-    schema: &Schema,
+    table: &MemoryTable,
     cond: &Cond,
     files: &[Vec<u8>],
 ) -> Result<Scan, Fault>
-    requires { IsTrue (names_within (length schema.now.columns.items) cond.now) }
-    ensures certified { IfOk result (IsFor schema.now.columns.items cond.now) }
+    requires { IsTrue (names_within (length (schema_of table.now).columns.items) cond.now) }
+    ensures certified { IfOk result (IsFor (schema_of table.now).columns.items cond.now) }
     ensures chosen { IfOk result
-        (IsChosenAmong (texts_of files.now) schema.now.columns.items cond.now) }
+        (IsChosenAmong (texts_of files.now) (schema_of table.now).columns.items cond.now) }
     ensures only_oom { IfErr result (λ fault. IsTrue (is_memory fault)) }
 {
+    let schema = table.schema();
     for number in 0..files.len() {
         match certified_by(alloc, schema, cond, &files[number])? {
             Some(certified) => return Ok(Scan::Program(certified)),
             None => {}
         }
     }
-    plan_and_certify(alloc, schema, cond)
+    plan_for_table(alloc, table, cond)
 }
 
 /// A law: a certificate that is valid for a condition is valid for each equal one.
@@ -120,28 +124,34 @@ fn certified_by(
     }
 }
 
-/// Returns the planner's program, if it proposes one that the checker accepts; else row by row.
-/// Errors: 801 if memory is refused.
-fn plan_and_certify(alloc: Global, schema: &Schema, cond: &Cond) -> Result<Scan, Fault>
+/// Returns the planner's program, which takes the parts of the condition in the order of another
+/// one, if it proposes one that the checker accepts; else row by row. Errors: 801 if memory is
+/// refused.
+pub(crate) fn plan_and_certify(
+    alloc: Global,
+    schema: &Schema,
+    cond: &Cond,
+    order: &Cond,
+) -> Result<Scan, Fault>
     requires { IsTrue (names_within (length schema.now.columns.items) cond.now) }
     ensures certified { IfOk result (IsFor schema.now.columns.items cond.now) }
     ensures chosen { IfOk result (IsChosen None schema.now.columns.items cond.now) }
     ensures only_oom { IfErr result (λ fault. IsTrue (is_memory fault)) }
     ensures found { (found : Result Certified Fault) × (result ≡ scan_by found) }
 {
-    scan_by(accepted(alloc, schema, cond))
+    scan_by(accepted(alloc, schema, cond, order))
 }
 
 /// Returns the planner's program, which the checker has accepted. Errors: 651, the planner's; 601
 /// to 610, the checker's; 801 if memory is refused.
-fn accepted(alloc: Global, schema: &Schema, cond: &Cond) -> Result<Certified, Fault>
+fn accepted(alloc: Global, schema: &Schema, cond: &Cond, order: &Cond) -> Result<Certified, Fault>
     requires { IsTrue (names_within (length schema.now.columns.items) cond.now) }
     ensures certified { IfOk result
         (λ certified. IsFor schema.now.columns.items cond.now (Program certified)) }
     ensures chosen { IfOk result (λ certified. IsChosen None schema.now.columns.items cond.now
         (Program certified)) }
 {
-    let proposal = propose(alloc, schema, cond)?;
+    let proposal = propose_in_order(alloc, schema, cond, order)?;
     match check(alloc, schema, cond, proposal.program, &proposal.certificate) {
         Ok(certified) => Ok(certified),
         Err((_, fault)) => Err(fault),

@@ -47,7 +47,7 @@ returns-in_err-number-clause-fault c =
 
 pub memory_text-requires-clause-scan : goal.memory_text-requires-clause-scan
 memory_text-requires-clause-scan c =
-    let found = rw c.schema-schema.ensures at c.in_ok-number.ensures.found in
+    let found = c.in_ok-number.ensures.found in
     c.scan-scan.ensures.certified (schema_of c.args.table.now).columns.items c.in_ok-query.query.cond found
 
 pub returns-clause-answer : goal.returns-clause-answer
@@ -71,7 +71,7 @@ returns-in-Ok-clause-served c =
     let table = c.args.table.now in
     let query = c.in_ok-query.query in
     let found = c.in-Ok.found in
-    let has = rw c.schema-schema.ensures at c.in_ok-number.ensures.found in
+    let has = c.in_ok-number.ensures.found in
     let chosen = c.scan-scan.ensures.chosen (schema_of table).columns.items query.cond has in
     let counts = subst (λ (groups : List (List (List Value))). IsScanOf (schema_of table).columns.items c.scan-scan.result.now groups found.scanned) table.cut c.in-Ok.ensures.counts in
     let same = c.in_ok-number.ensures.files in
@@ -80,15 +80,3 @@ returns-in-Ok-clause-served c =
       subst (λ (files : List (List ℕ)). IsServedAmong files (schema_of table) query (rows_of table) (report_of c.scan-scan.result.now found.scanned)) same
           (serves_among _ (schema_of table) query (rows_of table) c.scan-scan.result.now found.scanned chosen counts),
     )
-
-pub find_or_add-requires-clause-serves : goal.find_or_add-requires-clause-serves
-find_or_add-requires-clause-serves c = rw c.schema-schema.ensures c.requires
-
-pub returns-in_err-number-clause-serves : goal.returns-in_err-number-clause-serves
-returns-in_err-number-clause-serves c = rw c.schema-schema.ensures at c.in_err-number.ensures.serves
-
-pub returns-in-Ok-clause-serves : goal.returns-in-Ok-clause-serves
-returns-in-Ok-clause-serves c = rw c.schema-schema.ensures at c.in_ok-number.ensures.serves
-
-pub returns-clause-serves : goal.returns-clause-serves
-returns-clause-serves c = rw c.schema-schema.ensures at c.in_ok-number.ensures.serves

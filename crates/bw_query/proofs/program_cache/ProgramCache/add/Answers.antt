@@ -2,6 +2,7 @@
 use Rattle.std.proofs.Common.{ℕ, List, subst, sym}
 use Rattle.std.specs.Prelude.{All}
 use Rattle.std.proofs.lemmas.List.Elements.{All-push}
+use Rattle.bw_memory.specs.MemoryTable.{schema_of}
 use Rattle.bw_query.specs.declared.program_cache.KeptScan.{KeptScan}
 use Rattle.bw_query.specs.Among.{IsChosenAmong}
 use Rattle.bw_query.specs.ProgramCache.{IsKept, files_of}
@@ -10,14 +11,14 @@ use Rattle.bw_query.proofs.program_cache.ProgramCache.add.Goals as goal
 
 pub returns-in_err-push-clause-serves : goal.returns-in_err-push-clause-serves
 returns-in_err-push-clause-serves c =
-    let columns = c.args.schema.now.columns.items in
+    let columns = (schema_of c.args.table.now).columns.items in
     let P = IsKept (files_of c.drop_oldest.new.self) columns in
     let before = c.drop_oldest.ensures.serves columns c.requires.serves in
     subst (λ (those : List KeptScan). All P those) (sym c.in_err-push.ensures.items) before
 
 pub returns-clause-serves : goal.returns-clause-serves
 returns-clause-serves c =
-    let columns = c.args.schema.now.columns.items in
+    let columns = (schema_of c.args.table.now).columns.items in
     let cond = c.args.cond.now in
     let files = files_of c.drop_oldest.new.self in
     let P = IsKept files columns in

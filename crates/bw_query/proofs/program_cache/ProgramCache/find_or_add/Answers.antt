@@ -1,6 +1,7 @@
 -- What is kept for a condition serves each of the same tree.
 use Rattle.std.proofs.Common.{get_or, sym}
 use Rattle.std.proofs.lemmas.List.Elements.{All-get_or}
+use Rattle.bw_memory.specs.MemoryTable.{schema_of}
 use Rattle.bw_query.specs.ProgramCache.{IsKept, files_of}
 use Rattle.bw_query.proofs.CacheLemmas.{chosen_among_too, is_for_too}
 use Rattle.bw_query.proofs.program_cache.ProgramCache.find_or_add.Goals as goal
@@ -8,7 +9,7 @@ use Rattle.bw_query.proofs.program_cache.ProgramCache.find_or_add.Goals as goal
 pub returns-in-Some-clause-found : goal.returns-in-Some-clause-found
 returns-in-Some-clause-found c =
     let programs = c.args.self.now in
-    let columns = c.args.schema.now.columns.items in
+    let columns = (schema_of c.args.table.now).columns.items in
     let cond = c.args.cond.now in
     let is = c.in-Some.ensures in (
       is.0,
