@@ -73,7 +73,8 @@ pub(crate) fn eq(width: u32, bytes: &[u8], low: u32, count: u32, c: u8) -> Plane
     }
 }
 
-/// Returns the same, with a constant that has no higher bit.
+/// Returns the same, with a constant that has no higher bit. The loop ends early, and not at the
+/// number of bits, so that it is unrolled for every number.
 #[tactic(auto, using(crate::proofs::CompareLemmas::comparison))]
 #[inline(always)]
 fn low_eq(width: u32, bytes: &[u8], low: u32, count: u32, c: u8) -> Plane
@@ -86,7 +87,10 @@ fn low_eq(width: u32, bytes: &[u8], low: u32, count: u32, c: u8) -> Plane
         ≡ map (λ code. code / 2 ^ low % 2 ^ count == c) (planes_codes width bytes.now) }
 {
     let mut equal = ONES;
-    for place in 0..count as usize {
+    for place in 0..8 {
+        if place == count as usize {
+            break;
+        }
         let plane = plane_above(width, bytes, low, place);
         equal = equal_step(&equal, &plane, c >> place & 1 == 1);
     }
