@@ -115,7 +115,11 @@ fn few_rows_are_compared_with_earlier_ones(rt: HostRuntime) -> Result<(), Fail> 
         (255, 0),
         (7, 7),
     ] {
-        let first = [[Some(0), None], [Some(earlier), Some(-1)], [Some(255), None]];
+        let first = [
+            [Some(0), None],
+            [Some(earlier), Some(-1)],
+            [Some(255), None],
+        ];
         let second = [[Some(later), Some(1)], [Some(255), None], [Some(0), None]];
         let before = Picked {
             rows: &first,
