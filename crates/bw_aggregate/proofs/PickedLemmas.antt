@@ -1,11 +1,12 @@
 -- Lanes of which none is 1 past the first rows.
-use Rattle.std.proofs.Common.{◌≡◌, refl, ℕ, zero, suc, ◌≤◌, Bool, true, false, ◌&&◌, List, [], ◌∷◌, ◌++◌, replicate, get_or, length, append-nil, arith, ℤ, Option}
+use Rattle.std.proofs.Common.{◌≡◌, ◌∙◌, refl, sym, ap, subst, ℕ, zero, suc, ◌+◌, ◌≤◌, Bool, true, false, ◌&&◌, List, [], ◌∷◌, ◌++◌, replicate, get_or, length, length-append, append-nil, arith, ℤ, Option}
 use lib.Lanes.{zip2}
 use Rattle.std.proofs.lemmas.Int.{ints}
 use Rattle.bw_model.specs.Row.{Value}
 use Rattle.bw_model.specs.Selection.{selected_items}
-use Rattle.bw_model.specs.Total.{total}
-use Rattle.bw_rowwise.specs.Accumulator.{IsTotalOfRows, Tally, tally_joined}
+use Rattle.bw_model.specs.declared.query.Item.{Item}
+use Rattle.bw_model.specs.Total.{combine_totals, total}
+use Rattle.bw_rowwise.specs.Accumulator.{IsTotalOfRows, Tally, tally_joined, tally_of}
 use Rattle.bw_aggregate.specs.Picked.{with_picked}
 
 -- no lane past the first rows is 1 among those of the first rows, and none where others have none
@@ -38,11 +39,26 @@ none_picked rows (row ∷ more) e = absurd (omega (arith, e))
 pub small_for_more : (count : ℕ) (others : Option ℤ) → 1 ≤ count → IsTotalOfRows 1 others → IsTotalOfRows count others
 small_for_more count others some small x is = let s = small x is in (omega (arith, ints, some), omega (arith, ints, some))
 
+-- what joins a total as others do joins it so in a tally of this total
+pub joined_alike : (tally : Tally) (item : Item) (answer others : Option ℤ) (rows : List (List Value)) → item ≡ tally.item → answer ≡ tally.answer
+    → combine_totals item answer others ≡ combine_totals item answer (total item rows) → combine_totals tally.item tally.answer others ≡ combine_totals tally.item tally.answer (total tally.item rows)
+joined_alike tally item answer others rows same told is =
+    subst (λ a. combine_totals tally.item a others ≡ combine_totals tally.item a (total tally.item rows)) told (subst (λ i. combine_totals i answer others ≡ combine_totals i answer (total i rows)) same is)
+
 -- a tally with what was picked
-pub joined_picked : (tally : Tally) (rows : List (List Value)) (number : ℕ) (others : Option ℤ) → number ≡ length rows → 1 ≤ number → others ≡ total tally.item rows
-    → tally_joined tally number others ≡ with_picked tally rows
+pub joined_picked : (tally : Tally) (rows : List (List Value)) (number : ℕ) (others : Option ℤ) → number ≡ length rows → 1 ≤ number
+    → combine_totals tally.item tally.answer others ≡ combine_totals tally.item tally.answer (total tally.item rows) → tally_joined tally number others ≡ with_picked tally rows
 joined_picked tally [] number others e some is = absurd (omega (arith, e, some))
-joined_picked tally (row ∷ rows) number others e some is = λ i. tally_joined tally (e i) (is i)
+joined_picked tally (row ∷ rows) number others e some is = λ i. record { item = tally.item; count = tally.count + e i; answer = is i }
+
+-- a tally of rows with others
+pub joined_rows : (tally : Tally) (rows more : List (List Value)) (number : ℕ) (others : Option ℤ) → number ≡ length more → tally ≡ tally_of tally.item rows
+    → combine_totals tally.item tally.answer others ≡ combine_totals tally.item tally.answer (total tally.item more)
+    → total tally.item (rows ++ more) ≡ combine_totals tally.item (total tally.item rows) (total tally.item more) → tally_joined tally number others ≡ tally_of tally.item (rows ++ more)
+joined_rows tally rows more number others e before is joins =
+    let counted : tally.count + number ≡ length (rows ++ more) = omega (arith, e, ap (λ (t : Tally). t.count) before, length-append rows more) in
+    let totalled : combine_totals tally.item tally.answer others ≡ total tally.item (rows ++ more) = is ∙ ap (λ (t : Tally). combine_totals tally.item t.answer (total tally.item more)) before ∙ sym joins in
+    λ i. record { item = tally.item; count = counted i; answer = totalled i }
 
 pub unpicked : (tally : Tally) (rows : List (List Value)) → length rows ≡ 0 → tally ≡ with_picked tally rows
 unpicked tally [] e = refl

@@ -1,10 +1,13 @@
 -- Totals of values that codes stand for, of some rows and others, and how large they are.
-use Rattle.std.proofs.Common.{◌≡◌, ◌∙◌, refl, sym, ap, ℕ, ℤ, suc, pos, ◌+◌, ◌<◌, ◌+ℤ◌, ◌*ℤ◌, min, max, List, [], ◌∷◌, map, length, Some, None, sum, arith}
+use Rattle.std.proofs.Common.{◌≡◌, ◌∙◌, refl, sym, ap, ℕ, ℤ, suc, pos, ◌+◌, ◌<◌, ◌≤◌, ◌+ℤ◌, ◌*ℤ◌, Bool, true, false, ltb, ltb-false, ◌||◌, min, max, List, [], ◌∷◌, map, length, Some, None, sum, arith}
 use Rattle.std.specs.Option.{option_map}
-use Rattle.std.specs.List.{fold, reduce}
+use Rattle.std.specs.List.{fold, list_any, reduce}
 use Rattle.std.specs.Int.{int_min, int_max}
 use Rattle.std.proofs.lemmas.List.Sums.{sum_by-cons}
 use Rattle.std.proofs.lemmas.Int.{ints, clamps}
+use Rattle.bw_model.specs.Total.{combine_totals}
+use Rattle.bw_model.specs.declared.query.Item.TheVariants.{Max, Min}
+use Rattle.bw_segment.specs.Picked.{is_beyond}
 use lib.IntN.{suc_ℤ-*ℤ, zero-*ℤ, *ℤ_comm}
 
 -- a choice among values is that of the chosen code
@@ -56,3 +59,41 @@ sum_of_some lo value number (code ∷ codes) is same some =
   where
     put : (x y : ℤ) (s t : ℕ) → x ≡ y +ℤ lo → t ≡ code + s → x +ℤ pos t ≡ (lo +ℤ pos code) +ℤ (y +ℤ pos s)
     put x y s t e f = omega (arith, ints, e, f)
+
+neither : (a b : Bool) → (a || b) ≡ false → (a ≡ false) × (b ≡ false)
+neither false b e = (refl, e)
+neither true b e = absurd (cc e)
+
+-- a minimum or a maximum of codes, none of which is beyond another code
+least_above : (code first : ℕ) (codes : List ℕ) → code ≤ first → list_any (is_beyond false code) codes ≡ false → code ≤ fold min first codes
+least_above code first [] le none = le
+least_above code first (c ∷ codes) le none =
+    let parts = neither (ltb c code) _ none in
+    least_above code (min first c) codes (omega (arith, le, ltb-false c code parts.0)) parts.1
+
+greatest_below : (code first : ℕ) (codes : List ℕ) → first ≤ code → list_any (is_beyond true code) codes ≡ false → fold max first codes ≤ code
+greatest_below code first [] le none = le
+greatest_below code first (c ∷ codes) le none =
+    let parts = neither (ltb code c) _ none in
+    greatest_below code (max first c) codes (omega (arith, le, ltb-false code c parts.0)) parts.1
+
+-- codes of which none is beyond that of a total leave the total as it is
+pub least_kept : (lo : ℤ) (value : ℕ → ℤ) (col code : ℕ) (codes : List ℕ) → ((other : ℕ) → value other ≡ lo +ℤ pos other) → list_any (is_beyond false code) codes ≡ false
+    → combine_totals (Min col) (Some (lo +ℤ pos code)) None ≡ combine_totals (Min col) (Some (lo +ℤ pos code)) (reduce int_min (map value codes))
+least_kept lo value col code codes is none = kept codes none ∙ ap (combine_totals (Min col) (Some (lo +ℤ pos code))) (sym (least_value lo value codes is))
+  where
+    kept : (codes : List ℕ) → list_any (is_beyond false code) codes ≡ false → Some (lo +ℤ pos code) ≡ combine_totals (Min col) (Some (lo +ℤ pos code)) (option_map (λ c. lo +ℤ pos c) (reduce min codes))
+    kept [] none = refl
+    kept (c ∷ codes) none =
+        let parts = neither (ltb c code) _ none in
+        let above = least_above code c codes (omega (arith, ltb-false c code parts.0)) parts.1 in ap Some (omega (arith, ints, clamps, above))
+
+pub greatest_kept : (lo : ℤ) (value : ℕ → ℤ) (col code : ℕ) (codes : List ℕ) → ((other : ℕ) → value other ≡ lo +ℤ pos other) → list_any (is_beyond true code) codes ≡ false
+    → combine_totals (Max col) (Some (lo +ℤ pos code)) None ≡ combine_totals (Max col) (Some (lo +ℤ pos code)) (reduce int_max (map value codes))
+greatest_kept lo value col code codes is none = kept codes none ∙ ap (combine_totals (Max col) (Some (lo +ℤ pos code))) (sym (greatest_value lo value codes is))
+  where
+    kept : (codes : List ℕ) → list_any (is_beyond true code) codes ≡ false → Some (lo +ℤ pos code) ≡ combine_totals (Max col) (Some (lo +ℤ pos code)) (option_map (λ c. lo +ℤ pos c) (reduce max codes))
+    kept [] none = refl
+    kept (c ∷ codes) none =
+        let parts = neither (ltb code c) _ none in
+        let under = greatest_below code c codes (omega (arith, ltb-false code c parts.0)) parts.1 in ap Some (omega (arith, ints, clamps, under))

@@ -1,9 +1,12 @@
 //! The aggregates of a column over the selected rows of one segment.
-ghost use Rattle.std.specs.Prelude.{◌≡◌, ◌^◌, ◌<◌, ◌≤◌, ◌+ℤ◌, ◌*ℤ◌, ℕ, pos, Some, length};
-ghost use Rattle.std.specs.List.{reduce};
+ghost use Rattle.std.specs.Prelude.{◌≡◌, ◌^◌, ◌<◌, ◌≤◌, ◌+ℤ◌, ◌*ℤ◌, ℕ, ℤ, pos, true, false, IfSome, Some, length};
+ghost use Rattle.std.specs.List.{list_any, reduce};
 ghost use Rattle.std.specs.Int.{int_min, int_max};
 ghost use Rattle.bw_lanes.specs.Lanes.{lanes_of_words};
 ghost use Rattle.bw_model.specs.Code.{value_at};
+ghost use Rattle.bw_model.specs.Total.{combine_totals};
+ghost use Rattle.bw_model.specs.declared.query.Item.TheVariants.{Max, Min};
+ghost use Rattle.bw_segment.specs.Picked.{codes_in, is_beyond};
 ghost use Rattle.bw_rowwise.specs.Accumulator.{IsTotalOfRows};
 ghost use Rattle.bw_aggregate.specs.Picked.{present_lanes, values_in};
 
@@ -43,26 +46,83 @@ pub(crate) fn sum<S: Segment>(segment: &S, col: usize, rows: &Selection) -> Opti
     Some(sum_of_values(lowest(segment, col), number, codes))
 }
 
-/// Returns the minimum value of the codes in these rows, or None if there are no rows.
-pub(crate) fn least<S: Segment>(segment: &S, col: usize, rows: &Selection) -> Option<i128>
+/// Returns the minimum value of the codes in these rows, or None if there are no rows, or none that
+/// changes the minimum so far.
+pub(crate) fn least<S: Segment>(
+    segment: &S,
+    col: usize,
+    rows: &Selection,
+    so_far: Option<i128>,
+) -> Option<i128>
     requires { col < length (S.meaning segment.now).columns }
-    ensures least { result
-        ≡ reduce int_min (values_in (S.meaning segment.now) col (lanes_of_words rows.now)) }
+    ensures least { combine_totals (Min col) so_far result ≡ combine_totals (Min col) so_far
+        (reduce int_min (values_in (S.meaning segment.now) col (lanes_of_words rows.now))) }
     ensures small { IsTotalOfRows 1 result }
 {
+    if none_beyond(segment, col, rows, so_far, false) {
+        return None;
+    }
     let code = segment.min_code(col, rows)?;
     Some(value_of_code(lowest(segment, col), code))
 }
 
-/// Returns the maximum value of the codes in these rows, or None if there are no rows.
-pub(crate) fn greatest<S: Segment>(segment: &S, col: usize, rows: &Selection) -> Option<i128>
+/// Returns the maximum value of the codes in these rows, or None if there are no rows, or none that
+/// changes the maximum so far.
+pub(crate) fn greatest<S: Segment>(
+    segment: &S,
+    col: usize,
+    rows: &Selection,
+    so_far: Option<i128>,
+) -> Option<i128>
     requires { col < length (S.meaning segment.now).columns }
-    ensures greatest { result
-        ≡ reduce int_max (values_in (S.meaning segment.now) col (lanes_of_words rows.now)) }
+    ensures greatest { combine_totals (Max col) so_far result ≡ combine_totals (Max col) so_far
+        (reduce int_max (values_in (S.meaning segment.now) col (lanes_of_words rows.now))) }
     ensures small { IsTotalOfRows 1 result }
 {
+    if none_beyond(segment, col, rows, so_far, true) {
+        return None;
+    }
     let code = segment.max_code(col, rows)?;
     Some(value_of_code(lowest(segment, col), code))
+}
+
+/// Returns true only if no value of the codes in these rows is above a total or, unless `greatest`,
+/// below it.
+#[inline(always)]
+fn none_beyond<S: Segment>(
+    segment: &S,
+    col: usize,
+    rows: &Selection,
+    so_far: Option<i128>,
+    greatest: bool,
+) -> bool
+    requires { col < length (S.meaning segment.now).columns }
+    ensures { result ≡ true → (lo : ℤ) × (code : ℕ)
+        × ((other : ℕ) → value_at (S.meaning segment.now).columns col other ≡ lo +ℤ pos other)
+        × (so_far ≡ Some (lo +ℤ pos code))
+        × (list_any (is_beyond greatest code)
+        (codes_in (S.meaning segment.now) col (lanes_of_words rows.now)) ≡ false) }
+{
+    let Some(total) = so_far else {
+        return false;
+    };
+    match code_of_value(lowest(segment, col), total) {
+        Some(code) => segment.none_beyond(col, rows, code, greatest),
+        None => false,
+    }
+}
+
+/// Returns the code of a value, if `lowest` is that of the code 0, or None if it has none of 63
+/// binary digits.
+#[inline(always)]
+fn code_of_value(lowest: i64, value: i128) -> Option<u64>
+    ensures { IfSome result (λ code. (value ≡ lowest +ℤ pos code) × (code < 2 ^ 63)) }
+{
+    let code = value.checked_sub(i128::from(lowest))?;
+    if code < 0 || code >= 1 << 63 {
+        return None;
+    }
+    Some(code as u64)
 }
 
 /// Returns the value of a code, if `lowest` is that of the code 0.

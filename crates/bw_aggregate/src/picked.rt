@@ -3,13 +3,13 @@ ghost use Rattle.std.specs.Prelude.{◌≡◌, ◌+◌, ◌≤◌, ◌++◌, Lis
 ghost use Rattle.bw_lanes.specs.Lanes.{lanes_of_words};
 ghost use Rattle.bw_model.specs.Limits.{most_rows};
 ghost use Rattle.bw_model.specs.Row.{Value};
-ghost use Rattle.bw_model.specs.Total.{total, item_within};
+ghost use Rattle.bw_model.specs.Total.{combine_totals, item_within, total};
 ghost use Rattle.bw_rowwise.specs.Accumulator.{tally_of, IsTotalOfRows};
 ghost use Rattle.bw_aggregate.specs.Picked.{IsWithin, picked_rows, with_picked};
 
 use crate::column::{greatest, least, present, sum};
 use bw_lanes::{Selection, count};
-use bw_model::Item;
+use bw_model::{Item, totals_join};
 use bw_rowwise::Accumulator;
 use bw_segment::Segment;
 
@@ -32,37 +32,49 @@ pub fn add_selected<S: Segment>(total: &mut Accumulator, segment: &S, selection:
         → total.new ≡ tally_of total.old.item
         (rows ++ picked_rows (S.meaning segment.now) (lanes_of_words selection.now)) }
 {
+    totals_join();
     let number = count(selection);
     if number != 0 {
-        let others = total_of(total.item(), segment, selection);
+        let others = total_of(total.item(), segment, selection, total.finish());
         total.add_total(number, others);
     }
 }
 
-/// Returns the total of the selected rows of a segment. A count of rows is computed here: the other
-/// totals may need planes, which would be cleared for it too.
-fn total_of<S: Segment>(item: Item, segment: &S, selection: &Selection) -> Option<i128>
+/// Returns the total of the selected rows of a segment, or None if it adds nothing to the total of
+/// earlier rows. A count of rows is computed here: the other totals may need planes, which would be
+/// cleared for it too.
+fn total_of<S: Segment>(
+    item: Item,
+    segment: &S,
+    selection: &Selection,
+    so_far: Option<i128>,
+) -> Option<i128>
     requires column { IsTrue (item_within (length (S.meaning segment.now).columns) item) }
     requires selection { IsWithin (length (S.meaning segment.now).rows)
         (lanes_of_words selection.now) }
-    ensures total { result
-        ≡ total item (picked_rows (S.meaning segment.now) (lanes_of_words selection.now)) }
+    ensures total { combine_totals item so_far result ≡ combine_totals item so_far
+        (total item (picked_rows (S.meaning segment.now) (lanes_of_words selection.now))) }
     ensures small { IsTotalOfRows 1 result }
 {
     match item {
         Item::CountAll => Some(i128::from(count(selection))),
-        _ => total_by_columns(item, segment, selection),
+        _ => total_by_columns(item, segment, selection, so_far),
     }
 }
 
 /// Returns the same, for any item.
 #[inline(never)]
-fn total_by_columns<S: Segment>(item: Item, segment: &S, selection: &Selection) -> Option<i128>
+fn total_by_columns<S: Segment>(
+    item: Item,
+    segment: &S,
+    selection: &Selection,
+    so_far: Option<i128>,
+) -> Option<i128>
     requires column { IsTrue (item_within (length (S.meaning segment.now).columns) item) }
     requires selection { IsWithin (length (S.meaning segment.now).rows)
         (lanes_of_words selection.now) }
-    ensures total { result
-        ≡ total item (picked_rows (S.meaning segment.now) (lanes_of_words selection.now)) }
+    ensures total { combine_totals item so_far result ≡ combine_totals item so_far
+        (total item (picked_rows (S.meaning segment.now) (lanes_of_words selection.now))) }
     ensures small { IsTotalOfRows 1 result }
 {
     match item {
@@ -70,7 +82,7 @@ fn total_by_columns<S: Segment>(item: Item, segment: &S, selection: &Selection) 
         Item::CountAll => Some(i128::from(count(selection))),
         Item::Count(col) => Some(i128::from(count(&present(segment, col, selection)))),
         Item::Sum(col) => sum(segment, col, &present(segment, col, selection)),
-        Item::Min(col) => least(segment, col, &present(segment, col, selection)),
-        Item::Max(col) => greatest(segment, col, &present(segment, col, selection)),
+        Item::Min(col) => least(segment, col, &present(segment, col, selection), so_far),
+        Item::Max(col) => greatest(segment, col, &present(segment, col, selection), so_far),
     }
 }

@@ -98,6 +98,53 @@ fn whole_segments_are_totalled(rt: HostRuntime) -> Result<(), Fail> {
     Ok(())
 }
 
+#[test]
+fn few_rows_are_compared_with_earlier_ones(rt: HostRuntime) -> Result<(), Fail> {
+    let alloc = rt.alloc();
+    let schema = Schema::parse(alloc, SCHEMA)?;
+    // the value of the earlier row and of the later one, which are picked beside others: far from
+    // each other, with the same highest digits, and equal
+    for (earlier, later) in [
+        (3, 200),
+        (200, 3),
+        (100, 101),
+        (101, 100),
+        (64, 127),
+        (127, 64),
+        (0, 255),
+        (255, 0),
+        (7, 7),
+    ] {
+        let first = [
+            [Some(0), None],
+            [Some(earlier), Some(-1)],
+            [Some(255), None],
+        ];
+        let second = [[Some(later), Some(1)], [Some(255), None], [Some(0), None]];
+        let before = Picked {
+            rows: &first,
+            plane: lanes(0b010),
+        };
+        let after = Picked {
+            rows: &second,
+            plane: lanes(0b001),
+        };
+        for (item, expected) in [
+            (Item::Min(0), earlier.min(later)),
+            (Item::Max(0), earlier.max(later)),
+            (Item::Min(1), -1),
+            (Item::Max(1), 1),
+        ] {
+            assert_eq!(rt;
+                total(&rt, alloc, &schema, &item, &before, &after)?,
+                Some(i128::from(expected)),
+                "{earlier}, {later}, {item:?}"
+            );
+        }
+    }
+    Ok(())
+}
+
 /// A table with the widest codes, and a column of negative numbers alone.
 const WIDE: &str = "TABLE g\nCOLUMN x 0 9223372036854775807\nCOLUMN y -9223372036854775807 -1\n";
 

@@ -104,6 +104,14 @@ impl Segment for AnySegment {
     }
 
     #[tactic(auto, unfolding(crate::specs::AnySegment::any_meaning))]
+    fn none_beyond(&self, col: usize, rows: &Selection, other: u64, greatest: bool) -> bool {
+        match self {
+            AnySegment::Planes(segment) => segment.none_beyond(col, rows, other, greatest),
+            AnySegment::Slices(segment) => segment.none_beyond(col, rows, other, greatest),
+        }
+    }
+
+    #[tactic(auto, unfolding(crate::specs::AnySegment::any_meaning))]
     fn codes(&self, col: usize, codes: &mut [u64; LANES]) {
         match self {
             AnySegment::Planes(segment) => segment.codes(col, codes),

@@ -1,5 +1,6 @@
 -- Words made of bytes, 64 at a time.
-use Rattle.std.proofs.Common.{◌≡◌, ◌∙◌, sym, ap, ap₂, refl, add-one, get_or, bit_or, ◌&&◌, ℕ, zero, suc, ◌+◌, ◌*◌, ◌%◌, ◌^◌, ◌<◌, ◌≤◌, Bool, cond, eqb, ◌==◌, List, [], ◌∷◌, ◌++◌, map, length, take, drop, replicate, bit_and, arith, w8, eq-eqb, ne_eqb, drop-cons}
+use Rattle.std.proofs.Common.{◌≡◌, ◌∙◌, sym, ap, ap₂, refl, add-one, get_or, bit_or, ◌&&◌, ℕ, zero, suc, ◌+◌, ◌*◌, ◌%◌, ◌^◌, ◌<◌, ◌≤◌, Bool, cond, eqb, leb, ltb, ◌==◌, List, [], ◌∷◌, ◌++◌, map, length, take, drop, replicate, bit_and, arith, w8, eq-eqb, ne_eqb, drop-cons}
+use Rattle.std.proofs.lemmas.Bool.Decides.{nat_tests}
 use Rattle.std.specs.Int.{bit_at}
 use Rattle.std.specs.List.{range_with_len}
 use Rattle.std.proofs.lemmas.List.{map-id, length-map}
@@ -22,6 +23,13 @@ bit_by_mask bit n =
 pub compared : (t : ℕ → ℕ → Bool) (bytes : List ℕ) (c : ℕ) → length bytes ≡ 64
     → bits_from_least 64 (mask_l (map (top 7) (zip2 (λ a b. cond (t a b) 255 0) bytes (replicate 64 c))) % 2 ^ 64) ≡ map (λ byte. t byte c) bytes
 compared t bytes c long = bits_of_flags 64 (map (λ byte. t byte c) bytes) _ (length-map bytes (λ byte. t byte c) ∙ long) (bitmask_splat w8 t bytes 64 c long (omega arith))
+
+pub compared_at_most : (bytes : List ℕ) (c : ℕ) → length bytes ≡ 64
+    → bits_from_least 64 (mask_l (map (top 7) (zip2 (λ a b. cond (leb a b) 255 0) bytes (replicate 64 c))) % 2 ^ 64) ≡ map (λ byte. ltb byte (c + 1)) bytes
+compared_at_most bytes c long = compared leb bytes c long ∙ (λ i. map (λ byte. below byte i) bytes)
+  where
+    below : (byte : ℕ) → leb byte c ≡ ltb byte (c + 1)
+    below byte = grind (arith, nat_tests)
 
 pub bit_compared : (bytes : List ℕ) (bit : ℕ) → bit < 8 → length bytes ≡ 64
     → bits_from_least 64 (mask_l (map (top 7) (zip2 (λ a b. cond (eqb a b) 255 0) (zip2 bit_and bytes (replicate 64 (1 * 2 ^ bit % 2 ^ 8))) (replicate 64 (1 * 2 ^ bit % 2 ^ 8)))) % 2 ^ 64)

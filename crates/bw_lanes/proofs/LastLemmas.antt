@@ -42,4 +42,10 @@ pub lane_set : (words : List ℕ) (top : ℕ) → length words ≡ 8 → top < 5
     → get_or (lanes_of_words words) (top - count_leading_zeros 64 (get_or words (top / 64) 0 * 2 ^ (63 - top % 64) % 2 ^ 64)) false ≡ true
 lane_set words top eight few le = lane_shifted words top _ eight few (omega arith) (omega arith) ∙ ap (λ n. n == 1) ((leading _ _ (omega arith)).1 (omega arith))
 
+-- a word of 0 has no lane
+pub no_lane : (words : List ℕ) (top lane : ℕ) → length words ≡ 8 → top < 512 → get_or words (top / 64) 0 ≡ 0 → 64 * (top / 64) ≤ lane → lane ≤ top → get_or (lanes_of_words words) lane false ≡ false
+no_lane words top lane eight few none from to =
+    lane_at words lane (omega arith) ∙ ap (λ w. bit_at (get_or words w 0) (lane % 64) == 1) {y = top / 64} (omega arith) ∙ ap (λ n. bit_at n (lane % 64) == 1) none
+    ∙ ap (λ n. n == 1) (bit_at-zero (lane % 64))
+
 pub ruleset lanes_below = (lane_clear, lane_set)

@@ -151,6 +151,30 @@ few_ones words eight small = omega (arith, ones_counted words small, few_lanes w
 pub ones_fit : (words : List ℕ) → length words ≡ 8 → Each1 (Fits w64) words → Steps (λ s x. Fits w64 (s + x)) (λ s x. s + x) 0 (ones_of words)
 ones_fit words eight small = sum_fits w64 0 (ones_of words) (omega (arith, ones_in_words words small, few_lanes words eight))
 
+-- the ones of the first words, and of one word more
+unfoldable pub ones_to : ℕ → List ℕ → ℕ
+ones_to word words = count_by (λ lane. lane) (lanes_of_words (take word words))
+
+pub ones_none : (words : List ℕ) → ones_to 0 words ≡ 0
+unfolding ones_to lanes_of_words
+ones_none words = refl
+
+pub ones_more : (word : ℕ) (words : List ℕ) → length words ≡ 8 → word < 8 → ones_to (word + 1) words ≡ ones_to word words + count_by (λ lane. lane) (bits_from_least 64 (get_or words word 0))
+unfolding ones_to
+ones_more word words eight lt =
+    ap (count_by (λ lane. lane)) (lanes_more word words eight lt) ∙ sum_by-append (λ lane. cond lane 1 0) (lanes_of_words (take word words)) (bits_from_least 64 (get_or words word 0))
+
+pub ones_few : (word : ℕ) (words : List ℕ) → length words ≡ 8 → ones_to word words ≤ 512
+unfolding ones_to
+ones_few word words eight =
+    omega (arith, count_by-le-length (λ lane. lane) (lanes_of_words (take word words)), length-lanes_of_words (take word words), length-take word words)
+
+pub ones_whole : (word : ℕ) (words : List ℕ) → length words ≡ 8 → 8 ≤ word → ones_to word words ≡ count_by (λ lane. lane) (lanes_of_words words)
+unfolding ones_to
+ones_whole word words eight le = ap (λ w. count_by (λ lane. lane) (lanes_of_words w)) (take_all word words (omega arith))
+
+pub ruleset ones_so_far = (ones_none, ones_more, ones_few, ones_whole)
+
 pub length-first : (word : ℕ) (words : List ℕ) → length words ≡ 8 → word ≤ 8 → length (lanes_of_words (take word words)) ≡ 64 * word
 length-first word words eight le = omega (arith, length-lanes_of_words (take word words), length-take word words)
 

@@ -9,15 +9,19 @@ use crate::lanes::LANES;
 use crate::plane::Plane;
 use std::simd::prelude::*;
 
-/// Returns the rows whose byte is less than `c`. Byte i is row i's.
+/// Returns the rows whose byte is less than `c`. Byte i is row i's. The bytes are compared with the
+/// number below, since the processor has no instruction for "less", but two for "at most".
 #[tactic(auto, using(crate::proofs::WordLemmas::words_made))]
 #[inline(always)]
 pub fn bytes_lt(bytes: &[u8; LANES], c: u8) -> Plane
     ensures { lanes_of_words result ≡ map (λ byte. nat_lt byte c) bytes.now }
 {
+    if c == 0 {
+        return [0; 8];
+    }
     let mut words = [0; 8];
     for word in 0..8 {
-        words[word] = lt(u8x64::from_slice(&bytes[64 * word..]), c);
+        words[word] = at_most(u8x64::from_slice(&bytes[64 * word..]), c - 1);
     }
     words
 }
@@ -37,6 +41,7 @@ pub fn bytes_eq(bytes: &[u8; LANES], c: u8) -> Plane
 
 /// Returns the rows in whose byte a bit is 1; bit 0 is the least. Byte i is row i's.
 #[tactic(auto, using(crate::proofs::WordLemmas::words_made))]
+#[inline(always)]
 pub fn bytes_bit(bytes: &[u8; LANES], bit: u32) -> Plane
     requires { bit < 8 }
     ensures { lanes_of_words result ≡ map (λ byte. bit_at byte bit == 1) bytes.now }
@@ -108,11 +113,12 @@ fn or_slices(slices: &[u8], count: usize, first: usize) -> u8x64
     bytes
 }
 
-/// Returns one bit for each byte: whether it is less than `c`.
-fn lt(bytes: u8x64, c: u8) -> u64
-    ensures { bits_from_least 64 result ≡ map (λ byte. nat_lt byte c) bytes }
+/// Returns one bit for each byte: whether it is at most `c`.
+#[inline(always)]
+fn at_most(bytes: u8x64, c: u8) -> u64
+    ensures { bits_from_least 64 result ≡ map (λ byte. nat_lt byte (c + 1)) bytes }
 {
-    bytes.simd_lt(u8x64::splat(c)).to_bitmask()
+    bytes.simd_le(u8x64::splat(c)).to_bitmask()
 }
 
 /// Returns one bit for each byte: whether it is `c`.

@@ -7,6 +7,7 @@ use crate::plane::Plane;
 
 /// Returns the last lane that is 1 from `first` up to `end`, without `end` itself, or None if each
 /// of these is 0.
+#[tactic(auto, using(crate::proofs::LastLemmas::no_lane))]
 pub fn last_between(plane: &Plane, first: usize, end: usize) -> Option<usize>
     requires { (first ≤ end) × (end ≤ 512) }
     ensures last { IfSome result (λ lane. IsLast (lanes_of_words plane.now) first end lane) }
@@ -15,10 +16,12 @@ pub fn last_between(plane: &Plane, first: usize, end: usize) -> Option<usize>
     let mut past = end;
     while past > first {
         let top = past - 1;
-        let clear = clear_below(plane, top);
-        if clear <= top % 64 {
-            let lane = top - clear;
-            return if lane < first { None } else { Some(lane) };
+        if plane[top / 64] != 0 {
+            let clear = clear_below(plane, top);
+            if clear <= top % 64 {
+                let lane = top - clear;
+                return if lane < first { None } else { Some(lane) };
+            }
         }
         past = top - top % 64;
     }

@@ -61,12 +61,17 @@ pub fn lane(plane: &Plane, row: usize) -> bool
     plane[row / 64] >> (row % 64) & 1 == 1
 }
 
-/// Returns how many lanes are 1.
+/// Returns how many lanes are 1, word by word: the processor counts the ones of a word.
+#[tactic(auto, using(crate::proofs::WordLemmas::ones_so_far))]
 pub fn count(plane: &Plane) -> u32
     ensures ones { result ≡ count_by (λ lane. lane) (lanes_of_words plane.now) }
     ensures bound { result ≤ 512 }
 {
-    ones_in(u64x8::from_array(*plane))
+    let mut ones = 0;
+    for word in 0..8 {
+        ones += ones_of(plane[word]);
+    }
+    ones
 }
 
 /// Returns how many lanes are 1 in both.
@@ -86,6 +91,15 @@ pub fn mask(rows: u32) -> Plane
     ensures { lanes_of_words result ≡ replicate rows true ++ replicate (512 - rows) false }
 {
     ones_and_last(u64::from(rows / 64), (1 << (rows % 64)) - 1).to_array()
+}
+
+/// Returns how many lanes of a word are 1.
+#[tactic(auto, using(crate::proofs::WordLemmas::ones_in_bits))]
+fn ones_of(word: u64) -> u32
+    ensures ones { result ≡ count_by (λ lane. lane) (bits_from_least 64 word) }
+    ensures bound { result ≤ 64 }
+{
+    word.count_ones()
 }
 
 /// Returns how many lanes are 1.

@@ -1,13 +1,13 @@
 //! Comparisons of some bits of the codes with a constant, from the lowest bit up, by one operation
 //! for each plane. There is no early end: to ask after each plane whether a lane is left takes
 //! longer than the planes of a byte.
-ghost use Rattle.std.specs.Prelude.{◌≡◌, ◌==◌, ◌&&◌, ◌||◌, if◌then◌else◌, ◌+◌, ◌*◌, ◌/◌, ◌%◌, ◌^◌, ◌≤◌, length, map, nat_lt, not};
+ghost use Rattle.std.specs.Prelude.{◌≡◌, ◌==◌, ◌&&◌, ◌||◌, if◌then◌else◌, ◌+◌, ◌*◌, ◌/◌, ◌%◌, ◌^◌, ◌<◌, ◌≤◌, length, map, nat_lt, not};
 ghost use lib.Lanes.{zip2};
 ghost use Rattle.bw_lanes.specs.Lanes.{lanes_of_words};
+ghost use Rattle.bw_model.specs.Code.{has_bit};
 ghost use Rattle.bw_planes.specs.Planes.{planes_codes};
 
-use crate::planes::plane_of;
-use bw_lanes::{Plane, and, not, or};
+use bw_lanes::{Plane, and, load, not, or};
 
 /// All lanes 1.
 const ONES: Plane = [u64::MAX; 8];
@@ -46,7 +46,7 @@ fn low_at_least(width: u32, bytes: &[u8], low: u32, count: u32, c: u64) -> Plane
 {
     let mut at_least = ONES;
     for place in 0..count as usize {
-        let plane = plane_of(width, bytes, low as usize + place);
+        let plane = plane_above(width, bytes, low, place);
         at_least = at_least_step(&at_least, &plane, c >> place & 1 == 1);
     }
     at_least
@@ -73,7 +73,8 @@ pub(crate) fn eq(width: u32, bytes: &[u8], low: u32, count: u32, c: u8) -> Plane
     }
 }
 
-/// Returns the same, with a constant that has no higher bit.
+/// Returns the same, with a constant that has no higher bit. The loop ends early, and not at the
+/// number of bits, so that it is unrolled for every number.
 #[tactic(auto, using(crate::proofs::CompareLemmas::comparison))]
 #[inline(always)]
 fn low_eq(width: u32, bytes: &[u8], low: u32, count: u32, c: u8) -> Plane
@@ -86,11 +87,28 @@ fn low_eq(width: u32, bytes: &[u8], low: u32, count: u32, c: u8) -> Plane
         ≡ map (λ code. code / 2 ^ low % 2 ^ count == c) (planes_codes width bytes.now) }
 {
     let mut equal = ONES;
-    for place in 0..count as usize {
-        let plane = plane_of(width, bytes, low as usize + place);
+    for place in 0..8 {
+        if place == count as usize {
+            break;
+        }
+        let plane = plane_above(width, bytes, low, place);
         equal = equal_step(&equal, &plane, c >> place & 1 == 1);
     }
     equal
+}
+
+/// Returns the plane of the bit `low + place`. Its place is computed from that of `low`, so that in
+/// an unrolled loop it is a constant number of bytes away.
+#[inline(always)]
+fn plane_above(width: u32, bytes: &[u8], low: u32, place: usize) -> Plane
+    requires width { width ≤ 63 }
+    requires size { length bytes.now ≡ 64 * width }
+    requires bit { low + place < width }
+    ensures { lanes_of_words result
+        ≡ map (λ code. has_bit code (low + place)) (planes_codes width bytes.now) }
+{
+    let end = (width - low) as usize;
+    load(&bytes[64 * (end - 1 - place)..])
 }
 
 /// Returns the lanes that are at least the constant with one bit more, its highest so far. If that

@@ -1,5 +1,5 @@
 //! Codes stored as planes, and the results of their kernels.
-ghost use Rattle.std.specs.Prelude.{◌≡◌, ◌*◌, ◌^◌, ◌<◌, ◌≤◌, IfSome, false, if◌then◌else◌, length, map, max, min, nat_lt, true};
+ghost use Rattle.std.specs.Prelude.{◌≡◌, ◌+◌, ◌*◌, ◌/◌, ◌%◌, ◌^◌, ◌<◌, ◌≤◌, IfSome, false, if◌then◌else◌, length, map, max, min, nat_lt, not, true};
 ghost use Rattle.std.specs.List.{list_any, reduce};
 ghost use Rattle.bw_lanes.specs.Lanes.{lanes_of_words};
 ghost use Rattle.bw_model.specs.Code.{has_bit};
@@ -97,6 +97,20 @@ impl CodeLayout for Planes {
         chosen_code(width, bytes, lanes, true)
     }
 
+    fn none_beyond(
+        width: u32,
+        bytes: &[u8],
+        lanes: &Selection,
+        other: u64,
+        greatest: bool,
+    ) -> bool {
+        if width <= FIRST {
+            return false;
+        }
+        let low = width - FIRST;
+        is_zero(&and(lanes, &near(width, bytes, low, other >> low, greatest)))
+    }
+
     #[tactic(auto, using(crate::proofs::CodeLemmas::code_steps))]
     fn code(width: u32, bytes: &[u8], lane: usize) -> u64 {
         let mut code = 0;
@@ -167,6 +181,29 @@ fn none_is_near(width: u32, bytes: &[u8], most: u64) -> bool
     }
     let low = width - HIGHEST;
     is_zero(&at_least(width, bytes, low, HIGHEST, most >> low))
+}
+
+/// If a code of few is above or below the one of many others that is the maximum or the minimum,
+/// this many of its highest digits are the same as that code's, or beyond them.
+const FIRST: u32 = 6;
+
+/// Returns the lanes whose highest digits, from `low` upwards, are at least `top` or, unless
+/// `greatest`, at most `top`.
+#[inline(always)]
+fn near(width: u32, bytes: &[u8], low: u32, top: u64, greatest: bool) -> Plane
+    requires width { (1 ≤ width) × (width ≤ 63) }
+    requires size { length bytes.now ≡ 64 * width }
+    requires bits { low + 6 ≤ width }
+    requires top { top < 2 ^ 63 }
+    ensures { lanes_of_words result ≡ map (λ code. if greatest
+        then not (nat_lt (code / 2 ^ low % 2 ^ 6) top)
+        else nat_lt (code / 2 ^ low % 2 ^ 6) (top + 1)) (planes_codes width bytes.now) }
+{
+    if greatest {
+        at_least(width, bytes, low, FIRST, top)
+    } else {
+        not(&at_least(width, bytes, low, FIRST, top + 1))
+    }
 }
 
 /// Returns the plane of a bit. Its place is computed in whole words, so that a loop over bits moves

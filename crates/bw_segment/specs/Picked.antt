@@ -1,5 +1,5 @@
 -- The codes of a column in selected lanes.
-use Rattle.std.specs.Prelude.{ℕ, Bool, List, map}
+use Rattle.std.specs.Prelude.{ℕ, Bool, true, false, List, map, nat_lt}
 use Rattle.bw_model.specs.Code.{has_bit}
 use Rattle.bw_model.specs.Selection.{selected_items}
 use Rattle.bw_segment.specs.Meaning.{Meaning, code_lanes}
@@ -11,3 +11,8 @@ bit_lanes meaning column bit = map (λ code. has_bit code bit) (code_lanes meani
 -- the stored codes of a column in the lanes whose bit is 1
 unfoldable pub codes_in : Meaning → ℕ → List Bool → List ℕ
 codes_in meaning column lanes = selected_items lanes (code_lanes meaning column)
+
+-- a code is above another one or, unless the greatest is sought, below it
+abbrev pub is_beyond : Bool → ℕ → ℕ → Bool
+is_beyond true other code = nat_lt other code
+is_beyond false other code = nat_lt code other

@@ -1,5 +1,5 @@
 //! How a layout packs the codes of one column of a segment.
-ghost use Rattle.std.specs.Prelude.{◌*◌, All, ◌≡◌, ◌==◌, ◌^◌, ◌<◌, ◌≤◌, ◌++◌, ℕ, length, map, max, min, nat_lt, not, slice_index, sum, IfSome, IsOkUnless, OnOk};
+ghost use Rattle.std.specs.Prelude.{◌*◌, All, ◌≡◌, true, false, ◌==◌, ◌^◌, ◌<◌, ◌≤◌, ◌++◌, ℕ, length, map, max, min, nat_lt, not, slice_index, sum, IfSome, IsOkUnless, OnOk};
 ghost use Rattle.std.specs.List.{list_any, reduce};
 ghost use Rattle.bw_lanes.specs.Lanes.{lanes_of_words};
 ghost use Rattle.bw_model.specs.Code.{has_bit};
@@ -7,6 +7,7 @@ ghost use Rattle.bw_model.specs.Fault.{no_memory};
 ghost use Rattle.bw_model.specs.Selection.{selected_items};
 ghost use Rattle.bw_model.specs.Stored.{byte_of};
 ghost use Rattle.bw_segment.specs.Packing.{Packing, IsPacking};
+ghost use Rattle.bw_segment.specs.Picked.{is_beyond};
 
 use bw_lanes::{LANES, Plane, Selection};
 use bw_model::Fault;
@@ -111,6 +112,16 @@ pub trait CodeLayout {
             ≡ reduce max (selected_items (lanes_of_words lanes.now)
             (packing.codes width bytes.now)) }
         ensures bound { IfSome result (λ code. code < 2 ^ 63) };
+
+    /// Returns true only if no code in these lanes is above `other` or, unless `greatest`, below it.
+    /// It may return false then too: only a few of the highest digits are read.
+    fn none_beyond(width: u32, bytes: &[u8], lanes: &Selection, other: u64, greatest: bool) -> bool
+        requires width { (1 ≤ width) × (width ≤ 63) }
+        requires size { length bytes.now ≡ packing.size width }
+        requires small { All (λ code. code < 2 ^ width) (packing.codes width bytes.now) }
+        requires other { other < 2 ^ 63 }
+        ensures { result ≡ true → list_any (is_beyond greatest other)
+            (selected_items (lanes_of_words lanes.now) (packing.codes width bytes.now)) ≡ false };
 
     /// Returns the code in a lane.
     fn code(width: u32, bytes: &[u8], lane: usize) -> u64

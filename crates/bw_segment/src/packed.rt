@@ -7,7 +7,7 @@ ghost use Rattle.bw_segment.specs.Packing.{block_size, meaning_spelled, segment_
 ghost use Rattle.bw_segment.specs.Packed.{HoldBlocks, IsPacked, IsPlaced};
 
 use crate::blocks::Blocks;
-use crate::few::{greatest_in, least_in};
+use crate::few::{are_few, greatest_in, least_in};
 use crate::layout::CodeLayout;
 use crate::placement::Placement;
 use crate::segment::Segment;
@@ -88,6 +88,12 @@ impl<L: CodeLayout, B: Blocks> Segment for PackedSegment<L, B> {
     fn max_code(&self, col: usize, rows: &Selection) -> Option<u64> {
         let (width, codes) = self.column_codes(col);
         greatest_in::<L>(width, codes, rows)
+    }
+
+    #[tactic(auto, unfolding(crate::specs::Picked::codes_in))]
+    fn none_beyond(&self, col: usize, rows: &Selection, other: u64, greatest: bool) -> bool {
+        let (width, codes) = self.column_codes(col);
+        are_few(rows) && L::none_beyond(width, codes, rows, other, greatest)
     }
 
     fn codes(&self, col: usize, codes: &mut [u64; LANES]) {

@@ -1,13 +1,13 @@
 //! The queries of a segment, in either layout.
-ghost use Rattle.std.specs.Prelude.{◌≡◌, ◌^◌, ◌<◌, ◌≤◌, ◌==◌, length, map, max, min, nat_lt, slice_index_or, sum, [], IfSome, Some};
-ghost use Rattle.std.specs.List.{reduce};
+ghost use Rattle.std.specs.Prelude.{◌≡◌, ◌^◌, ◌<◌, ◌≤◌, ◌==◌, length, map, max, min, nat_lt, slice_index_or, sum, [], IfSome, Some, true, false};
+ghost use Rattle.std.specs.List.{list_any, reduce};
 ghost use Rattle.bw_lanes.specs.Lanes.{lanes_of_words};
 ghost use Rattle.bw_model.specs.Code.{slices_at, width_at};
 ghost use Rattle.bw_model.specs.Groups.{group_size};
 ghost use Rattle.bw_model.specs.Row.{value_in};
 ghost use Rattle.bw_model.specs.Variable.{bit_variable, null_variable, variables_of};
 ghost use Rattle.bw_segment.specs.Meaning.{Meaning, IsGroup, variable_lanes, byte_lanes, code_lanes, null_bits};
-ghost use Rattle.bw_segment.specs.Picked.{bit_lanes, codes_in};
+ghost use Rattle.bw_segment.specs.Picked.{bit_lanes, codes_in, is_beyond};
 
 use bw_lanes::{LANES, Plane, Selection};
 use bw_model::{Schema, Value};
@@ -76,6 +76,16 @@ pub trait Segment {
         ensures greatest { result
             ≡ reduce max (codes_in (meaning self.now) col (lanes_of_words rows.now)) }
         ensures bound { IfSome result (λ code. code < 2 ^ 63) };
+
+    /// Returns true only if no code of a column in these rows is above `other` or, unless
+    /// `greatest`, below it. It may return false then too: where many rows or most digits would
+    /// have to be read, the maximum or the minimum is found as fast. Null, and the rows past the
+    /// last one, have code 0.
+    fn none_beyond(&self, col: usize, rows: &Selection, other: u64, greatest: bool) -> bool
+        requires column { col < length (meaning self.now).columns }
+        requires other { other < 2 ^ 63 }
+        ensures { result ≡ true → list_any (is_beyond greatest other)
+            (codes_in (meaning self.now) col (lanes_of_words rows.now)) ≡ false };
 
     /// Sets `codes` to the stored codes of a column in the 512 lanes: lane i has that of row i.
     /// Null, and the rows past the last one, have code 0.

@@ -1,11 +1,12 @@
-//! The sum of the codes in few lanes, one code after the other.
-ghost use Rattle.std.specs.Prelude.{All, ◌≡◌, ◌^◌, ◌+◌, ◌*◌, ◌/◌, ◌<◌, ◌≤◌, drop, length, sum, take};
+//! The sum of the codes in few lanes, one code after the other, and their highest bytes.
+ghost use Rattle.std.specs.Prelude.{All, ◌≡◌, ◌^◌, ◌+◌, ◌*◌, ◌/◌, ◌<◌, ◌≤◌, ℕ, true, false, not, drop, length, slice_index, slice_index_or, sum, take};
 ghost use Rattle.bw_lanes.specs.Lanes.{bits_from_least, lanes_of_words};
 ghost use Rattle.bw_model.specs.Selection.{selected_items};
+ghost use Rattle.bw_segment.specs.Picked.{is_beyond};
 ghost use Rattle.bw_slices.specs.Slices.{slices_codes};
 
 use crate::layout::Slices;
-use bw_lanes::Selection;
+use bw_lanes::{LANES, Selection, last_between};
 use bw_segment::CodeLayout;
 
 /// Returns the sum of the codes in these lanes.
@@ -43,4 +44,28 @@ fn sum_of_word(width: u32, bytes: &[u8], word: usize, rows: u64) -> u128
         left &= !(1 << row);
     }
     sum
+}
+
+/// Returns whether, in each of few lanes, the byte is below `top` or, unless `greatest`, above it.
+pub(crate) fn none_near(bytes: &[u8; LANES], lanes: &Selection, top: u64, greatest: bool) -> bool
+    ensures { result ≡ true → (lane : ℕ)
+        → slice_index_or (lanes_of_words lanes.now) lane false ≡ true
+        → is_beyond (not greatest) top (slice_index bytes.now lane) ≡ true }
+{
+    let mut end = LANES;
+    while let Some(lane) = last_between(lanes, 0, end) {
+        if is_near(u64::from(bytes[lane]), top, greatest) {
+            return false;
+        }
+        end = lane;
+    }
+    true
+}
+
+/// Returns whether a byte is at least `top` or, unless `greatest`, at most `top`.
+#[inline(always)]
+fn is_near(byte: u64, top: u64, greatest: bool) -> bool
+    ensures { result ≡ not (is_beyond (not greatest) top byte) }
+{
+    if greatest { byte >= top } else { byte <= top }
 }

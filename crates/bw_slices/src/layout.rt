@@ -4,7 +4,7 @@ ghost use Rattle.bw_slices.specs.Slices.{slice_packing};
 use crate::above::above;
 use crate::any::{is_any_above, is_any_used};
 use crate::chosen::chosen_code;
-use crate::few::sum_of_few;
+use crate::few::{none_near, sum_of_few};
 use crate::read::{slice_of, slices_in};
 use bw_lanes::{
     LANES, Plane, Selection, bytes_bit, bytes_eq, bytes_lt, bytes_none, bytes_of_plane, count, not,
@@ -96,6 +96,18 @@ impl CodeLayout for Slices {
 
     fn greatest(width: u32, bytes: &[u8], lanes: &Selection) -> Option<u64> {
         chosen_code(width, bytes, lanes, true)
+    }
+
+    fn none_beyond(
+        width: u32,
+        bytes: &[u8],
+        lanes: &Selection,
+        other: u64,
+        greatest: bool,
+    ) -> bool {
+        let slice = slices_in(width) - 1;
+        let top = other >> (8 * slice);
+        none_near(slice_of(width, bytes, slice), lanes, top, greatest)
     }
 
     #[tactic(auto, using(crate::proofs::CodeLemmas::code_steps))]

@@ -15,7 +15,8 @@ pub(crate) fn slices_in(width: u32) -> usize
     (width as usize + 7) / 8
 }
 
-/// Returns a byte of each code; byte 0 is the least.
+/// Returns a byte of each code; byte 0 is the least. It is found from the end of the bytes, which
+/// takes fewer instructions than from their start.
 #[inline(always)]
 pub(crate) fn slice_of(width: u32, bytes: &[u8], slice: usize) -> &[u8; LANES]
     requires width { (1 ≤ width) × (width ≤ 63) }
@@ -23,7 +24,7 @@ pub(crate) fn slice_of(width: u32, bytes: &[u8], slice: usize) -> &[u8; LANES]
     requires slice { 8 * slice < width }
     ensures { result.now ≡ map (byte_of slice) (slices_codes ((width + 7) / 8) bytes.now) }
 {
-    let start = LANES * (slices_in(width) - 1 - slice);
+    let start = bytes.len() - LANES * (slice + 1);
     let Some(bytes) = bytes[start..].first_chunk() else {
         unreachable!()
     };

@@ -1,13 +1,11 @@
 -- Where a row is picked, their number and their total are added; else there is nothing to add.
 use Rattle.std.proofs.Common.{◌∙◌, ◌+◌, sym, ap, arith, List}
 use Rattle.bw_lanes.specs.Lanes.{lanes_of_words}
-use Rattle.bw_model.specs.declared.query.Item.{Item}
 use Rattle.bw_model.specs.Row.{Value}
-use Rattle.bw_model.specs.Total.{total}
 use Rattle.bw_rowwise.specs.Accumulator.{Tally, tally_of}
 use Rattle.bw_aggregate.specs.Picked.{picked_rows}
 use Rattle.bw_aggregate.proofs.ColumnLemmas.{rows_counted}
-use Rattle.bw_aggregate.proofs.PickedLemmas.{few_picked, joined_picked, none_picked, small_for_more, unpicked}
+use Rattle.bw_aggregate.proofs.PickedLemmas.{few_picked, joined_alike, joined_picked, joined_rows, none_picked, small_for_more, unpicked}
 use Rattle.bw_aggregate.proofs.picked.add_selected.Goals as goal
 
 pub add_total-requires-clause-capacity : goal.add_total-requires-clause-capacity
@@ -31,9 +29,10 @@ pub returns-then-number-ne0-clause-total : goal.returns-then-number-ne0-clause-t
 returns-then-number-ne0-clause-total g c = λ rows before.
     let meaning = g.S.Segment.meaning c.args.segment.now in
     let lanes = lanes_of_words c.args.selection.now in
+    let more = picked_rows meaning lanes in
     let number = c.count-number.ensures.ones ∙ rows_counted meaning.rows lanes c.requires.selection in
-    let others = c.total_of-others.ensures.total ∙ ap (λ (item : Item). total item (picked_rows meaning lanes)) c.item.ensures in
-    c.add_total.ensures.total rows (picked_rows meaning lanes) (sym number) others before
+    let joined = joined_alike c.args.total.now _ _ c.total_of-others.result more c.item.ensures c.finish.ensures c.total_of-others.ensures.total in
+    c.add_total.ensures.step ∙ joined_rows c.args.total.now rows more _ _ number before joined (c.totals_join.ensures c.args.total.now.item rows more)
 
 pub returns-else-number-ne0-clause-count : goal.returns-else-number-ne0-clause-count
 returns-else-number-ne0-clause-count g c =
@@ -53,8 +52,8 @@ returns-then-number-ne0-clause-step g c =
     let meaning = g.S.Segment.meaning c.args.segment.now in
     let lanes = lanes_of_words c.args.selection.now in
     let number = c.count-number.ensures.ones ∙ rows_counted meaning.rows lanes c.requires.selection in
-    let others = c.total_of-others.ensures.total ∙ ap (λ (item : Item). total item (picked_rows meaning lanes)) c.item.ensures in
-    c.add_total.ensures.step ∙ joined_picked c.args.total.now (picked_rows meaning lanes) _ _ number (omega arith) others
+    let joined = joined_alike c.args.total.now _ _ c.total_of-others.result (picked_rows meaning lanes) c.item.ensures c.finish.ensures c.total_of-others.ensures.total in
+    c.add_total.ensures.step ∙ joined_picked c.args.total.now (picked_rows meaning lanes) _ _ number (omega arith) joined
 
 pub returns-else-number-ne0-clause-step : goal.returns-else-number-ne0-clause-step
 returns-else-number-ne0-clause-step g c =

@@ -9,8 +9,9 @@ returns c =
     let bytes = c.args.bytes.now in
     let slices = (c.args.width + 7) / 8 in
     let place = slices - suc c.args.slice in
-    let start : 512 * (c.slices_in.result - 1 - c.args.slice) ≡ 512 * place = omega (arith, c.slices_in.ensures.slices) in
+    let first = length bytes - 512 * (c.args.slice + 1) in
+    let start : first ≡ 512 * place = omega (arith, c.requires.slice, c.requires.size) in
     let slice : slices - suc place ≡ c.args.slice = omega (arith, c.requires.slice) in
-    c.in-Some.ensures.cases.same ∙ take-take 512 (length bytes - 512 * (c.slices_in.result - 1 - c.args.slice)) (drop (512 * (c.slices_in.result - 1 - c.args.slice)) bytes) (omega (arith, c.requires.slice, c.requires.size, c.slices_in.ensures.slices))
+    c.in-Some.ensures.cases.same ∙ take-take 512 (length bytes - first) (drop first bytes) (omega (arith, c.requires.slice, c.requires.size))
     ∙ ap (λ at. take 512 (drop at bytes)) start ∙ sym (slice_of_codes slices place bytes (omega (arith, c.requires.size)) (λ at. (c.type_inv.bytes at).fits) (omega (arith, c.requires.slice)))
     ∙ ap (λ s. map (byte_of s) (slices_codes slices bytes)) slice
