@@ -1,4 +1,4 @@
-//! Runs the command that the command line asks for, and gives the exit status.
+//! Runs the command of the command line, and returns the exit status.
 ghost use Rattle.std.specs.Prelude.{◌≡◌, IfOk};
 ghost use Rattle.bw_io.specs.ReadAhead.{read_failures};
 ghost use Rattle.bw_memory.specs.MemoryTable.{schema_of};
@@ -22,7 +22,7 @@ use std::fs::File;
 use std::io::{self, IsTerminal, Stdin};
 use std::rt::{Env, Files};
 
-/// How many bytes of a table file are asked for at once.
+/// The number of bytes of a table file in one read: 128 KiB.
 const PIECE: usize = 128 * 1024;
 
 /// Runs the command of the process's command line.
@@ -58,12 +58,12 @@ fn run_asked(rt: &HostRuntime, asked: Invocation<'_>) -> u8 {
     }
 }
 
-/// The status of a fault of which a person needn't read.
+/// Returns the status of an error that isn't printed.
 fn status_alone(fault: &Fault) -> u8 {
     report(fault, &mut ToWrite::new(io::sink()))
 }
 
-/// The input of a command that is the same file as what it is to write, by any name.
+/// Returns the input of a command that is the same file as its output, by any name.
 fn input_as_output<'a>(rt: &HostRuntime, words: &CommandArgs<'a>) -> Option<&'a str> {
     let out = words.out()?;
     let inputs = [words.schema(), words.csv()];
@@ -73,7 +73,7 @@ fn input_as_output<'a>(rt: &HostRuntime, words: &CommandArgs<'a>) -> Option<&'a 
         .find(|input| is_same_file(rt, input, out))
 }
 
-/// Writes the line of what ended a command, and what is to be said of it where that is to be reported, and gives the
+/// Writes the line of the error that ended a command, and explains it if `told`. Returns the exit
 /// status.
 fn tell_fault(
     rt: &HostRuntime,
@@ -88,7 +88,7 @@ fn tell_fault(
     status
 }
 
-/// Runs a command, reports how it was done where that is wanted, and gives the status.
+/// Runs a command, and explains the row-by-row fallback if `told`. Returns the exit status.
 fn run_words<'a>(
     rt: &HostRuntime,
     words: CommandArgs<'a>,
@@ -126,7 +126,7 @@ fn run_words<'a>(
     Ok(0)
 }
 
-/// Runs `bw direct`: both files are opened before either is read.
+/// Runs `bw direct`. Both files are opened before either is read.
 fn run_direct<'a>(
     rt: &HostRuntime,
     schema_path: &'a str,
@@ -162,7 +162,8 @@ fn run_infer<'a>(
     or_unwritten(done, &[(csv_path, csv.reads())], out.error())
 }
 
-/// Runs `bw load`: both files are opened before either is read, and the third is created at the first write.
+/// Runs `bw load`. Both files are opened before either is read, and the third is created by the
+/// first write.
 fn run_load<'a>(
     rt: &HostRuntime,
     layout: Layout,
@@ -185,8 +186,8 @@ fn run_load<'a>(
     or_unwritten(done, &files, out.error())
 }
 
-/// Runs `bw query`: the files are opened before any is read, and the program file is read first. Tells how the query
-/// was served.
+/// Runs `bw query`. The files are opened before any is read, and the program file is read first.
+/// Writes the scan statistics, if `stats`.
 fn run_query<'a>(
     rt: &HostRuntime,
     program: Option<&'a str>,
@@ -204,8 +205,8 @@ fn run_query<'a>(
 }
 
 /// Runs `bw session`: opens the table file, reads the program files and then the table file, and
-/// answers the statements of standard input on standard output. Returns the status of the first
-/// statement that was rejected.
+/// runs the statements of standard input. Returns the status of the first statement that was
+/// rejected.
 fn run_session<'a>(
     rt: &HostRuntime,
     paths: &[&'a str],
@@ -220,7 +221,7 @@ fn run_session<'a>(
     answer_input(rt, &table, &mut programs, stats, told)
 }
 
-/// Answers the statements of standard input over a table in memory. Returns the status of the first
+/// Runs the statements of standard input over a table in memory. Returns the status of the first
 /// one that was rejected.
 fn answer_input(
     rt: &HostRuntime,
@@ -279,7 +280,7 @@ fn programs_for<'a>(
     }
 }
 
-/// The table of a file, read into memory.
+/// Returns the table of a file, read into memory.
 fn table_of<'a>(
     rt: &HostRuntime,
     path: &'a str,
@@ -291,7 +292,7 @@ fn table_of<'a>(
     or_ended(done, &[(path, file.reads())])
 }
 
-/// Standard input, of which the system is asked for as much as there is, up to a limit.
+/// Returns standard input, read in pieces of up to 128 KiB.
 fn input_ahead(rt: &HostRuntime) -> Result<ReadAhead<Stdin>, CommandFailure<'static>>
     ensures { IfOk result (λ source. read_failures source ≡ 0) }
 {
@@ -301,7 +302,7 @@ fn input_ahead(rt: &HostRuntime) -> Result<ReadAhead<Stdin>, CommandFailure<'sta
     }
 }
 
-/// The bytes of the program file that the command line names, if it names one.
+/// Returns the bytes of the program file that the command line names, if it names one.
 fn program_given<'a>(
     rt: &HostRuntime,
     program: Option<&'a str>,
@@ -312,7 +313,7 @@ fn program_given<'a>(
     }
 }
 
-/// Run a statement over a table file, on standard output.
+/// Runs a statement over a table file, and writes the result to standard output.
 fn answer_from<'a>(
     rt: &HostRuntime,
     path: &'a str,
@@ -329,7 +330,7 @@ fn answer_from<'a>(
     or_unwritten(done, &[(path, table.reads())], out.error())
 }
 
-/// The bytes of a program file, whole.
+/// Returns all bytes of a program file.
 fn read_program<'a>(
     rt: &HostRuntime,
     path: &'a str,
@@ -393,7 +394,7 @@ fn run_check<'a>(
     or_unwritten(told, &[], out.error())
 }
 
-/// The text of a schema, whole.
+/// Returns all bytes of a schema file.
 fn read_schema<'a>(
     rt: &HostRuntime,
     path: &'a str,
@@ -405,7 +406,7 @@ fn read_schema<'a>(
     }
 }
 
-/// The bytes of a file of this name, if they are no more than a limit.
+/// Returns the bytes of a file, if there are no more than a limit.
 fn read_text<'a>(
     rt: &HostRuntime,
     path: &'a str,
@@ -417,8 +418,8 @@ fn read_text<'a>(
     or_ended(done, &[(path, file.reads())])
 }
 
-/// What a call gave, or what ended the command: the call's fault, and the files that it read, each with how its reads
-/// went.
+/// Returns the result of a call, or the failure of the command: the call's error, and the files
+/// that it read, each with whether its reads failed.
 fn or_ended<'a, T>(
     done: Result<T, Fault>,
     files: &[(&'a str, Reads)],
@@ -429,7 +430,7 @@ fn or_ended<'a, T>(
     }
 }
 
-/// The same of a call that writes, with the reason that a write failed for.
+/// Returns the same for a call that writes, with the reason of a failed write.
 fn or_unwritten<'a, T>(
     done: Result<T, Fault>,
     files: &[(&'a str, Reads)],
@@ -459,8 +460,8 @@ fn open<'a>(rt: &HostRuntime, path: &'a str) -> Result<InFile, CommandFailure<'a
     }
 }
 
-/// A table file, which the system is asked for in large pieces, or at once where it's smaller: memory that isn't needed
-/// needn't be cleared.
+/// Returns a table file that is read in large pieces, or in one if it's smaller, since unneeded
+/// memory would have to be cleared.
 fn ahead<'f>(
     rt: &HostRuntime,
     file: &'f mut InFile,

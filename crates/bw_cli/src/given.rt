@@ -1,4 +1,4 @@
-//! The words that the process was given.
+//! Parses the arguments of the process.
 ghost use Rattle.std.specs.Prelude.{◌≡◌};
 
 use crate::commands::{is_explained, matches_of, programs_of, words_of};
@@ -10,10 +10,11 @@ use clap::error::ErrorKind;
 use clap::{ArgMatches, Error};
 use std::{env, io};
 
-/// The status of a command line that is no use, a call for help among them.
+/// The exit status of an invalid command line, and of a call for help.
 pub const USAGE: u8 = 2;
 
-/// A command with its words, the program files of a session, and whether explanations are asked for.
+/// A command with its arguments, the program files of a session, and whether explanations are asked
+/// for.
 #[derive(Drop)]
 pub struct Invocation<'a> {
     pub words: CommandArgs<'a>,
@@ -21,7 +22,8 @@ pub struct Invocation<'a> {
     pub is_explained: bool,
 }
 
-/// The words of the process's command line, or the status without them, once it was said why.
+/// Returns the arguments of the process, or the exit status if there are none that can be read: 2
+/// if one isn't UTF-8, 6 if memory is refused. The reason is written to standard error first.
 pub fn words_given(rt: &HostRuntime) -> Result<Vec<String>, u8> {
     match env::args(rt) {
         Err(error) if error.kind() == io::ErrorKind::OutOfMemory => Err(out_of_memory(rt)),
@@ -33,8 +35,8 @@ pub fn words_given(rt: &HostRuntime) -> Result<Vec<String>, u8> {
     }
 }
 
-/// The command of a command line, whose first word is the program's name; or the status without one, once what the
-/// command line asked for in place of it was written.
+/// Returns the command of a command line, whose first argument is the program's name. If it has
+/// none, writes the help, the version or the usage error in its place, and returns the exit status.
 pub fn asked_by<'a>(rt: &HostRuntime, words: &'a [String]) -> Result<Invocation<'a>, u8> {
     match matches_of(rt.alloc(), words) {
         Ok(matches) => asked_in(rt, &matches),
@@ -42,7 +44,7 @@ pub fn asked_by<'a>(rt: &HostRuntime, words: &'a [String]) -> Result<Invocation<
     }
 }
 
-/// The command that was found.
+/// Returns the command that was parsed.
 fn asked_in<'a>(rt: &HostRuntime, matches: &ArgMatches<'a>) -> Result<Invocation<'a>, u8> {
     let words = words_of(matches).ok_or(USAGE)?;
     match programs_of(rt.alloc(), matches) {
@@ -55,7 +57,7 @@ fn asked_in<'a>(rt: &HostRuntime, matches: &ArgMatches<'a>) -> Result<Invocation
     }
 }
 
-/// Tells that there is no memory for the command line, and gives the status.
+/// Reports that memory was refused, and returns the exit status.
 fn out_of_memory(rt: &HostRuntime) -> u8 {
     report(
         &Fault::new(code::OUT_OF_MEMORY),
@@ -63,8 +65,8 @@ fn out_of_memory(rt: &HostRuntime) -> u8 {
     )
 }
 
-/// Says what the command line asked for in place of a command, and gives the status: the version goes to standard
-/// output with status 0, and all else, a call for help too, to standard error.
+/// Writes what `clap` returned in place of a command, and returns the exit status. The version goes
+/// to standard output with status 0; help and usage errors go to standard error.
 fn tell(rt: &HostRuntime, error: &Error) -> u8 {
     match error.kind() {
         ErrorKind::DisplayVersion => {

@@ -1,7 +1,7 @@
-//! A command and its words.
+//! A command and its arguments.
 use bw_file::Layout;
 
-/// A command and its words. All but SQL and the name of a table are names of files.
+/// A command and its arguments. All but the SQL and the name of a table are file names.
 #[derive(Clone, Copy)]
 pub enum CommandArgs<'a> {
     Direct {
@@ -25,7 +25,7 @@ pub enum CommandArgs<'a> {
         table: &'a str,
         sql: &'a str,
     },
-    /// Its program files, of which there may be many, aren't among these.
+    /// Its program files, any number of them, are a field of the invocation.
     Session {
         stats: bool,
         table: &'a str,
@@ -48,7 +48,7 @@ pub enum CommandArgs<'a> {
 }
 
 impl<'a> CommandArgs<'a> {
-    /// The file of the schema.
+    /// Returns the schema file.
     pub fn schema(self) -> Option<&'a str> {
         match self {
             CommandArgs::Direct { schema, .. }
@@ -59,7 +59,7 @@ impl<'a> CommandArgs<'a> {
         }
     }
 
-    /// The CSV file.
+    /// Returns the CSV file.
     pub fn csv(self) -> Option<&'a str> {
         match self {
             CommandArgs::Direct { csv, .. }
@@ -69,7 +69,7 @@ impl<'a> CommandArgs<'a> {
         }
     }
 
-    /// The table file that is read.
+    /// Returns the table file that is read.
     pub fn table(self) -> Option<&'a str> {
         match self {
             CommandArgs::Query { table, .. }
@@ -80,7 +80,7 @@ impl<'a> CommandArgs<'a> {
         }
     }
 
-    /// The program file.
+    /// Returns the program file.
     pub fn program(self) -> Option<&'a str> {
         match self {
             CommandArgs::Query { program, .. } => program,
@@ -89,7 +89,7 @@ impl<'a> CommandArgs<'a> {
         }
     }
 
-    /// The statement.
+    /// Returns the statement.
     pub fn sql(self) -> Option<&'a str> {
         match self {
             CommandArgs::Direct { sql, .. }
@@ -100,7 +100,7 @@ impl<'a> CommandArgs<'a> {
         }
     }
 
-    /// The name of the table that the command line gives.
+    /// Returns the table name that the command line gives, if it gives one.
     pub fn name(self) -> Option<&'a str> {
         match self {
             CommandArgs::Infer { name, .. } => name,
@@ -108,7 +108,7 @@ impl<'a> CommandArgs<'a> {
         }
     }
 
-    /// The command with what it takes, in order.
+    /// Returns the command's name and its arguments in order, as the help prints them.
     pub fn usage(self) -> &'static str {
         match self {
             CommandArgs::Direct { .. } => "bw direct SCHEMA CSV SQL",
@@ -123,7 +123,7 @@ impl<'a> CommandArgs<'a> {
         }
     }
 
-    /// The file that is written.
+    /// Returns the file that is written.
     pub fn out(self) -> Option<&'a str> {
         match self {
             CommandArgs::Load { out, .. } => Some(out),

@@ -1,4 +1,4 @@
-//! Totals of the picked rows of segments.
+//! Totals of the selected rows of segments.
 ghost use Rattle.std.specs.Prelude.{◌+◌, ◌≤◌, ◌^◌, length, IsTrue};
 ghost use Rattle.bw_aggregate.specs.Picked.{IsWithin};
 ghost use Rattle.bw_lanes.specs.Lanes.{lanes_of_words};
