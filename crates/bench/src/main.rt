@@ -1,6 +1,7 @@
 //! Benchmarks run by hand, one after another: `bench WORD ..`, where a word is
 //!
-//! - `lanes=CALLS`: the kernels over bytes, and the building and judging of segments, with so many calls;
+//! - `lanes=CALLS`: the kernels over bytes, and building and validating segments, with this many
+//! calls;
 //! - `run`: runs of scan programs over segments, beside straight loops over the same kernels;
 //! - `totals`: SUM, MIN and MAX of picked rows, in both layouts;
 //! - `diagram`: a diagram that is filled;

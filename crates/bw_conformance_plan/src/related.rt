@@ -1,4 +1,4 @@
-//! Comparisons of columns with one another: skips, where no row has the two equal so far.
+//! Comparisons of columns with one another: skips, if no row has the two equal so far.
 use crate::rows::{Numbers, cost_of, judged, rows_of};
 use bw_model::{Row, Schema, code};
 use std::alloc::Global;

@@ -35,7 +35,7 @@ impl Numbers {
         x >> 11
     }
 
-    /// A number below a limit, or 0 where that is 0.
+    /// Returns a number below a limit, or 0 if the limit is 0.
     pub(crate) fn below(&mut self, limit: u64) -> u64 {
         let next = self.next();
         if limit == 0 { 0 } else { next % limit }

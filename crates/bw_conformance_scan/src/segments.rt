@@ -31,7 +31,7 @@ pub(crate) fn rows_of(alloc: Global, table: &[[Value; 2]]) -> Result<Vec<Row>, F
     Ok(rows)
 }
 
-/// How many rows have a 1 at a variable; none where there is no such variable.
+/// Returns the number of rows that have a 1 at a variable; 0 if there is no such variable.
 pub(crate) fn ones(segment: &impl Segment, var: u32) -> Option<u32> {
     if var < segment.schema().var_count() {
         Some(count(&segment.plane(var)))

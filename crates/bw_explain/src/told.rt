@@ -340,8 +340,8 @@ impl<'a> Part<'a> {
     }
 }
 
-/// How many columns of a terminal a text takes at most: a tab takes eight, and a character that isn't ASCII may take
-/// two.
+/// Returns the most columns of a terminal that a text takes: eight for a tab, two for a character
+/// that isn't ASCII, else one.
 fn columns_of(text: &str) -> usize {
     let mut columns: usize = 0;
     for character in text.chars() {

@@ -1,4 +1,4 @@
--- The segments of a table, kept column by column.
+-- The segments of a table, stored column by column.
 use Rattle.std.specs.Prelude.{◌≡◌, ℕ, ◌-◌, ◌*◌, ◌+◌, ◌<◌, ◌≤◌, min, List, length, map}
 use Rattle.std.specs.List.{range_with_len}
 use Rattle.bw_model.specs.declared.column.Column.{Column}
@@ -11,11 +11,12 @@ use Rattle.bw_file.specs.declared.segments.AnySegment.{AnySegment}
 use Rattle.bw_file.specs.AnySegment.{any_layout, any_meaning}
 use Rattle.bw_file.specs.Blocks.{IsSound, form_of, rows_spelled}
 
--- how many of a table's rows, so many, the segment of a number has
+-- the number of rows of the segment of a number, in a table of this many rows
 abbrev pub rows_numbered : ℕ → ℕ → ℕ
 rows_numbered rows number = min group_size (rows - group_size * number)
 
--- So many rows are kept in so many segments, in columns: each segment has rows, and its blocks are without fault.
+-- The columns store this many rows in this many segments. Each segment has rows, and its blocks are
+-- valid.
 pub record KeepSegments (layout : Layout) (columns : List Column) (rows count : ℕ)
     (kept : List ColumnBlocks) : Type 0 where
   pub blocks : KeepBlocks (form_of layout) columns count kept
@@ -34,7 +35,8 @@ unfoldable pub groups_kept : Layout → List Column → ℕ → ℕ → List Col
 groups_kept layout columns rows count kept =
     map (group_kept layout columns rows kept) (range_with_len 0 count)
 
--- The blocks of a segment, of these bytes, came after those of the segments that the columns kept before.
+-- The blocks of a segment, of these bytes, were appended to those of the segments that the columns
+-- stored before.
 pub record AddSegment (layout : Layout) (columns : List Column) (bytes : List ℕ)
     (old new : List ColumnBlocks) : Type 0 where
   pub keep : (count : ℕ) → KeepBlocks (form_of layout) columns count old

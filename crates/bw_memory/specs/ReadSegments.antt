@@ -8,8 +8,8 @@ use Rattle.bw_file.specs.TableReader.{ReadWhole, ReadProgress, found_so_far, lay
 use Rattle.bw_file.specs.declared.table_reader.TableReader.{TableReader}
 use Rattle.bw_memory.specs.Kept.{KeepSegments, groups_kept}
 
--- Of a file of which a reader had read the header all segments, so many, of so many rows are kept; the file was read
--- whole, and these are the groups of its rows.
+-- After a reader had read the header of a file, all segments were read and stored: this many, of
+-- this many rows. All of the file was read, and these are the groups of its rows.
 pub record KeptAll (old now : State) (reader : TableReader) (rows count : ℕ)
     (columns : List ColumnBlocks) : Type 0 where
   pub segments : KeepSegments (layout_in reader) (schema_in reader).columns.items rows count columns

@@ -39,8 +39,8 @@ impl MemoryTable {
             (state (S.to_come source.new) offset (S.failures source.new)) fault) }
         ensures fault { IfErr result IsTableFault }
 
-        // Where the bytes to come are known: they were the table's file; and where they are one, it's only a failed read
-        // or memory that can refuse it.
+        // If the unread bytes are known, a success shows that they are the table's file. If they
+        // are a table file's, only a failed read or memory can fail.
         ensures file { (bytes : List ℕ) → S.to_come source.old ≡ Some bytes
             → IfOk result (λ table. IsFileBytes bytes (layout_of table) (schema_of table)
             (rows_of table)) }

@@ -1,4 +1,4 @@
--- Which program serves a condition if there are program files to choose among.
+-- The program that serves a condition, chosen among program files.
 use Rattle.std.specs.Prelude.{All, ◌≡◌, ◌≤◌, ℕ, List, length, map, slice_get, take, Option, Some, None, Vec}
 use Rattle.std.specs.declared.alloc.Global.{Global}
 use Rattle.bw_model.specs.declared.column.Column.{Column}
@@ -22,7 +22,7 @@ use Rattle.bw_query.specs.Served.{IsServed}
 abbrev pub texts_of : List (Vec ℕ Global) → List (List ℕ)
 texts_of files = map (λ file. file.items) files
 
--- a program file isn't accepted for a condition
+-- no program and certificate of the file are accepted for the condition
 abbrev pub IsRejected : List Column → Cond → List ℕ → Type 0
 IsRejected columns cond file = IsUsable (Some file) columns cond → ⊥
 
@@ -41,7 +41,7 @@ IsChosenAmong files columns cond scan =
     (file : Option (List ℕ)) × IsFirstUsable files columns cond file
     × IsChosen file columns cond scan
 
--- so it is reported
+-- the query is served by the program that is so chosen
 abbrev pub IsServedAmong : List (List ℕ) → Schema → Query → List (List Value) → Served → Type 0
 IsServedAmong files schema query rows served = (file : Option (List ℕ))
     × IsFirstUsable files schema.columns.items query.cond file

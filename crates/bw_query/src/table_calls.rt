@@ -68,9 +68,9 @@ pub fn answer<S: Source, K: Sink>(
         × Appends (K.taken sink.old) (K.taken sink.new) text
         × IsServed (given_file program.entry) found.schema found.query found.rows served) }
 
-    // Where the bytes to come are known: they were a table file's, and the answer is over its rows; and where they are,
-    // the statement spells a query, and the program file is accepted for its condition, it's only a device or memory
-    // that can fail.
+    // If the unread bytes are known, a success shows that they are a table file's, and the result
+    // is over its rows. If they are one's, the statement spells a query, and the program file is
+    // accepted for its condition, only a device or memory can fail.
     ensures file { (bytes : List ℕ) → S.to_come table.old ≡ Some bytes → IfOk result (λ served.
         (file : AnswersFile (by_statement (given_file program.entry) sql.now) bytes
         (K.taken sink.old) (K.taken sink.new))
@@ -123,7 +123,7 @@ fn answered<S: Source>(
     answered_after_header(alloc, &mut reader, table, sql, program)
 }
 
-/// Returns the same of a table file of which only the header was read.
+/// Returns the same for a table file of which only the header was read.
 fn answered_after_header<S: Source>(
     alloc: Global,
     reader: &mut TableReader,
@@ -194,8 +194,8 @@ pub(crate) fn prepare(
         → by_statement (given_file program.entry) sql.now schema.now (Err fault)) }
     ensures fault { IfErr result (λ fault. is_write_fault fault ≡ false) }
     ensures unread { IfErr result (λ fault. is_read_fault fault ≡ false) }
-    // A statement that spells a query under a schema of the same shape, with a program file that is accepted for its
-    // condition, is refused only where memory runs out.
+    // If a statement spells a query under a schema of the same shape, and the program file is
+    // accepted for its condition, only memory can fail.
     ensures accepted { (other : Schema) (query : Query) → schema_shape schema.now
         ≡ schema_shape other → by_statement (given_file program.entry) sql.now other (Ok query)
         → IfErr result (λ fault. IsTrue (is_memory fault)) }
@@ -221,7 +221,7 @@ pub fn dump<S: Source, K: Sink>(alloc: Global, table: &mut S, sink: &mut K) -> R
         × WriteOutcome none_aside (K.taken sink.old) (K.taken sink.new) (K.failures sink.old)
         (K.failures sink.new) given result }
 
-    // Where the bytes to come are known, as of [`answer`].
+    // The same of the unread bytes as for [`answer`].
     ensures file { (bytes : List ℕ) → S.to_come table.old ≡ Some bytes
         → OnOk result (AnswersFile by_dump bytes (K.taken sink.old) (K.taken sink.new)) }
     ensures accepted { (bytes : List ℕ) (layout : Layout) (schema : Schema)
@@ -255,7 +255,7 @@ fn dumped<S: Source>(alloc: Global, table: &mut S) -> Result<Vec<u8>, Fault>
     dumped_after_header(alloc, &mut reader, table)
 }
 
-/// The same of a table file whose header was read, and no segment.
+/// Returns the same for a table file of which only the header was read.
 fn dumped_after_header<S: Source>(
     alloc: Global,
     reader: &mut TableReader,

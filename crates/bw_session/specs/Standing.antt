@@ -1,27 +1,27 @@
--- How the reader of statements finds where one ends, byte by byte.
+-- The state of a statement, byte by byte.
 use Rattle.std.specs.Prelude.{ℕ, Bool, true, false, List, [], ◌∷◌, ◌==◌, if◌then◌else◌}
 use Rattle.bw_session.specs.declared.standing.Standing.{Standing}
 use Rattle.bw_session.specs.declared.standing.Standing.TheVariants.{Blank, Text, Dash, Comment, Ended}
 use Rattle.bw_session.specs.Statements.{is_blank}
 
--- A text goes on after a part of it: with an LF begins a line of which only blanks came so far; a ; ends the statement;
--- a dash may begin a comment; all else is text.
+-- After a byte of text: an LF begins a line that is blank so far, a semicolon ends the statement,
+-- and a dash may begin a comment. All else is text.
 abbrev pub after_text : ℕ → Standing
 after_text byte =
     if byte == 10 then Blank else if byte == 59 then Ended else if byte == 45 then Dash else Text
 
--- in a line of which only blanks came so far, an LF ends the statement: the line is empty
+-- In a line that is blank so far, an LF ends the statement: the line is empty.
 abbrev pub after_blank : ℕ → Standing
 after_blank byte = if byte == 10 then Ended else if is_blank byte then Blank else after_text byte
 
--- a second dash begins a comment, which an LF ends
+-- A second dash begins a comment, which an LF ends.
 abbrev pub after_dash : ℕ → Standing
 after_dash byte = if byte == 45 then Comment else after_text byte
 
 abbrev pub after_comment : ℕ → Standing
 after_comment byte = if byte == 10 then Blank else Comment
 
--- where a statement stands after one more byte
+-- the state of a statement after one more byte
 abbrev pub after : Standing → ℕ → Standing
 after Blank byte = after_blank byte
 after Text byte = after_text byte
@@ -29,7 +29,7 @@ after Dash byte = after_dash byte
 after Comment byte = after_comment byte
 after Ended byte = Ended
 
--- where it stands after some bytes
+-- its state after some bytes
 unfoldable pub standing_after : Standing → List ℕ → Standing
 standing_after standing [] = standing
 standing_after standing (byte ∷ rest) = standing_after (after standing byte) rest
