@@ -9,7 +9,7 @@ pub(crate) fn drawn(state: &mut u64) -> u32 {
     (*state >> 32) as u32
 }
 
-/// A number, or null about once in eight.
+/// Returns a number, or null about once in eight.
 pub(crate) fn or_null(state: &mut u64, number: i64) -> Option<i64> {
     if drawn(state) >> 29 == 0 {
         None

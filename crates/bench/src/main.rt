@@ -3,7 +3,7 @@
 //! - `lanes=CALLS`: the kernels over bytes, and building and validating segments, with this many
 //! calls;
 //! - `run`: runs of scan programs over segments, beside straight loops over the same kernels;
-//! - `totals`: SUM, MIN and MAX of picked rows, in both layouts;
+//! - `totals`: SUM, MIN and MAX of selected rows, in both layouts;
 //! - `diagram`: a diagram that is filled;
 //! - `cert`: a certificate of a million product rows, read and checked;
 //! - `reader=FILE`: the records of a file, counted by the `csv` crate alone.

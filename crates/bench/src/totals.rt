@@ -127,7 +127,7 @@ fn time_way<W: Way, S: Segment>(
     Ok(())
 }
 
-/// 512 drawn rows, with a null in every eighth or so.
+/// Returns 512 drawn rows, with a null in every eighth or so.
 fn drawn_rows(alloc: Global, state: &mut u64) -> Result<Vec<Row>, Failure> {
     let mut rows = Vec::with_capacity(alloc, 512)?;
     for _ in 0..512 {
@@ -140,7 +140,7 @@ fn drawn_rows(alloc: Global, state: &mut u64) -> Result<Vec<Row>, Failure> {
     Ok(rows)
 }
 
-/// A plane in which about one row in 2 to this power is 1.
+/// Returns a plane in which about one row in 2 to this power is 1.
 fn drawn_plane(state: &mut u64, power: usize) -> Plane {
     let mut plane = [u64::MAX; 8];
     for _ in 0..power {

@@ -175,7 +175,7 @@ fn a_statement_comes_before_the_segments(rt: HostRuntime) -> Result<(), Fail> {
     Ok(())
 }
 
-/// These bytes, and then one without end.
+/// Returns a source of these bytes, and then one without end.
 fn endless(left: &[u8], then: u8, piece: usize) -> Endless<'_> {
     Endless {
         left,
@@ -220,7 +220,7 @@ fn an_endless_schema_is_too_long(rt: HostRuntime) {
     assert!(rt; sink.into_inner().as_slice().starts_with(b"bw: 106 "));
 }
 
-/// A call over a CSV text without end takes one byte more than a CSV text may have.
+/// A call over a CSV text without end reads one byte more than a CSV text may have.
 #[test]
 fn an_endless_csv_is_too_long(rt: HostRuntime) {
     let piece = 1 << 20;
@@ -274,7 +274,7 @@ enum Line {
 }
 
 impl Line {
-    /// Writes the line, and tells whether the call says that a write failed, which a report never
+    /// Writes the line, and returns whether the call reports a failed write, which `report` never
     /// does.
     fn write(self, rt: &impl Abort, sink: &mut Taker) -> bool
         requires { sink.old.calls.failures ≡ 0 }

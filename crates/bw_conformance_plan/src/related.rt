@@ -28,7 +28,8 @@ const COMPARISONS: [&str; 6] = ["=", "<>", "<", ">", "<=", ">="];
 /// Columns of which one takes null, or none, or both, and which differ in their top bit.
 const PAIRS: [(&str, &str); 4] = [("a", "c"), ("a", "b"), ("b", "a"), ("b", "d")];
 
-/// 512 rows alike, in which `a` and `d` have the top bit of so many, and `c` and `b` haven't.
+/// Returns 512 equal rows, in which `a` and `d` have the top bit of this number, and `c` and `b`
+/// haven't.
 fn alike(alloc: Global, top: i64) -> Result<Vec<Row>, Fail> {
     let mut rows = Vec::new(alloc);
     for _ in 0..512 {
@@ -55,8 +56,8 @@ fn assert_early(
     Ok(())
 }
 
-/// What stands before and after a comparison: it alone, negated, tested, and joined with another
-/// one that doesn't settle it.
+/// The text before and after a comparison: it alone, negated, tested, and combined with another one
+/// that doesn't settle it.
 const FORMS: [(&str, &str); 12] = [
     ("", ""),
     ("NOT (", ")"),
@@ -126,7 +127,7 @@ fn ranges_and_lists_of_columns_end_early(rt: HostRuntime) -> Result<(), Fail> {
     Ok(())
 }
 
-/// The columns `c0`, `c1` and so on of a table, from 0 to a greatest number, and the condition that
+/// Returns the columns `c0`, `c1` and so on of a table, from 0 to a maximum, and the condition that
 /// each is less than the next.
 fn chain(alloc: Global, count: usize, most: i64) -> Result<(Schema, String), Fail> {
     let mut table = String::from_str(alloc, "TABLE t\n")?;

@@ -25,7 +25,7 @@ impl Numbers {
         Numbers(seed | 1)
     }
 
-    /// The next number.
+    /// Returns the next number.
     pub(crate) fn next(&mut self) -> u64 {
         let mut x = self.0;
         x ^= x << 13;
@@ -42,7 +42,7 @@ impl Numbers {
     }
 }
 
-/// What a run cost.
+/// The cost of a run.
 #[derive(Clone, Copy, Debug)]
 pub(crate) struct Cost {
     pub(crate) loads: usize,
@@ -50,7 +50,7 @@ pub(crate) struct Cost {
     pub(crate) picked: u64,
 }
 
-/// A value of a column: its least or greatest ones, one near another number, or any.
+/// Returns a value of a column: one near its minimum, its maximum or another number, or any.
 fn value(numbers: &mut Numbers, column: &Column, near: i64) -> Value {
     if column.nullable && numbers.below(6) == 0 {
         return None;
@@ -69,7 +69,7 @@ fn value(numbers: &mut Numbers, column: &Column, near: i64) -> Value {
     Some(i64::try_from(n).unwrap_or(column.lo))
 }
 
-/// So many rows of a table, with values near some numbers among them.
+/// Returns this many rows of a table, some with values near these numbers.
 pub(crate) fn rows_of(
     alloc: Global,
     numbers: &mut Numbers,
@@ -157,7 +157,7 @@ fn picked(
     })
 }
 
-/// What a program costs over all groups of rows.
+/// Returns the cost of a program over all groups of rows.
 fn picked_in_all(
     rt: &impl Abort,
     alloc: Global,
@@ -184,7 +184,7 @@ fn picked_in_all(
     Ok(cost)
 }
 
-/// What a condition's program costs over rows, or the fault of `propose`.
+/// Returns the cost of a condition's program over rows, or the error of `propose`.
 pub(crate) fn judged(
     rt: &impl Abort,
     alloc: Global,
@@ -203,7 +203,7 @@ pub(crate) fn judged(
     }
 }
 
-/// The cost of a condition that has a program.
+/// Returns the cost of a condition that has a program.
 pub(crate) fn cost_of(
     rt: &impl Abort,
     alloc: Global,

@@ -20,7 +20,7 @@ pub(crate) const TABLE: [[Value; 2]; 5] = [
     [Some(8), Some(0)],
 ];
 
-/// Rows of these values.
+/// Returns rows of these values.
 pub(crate) fn rows_of(alloc: Global, table: &[[Value; 2]]) -> Result<Vec<Row>, Fail> {
     let mut rows = Vec::new(alloc);
     for [a, b] in table {
@@ -40,7 +40,8 @@ pub(crate) fn ones(segment: &impl Segment, var: u32) -> Option<u32> {
     }
 }
 
-/// How many rows, those past the last one too, have a byte below c, and how many have c.
+/// Returns how many rows, those past the last one too, have a byte less than c, and how many have
+/// c.
 pub(crate) fn compared(
     segment: &impl Segment,
     col: usize,

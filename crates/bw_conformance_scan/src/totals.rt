@@ -5,7 +5,7 @@ use bw_lanes::{Plane, lane, mask};
 use bw_model::{Item, Schema, Value};
 use std::test::Fail;
 
-/// The plane of these first 64 lanes.
+/// Returns the plane of these first 64 lanes.
 fn lanes(word: u64) -> Plane {
     [word, 0, 0, 0, 0, 0, 0, 0]
 }
@@ -192,7 +192,7 @@ fn least_and_greatest_are_found_among_ties(rt: HostRuntime) -> Result<(), Fail> 
     Ok(())
 }
 
-/// The next of some numbers that look alike nowhere.
+/// Returns the next pseudo-random number.
 fn drawn(state: &mut u64) -> u64 {
     *state = state
         .wrapping_mul(6364136223846793005)
@@ -200,7 +200,7 @@ fn drawn(state: &mut u64) -> u64 {
     *state >> 32
 }
 
-/// What an aggregate of a column is over the rows whose lane is 1, row by row.
+/// Returns an aggregate of a column over the rows whose lane is 1, row by row.
 fn row_by_row(item: &Item, table: &[[Value; 2]], plane: &Plane) -> Option<i128> {
     let mut sum: Option<i128> = None;
     for (row, values) in table.iter().enumerate() {

@@ -287,7 +287,7 @@ impl fmt::Display for Reason<'_> {
     }
 }
 
-/// Two compared columns with different minimums.
+/// Returns two compared columns with different minimums.
 fn apart<'a>(part: &Cond, columns: &'a [Column]) -> Option<(&'a Column, &'a Column)> {
     let pairs = match part {
         Cond::Cmp(_, x, y) => [(*x, *y), (*x, *y)],

@@ -248,7 +248,7 @@ fn read_again(rt: &HostRuntime, path: &str) -> Option<Vec<u8>> {
     }
 }
 
-/// A file that can be read again: what a pipe delivered can't be.
+/// Returns a file that can be read again, which a pipe can't.
 fn regular_file(rt: &HostRuntime, path: &str) -> Option<File> {
     let file = File::open(rt, path).ok()?;
     file.metadata().ok()?.is_file().then_some(file)
@@ -354,7 +354,7 @@ fn columns_of(text: &str) -> usize {
     columns
 }
 
-/// The last line of a text, cut to its last columns.
+/// Returns the last line of a text, cut to its last columns.
 fn end_of_line(text: &str) -> Option<&str> {
     let begin = text.rfind('\n').map_or(0, |feed| feed + 1);
     let first = begin.max(text.len().saturating_sub(2 * BEFORE));
@@ -362,7 +362,7 @@ fn end_of_line(text: &str) -> Option<&str> {
     text.get(near..)
 }
 
-/// The first line of a text, cut to so many columns.
+/// Returns the first line of a text, cut to this many columns.
 fn begin_of_line(text: &str, room: usize) -> Option<&str> {
     let end = text.find('\n').unwrap_or(text.len());
     let last = end.min(2 * EXCERPT);
@@ -370,7 +370,8 @@ fn begin_of_line(text: &str, room: usize) -> Option<&str> {
     text.get(..far)
 }
 
-/// Whether a part of a text, if characters begin and end with it, takes so many columns at most.
+/// Returns whether a part of a text takes this many columns at most, if characters begin and end
+/// with it.
 fn fits(part: Option<&str>, columns: usize) -> bool {
     part.is_some_and(|part| columns_of(part) <= columns)
 }

@@ -45,7 +45,7 @@ impl Entry for Link {
 }
 
 impl Link {
-    /// What it compares, of so many bits, without a node.
+    /// Returns the same comparison of this many bits, without a node.
     fn shortened(self, len: u32) -> Self {
         Link {
             len,

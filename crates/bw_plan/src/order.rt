@@ -38,7 +38,7 @@ pub(crate) struct Ranks {
 }
 
 impl Ranks {
-    /// The ranks under a condition.
+    /// Returns the ranks under a condition.
     pub(crate) fn new(alloc: Global, schema: &Schema, cond: &Cond) -> Result<Self, Refusal> {
         let mut compared = Vec::new(alloc);
         collect(cond, &mut compared)?;

@@ -85,8 +85,8 @@ impl Code<'_> {
         }
     }
 
-    /// Returns the same for the bounds with one byte in common, where the codes have it too. A new
-    /// register is 0 in other lanes.
+    /// Returns the same for the bounds with one byte in common, in the lanes whose codes have it
+    /// too. A new register is 0 in other lanes.
     #[cycle(within)]
     fn below(
         &mut self,
@@ -192,8 +192,8 @@ impl Code<'_> {
         }
     }
 
-    /// A register, `out` if there is one, with the lanes turned round that are 1 in another and in
-    /// `mask`.
+    /// Returns a register, `out` if there is one, with the lanes toggled that are 1 in another and
+    /// in `mask`.
     fn added(
         &mut self,
         next: Option<Register>,

@@ -11,18 +11,17 @@ use bw_diagram::Connective;
 use bw_model::{Cond, Op, Operand, Truth};
 use bw_program::ColumnIndex;
 
-/// A list has so many items at most: to plan a longer one takes longer than to look up the rows of
-/// a table that isn't very large.
+/// The most items of a list: planning a longer one takes longer than looking it up row by row in a
+/// table that isn't very large.
 const MAX_LIST: usize = 400;
 
-/// A list whose literals take more instructions takes so many product rows at most. With more it
-/// takes longer to plan the list and to scan a million rows for it than to look it up in each of
-/// them.
+/// The most product rows of a list whose literals take more instructions. With more, planning the
+/// list and scanning a million rows for it takes longer than looking it up in each of them.
 const LONG_LIST: usize = 1200;
 
 const MAX_LONG_LIST_PRODUCTS: usize = 4000;
 
-/// The numbers of a condition's nodes: where it is TRUE, and where it is FALSE.
+/// The numbers of a condition's nodes: one that is 1 if it is TRUE, and one if it is FALSE.
 #[derive(Clone, Copy)]
 pub(crate) struct TruthNodes {
     pub(crate) yes: u32,
@@ -30,7 +29,7 @@ pub(crate) struct TruthNodes {
 }
 
 impl TruthNodes {
-    /// Those of a step with one truth on every row.
+    /// Returns the nodes of a step with one truth on every row.
     fn constant(truth: Truth) -> Self {
         TruthNodes {
             yes: u32::from(truth == Truth::Yes),
@@ -38,7 +37,7 @@ impl TruthNodes {
         }
     }
 
-    /// Those of the opposite condition.
+    /// Returns the nodes of the opposite condition.
     fn exchanged(self) -> Self {
         TruthNodes {
             yes: self.no,
@@ -47,8 +46,9 @@ impl TruthNodes {
     }
 }
 
-/// The nodes of a condition, with the lines of its steps appended, operands first. Refused are, as
-/// `NoProgram`, AND, OR and IN of nothing, what [`compare`] refuses, and what would pass a limit of
+/// Returns the nodes of a condition, and appends the lines of its steps, operands first.
+///
+/// Errors: `NoProgram` for AND, OR and IN of nothing, for those of [`compare`], and past a limit of
 /// the facts.
 #[cycle(steps)]
 pub(crate) fn steps_of(
@@ -80,7 +80,7 @@ pub(crate) fn steps_of(
     }
 }
 
-/// The nodes of parts of which any, or else each, is to hold.
+/// Returns the nodes of the OR of all parts, or else of their AND.
 #[cycle(steps)]
 fn all_joined(
     facts: &mut Facts<'_>,
@@ -101,7 +101,7 @@ fn all_joined(
     Ok(made)
 }
 
-/// The nodes of a list of equations with one operand, of which one is to hold.
+/// Returns the nodes of the OR of the equations of a list with one operand.
 fn among(
     facts: &mut Facts<'_>,
     lines: &mut Vec<PlannedLine>,
@@ -126,7 +126,7 @@ fn among(
     Ok(made)
 }
 
-/// How many product rows there may be once a list is planned.
+/// Returns how many product rows there may be once a list is planned.
 fn most_products(facts: &Facts<'_>, x: Operand, items: &[Operand]) -> Result<usize, Refusal> {
     Ok(match Set::listed(facts, x, items)? {
         Some((_, set)) if set.instructions() > LONG_LIST => {
@@ -145,13 +145,13 @@ fn put(lines: &mut Vec<PlannedLine>, entry: ConditionEntry) -> Result<(), Refusa
     Ok(())
 }
 
-/// The nodes of a step with one truth on every row.
+/// Returns the nodes of a step with one truth on every row.
 fn constant(lines: &mut Vec<PlannedLine>, truth: Truth) -> Result<TruthNodes, Refusal> {
     put(lines, ConditionEntry::Fixed)?;
     Ok(TruthNodes::constant(truth))
 }
 
-/// The nodes of two parts that are joined by OR, or else by AND.
+/// Returns the nodes of two parts, combined by OR, or else by AND.
 fn joined(
     facts: &mut Facts<'_>,
     lines: &mut Vec<PlannedLine>,
@@ -181,7 +181,7 @@ fn joined(
     })
 }
 
-/// The nodes of `IS TRUE`, `IS FALSE` or `IS UNKNOWN`.
+/// Returns the nodes of `IS TRUE`, `IS FALSE` or `IS UNKNOWN`.
 fn tested(
     facts: &mut Facts<'_>,
     lines: &mut Vec<PlannedLine>,
@@ -210,7 +210,7 @@ fn tested(
     })
 }
 
-/// The nodes of `IS NULL`.
+/// Returns the nodes of `IS NULL`.
 fn null_tested(
     facts: &mut Facts<'_>,
     lines: &mut Vec<PlannedLine>,
@@ -232,7 +232,7 @@ fn null_tested(
     })
 }
 
-/// The nodes of a comparison.
+/// Returns the nodes of a comparison.
 fn compared(
     facts: &mut Facts<'_>,
     lines: &mut Vec<PlannedLine>,
@@ -247,7 +247,7 @@ fn compared(
     }
 }
 
-/// The row and the node of where a column has a value: none, and 1, where it always has.
+/// Returns the row and the node that is 1 if a column has a value: none, and 1, if it always has.
 fn values(facts: &mut Facts<'_>, column: ColumnIndex) -> Result<(Option<u64>, u32), Refusal> {
     let Some(nulls) = facts.nulls(column)? else {
         return Ok((None, 1));
@@ -256,7 +256,7 @@ fn values(facts: &mut Facts<'_>, column: ColumnIndex) -> Result<(Option<u64>, u3
     Ok((Some(u64::from(values.number)), values.node))
 }
 
-/// The nodes of a comparison of a column with a number.
+/// Returns the nodes of a comparison of a column with a number.
 fn bounded(
     facts: &mut Facts<'_>,
     lines: &mut Vec<PlannedLine>,
@@ -294,7 +294,7 @@ fn bounded(
     })
 }
 
-/// The nodes of a comparison of two columns.
+/// Returns the nodes of a comparison of two columns.
 fn related(
     facts: &mut Facts<'_>,
     lines: &mut Vec<PlannedLine>,

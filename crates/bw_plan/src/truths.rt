@@ -1,4 +1,4 @@
-//! Instructions that work out where a condition is TRUE, and where it is FALSE.
+//! Instructions that compute whether a condition is TRUE, and whether it is FALSE.
 use crate::code::Code;
 use crate::comparison::{ColumnComparison, Comparison, LiteralComparison, compare};
 use crate::growth::Growth;
@@ -18,7 +18,7 @@ pub(crate) struct WantedTruths {
 }
 
 impl WantedTruths {
-    /// What is wanted of the opposite.
+    /// Returns what is wanted of the opposite condition.
     fn exchanged(self) -> Self {
         WantedTruths {
             yes: self.no,
@@ -26,14 +26,13 @@ impl WantedTruths {
         }
     }
 
-    /// What is wanted of a condition that is negated, or isn't.
+    /// Returns what is wanted of a condition that is negated, or isn't.
     fn turned(self, negated: bool) -> Self {
         if negated { self.exchanged() } else { self }
     }
 }
 
-/// The registers that are 1 where a condition is TRUE, and where it is FALSE, of those that are
-/// wanted.
+/// The wanted ones of two registers: one that is 1 if a condition is TRUE, and one if it is FALSE.
 #[derive(Clone, Copy)]
 pub(crate) struct TruthRegisters {
     pub(crate) yes: Option<Register>,
@@ -41,7 +40,7 @@ pub(crate) struct TruthRegisters {
 }
 
 impl TruthRegisters {
-    /// The registers of the opposite.
+    /// Returns the registers of the opposite condition.
     fn exchanged(self) -> Self {
         TruthRegisters {
             yes: self.no,
@@ -49,17 +48,17 @@ impl TruthRegisters {
         }
     }
 
-    /// The registers of a condition that is negated, or isn't.
+    /// Returns the registers of a condition that is negated, or isn't.
     fn turned(self, negated: bool) -> Self {
         if negated { self.exchanged() } else { self }
     }
 }
 
-/// So many parts of a condition are looked at for an early end.
+/// The number of first parts of a condition that may have a skip to its end.
 const SKIPPED_PARTS: usize = 16;
 
 impl Code<'_> {
-    /// The registers of a condition.
+    /// Returns the registers of a condition.
     #[cycle(truths)]
     pub(crate) fn truths(
         &mut self,
@@ -86,8 +85,8 @@ impl Code<'_> {
         }
     }
 
-    /// The registers of parts of which any, or else each, is to hold: first of the part that takes
-    /// many registers, if there is one.
+    /// Returns the registers of the OR of all parts, or else of their AND: first of the part that
+    /// takes many registers, if there is one.
     #[cycle(truths)]
     fn all_joined(
         &mut self,
@@ -122,7 +121,7 @@ impl Code<'_> {
         made.ok_or(Refusal::NoProgram)
     }
 
-    /// Skips to the end of parts where the others can change nothing.
+    /// Skips to the end of the parts if the others can change nothing.
     fn skip_if_settled(&mut self, any: bool, made: TruthRegisters) -> Result<(), Refusal> {
         let made = made.turned(any);
         match (made.yes, made.no) {
@@ -137,7 +136,7 @@ impl Code<'_> {
         }
     }
 
-    /// Joins the registers of one part with those of another, which are let go.
+    /// Combines the registers of one part with those of another, which are released.
     fn join_parts(
         &mut self,
         any: bool,
@@ -154,7 +153,7 @@ impl Code<'_> {
         Ok(())
     }
 
-    /// The registers of one truth on every row.
+    /// Returns the registers of one truth on every row.
     fn constant(&mut self, truth: Truth, wanted: WantedTruths) -> Result<TruthRegisters, Refusal> {
         let mut made = TruthRegisters {
             yes: None,
@@ -169,7 +168,7 @@ impl Code<'_> {
         Ok(made)
     }
 
-    /// The registers of `IS TRUE`, `IS FALSE` or `IS UNKNOWN`.
+    /// Returns the registers of `IS TRUE`, `IS FALSE` or `IS UNKNOWN`.
     fn tested(
         &mut self,
         truth: Truth,
@@ -190,7 +189,7 @@ impl Code<'_> {
         )
     }
 
-    /// The registers of `IS NULL`.
+    /// Returns the registers of `IS NULL`.
     fn null_tested(&mut self, x: Operand, wanted: WantedTruths) -> Result<TruthRegisters, Refusal> {
         let column = match x {
             Operand::Col(column) => self.facts.column(column)?,
@@ -212,7 +211,7 @@ impl Code<'_> {
         }
     }
 
-    /// The registers of a comparison.
+    /// Returns the registers of a comparison.
     fn compared(
         &mut self,
         op: Op,
@@ -227,7 +226,7 @@ impl Code<'_> {
         }
     }
 
-    /// The registers of a comparison of a column with a number.
+    /// Returns the registers of a comparison of a column with a number.
     fn bounded(
         &mut self,
         bound: LiteralComparison,
@@ -237,7 +236,7 @@ impl Code<'_> {
         self.in_set(bound.column, &set, wanted)
     }
 
-    /// The registers of whether a column's code is in a set.
+    /// Returns the registers of whether a column's code is in a set.
     fn in_set(
         &mut self,
         column: ColumnIndex,
@@ -253,7 +252,7 @@ impl Code<'_> {
         Ok(made.turned(set.inverted))
     }
 
-    /// The registers of `BETWEEN`.
+    /// Returns the registers of `BETWEEN`.
     fn between(
         &mut self,
         x: Operand,
@@ -273,7 +272,7 @@ impl Code<'_> {
         Ok(made)
     }
 
-    /// The registers of whether a column is from one number on and up to another.
+    /// Returns the registers of whether a column is from one number on and up to another.
     fn in_range(
         &mut self,
         column: usize,
@@ -288,8 +287,8 @@ impl Code<'_> {
         self.in_set(column, &set, wanted)
     }
 
-    /// The registers of whether a column is one of the literals of a list, if it is a column and
-    /// there are some.
+    /// Returns the registers of whether a column is one of the literals of a list, if it is a
+    /// column and there are some.
     fn in_list(
         &mut self,
         x: Operand,
@@ -305,7 +304,7 @@ impl Code<'_> {
         }
     }
 
-    /// The registers of `IN`: the literals at once, and then what else is in the list.
+    /// Returns the registers of `IN`: of the literals at once, and then of the other items.
     fn among(
         &mut self,
         x: Operand,
@@ -332,7 +331,7 @@ impl Code<'_> {
         made.ok_or(Refusal::NoProgram)
     }
 
-    /// The registers of a comparison of two columns. Its skips meet right after its own
+    /// Returns the registers of a comparison of two columns. Its skips meet right after its own
     /// instructions: after a NOT or a null plane, "less so far" would differ by them.
     fn related(
         &mut self,
@@ -357,9 +356,9 @@ impl Code<'_> {
         Ok(made.turned(relation.negated))
     }
 
-    /// The registers that are 1 where all of some columns have values and a register is 1, and
-    /// where they have values and it is 0. Where there may be an early end, the null planes are
-    /// left out at one.
+    /// Returns the registers that are 1 if all of some columns have values and a register is 1, and
+    /// if they have values and it is 0. With `early`, a skip omits the null planes if no lane is
+    /// left.
     fn sides(
         &mut self,
         held: Register,
@@ -397,7 +396,7 @@ impl Code<'_> {
         Ok(made)
     }
 
-    /// A register with the same lanes as another.
+    /// Returns a register with the same lanes as another.
     pub(crate) fn copied(&mut self, register: Register) -> Result<Register, Refusal> {
         let copy = self.fill(false)?;
         self.join(Connective::Or, copy, copy, register)?;
@@ -405,8 +404,8 @@ impl Code<'_> {
     }
 }
 
-/// Whether a part is the same comparison as the one before it, so that nothing needs to be done for
-/// it.
+/// Returns whether a part is the same comparison as the one before it, so that nothing needs to be
+/// done for it.
 fn repeats(parts: &[Cond], number: usize) -> bool {
     let before = number.checked_sub(1).and_then(|before| parts.get(before));
     match (before, parts.get(number)) {
@@ -417,8 +416,8 @@ fn repeats(parts: &[Cond], number: usize) -> bool {
     }
 }
 
-/// Whether a part takes but two instructions or three, which takes no longer than to ask whether
-/// they may be left out.
+/// Returns whether a part takes only two or three instructions, so that a test whether to skip it
+/// saves nothing.
 fn is_quick(part: &Cond) -> bool {
     match part {
         Cond::Not(part) => matches!(**part, Cond::IsNull(_)),
