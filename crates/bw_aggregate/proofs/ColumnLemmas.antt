@@ -51,7 +51,7 @@ values_of_rows columns col n (row ∷ rows) (true ∷ lanes) all lt within =
 values_of_rows columns col n (row ∷ rows) (false ∷ lanes) all lt within =
     values_of_rows columns col n rows lanes (both (admits_values columns row) (list_all (admits_values columns) rows) all).1 lt (λ at le. within (suc at) (omega arith))
 
--- the values of picked rows are those of the codes where the column isn't null
+-- the values of selected rows are those of the codes, if the column isn't null
 pub values_are_codes : (meaning : Meaning) (col : ℕ) (lanes : List Bool) → IsGroup meaning → col < length meaning.columns → IsWithin (length meaning.rows) lanes
     → present col (picked_rows meaning lanes) ≡ values_in meaning col (present_lanes meaning col lanes)
 unfolding present_lanes null_bits codes_in stored_codes

@@ -8,7 +8,7 @@ use Rattle.bw_model.specs.Total.{total}
 use Rattle.bw_rowwise.specs.Accumulator.{IsTotalOfRows, Tally, tally_joined}
 use Rattle.bw_aggregate.specs.Picked.{with_picked}
 
--- no lane past the first rows is 1 among those of the first rows, and none where others have none
+-- no lane past the first rows is 1 among those of the first rows, and none if others have none
 pub first_within : (rows more row : ℕ) → rows ≤ row → get_or (replicate rows true ++ replicate more false) row false ≡ false
 first_within zero zero row le = refl
 first_within zero (suc more) zero le = refl

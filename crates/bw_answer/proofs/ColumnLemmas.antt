@@ -36,7 +36,7 @@ pub no_column_named : (items : List Item) (i : ℕ) → i < length items → ((c
 no_column_named items i within other =
     sym (columns_more items i within ∙ ap (λ (l : List ℕ). columns_of (take i items) ++ l) (no_column (get_or items i (Plain 0)) other) ∙ append-nil (columns_of (take i items)))
 
--- each is one of the first so many, where the items name none but these
+-- each is one of the first so many, if the items name none but these
 one_more : (width column : ℕ) (columns : List ℕ) → column < width → All (λ column. column < width) columns → All (λ column. column < width) (column ∷ columns)
 one_more width column columns here rest zero d h = here
 one_more width column columns here rest (suc k) d h = rest k d (omega arith)
@@ -72,7 +72,7 @@ fields_listed (Sum column ∷ items) row = fields_listed items row
 fields_listed (Min column ∷ items) row = fields_listed items row
 fields_listed (Max column ∷ items) row = fields_listed items row
 
--- fields of lanes are those of rows, where the values are
+-- fields of lanes are those of rows, if the values are
 map_same : {X : Type 0} (f g : ℕ → X) (xs : List ℕ) → ((i : ℕ) → i < length xs → f (get_or xs i 0) ≡ g (get_or xs i 0)) → map f xs ≡ map g xs
 map_same f g [] e = refl
 map_same f g (x ∷ xs) e = λ i. e 0 (omega arith) i ∷ map_same f g xs (λ k h. e (suc k) (omega arith)) i

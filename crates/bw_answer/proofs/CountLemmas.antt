@@ -14,7 +14,7 @@ use Rattle.bw_answer.specs.Answer.{is_count_all, lists_rows}
 use Rattle.bw_answer.specs.Totals.{is_of}
 use Rattle.bw_answer.proofs.TotalsLemmas.{and_true, both}
 
--- where a condition keeps every row, all are kept
+-- if a condition matches every row, all match
 pub every_kept : (cond : Cond) (rows : List (List Value)) → ((row : List Value) → is_match cond row ≡ true) → matching_rows cond rows ≡ rows
 every_kept cond [] every = refl
 every_kept cond (row ∷ rows) every = rw (every row) (ap (λ (l : List (List Value)). row ∷ l) (every_kept cond rows every))

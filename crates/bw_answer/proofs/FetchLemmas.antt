@@ -33,7 +33,7 @@ column_more P columns lanes i kept lt before here =
     now : P (get_or columns i 0) (values_in (set lanes (get_or columns i 0) kept) (get_or columns i 0))
     now = subst (P (get_or columns i 0)) (sym (values_put lanes (get_or columns i 0) kept lt)) here
 
--- where one lane of a column is put, the others stay
+-- if one lane of a column is put, the others stay
 values_at : (lanes : List ColumnValues) (column : ℕ) (d : ColumnValues) → column < length lanes → (get_or lanes column d).values ≡ values_in lanes column
 values_at [] column d lt = absurd (omega arith)
 values_at (lane ∷ lanes) zero d lt = refl

@@ -33,7 +33,7 @@ pub picked_as_kept : (c : Cond) (rows : List (List Value)) (n : ℕ) → selecte
 picked_as_kept c [] n = zeros_pick_none n []
 picked_as_kept c (row ∷ rows) n = kept_by (is_match c row) row (selection c rows ++ replicate n false) rows (matching_rows c rows) (picked_as_kept c rows n)
 
--- where no lane is 1, no row is picked
+-- if no lane is 1, no row is selected
 pub none_picked : (lanes : List Bool) (rows : List (List Value)) → list_all not lanes ≡ true → selected_items lanes rows ≡ []
 none_picked [] rows e = refl
 none_picked (lane ∷ lanes) [] e = refl

@@ -13,7 +13,7 @@ use Rattle.std.proofs.lemmas.List.{append-nil, drop_all, get_or_default, take_al
 use Rattle.std.proofs.lemmas.List.Elements.{filter-append}
 use Rattle.std.proofs.lemmas.Bool.{leb-true, ltb-true, le-leb, lt-ltb}
 
--- where the total is that of some rows, one more row makes it the total of those and that row
+-- if the total is that of some rows, one more row makes it the total of those and that row
 abbrev pub AddsRow : List Value → Tally → Type 0
 AddsRow row tally = (rows : List (List Value)) → tally ≡ tally_of tally.item rows → tally_with tally row ≡ tally_of tally.item (rows ++ row ∷ [])
 
@@ -97,7 +97,7 @@ kept_one query row e = rw e refl
 pub kept_none : (query : Query) (row : List Value) → is_match query.cond row ≡ false → matching_rows query.cond (row ∷ []) ≡ []
 kept_none query row e = rw e refl
 
--- what is kept of rows and one more, where the condition is the same
+-- what is kept of rows and one more, if the condition is the same
 pub kept_more : (here query : Query) (before : List (List Value)) (row : List Value) → here ≡ query → matching_rows query.cond before ++ matching_rows here.cond (row ∷ []) ≡ matching_rows query.cond (before ++ row ∷ [])
 kept_more here query before row same = rw same (sym (filter-append (is_match query.cond) before (row ∷ [])))
 

@@ -159,14 +159,14 @@ module _ (facts : Facts) (end place : ℕ) (through : Known) where
       ∙ wrong_keep facts through (edge ∷ edges) 0 nothing_known keep.keeps keep.wrong keep.others keep.kept keep.broken
       ∙ ap (λ (fault : Fault). Err fault) (sym keep.stands)
 
-  -- where a join was taken, no further line KEEP follows it
+  -- if a join was taken, no further line KEEP follows it
   pub join_stops : (edges : List Edge) (lines : List BodyLine) (taken : WalkState) → 0 < length edges → apply_join facts end place edges (taken_of lines through) ≡ Ok taken → NoKeep taken.rest
   join_stops [] lines taken some is = absurd (omega (arith, some))
   join_stops (edge ∷ edges) lines taken some is =
       let check_instruction_line = bind_ok (join_taken end place lines) (after_join (edge ∷ edges)) taken is in
       keeps_stop facts through (edge ∷ edges) 0 nothing_known check_instruction_line.0 taken check_instruction_line.2
 
--- where there is a fault, it stands on this line
+-- if there is an error, it is on this line
 record OnLine (A : Type 0) (line : ℕ) (r : Result A Fault) : Type 0 where
   told : (fault : Fault) → r ≡ Err fault → fault ≡ at_line fault.code line
 
@@ -226,7 +226,7 @@ after_stands facts known line (does.ByteEq r column slice k) given = put_stands 
 after_stands facts known line (does.Skip x target) given =
     refused_stands Known (not (is_skip_line given)) 607 line _ (then_stands ℕ Known line (read_on known line x) _ (found_stands ℕ 609 line (node_of known x)) (λ node. ok_stands Known line known))
 
--- a line that is refused where an instruction's is wanted is so on that line
+-- a line that is rejected in place of an instruction's is so on that line
 pub line_stands : (facts : Facts) (known : Known) (instr : Instr) (line : BodyLine) (entry : Entry) (fault : Fault) → instruction_on facts known instr line entry ≡ Err fault → fault ≡ at_line fault.code line.line
 line_stands facts known instr line (line_of.Instruction given) fault is = (after_stands facts known line.line instr given).told fault is
 line_stands facts known instr line (line_of.Condition given) fault is = (err_stands Known 607 line.line).told fault is

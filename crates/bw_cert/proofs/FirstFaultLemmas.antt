@@ -33,7 +33,7 @@ record Come (facts : Facts) (lines : List BodyLine) (first : List Instr) (edges 
 some_same : {A : Type 0} {x y : A} → Some x ≡ Some y → x ≡ y
 some_same is = cc
 
--- a join that obeys stands where skips come
+-- a valid join is at the target of skips
 joins_some : (facts : Facts) (through : Known) (edges : List Edge) (join : Option JoinLines) (lines : JoinLines) → join ≡ Some lines → is_valid_join facts through edges join ≡ true → 0 < length edges
 joins_some facts through [] None lines some obeys = cc
 joins_some facts through [] (Some join) lines some obeys = cc

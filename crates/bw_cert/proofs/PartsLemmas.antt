@@ -74,7 +74,7 @@ module _ (facts : Facts) (first : List Instr) (instr : Instr) (parts : List Part
       ∙ ap (λ (known : Known). known_after_join (known_on_fallthrough facts known instr part) part.join) (known_more (length first) (omega arith))
       ∙ ap (λ (known : Known). known_after_join known part.join) (ap known_or_nothing says)
 
-  -- where it obeys, they all do
+  -- if it is valid, they all are
   pub obeys_more : (through : Known) → Obeys facts first parts → check_instruction_line facts (known_before facts first parts (length first)) part.line instr part.entry ≡ Ok through →
       IsTrue (is_valid_join facts through (edges_into (suc (length first)) (with_edge (edges_before facts first parts (length first)) (edge_of (known_before facts first parts (length first)) instr))) part.join) →
       Obeys facts (with_one first instr) (with_one parts part)

@@ -157,7 +157,7 @@ cut_there file read text number line rest s cut divider =
       number = sym (s.number ∙ ap (number_after number) cut ∙ there);
     }
 
--- at the end, where no line did
+-- at the end, if no line did
 pub cut_nowhere : (file : List ℕ) (read : ℕ) (text : List ℕ) (number : ℕ) → CutSoFar file read text number → cut_lines text ≡ [] → IsCut file file [] number
 unfolding before_divider after_divider number_after
 cut_nowhere file read text number s cut =

@@ -51,7 +51,7 @@ on_line_ok : (line : ℕ) (r : Result Facts Fault) (facts : Facts) → on_line l
 on_line_ok line (Ok x) facts is = is
 on_line_ok line (Err fault) facts is = cc
 
--- the end, where it is right
+-- the end, if it is right
 pub record Ended (facts : Facts) (taken : WalkState) (result first row : ℕ) : Type 0 where
   pub none : taken.rest ≡ []
   pub node : ℕ

@@ -18,7 +18,7 @@ use Rattle.bw_cert_rules.specs.Known.{Known, nothing_known, with_node}
 use Rattle.bw_cert_rules.specs.Walk.{WalkState, keep_in, by_keep, keeps_taken, join_taken, is_join, instruction_on, instruction_taken, apply_join, check_lines_from, check_lines}
 use Rattle.bw_cert_rules.proofs.HoldLemmas.{bind_ok, not_refused}
 
--- what is the same where it was answered, and what can't be
+-- what is the same if it was returned, and what can't be
 ok_is : {A : Type 0} {x y : A} → ◌≡◌ {A = Result A Fault} (Ok x) (Ok y) → x ≡ y
 ok_is is = cc
 

@@ -87,7 +87,7 @@ value_at-lo [] col code lt = absurd (omega arith)
 value_at-lo (c ∷ columns) zero code lt = refl
 value_at-lo (c ∷ columns) (suc col) code lt = value_at-lo columns col code (omega arith)
 
--- a number where a column has a value, and else null
+-- a number if a column has a value, and else null
 abbrev pub value_if : Bool → ℤ → Value
 value_if there n = cond there (Some n) None
 
@@ -159,7 +159,7 @@ compared-null : (op : Op) (v : Value) → compare_values op v None ≡ Unknown
 compared-null op None = refl
 compared-null op (Some m) = refl
 
--- the pair of a comparison that has a truth where m is 1, and is TRUE there where e is 1, or where
+-- the pair of a comparison that has a truth if m is 1, and is TRUE then if e is 1, or if
 -- e is 0
 abbrev split_truth : Bool → Bool → Bool → Truth
 split_truth negated there bit = cond there (truth_from (turned_bit negated bit)) Unknown

@@ -32,7 +32,7 @@ pub map_same : {A B : Type 0} (f g : A → B) (xs : List A) → ((x : A) → f x
 map_same f g [] same = refl
 map_same {B = B} f g (x ∷ xs) same = ap₂ (λ (y : B) (ys : List B). y ∷ ys) (same x) (map_same f g xs same)
 
--- the node of a register, where one has been given a node: its own, or what it was
+-- the node of a register, if one has been given a node: its own, or what it was
 pub looked : (known : Known) (r register node n : ℕ) → node_of (with_node known r node) register ≡ Some n → ((register ≡ r) × (node ≡ n)) ⊎ ((register ≢ r) × (node_of known register ≡ Some n))
 looked [] r register node n is = cc
 looked (k ∷ known) zero zero node n is = inl (refl, cc)

@@ -48,7 +48,7 @@ module _ (facts : Facts) (are_worth : AreWorth facts) where
         worth = λ assignment. row.1 assignment ∙ ap (λ v. apply_connective op v (node_value facts.nodes assignment b)) (x_worth.worth assignment) ∙ ap (apply_connective op (x assignment)) (y_worth.worth assignment);
       }
 
-  -- a null test's nodes are 1 where the column is null, and where it isn't
+  -- a null test's nodes are 1 if the column is null, and 1 if it isn't
   pub null_cited-worth : (variable number : ℕ) (pair : TruthPair) → null_pair facts variable number ≡ Some pair →
       Worth facts.nodes (λ assignment. assignment variable) pair.yes × Worth facts.nodes (λ assignment. not (assignment variable)) pair.no
   null_cited-worth variable number pair is =

@@ -54,8 +54,8 @@ kept_through facts lanes through registers keep worth holds is =
     let node = chained (node_of through keep.register) (λ f. product_node facts connective.Xor f keep.node keep.through) 0 (zero_is _ is) in
     holds keep.register node.0 node.1 ∙ map_same _ _ lanes (same_worth facts node.0 keep.node keep.through worth node.2)
 
--- where a node is 0 in all lanes, and another is 1 only where it is 1, two nodes that differ only
--- where the other is 1 have the same values
+-- if a node is 0 in all lanes, and another is 1 only if it is 1, two nodes that differ only
+-- if the other is 1 have the same values
 same_where_zero : (facts : Facts) (lanes : List Assignment) (g h z q differs within : ℕ) → AreWorth facts → product_node facts connective.Xor g h differs ≡ Some z → product_node facts connective.Diff z q within ≡ Some 0 →
     is_zero_in_all (values facts lanes q) ≡ true → values facts lanes g ≡ values facts lanes h
 same_where_zero facts [] g h z q differs within worth xor diff zeros = refl
@@ -100,7 +100,7 @@ kept_parts facts through edges least keep is =
     let falls = both _ _ skips.0 in
     (falls.1, skips.1)
 
--- what a join keeps holds, where each register that it keeps does
+-- what a join keeps holds, if each register that it keeps does
 all_kept : (facts : Facts) (lanes : List Assignment) (through : Known) (registers : ℕ → List Bool) (edges : List Edge) (least : ℕ) (known : Known) (keeps : List KeepLine) →
     ((keep : Keep) → keeps_through facts through keep ≡ true → keeps_by_skips facts keep edges keep.edges ≡ true → registers keep.register ≡ values facts lanes keep.node) →
     Hold facts lanes known registers → are_kept facts through edges least keeps ≡ true → Hold facts lanes (kept_by known keeps) registers

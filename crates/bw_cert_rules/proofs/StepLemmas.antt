@@ -122,7 +122,7 @@ differ_joins true false = refl
 differ_joins false true = refl
 differ_joins false false = refl
 
--- What is known after an instruction by its line holds after its step, where what was known held
+-- What is known after an instruction by its line holds after its step, if what was known held
 -- before it.
 pub holds_after_instr : (facts : Facts) (lanes : List Assignment) (known past : Known) (state : State) (line : ℕ) (instr : Instr) (given : InstructionEntry) → AreWorth facts → Hold facts lanes known state.registers →
     check_instruction_line facts known line instr given ≡ Ok past → Hold facts lanes past (step facts.columns lanes instr state).registers

@@ -1,4 +1,4 @@
--- The pairs of a condition's steps tell its truth, where those of its parts do.
+-- The pairs of a condition's steps tell its truth, if those of its parts do.
 use Rattle.std.proofs.Common.{◌≡◌, ◌∙◌, refl, sym, ap, subst, ℕ, ℤ, ◌<◌, cond, Bool, true, false, not, ◌&&◌, ◌||◌, List, [], ◌∷◌, map, length, Option, Some, None, Result, Ok, Err}
 use Rattle.std.specs.List.{list_all}
 use Rattle.std.specs.Option.{option_and_then}
@@ -86,7 +86,7 @@ joined-more : (junction : Junction) (t : Truth) (ts : List Truth) → joined_tru
 joined-more All t ts = refl
 joined-more Any t ts = refl
 
--- AND is TRUE where both are, and FALSE where one is; OR the other way round
+-- AND is TRUE if both are, and FALSE if one is; OR the other way round
 all-yes : (a b : Truth) → (is_truth a Yes && is_truth b Yes) ≡ is_truth (least a b) Yes
 all-yes No b = refl
 all-yes Unknown No = refl

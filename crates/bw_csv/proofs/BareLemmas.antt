@@ -1,4 +1,4 @@
--- The rows of a text where there is no schema yet, one more at a time.
+-- The rows of a text without a schema, one more at a time.
 use Rattle.std.proofs.Common.{◌≡◌, ◌∙◌, ℕ, ℤ, zero, suc, ◌+◌, ◌<◌, ◌^◌, ltb, eqb, List, [], ◌∷◌, ◌++◌, length, get_or, arith, Option, Some, None, Result, Ok, Err, Bool, true, false, refl, sym, ap, subst, All}
 use Rattle.std.specs.Prelude.{◌&&◌, not, int_le, if◌then◌else◌}
 use Rattle.std.specs.List.{list_all}

@@ -1,4 +1,4 @@
--- A text's first record, field by field, and what it is where the text is cut after a comma.
+-- A text's first record, field by field, and what it is if the text is cut after a comma.
 use Rattle.std.proofs.Common.{◌≡◌, ◌∙◌, ℕ, zero, suc, ◌+◌, ◌-◌, ◌<◌, ◌≤◌, List, [], ◌∷◌, ◌++◌, length, take, drop, get_or, Option, Some, None, Bool, true, false, refl, sym, ap, eqb, arith, inr, append_assoc, length-append}
 use Rattle.std.specs.Prelude.{◌||◌, IfSome, if◌then◌else◌, is_some}
 use Rattle.std.proofs.lemmas.List.{append-nil, take-append-drop, take_more}

@@ -85,7 +85,7 @@ by_sign : (number : ℕ) (column : Column) (c : ℕ) (cs : List ℕ) (minus : Bo
 by_sign number column c cs true s e = rw (eqb-true c 45 s) (digits_after_minus number column cs e)
 by_sign number column c cs false s e = digits_alone number column (c ∷ cs) e
 
--- digits, after a minus sign where there is one
+-- digits, after a minus sign if there is one
 pub signed_digits : (number : ℕ) (column : Column) (field : List ℕ) → are_digits (after_minus field) ≡ true
     → value_of_field number column field ≡ within_bounds number column (number_of (is_minus field) (after_minus field))
 signed_digits number column [] e = absurd (cc e)

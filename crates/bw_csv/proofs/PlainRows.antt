@@ -37,7 +37,7 @@ values_more number columns i values done field column value spelled here v more 
     ∙ spelled (field ∷ more)
     ∙ values-next number (drop i columns) (drop (i + 1) columns) (field ∷ more) more column field value values here refl v
 
--- what is left after a field begins with a comma, where the field is not the last
+-- what is left after a field begins with a comma, unless the field is the last
 comma_is : (after_field : List ℕ) → is_field_end after_field ≡ true → is_line_end after_field ≡ false → after_field ≡ 44 ∷ drop 1 after_field
 comma_is [] e f = absurd (cc f)
 comma_is (c ∷ cs) e f = by (eqb c 44) refl e f

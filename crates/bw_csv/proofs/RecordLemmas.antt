@@ -45,7 +45,7 @@ unfolding records_from next_record
 records_from-end cfg zero = refl
 records_from-end cfg (suc n) = refl
 
--- the records of a text don't depend on how many turns are left, where there are enough
+-- the records of a text don't depend on how many turns are left, if there are enough
 abbrev SameTurns : Config → ℕ → Type 0
 SameTurns cfg n = (m : ℕ) (s : State) (xs : List ℕ) → length xs < n → length xs < m → records_from cfg n s xs ≡ records_from cfg m s xs
 

@@ -123,7 +123,7 @@ pub led-all : {K : Type 0} (led : K → List (List Value) → K → Type 0) (sta
 unfolding LedSoFar
 led-all led start now columns first number records h e = rw (passed-on (rows_from columns) first h.0 number records h.2 ∙ ap (after h.0) e ∙ ap Ok (append-nil h.0)) h.1
 
--- where the reader has an error of its own, it's after those
+-- if the reader has an error of its own, it's after those
 pub led-stops : {K : Type 0} (led : K → List (List Value) → K → Type 0) (start now : K) (columns : List Column) (first : List (List (List ℕ))) (number : ℕ) (records : List (List (List ℕ))) (fault : Fault)
     → LedSoFar led start now columns first number records → located_at number fault ≡ true → is_reader_fault fault ≡ true → StopsAfter (rows_from columns) first fault
 unfolding LedSoFar

@@ -1,4 +1,4 @@
--- Where an answer straight from a CSV text ends.
+-- Where a query straight from a CSV text ends.
 use Rattle.std.proofs.Common.{◌≡◌, ℕ, List, Bool, true, false, Result, Ok, Err, refl, ap}
 use Rattle.bw_model.specs.declared.fault.Fault.{Fault}
 use Rattle.bw_model.specs.declared.query.Query.{Query}

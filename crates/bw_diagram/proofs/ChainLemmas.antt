@@ -248,7 +248,7 @@ implied true true c is a_is b_is = is
 implied true false c is a_is b_is = cc
 implied false b c is a_is b_is = cc
 
--- where both bits can occur, the node leads by them to the outcome
+-- if both bits can occur, the node leads by them to the outcome
 leads-is : (nodes : List Node) (kind : ChainKind) (left right : Option ℕ) (e node : ℕ) (x y : Bool) → leads nodes kind left right e node x y ≡ true → occurs left x ≡ true → occurs right y ≡ true →
     step nodes right y (step nodes left x node) ≡ outcome kind x y e
 leads-is nodes kind left right e node x y is left_occurs right_occurs =
@@ -348,7 +348,7 @@ some-claim columns nodes chains (Two kind left right len node prev) lower (Some 
     let there = both _ _ apart.0 in
     two-claim columns nodes chains kind left right len node prev lower e ordered before (ltb-true left (length columns) there.0) (ltb-true right (length columns) there.1) longer found chosen assignment
 
--- a chain that obeys its rule is true, where the chains before it are
+-- a chain that obeys its rule is true, if the chains before it are
 pub obeys_chain-chain : (columns : List Column) (nodes : List Node) (chains : List Chain) (number : ℕ) (chain : Chain) → AreOrdered nodes → AllChains columns nodes chains → is_valid_chain columns nodes chains number chain ≡ true → IsChain columns nodes chain
 unfolding is_valid_chain is_step
 obeys_chain-chain columns nodes chains number chain ordered before is =

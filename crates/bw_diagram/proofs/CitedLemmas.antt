@@ -111,7 +111,7 @@ terminal_node : (facts : Facts) (n : ℕ) → (n ≡ 0) ⊎ (n ≡ 1) → IsNode
 terminal_node facts n (inl is) = omega (arith, is)
 terminal_node facts n (inr is) = omega (arith, is)
 
--- where all that is held is true, so is all that can be cited
+-- if all that is held is true, so is all that can be cited
 pub are_worth : (facts : Facts) → AreTrue facts → AreWorth facts
 are_worth facts true_facts = record {
   zero = node_value-zero facts.nodes;

@@ -25,7 +25,7 @@ pub values_from-append : (assignment : Assignment) (before : List Bool) (xs ys :
 values_from-append assignment before [] ys = refl
 values_from-append assignment before (x ∷ xs) ys = values_from-append assignment (before ++ child_value assignment before x ∷ []) xs ys
 
--- a node has its child's value, where the child comes before it
+-- a node has its child's value, if the child comes before it
 values_from-at : (assignment : Assignment) (before : List Bool) (nodes : List Node) (k : ℕ) (node : Node) → slice_get nodes k ≡ Some node → child (assignment node.v) node < length before + k →
     get_or (values_from assignment before nodes) (length before + k) false ≡ get_or (values_from assignment before nodes) (child (assignment node.v) node) false
 values_from-at assignment before [] k node is lt = cc

@@ -23,7 +23,7 @@ either false b left right is = right is
 meets : {G : Type 0} (a x c y : ℕ) → (a ≡ x → c ≡ y → G) → (eqb a x && eqb c y) ≡ true → G
 meets a x c y then is = let each = both (eqb a x) (eqb c y) is in then (eqb-true a x each.0) (eqb-true c y each.1)
 
--- what a connective gives where a bit is known, or both are the same
+-- what a connective gives if a bit is known, or both are the same
 and_false : (p : Bool) → false ≡ (p && false)
 and_false true = refl
 and_false false = refl
@@ -142,7 +142,7 @@ cofactors_join nodes v row ordered low high assignment = by_side (assignment v) 
     by_side true side = from true side high
     by_side false side = from false side low
 
--- a row that obeys its rule is true, where the rows before it are
+-- a row that obeys its rule is true, if the rows before it are
 pub obeys_product-product : (variables : ℕ) (nodes : List Node) (rows : List Product) (number : ℕ) (row : Product) (reason : Reason) → AreOrdered nodes →
     ((k : ℕ) (row : Product) → slice_get rows k ≡ Some row → IsProduct nodes row) → is_valid_product variables nodes rows number row reason ≡ true → IsProduct nodes row
 unfolding is_valid_product

@@ -134,7 +134,7 @@ segment_stops layout schema rows old new fault p =
     stops (segment layout schema rows) (blocks layout schema rows 0 (length schema) []) (λ bytes. give (rows_spelled layout schema rows bytes)) old old new fault
     (begins (segment layout schema rows) old) p
 
--- a byte where the end is wanted
+-- a byte in place of the end
 pub end_refused : (old new : State) (bytes : List ℕ) → Took old new bytes → new.failures ≡ old.failures → length bytes ≡ 1 → HasByteMore old new (at_byte 309 old.offset)
 end_refused old new bytes took same one =
     record { bytes = bytes; took = took; unfinished = λ failed. absurd (cc failed); failures = omega (arith, same); refused = λ _. (one, refl) }

@@ -123,7 +123,7 @@ segment_count layout schema size t x e =
     let made : List (List Value) × Tail = (rows_spelled layout schema size a.0.0, a.0.1) in
     subst (λ (y : List (List Value) × Tail). length y.0 ≡ size) (ok_is made x a.2) (length-rows_spelled (form_of layout) schema size a.0.0)
 
--- the end is where nothing stands
+-- the end is at no byte
 no_bytes : (bytes : List ℕ) → has_bytes bytes ≡ false → bytes ≡ []
 no_bytes [] e = refl
 no_bytes (byte ∷ bytes) e = absurd cc
@@ -174,7 +174,7 @@ cut_group group rest rows here there =
           rw (take_at group rest group_size whole, drop_at group rest group_size whole) refl
     ]
 
--- the first group of some rows, where those after it are as many as are left
+-- the first group of some rows, if those after it are as many as are left
 first_group : (group rest : List (List Value)) (rows : ℕ) → 0 < rows → length group ≡ min group_size rows → length rest ≡ rows - group_size
     → groups_of (group ++ rest) ≡ group ∷ groups_of rest
 first_group group rest rows some here there =

@@ -93,7 +93,7 @@ bytes_flushed encoder rows bytes some holds added =
     ∙ segments_more encoder.layout columns holds.groups head holds.before holds.group holds.whole (omega (arith, size)) (omega (arith, size, encoder.within_limit))
     ∙ ap (λ (all : List (List Value)). head ++ segments_bytes encoder.layout columns all) (sym holds.parts)
 
--- how many rows an encoder was given, where its group is whole
+-- how many rows an encoder was given, if its group is whole
 pub whole_flushed : (encoder : Encoder) (rows : List (List Value)) → encoder.filled ≡ 512 → (holds : Holds encoder rows) → length rows ≡ group_size * suc holds.groups
 unfolding group_size
 whole_flushed encoder rows full holds =

@@ -110,7 +110,7 @@ pub header_own : RefusesOwn header
 unfolding header
 header_own = then_own _ _ front_own (λ first. then_own _ _ (name_own []) (λ text. then_own _ _ (columns_own first.version [] first.columns) (λ found t. tt)))
 
--- the fault of a block, where it has one
+-- the fault of a block, if it has one
 some_own : (b : Bool) (code : ℕ) (other : Option ℕ) → IsOwn code → IfSome other IsOwn → IfSome (if b then Some code else other) IsOwn
 some_own true code other here there = here
 some_own false code other here there = there

@@ -14,7 +14,7 @@ use Rattle.bw_file.proofs.BodySpelling.{groups_found}
 use Rattle.bw_file.proofs.FaultLemmas.{refused_by, segment_own, byte_own}
 use Rattle.bw_file.proofs.ReaderLemmas.{so_far_more, segment_refused, at_end, end_seen, end_missed}
 
--- where all rows were given, the groups so far are the groups of all rows
+-- if all rows were given, the groups so far are the groups of all rows
 pub all_groups : (start now : State) (reader : TableReader) (groups : List (List (List Value))) → reader.given ≡ reader.rows → ReadProgress start now reader groups
     → groups ≡ groups_of (together groups)
 unfolding end
@@ -89,7 +89,7 @@ module _ {S : Type 0} {source next_source : S} {old now : State} {reader next : 
   segment_of (gives unsettled gave) = gave
   segment_of {segment} (repeats again) = absurd (no_segment_again segment again.answer again.again)
 
-  -- where nothing was settled, None tells of a file that was read whole, and a fault is the first
+  -- if nothing was settled, None is of a file that was read completely, and an error is the first
   -- one
   pub end_of : GivesNext source next_source old now reader next (Ok None) → final_result reader ≡ None → EndedWhole old now reader next
   end_of (ends _ ended) unsettled = ended

@@ -113,7 +113,7 @@ module _ (start old : State) (reader : TableReader) (groups : List (List (List V
   header_on : (rest : List ℕ) → header (tail 0 (so_far.head.bytes ++ rest)) ≡ Ok (header_stated reader.version reader, tail so_far.after.offset rest)
   header_on rest = head_at start so_far.after (header_stated reader.version reader) rest so_far.first so_far.head
 
-  -- a file that ends within its header, or where what stands after it needs more, ends too early
+  -- a file that ends within its header, or if what stands after it needs more, ends too early
   pub ends_early : (more : List ℕ) → NeedsEach whole_body so_far.after.offset more → FrontsEndEarly (so_far.head.bytes ++ more)
   ends_early more needed n lt =
       elim (cases_lt n (length so_far.head.bytes)) [
@@ -170,7 +170,7 @@ segment_refused start old new reader groups size fault left sized so_far p =
     after_refused start old reader groups so_far new fault
     (stops (body layout columns (group_sizes reader.rows) []) (segment layout columns size) (λ group. body layout columns (group_sizes (rest - group_size)) (groups ++ group ∷ [])) so_far.after old new fault on p)
 
--- where all groups were read, the end is wanted
+-- if all groups were read, the end is next
 pub at_end : (start old : State) (reader : TableReader) (groups : List (List (List Value))) → reader.given ≡ reader.rows → (so_far : ReadProgress start old reader groups) → (rest : List ℕ)
     → body reader.layout reader.placement.value.schema.columns.items (group_sizes reader.rows) [] (tail so_far.after.offset (so_far.on.bytes ++ rest))
     ≡ (end >>= λ _. give groups) (tail old.offset rest)

@@ -95,7 +95,7 @@ passes {A = A} reading first next x old mid new p q = record {
       ∙ ap (λ (r : Result (A × Tail) Fault). passed r next) (q.on rest);
 }
 
--- bytes to come, where they are known
+-- bytes to come, if they are known
 abbrev pub coming_of : Option (List ℕ) → List ℕ
 coming_of None = []
 coming_of (Some bytes) = bytes
@@ -162,7 +162,7 @@ refuses_after reading old new bytes code place took needed same e =
           found;
     }
 
--- a fault where reading stands
+-- an error at the place of reading
 pub refuses : {A : Type 0} (reading next : Reading A) (old new : State) (code place : ℕ) → GoesOn reading old next new
     → ((rest : List ℕ) → next (tail new.offset rest) ≡ Err (at_byte code place))
     → Fails reading old new (at_byte code place)

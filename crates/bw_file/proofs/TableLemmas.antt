@@ -55,7 +55,7 @@ row_admitted columns (r ∷ rows) (suc i) row all lt is =
 bytes_alike : (a b : Layout) (x y : Schema) (rows : List (List Value)) → a ≡ b → x.name ≡ y.name → x.columns.items ≡ y.columns.items → file_bytes a x rows ≡ file_bytes b y rows
 bytes_alike a b x y rows layout name columns = rw (layout, name, columns) refl
 
--- the text of what an encoder was given, where it was given all rows
+-- the text of what an encoder was given, if it was given all rows
 pub bytes_of_all : (encoder : Encoder) (layout : Layout) (schema : Schema) (rows : List Row) (count : ℕ) (bytes : List ℕ) → length rows ≤ count
     → encoder_layout encoder ≡ layout → (encoder_schema encoder).name ≡ schema.name → (encoder_schema encoder).columns.items ≡ schema.columns.items
     → ((given : List (List Value)) → Holds encoder given → bytes ≡ file_bytes (encoder_layout encoder) (encoder_schema encoder) given)

@@ -1,4 +1,4 @@
--- What a call wrote, where it wrote nothing, or a text.
+-- What a call wrote, if it wrote nothing, or a text.
 use Rattle.std.proofs.Common.{◌≡◌, ◌∙◌, ℕ, List, Bool, true, false, Option, Result, Ok, Err, refl, sym, ap, subst}
 use Rattle.std.proofs.lemmas.Bool.{eqb-true}
 use Rattle.bw_model.specs.declared.fault.Fault.{Fault}

@@ -154,7 +154,7 @@ kept_lanes c [] bytes = refl
 kept_lanes c (lane ∷ lanes) [] = refl
 kept_lanes c (lane ∷ lanes) (byte ∷ bytes) = ap₂ ◌∷◌ (grind (arith, nat_tests)) (kept_lanes c lanes bytes)
 
--- a byte that is added to itself, with 255 taken from that where the bit is 1
+-- a byte that is added to itself, with 255 taken from that if the bit is 1
 pub shifted_computed : (bytes : List ℕ) (lanes : List Bool) → zip2 with_bit bytes lanes ≡ zip2 (λ a b. (a + (256 - b)) % 256) (zip2 (λ a b. (a + b) % 256) bytes bytes) (map as_byte lanes)
 shifted_computed [] lanes = refl
 shifted_computed (byte ∷ bytes) [] = refl

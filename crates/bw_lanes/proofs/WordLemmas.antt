@@ -61,7 +61,7 @@ pub lanes_more : (word : ℕ) (words : List ℕ) → length words ≡ 8 → word
 lanes_more word words eight lt =
     ap lanes_of_words (take_more words word 0 (omega (arith, eight))) ∙ lanes_of_words-append (take word words) (get_or words word 0 ∷ []) ∙ ap (λ l. lanes_of_words (take word words) ++ l) (lanes_of_word (get_or words word 0))
 
--- a number of so many bits is 0 exactly where none of them is 1
+-- a number of this many bits is 0 if and only if none of them is 1
 pub zero_bits : (count n : ℕ) → n < 2 ^ count → (n == 0) ≡ list_all not (bits_from_least count n)
 unfolding bits_from_least
 zero_bits zero n small = eq-eqb n 0 (omega arith)
@@ -71,7 +71,7 @@ zero_bits (suc count) n small =
 pub either_is_zero : (a b : ℕ) → (bit_or a b == 0) ≡ ((a == 0) && (b == 0))
 either_is_zero a b = grind (arith, nat_tests, le_or_l a b, or_zero_l b)
 
--- words joined by or are 0 exactly where no lane is 1
+-- the OR of words is 0 if and only if no lane is 1
 zero_words : (a : ℕ) (words : List ℕ) → Each1 (Fits w64) words → (fold_l bit_or a words == 0) ≡ ((a == 0) && list_all not (lanes_of_words words))
 unfolding lanes_of_words
 zero_words a [] small = sym (and-true (a == 0))

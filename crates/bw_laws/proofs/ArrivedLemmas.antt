@@ -1,4 +1,4 @@
--- Where a call wrote something, the texts of its sources came whole.
+-- If a call wrote something, the texts of its sources were read completely.
 use Rattle.std.proofs.Common.{◌≡◌, ℕ, List, Result, Ok, Err, refl, sym, ap, subst}
 use Rattle.bw_model.specs.declared.fault.Fault.{Fault}
 use Rattle.bw_model.specs.declared.schema.Schema.{Schema}
@@ -21,7 +21,7 @@ csv_text_of (Whole text) make x made = record { text = text; came = refl; given 
 csv_text_of TooLong make x made = absurd (cc made)
 csv_text_of (Failed fault) make x made = absurd (cc made)
 
--- what came of a source of a text, where a schema or bytes came, is that text
+-- if a schema or bytes were read from a source of a text, they are those of that text
 pub schema_came_whole : (limit : ℕ) (text : List ℕ) (came : Arrival) (schema : Schema) → CameOf limit text came → IsSchemaFrom came (Ok schema) → came ≡ Whole text
 schema_came_whole limit text NotReached schema source from = absurd from
 schema_came_whole limit text (Whole bytes) schema source from = ap Whole source.is.0.1

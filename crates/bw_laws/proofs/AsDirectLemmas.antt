@@ -125,7 +125,7 @@ rows_spelled : (columns : List Column) (query : Query) (text answer : List ℕ) 
 rows_spelled columns query text answer (Ok rows) spelled given = (rows, spelled)
 rows_spelled columns query text answer (Err fault) spelled given = absurd (cc given)
 
--- where a query has an answer over a CSV that came, a load has a file for it
+-- if a query has an answer over a CSV that came, a load has a file for it
 answerable_under : AdmitsRows → LimitsRows → (layout : Layout) (came csv : Arrival) (sql answer : List ℕ) (given : Result (List ℕ) Fault)
     (schema other : Schema) (query : Query) → IsSchemaFrom came (Ok schema) → schema_shape other ≡ schema_shape schema → IsReadAs other sql (Ok query)
     → IsMadeOf (answer_of other.columns.items query) csv (Ok answer) → IsMadeOf (file_of layout schema) csv given → IsAnswerable layout sql given

@@ -1,4 +1,5 @@
--- The schema that is inferred from a CSV text has names that are names, and bounds that 64 bits hold, as its rows do.
+-- The schema that is inferred from a CSV text has names that are names, and bounds that 64 bits
+-- hold, as its rows do.
 use Rattle.std.proofs.Common.{◌≡◌, ◌∙◌, sym, ap, subst, ℕ, ℤ, zero, suc, ◌+◌, ◌^◌, ◌<◌, ◌≤◌, ◌==◌, Bool, true, false, not, if◌then◌else◌, nat_le, nat_lt, List, [], ◌∷◌, ◌++◌, length, map, get_or, All, Option, Some, None, Ok, FitsSigned, w64, length-append, arith, refl}
 use Rattle.std.specs.List.{list_any}
 use Rattle.std.proofs.lemmas.Bool.{leb-false}

@@ -1,5 +1,5 @@
--- What a sink holds after a plan was written, and that a file which is certified for a condition is so for another one
--- for which its certificate is valid.
+-- What a sink holds after a plan was written, and that a file which is certified for a condition is
+-- so for another one for which its certificate is valid.
 use Rattle.std.proofs.Common.{ℕ, List, [], Some, Result, Ok, Err, sym, subst}
 use Rattle.bw_model.specs.declared.column.Column.{Column}
 use Rattle.bw_model.specs.declared.cond.Cond.{Cond}

@@ -28,7 +28,8 @@ use Rattle.bw_laws.specs.OneAnswer.{asked_in, shape_in}
 use Rattle.bw_laws.proofs.OneMeaningLemmas.{one_meaning}
 use Rattle.bw_laws.proofs.SchemaTextLemmas as texts
 
--- what is spelled under a schema, as far as the demands of one number go, is spelled under one of its shape
+-- what is spelled under a schema, as far as the demands of one number go, is spelled under one of
+-- its shape
 spelled_too : (s t : Schema) (why : Refusal) (tokens : List Lexeme) (query : QueryShape) → schema_shape s ≡ schema_shape t
     → StatementIs s.columns.items (asked_for s why) tokens query → StatementIs t.columns.items (asked_for t why) tokens query
 spelled_too s t why tokens query same spelled =
@@ -40,7 +41,7 @@ begins_too : (s t : Schema) (why : Refusal) (tokens : List Lexeme) → schema_sh
 begins_too s t why tokens same begins =
     record { more = begins.more; query = begins.query; spelled = spelled_too s t why _ begins.query same begins.spelled }
 
--- so each fault stands where it does under a schema of its shape
+-- so each error is at the same place under a schema of its shape
 stands_too : (s t : Schema) (tokens : List Lexeme) (why : Refusal) (place : ℕ) → schema_shape s ≡ schema_shape t → Stands s tokens why place → Stands t tokens why place
 stands_too s t tokens why place same (at_token before after token is begins stops) =
     at_token before after token is (begins_too s t why before same begins) (λ goes_on. stops (begins_too t s why _ (sym same) goes_on))
@@ -84,7 +85,7 @@ one_schema (Whole text) (Err fault) (Err other) a b =
 one_schema TooLong reading second a b = ap shape_in (a ∙ sym b)
 one_schema (Failed fault) reading second a b = ap shape_in (a ∙ sym b)
 
--- what follows from an answer, where it is the same of each
+-- what follows from an answer, if it is the same of each
 then_alike : {A B : Type 0} (first : Result A Fault) (f g : A → Result B Fault) → ((x : A) → f x ≡ g x) → (first >>= f) ≡ (first >>= g)
 then_alike (Ok x) f g alike = alike x
 then_alike (Err fault) f g alike = refl

@@ -28,7 +28,7 @@ pub one_file : (layout : Layout) (schema csv : Arrival) (given other : Result (L
 one_file layout schema csv given other a b =
     after_alike schema_shape (file_of layout) (file_of layout) a.0 b.0 csv given other (file_alike layout) (one_schema schema a.0 b.0 a.1 b.1) a.2 b.2
 
--- where a load wrote bytes, both texts came whole
+-- if a load wrote bytes, both texts were read completely
 arrived_under : (schema csv bytes : List ℕ) (limit most : ℕ) (came csv_came : Arrival) → CameOf limit schema came → CameOf most csv csv_came
     → (layout : Layout) (reading : Result Schema Fault) → IsSchemaFrom came reading → IsMadeAfter reading (file_of layout) csv_came (Ok bytes) → Arrived schema csv came csv_came
 arrived_under schema csv bytes limit most came csv_came source csv_source layout (Ok under) from is = record {

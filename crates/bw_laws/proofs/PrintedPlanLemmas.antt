@@ -1,4 +1,5 @@
--- A plan's file is cut at the line CERTIFICATE that was printed: no line of a printed program has that word alone.
+-- A plan's file is cut at the line CERTIFICATE that was printed: no line of a printed program has
+-- that word alone.
 use Rattle.std.proofs.Common.{◌≡◌, ◌∙◌, refl, sym, ap, subst, ℕ, suc, ◌+◌, Bool, true, false, not, cond, List, [], ◌∷◌, ◌++◌, codes, length, Result, Ok, append_assoc}
 use Rattle.std.specs.Fmt.{decimal}
 use Rattle.std.specs.List.{list_all}

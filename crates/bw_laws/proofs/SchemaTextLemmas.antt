@@ -1,5 +1,5 @@
--- A schema text spells one schema or has one fault: what is read is spelled, what is spelled is read, and what is
--- refused is refused by a fault of schema texts.
+-- A schema text spells one schema or has one fault: what is read is spelled, what is spelled is
+-- read, and what is refused is refused by a fault of schema texts.
 use Rattle.std.proofs.Common.{◌≡◌, ◌∙◌, sym, ◌≤◌, ◌⊎◌, inl, inr, ℕ, List, [], ◌∷◌, ◌++◌, length, Bool, true, false, not, Option, Some, None, Result, Ok, Err, refl, subst, IfErr, nat_le, nat_lt, arith}
 use Rattle.std.specs.List.{list_any}
 use Rattle.bw_model.specs.declared.fault.Fault.{Fault}

@@ -1,4 +1,5 @@
--- The text of a shape whose names are names, and whose bounds are in order and 64 bits hold, spells that shape.
+-- The text of a shape whose names are names, and whose bounds are in order and 64 bits hold, spells
+-- that shape.
 use Rattle.std.proofs.Common.{◌≡◌, sym, subst, ℕ, ℤ, ◌+◌, ◌*◌, ◌≤◌, Bool, true, false, not, ◌&&◌, All, List, [], ◌∷◌, ◌++◌, length, Some, nat_le, length-append, arith, refl}
 use Rattle.std.specs.Fmt.{signed_decimal}
 use Rattle.std.specs.List.{list_all, AllZip}

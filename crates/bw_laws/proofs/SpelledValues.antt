@@ -1,4 +1,5 @@
--- A number in decimal, NULL and a name, each as a field of a CSV text: it needs no quotes, and it spells itself.
+-- A number in decimal, NULL and a name, each as a field of a CSV text: it needs no quotes, and it
+-- spells itself.
 use Rattle.std.proofs.Common.{◌≡◌, ◌∙◌, ℕ, ℤ, pos, negsuc, suc, ◌-ℤ◌, ◌-◌, ◌^◌, ◌<◌, ◌≤◌, List, [], ◌∷◌, Some, None, Ok, Bool, true, false, not, length, take, get_or, map, refl, sym, ap, arith, eqb, lt-ltb, FitsSigned, w64, All}
 use Rattle.std.specs.Prelude.{◌&&◌, ◌||◌, int_le, nat_le}
 use Rattle.std.specs.Char.{is_ascii_digit, to_ascii_lowercase}
@@ -31,7 +32,7 @@ abbrev pub shows : List ℕ → Bool
 shows [] = false
 shows (c ∷ cs) = list_all is_plain (c ∷ cs)
 
--- digits, after a minus sign where there is one, which spell a number of 64 bits
+-- digits, after a minus sign if there is one, which spell a number of 64 bits
 record Signed (n : ℤ) (field : List ℕ) : Type 0 where
   digits : are_digits (after_minus field) ≡ true
   number : number_of (is_minus field) (after_minus field) ≡ Some n

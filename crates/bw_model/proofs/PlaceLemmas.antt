@@ -1,4 +1,4 @@
--- Where the bits of a row stand, and what a row of an assignment has in each column.
+-- Where the bits of a row are, and what a row of an assignment has in each column.
 use Rattle.std.proofs.Common.{◌≡◌, ◌∙◌, refl, sym, ap, ap₂, ℕ, zero, suc, ◌+◌, ◌-◌, ◌<◌, ⊎_elim, Bool, true, false, cond, ◌==◌, ◌&&◌, List, [], ◌∷◌, ◌++◌, length, take, length-append, get_or, add-zero, zero-add, Some, None, unwrap_or, arith}
 use Rattle.std.specs.Int.{bit_at}
 use Rattle.std.proofs.Math.ListN.{get_or-append}

@@ -1,4 +1,4 @@
--- Where the variables of a column stand.
+-- Where the variables of a column are.
 use Rattle.std.proofs.Common.{◌≡◌, ℕ, zero, suc, ◌+◌, ◌<◌, ◌≤◌, List, [], ◌∷◌, length, take, arith, add-one}
 use Rattle.std.proofs.lemmas.List.Sums.{sum_by-cons, sum_by-take-drop}
 use Rattle.bw_model.specs.declared.column.Column.{Column}

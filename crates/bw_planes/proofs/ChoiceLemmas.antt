@@ -41,7 +41,7 @@ module _ (g : Bool) (width : ℕ) (bytes lanes : List ℕ) where
       let small = all_picked (λ code. code < 2 ^ width) (lanes_of_words lanes) (planes_codes width bytes) (codes_small width bytes) in
       descended_as g _ _ _ width _ 0 0 0 refl (omega arith) refl (descent_begins g (codes_in lanes) width small (no_codes lanes eight ∙ some))
 
-  -- one bit further down: the lanes with the bit that is sought, or all where there are none of
+  -- one bit further down: the lanes with the bit that is sought, or all if there are none of
   -- these
   pub next_left : (some : Bool) (left found other : List ℕ) (plane : List Bool) (place code head : ℕ) → place < width → length found ≡ 8
       → lanes_of_words found ≡ zip2 (λ l p. l && cond g p (not p)) (lanes_of_words left) plane

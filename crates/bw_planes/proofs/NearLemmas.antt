@@ -6,7 +6,7 @@ use Rattle.bw_model.proofs.BitsLemmas.{both}
 use Rattle.bw_segment.proofs.DescentLemmas.{below}
 use Rattle.bw_segment.proofs.LowLemmas.{without_ones}
 
--- none is above a number where none has as many as it in these digits
+-- none is above a number if none has as many as it in these digits
 pub none_near : (width low digits most : ℕ) → width ≡ digits + low → (codes : List ℕ) → AllByRecursion (λ code. code < 2 ^ width) codes
     → list_all not (map (λ code. not (ltb (code / 2 ^ low % 2 ^ digits) (most / 2 ^ low))) codes) ≡ true → list_any (ltb most) codes ≡ false
 none_near width low digits most whole [] small none = refl

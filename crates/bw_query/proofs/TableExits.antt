@@ -1,4 +1,5 @@
--- Where a call over a table file ends: at the header, at what is asked, at a segment, or when the text goes out.
+-- Where a call over a table file ends: at the header, at the query, at a segment, or when the text
+-- is written.
 use Rattle.std.proofs.Common.{◌≡◌, ◌∙◌, ℕ, ◌+◌, List, ◌++◌, Bool, true, false, ◌||◌, ◌==◌, inl, inr, Option, Some, None, Result, Ok, Err, refl, sym, ap, subst, arith}
 use Rattle.std.specs.Prelude.{OnOk}
 use Rattle.std.specs.Io.KnownBytes.{Appends, Consumes, IsAtEnd}
@@ -136,7 +137,7 @@ table_answered asks start now text found Told told bytes known old new appends =
       told,
     )
 
--- and so where it went out at all
+-- and so if it was written at all
 pub answered_or_not : (asks : Schema → Result Query Fault → Type 0) (start now : State) (text : List ℕ) → TableText asks start now text → (bytes : List ℕ) → start.known ≡ Some bytes
     → (old new : Option (List ℕ)) (before after : ℕ) (result : Result (Unit {0}) Fault) → GoesOut old new before after text result
     → OnOk result (AnswersFile asks bytes old new)
@@ -160,7 +161,8 @@ pub went : (T : Type 0) (old new : Option (List ℕ)) (before after : ℕ) (text
     → WriteOutcome {T = T} none_aside old new before after (Ok text) result
 went T old new before after text result goes = wrote_text T none_aside old new before after text (Ok text) result refl goes
 
--- what was answered tells how many reads failed, as what was given does: a failed write is no failed read
+-- the result has as many failed reads as what was returned before the write: a failed write is no
+-- failed read
 tells_as : (T : Type 0) (old new : Option (List ℕ)) (before after : ℕ) (given : Given) (result : Result T Fault) → WriteOutcome none_aside old new before after given result → failed_by given ≡ failed_by result
 tells_as T old new before after given _ (everything text is _ _) = ap failed_by is
 tells_as T old new before after given _ (beginning text is _ _) = ap failed_by is
@@ -170,7 +172,8 @@ pub tells : (T : Type 0) (asks : Schema → Result Query Fault → Type 0) (star
     → (told : Ends asks start now (λ given. WriteOutcome none_aside old new before after given result)) → TellsFailure start.failures (now told.0).failures result
 tells T asks start now old new before after result told = told.2.failures ∙ ap (λ (n : ℕ). start.failures + n) (tells_as T old new before after told.1 result told.3)
 
--- faults of a schema, of a statement, of a table file and of a program file, and out of memory, are no failed writes
+-- faults of a schema, of a statement, of a table file and of a program file, and out of memory, are
+-- no failed writes
 pub schema_writes_nothing : (fault : Fault) → IsSchemaFault fault → is_write_fault fault ≡ false
 schema_writes_nothing fault is = no_write_fault is_schema_fault fault is refl
 

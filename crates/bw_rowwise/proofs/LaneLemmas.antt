@@ -14,7 +14,7 @@ same_at a zero i = refl
 same_at a (suc count) zero = refl
 same_at a (suc count) (suc i) = same_at a count i
 
--- a lane is 1 where a row is kept, and 0 everywhere else
+-- a lane is 1 if its row matches, and else 0
 pub record Marks (lanes : List Bool) (rows : List (List Value)) (keeps : List Value → Bool) : Type 0 where
   pub all : length lanes ≡ 512
   pub few : length rows ≤ 512

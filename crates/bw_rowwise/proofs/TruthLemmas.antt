@@ -70,7 +70,7 @@ pub from_maybe : (b : Bool) → b ≡ not (is_truth (truth_from b) No)
 from_maybe true = refl
 from_maybe false = refl
 
--- a comparison is TRUE where it holds and no value is null, and isn't FALSE where it holds or a
+-- a comparison is TRUE if it holds and no value is null, and isn't FALSE if it holds or a
 -- value is null
 pub compared_yes : (op : Op) (p q : Bool) (m n : ℤ) → (holds op m n && not (p || q)) ≡ is_truth (compare_values op (cond p None (Some m)) (cond q None (Some n))) Yes
 compared_yes op true q m n = off (holds op m n)
@@ -106,7 +106,7 @@ compared_maybe op false false m n = off (holds op m n)
     off true = refl
     off false = refl
 
--- the same where the second side is a number
+-- the same if the second side is a number
 pub compared_one_yes : (op : Op) (p : Bool) (m n : ℤ) → (holds op m n && not p) ≡ is_truth (compare_values op (cond p None (Some m)) (Some n)) Yes
 compared_one_yes op true m n = off (holds op m n)
   where

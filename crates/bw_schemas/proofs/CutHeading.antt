@@ -56,7 +56,7 @@ pub same_inferred : (table text cut : List ℕ) → IsCutAfter 64 (records_of te
 same_inferred table text cut (inl same) = ap (λ (records : List (List (List ℕ))). inferred_after table records) same
 same_inferred table text cut (inr is) = inferred_cut table (records_of text) (records_of cut) is
 
--- and the reader's own error stands where it would
+-- and the reader's own error is at the same place
 abbrev StopsIn : List (List (List ℕ)) → Fault → Type 0
 StopsIn records fault = Stops (λ heading more own. (names : List (List ℕ)) × (heading_names heading ≡ Ok names)
     × StopsAfter (bare_rows (length names)) more own) records fault

@@ -1,4 +1,4 @@
--- Where a call that tells a header ends: at the header, or when the text goes out.
+-- Where a call that reports a header ends: at the header, or when the text is written.
 use Rattle.std.proofs.Common.{◌≡◌, ◌∙◌, ◌+◌, refl, sym, ap, subst, ℕ, Bool, true, false, ◌||◌, List, [], length, Option, Result, Ok, Err, arith}
 use Rattle.std.specs.Prelude.{OnOk}
 use Rattle.std.specs.Io.KnownBytes.{Appends}

@@ -43,7 +43,7 @@ size_read kept col d lt = get_or-map (λ (blocks : ColumnBlocks). blocks.size) k
 pub bytes_read : (kept : List ColumnBlocks) (col : ℕ) (d : ColumnBlocks) → col < length kept → bytes_kept kept col ≡ (get_or kept col d).bytes.items
 bytes_read kept col d lt = get_or-map (λ (blocks : ColumnBlocks). blocks.bytes.items) kept col d [] lt
 
--- a block that stands where it is looked for
+-- a block that is at its place
 module _ (kept : List ColumnBlocks) (number col start end : ℕ) (stands : stands_numbered kept number col start end ≡ true) where
   abbrev place : ℕ
   place = block_start kept number col

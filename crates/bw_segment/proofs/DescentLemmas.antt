@@ -46,7 +46,7 @@ of_both P g a b pa pb = elim (one_of g a b) [ inl is ↦ subst P (sym is) pa | i
 abbrev pub Chooses : Bool → (ℕ → Bool) → (ℕ → Type 0) → Type 0
 Chooses g test P = (a b : ℕ) → P a → P b → test a ≡ true → test b ≡ false → (choice g a b ≡ a) × (choice g b a ≡ a)
 
--- so where one passes, those that fail make no difference
+-- so if one passes, those that fail make no difference
 one_kept : (f : ℕ → ℕ → ℕ) (test : ℕ → Bool) (a : ℕ) → is_none (filter test (a ∷ [])) ≡ false → reduce f (filter test (a ∷ [])) ≡ Some a
 one_kept f test a some = grind arith
 
@@ -114,7 +114,7 @@ pub record IsDescended (g : Bool) (all left : List ℕ) (bit places head : ℕ) 
 next_small : (head places : ℕ) (b : Bool) → head < 2 ^ places → 2 * head + cond b 1 0 < 2 ^ (places + 1)
 next_small head places b lt = grind (arith, nat_tests, pow_more 2 places, lt)
 
--- one bit further down: those with the bit that is sought are left, or all where none has it
+-- one bit further down: those with the bit that is sought are left, or all if none has it
 pub next_descended : (g : Bool) (all left : List ℕ) (bit places head : ℕ) (some : Bool) → is_none (filter (sought g bit) left) ≡ not some
     → IsDescended g all left (suc bit) places head
     → IsDescended g all (cond some (filter (sought g bit) left) left) bit (places + 1) (2 * head + cond (cond some g (not g)) 1 0)

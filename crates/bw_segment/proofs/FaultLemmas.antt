@@ -27,7 +27,7 @@ first_none_at fault (suc n) row none lt =
     let parts = none_of_first (first_fault fault n) (fault n) none in
     elim (cases_lt row n) [ inl before ↦ first_none_at fault n row parts.0 before | inr not_before ↦ ap fault {x = row} {y = n} (omega arith) ∙ parts.1 ]
 
--- a row's fault, where none before it has one
+-- a row's fault, if none before it has one
 first_stays : (fault : ℕ → Option ℕ) (n row x : ℕ) → first_fault fault row ≡ None → fault row ≡ Some x → row < n → first_fault fault n ≡ Some x
 first_stays fault zero row x none here lt = absurd (omega arith)
 first_stays fault (suc n) row x none here lt = elim (cases_lt row n) [
@@ -35,7 +35,7 @@ first_stays fault (suc n) row x none here lt = elim (cases_lt row n) [
   | inr not_before ↦ ap (λ f. or_else f (fault n)) (ap (first_fault fault) {x = n} {y = row} (omega arith) ∙ none) ∙ ap fault {x = n} {y = row} (omega arith) ∙ here
 ]
 
--- where each fault is the same
+-- if each fault is the same
 either_is : (x : ℕ) (a b : Option ℕ) → (a ≡ None) ⊎ (a ≡ Some x) → (b ≡ None) ⊎ (b ≡ Some x) → (or_else a b ≡ None) ⊎ (or_else a b ≡ Some x)
 either_is x a b first second = grind arith
 
@@ -89,7 +89,7 @@ module _ (span count : ℕ) (nulls : List Bool) (codes : List ℕ) where
         λ row lt. first_none_at of_rows count row parts.1 lt,
       )
 
--- a lane that is 1, where not all are 0
+-- a lane that is 1, if not all are 0
 one_somewhere : (lanes : List Bool) → list_all not lanes ≡ false → (row : ℕ) × (row < length lanes) × (get_or lanes row false ≡ true)
 one_somewhere [] all = cc
 one_somewhere (true ∷ lanes) all = (0, omega arith, refl)
@@ -193,7 +193,7 @@ module _ (span count : ℕ) (nulls used above : List Bool) (codes : List ℕ) (f
       let parts = or_parts (get_or with_code row false) (get_or above row false) none in
       row_is row (omega arith) false false parts.0 parts.1)
 
--- planes that tell which codes aren't 0, where that is asked
+-- planes that say which codes aren't 0, if that is asked
 pub tells_nothing : (count : ℕ) (nulls used : List Bool) (codes : List ℕ) → count ≡ 512 → list_all not nulls ≡ true → TellsCodes count nulls codes used
 unfolding group_size
 tells_nothing count nulls used codes whole none = record {

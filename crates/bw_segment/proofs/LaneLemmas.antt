@@ -92,6 +92,6 @@ bit_of_byte code bit =
     let part = code / 2 ^ (8 * (bit / 8)) in
     ap (λ k. k == 1) (bit_of_low 8 part (bit % 8) (omega arith) ∙ ap (λ k. k % 2) (shr-shr code (8 * (bit / 8)) (bit % 8) ∙ ap (λ k. code / 2 ^ k) {y = bit} (omega arith)))
 
--- a bit of codes, in the bytes where it stands
+-- a bit of codes, in the bytes that have it
 pub bits_of_bytes : (codes : List ℕ) (bit : ℕ) → map (λ byte. bit_at byte (bit % 8) == 1) (map (byte_of (bit / 8)) codes) ≡ map (λ code. has_bit code bit) codes
 bits_of_bytes codes bit = map-map (λ byte. bit_at byte (bit % 8) == 1) (byte_of (bit / 8)) codes ∙ (λ i. map (λ code. bit_of_byte code bit i) codes)

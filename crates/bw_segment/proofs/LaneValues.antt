@@ -73,6 +73,6 @@ module _ (meaning : Meaning) (col lane : ℕ) (column : Column) (group : IsGroup
   pub put_in_lane : cond (get_or (map as_byte empty) lane 0 == 0) (Some (value_of_code column code)) None ≡ value_in (get_or meaning.rows lane []) col
   put_in_lane = chosen empty lane (value_of_code column code) ∙ value_here
 
-  -- where no lane is without one
+  -- if no lane is without one
   pub put_in_full : list_all not empty ≡ true → Some (value_of_code column code) ≡ value_in (get_or meaning.rows lane []) col
   put_in_full none = ap {B = Value} (λ null. cond null None (Some (value_of_code column code))) (sym (zero_everywhere empty lane none)) ∙ value_here

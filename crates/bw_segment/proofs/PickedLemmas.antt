@@ -49,7 +49,7 @@ abbrev pub is_none : List ℕ → Bool
 is_none [] = true
 is_none (x ∷ xs) = false
 
--- none is picked where no lane is 1
+-- none is selected if no lane is 1
 pub none_picked : (lanes : List Bool) (items : List ℕ) → length lanes ≤ length items → list_all not lanes ≡ is_none (selected_items lanes items)
 none_picked [] items le = refl
 none_picked (lane ∷ lanes) [] le = absurd (omega arith)

@@ -79,7 +79,7 @@ held_is_admitted (c ∷ columns) zero false code lt nullable within =
 held_is_admitted (c ∷ columns) (suc col) true code lt nullable within = held_is_admitted columns col true code (omega arith) nullable within
 held_is_admitted (c ∷ columns) (suc col) false code lt nullable within = held_is_admitted columns col false code (omega arith) nullable within
 
--- values are admitted where each is by its column
+-- values are admitted if each is by its column
 pub admitted_by_column : (columns : List Column) (values : List Value) → length values ≡ length columns → ((col : ℕ) → col < length columns → admits_at columns col (value_in values col) ≡ true)
     → admits_values columns values ≡ true
 admitted_by_column [] [] same each = refl

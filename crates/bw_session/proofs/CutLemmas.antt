@@ -1,4 +1,5 @@
--- The reader finds where a statement ends: what it knows of the last line of the bytes so far says whether the next one ends it.
+-- The reader finds the end of a statement: its state after the bytes so far decides whether the
+-- next one ends it.
 use Rattle.std.proofs.Common.{◌≡◌, refl, sym, ap, ◌∙◌, subst, ℕ, Bool, true, false, List, [], ◌∷◌, ◌++◌, arith}
 use Rattle.std.proofs.lemmas.Bool.Decides.{nat_tests}
 use Rattle.std.specs.Prelude.{◌==◌, ◌&&◌, ◌||◌, not, if◌then◌else◌}
@@ -54,7 +55,8 @@ ends_in_dash [] = false
 ends_in_dash (byte ∷ []) = byte == 45
 ends_in_dash (first ∷ second ∷ rest) = ends_in_dash (second ∷ rest)
 
--- a standing says of the last line whether it's blank, has a comment, and ends in a dash that may begin one
+-- a state says of the last line whether it's blank, has a comment, and ends in a dash that may
+-- begin one
 record Tracks (line : List ℕ) (standing : Standing) : Type 0 where
   blank : list_all is_blank line ≡ is_at_blank standing
   comment : has_comment line ≡ is_in_comment standing
@@ -94,7 +96,8 @@ comment-snoc (first ∷ second ∷ rest) byte =
     by_test true x y z e = refl
     by_test false x y z e = e
 
--- where a text goes on, by whether its next byte is an LF, a ; or a dash, and in a blank line by whether it is blank, too
+-- if a text goes on, by whether its next byte is an LF, a ; or a dash, and in a blank line by
+-- whether it is blank, too
 abbrev text_on : Bool → Bool → Bool → Standing
 text_on lf end dash = if lf then Blank else if end then Ended else if dash then Dash else Text
 
@@ -241,7 +244,7 @@ ends_by Dash byte goes = ends_at_dash (byte == 10) (byte == 59) (byte == 45) (lf
 ends_by Comment byte goes = ends_at_comment (byte == 10) (byte == 59)
 ends_by Ended byte goes = absurd (true_is_not_false goes)
 
--- the next byte ends the statement just where the reader's standing says so
+-- the next byte ends the statement if and only if the reader's state says so
 ends_as_read : (front : List ℕ) (byte : ℕ) → is_ended (standing_after Blank front) ≡ false
     → ends_statement front byte ≡ is_ended (after (standing_after Blank front) byte)
 ends_as_read front byte goes =

@@ -16,7 +16,7 @@ use Rattle.bw_session.specs.Reading.{Reads, TookBeginning, TookStatement, most_k
 no_bool : {A : Type 0} → true ≡ false → A
 no_bool p = absurd (true_is_not_false p)
 
--- what is kept of bytes, where another comes
+-- the stored bytes, if one more is read
 kept_or_all : (most : ℕ) (bytes : List ℕ) (byte : ℕ) (fits : Bool) → ltb (length (take most bytes)) most ≡ fits
     → (if fits then take most bytes ++ byte ∷ [] else take most bytes) ≡ take most (bytes ++ byte ∷ [])
 kept_or_all most bytes byte true fits =

@@ -88,7 +88,7 @@ next_computed found bytes c here there fit lc =
     ∙ zip2_splat less (map (λ b. max b c) bytes) 64 c (length-map bytes (λ b. max b c) ∙ there) ∙ map-map (λ a. less a c) (λ b. max b c) bytes in
     (λ i. map set (zip2 bit_or (rest i) (kept_computed found bytes c there i))) ∙ next_lanes c found bytes lc fit
 
--- numbers are in order by their highest byte, and where that is the same, by what is below it
+-- numbers are in order by their highest byte, and if that is the same, by what is below it
 ordered : (c b cs bs p y x : ℕ) → x < p → y < p → (c < b → cs + p ≤ bs) → (b < c → bs + p ≤ cs) → (b ≡ c → bs ≡ cs) → (ltb c b || ((b == c) && ltb y x)) ≡ ltb (cs + y) (bs + x)
 ordered c b cs bs p y x lx ly less more same = grind (arith, nat_tests)
 

@@ -97,7 +97,7 @@ used_is bytes count =
     let rows = range_with_len 0 512 in
     map-map not (λ row. are_zero bytes row count) rows ∙ (λ i. map (λ row. not (zero_is bytes row count i)) rows) ∙ sym (map-map (λ code. not (code == 0)) (λ row. number_from (bytes_in bytes row) count) rows)
 
--- no code is left where no lane is 1
+-- no code is left if no lane is 1
 pub none_left : (bytes words : List ℕ) (count : ℕ) → length words ≡ 8 → list_all not (lanes_of_words words) ≡ is_none (selected_items (lanes_of_words words) (slices_codes count bytes))
 none_left bytes words count eight = none_picked (lanes_of_words words) (slices_codes count bytes) (omega (arith, length-slices_codes count bytes, length-lanes_of_words words))
 

@@ -99,7 +99,7 @@ split p n text front back is f b = record {
 word_piece : (bytes : List ℕ) → is_word bytes ≡ true → IsPiece bytes (Token (word_lexeme bytes))
 word_piece bytes h = option_cases (keyword_of bytes) (λ e. rw e (refl, h, e)) (λ w e. rw e (h, e))
 
--- the front that passes is the longest piece, where it is one whose bytes may follow the first
+-- the front that passes is the longest piece, if it is one whose bytes may follow the first
 split_longest : (p : ℕ → Bool) (text : List ℕ) (c : ℕ) (rest front back : List ℕ) (piece : Piece) → text ≡ c ∷ rest → p c ≡ true →
     take_while (follows c) rest ≡ take_while p rest → Split p text front back →
     (front ≡ c ∷ take_while p rest → IsPiece front piece) → IsLongest text back piece
@@ -261,7 +261,7 @@ one_longest text rest after p q a b =
     let same = same_front a.front b.front rest after (sym a.cut ∙ b.cut) (omega arith) in
     (one_piece b.front p q (subst (λ bytes. IsPiece bytes p) same.0 a.is) b.is, same.0, same.1)
 
--- a cut is at its end where no piece begins, and else goes on after the longest
+-- a cut is at its end if no piece begins, and else goes on after the longest
 abbrev end_of : ℕ → List ℕ → Option ℕ
 end_of at [] = None
 end_of at (c ∷ rest) = Some at
@@ -293,7 +293,7 @@ goes_on (token {at = at} {tokens = tokens} u b more) rest p a =
 pub true_is_not_false : true ≡ false → ⊥
 true_is_not_false p = cc
 
--- what is left after a gap has no token where the text has none
+-- what is left after a gap has no token if the text has none
 pub bare_after : (n : ℕ) (text rest : List ℕ) → length text ≤ n → (a : IsLongest text rest Gap)
     → IsCut (n - length text) text [] None → IsCut (n - length rest) rest [] None
 bare_after n text rest h a cut =
@@ -331,7 +331,7 @@ data First {A : Type 0} (Is : List ℕ → A → Type 0) (text : List ℕ) : Typ
   nothing : BeginsNone Is text → First Is text
   a_thing : (after : List ℕ) (x : A) → IsLongestOf Is text after x → First Is text
 
--- where some bytes aren't found they are none
+-- if some bytes aren't found, there are none
 unfound : (bytes : List ℕ) → delimiter_of bytes ≡ None → (t : Lexeme) → IsDelimiter bytes t → ⊥
 unfound bytes e t is = let f : Some t ≡ None = sym (known t bytes is).of ∙ e in cc
 

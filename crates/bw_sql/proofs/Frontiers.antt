@@ -24,8 +24,8 @@ use Rattle.bw_sql.specs.Grammar.{StatementIs}
 use Rattle.bw_sql.proofs.Runs.{statement_runs}
 use Rattle.bw_sql.proofs.Spelled.{Outcome, reads, excused, statement_read}
 
--- Demands are asked in the order of their numbers, at a sign nothing is asked and digits are to come, and a literal is
--- refused at its digits.
+-- Demands are asked in the order of their numbers, at a sign nothing is asked and digits are to
+-- come, and a literal is refused at its digits.
 abbrev rising : ℕ → List Demand → Bool
 rising low [] = true
 rising low (d ∷ demands) = nat_le low (code_of (refusal d)) && rising (code_of (refusal d)) demands
@@ -327,7 +327,7 @@ module _ (schema : Schema) where
       path_viable schema (asked_for schema other) (asked_for_weaker schema other) front part.0
       (path_weaker schema (asked_for schema other) (asked_for_weaker schema other) part.1)
 
--- where the tokens end, and no statement does
+-- at the end of the tokens, if no statement ends there
 module _ (schema : Schema) (tokens : List Lexeme) (last : List Symbol) (p : Path (is_met schema) (AStatement ∷ []) tokens last) where
   pub only_at_end : (other : Refusal) (at : ℕ) → Stands schema tokens other at → (at ≡ length tokens) × (other ≡ Syntax) ×
       ((query : QueryShape) → StatementIs schema.columns.items (asked_for schema Syntax) tokens query → ⊥)
@@ -364,7 +364,8 @@ module _ (schema : Schema) (tokens before after : List Lexeme) (t : Lexeme) (las
       path_viable schema (asked_for schema other) (asked_for_weaker schema other) (before ++ t ∷ []) onward.0
       (path_push t (path_weaker schema (asked_for schema other) (asked_for_weaker schema other) p) onward.1)
 
-  -- where another refusal stands: at the token or after it, or before it as that of a literal of which it has the digits
+  -- the place of another refusal: at the token or after it, or before it as that of a literal of
+  -- which it has the digits
   data Near (other : Refusal) (at : ℕ) : Type 0 where
     here_too : length before ≡ at → code_of why ≤ code_of other → Near other at
     after_it : length before < at → Near other at
@@ -438,7 +439,7 @@ module _ (schema : Schema) (tokens before after : List Lexeme) (t : Lexeme) (las
       moved : front ++ u ∷ Digits digits ∷ [] ≡ before ++ t ∷ []
       moved = rw (f, is) (sym (append_assoc front (u ∷ []) (Digits digits ∷ [])))
 
--- where a refusal stands
+-- the place of a refusal
 pub record FirstFault (schema : Schema) (tokens : List Lexeme) (halt : Halt) : Type 0 where
   pub place : ℕ
   pub first : IsFirst schema tokens halt.why place

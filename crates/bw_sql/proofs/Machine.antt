@@ -1,5 +1,6 @@
--- A machine of symbols of the grammar. A stack of symbols says what is to come; the uppermost symbol decides on
--- one token: it takes the token and gives way to other symbols, passes it on, or stops.
+-- A machine of symbols of the grammar. A stack of symbols says what is to come; the uppermost
+-- symbol decides on one token: it takes the token and gives way to other symbols, passes it on, or
+-- stops.
 use Rattle.std.proofs.Common.{ℕ, suc, Bool, true, false, if◌then◌else◌, ◌&&◌, List, [], ◌∷◌, ◌++◌, length, Option, Some, None, Result, Ok, Err}
 use Rattle.bw_text.specs.declared.keyword.Keyword.{Keyword}
 use Rattle.bw_text.specs.declared.keyword.Keyword.TheVariants as word
@@ -16,10 +17,11 @@ use Rattle.bw_sql.specs.Frontier.{is_sign}
 use Rattle.bw_sql.specs.Reading.{Halt, same_keyword}
 use Rattle.bw_sql.specs.Token.{Lexeme, Name, Digits, Reserved, Compare, Punct}
 
--- What is to come: a word, a bracket, an operand, the digits after a sign, what follows the first operand of a
--- predicate, its NOT or its IS, further operands or items; a factor or a primary inside of so many brackets and NOTs, what
--- may follow a primary, its IS, a truth value, further parts that a connective joins; the items, an item
--- after a first one of a kind, what stands in brackets; a table, a selection, the end, a statement.
+-- What is to come: a word, a bracket, an operand, the digits after a sign, what follows the first
+-- operand of a predicate, its NOT or its IS, further operands or items; a factor or a primary
+-- inside of so many brackets and NOTs, what may follow a primary, its IS, a truth value, further
+-- parts that a connective joins; the items, an item after a first one of a kind, what stands in
+-- brackets; a table, a selection, the end, a statement.
 pub data Symbol : Type 0 where
   AWord : Keyword → Symbol
   Opening : Symbol
@@ -45,7 +47,8 @@ pub data Symbol : Type 0 where
   AnEnd : Symbol
   AStatement : Symbol
 
--- A token is taken, and gives way to other symbols, if some demands are met; or it is passed on, or not taken.
+-- A token is taken, and gives way to other symbols, if some demands are met; or it is passed on, or
+-- not taken.
 pub data Choice : Type 0 where
   Ask : List Demand → List Symbol → Choice
   Pass : Choice
@@ -93,7 +96,7 @@ truth_choice (Reserved word.False) = Take []
 truth_choice (Reserved word.Unknown) = Take []
 truth_choice _ = Stop
 
--- an aggregate, where some demands are met
+-- an aggregate, if some demands are met
 abbrev pub of_aggregate : Aggregate → List Symbol → List Symbol
 of_aggregate kind after = Opening ∷ AnArgument kind ∷ Closing ∷ after
 
@@ -173,7 +176,8 @@ unfoldable pub step : (Demand → Bool) → List Symbol → Lexeme → Result (L
 step met [] t = Err Syntax
 step met (s ∷ stack) t = chosen met (decide s t) stack (step met stack t)
 
--- how many tokens are left where a token is refused, after a sign or not: a literal is refused at its sign
+-- how many tokens are left when a token is refused, after a sign or not: a literal is refused at
+-- its sign
 abbrev pub left_at : Refusal → Bool → ℕ → ℕ
 left_at Literal true after = suc (suc after)
 left_at _ _ after = suc after

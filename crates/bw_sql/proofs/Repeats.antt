@@ -33,7 +33,7 @@ module _ {A : Type 0} {after : List Lexeme → Option (List Lexeme)} {one : List
     none zero = refl
     none (suc fuel) = rw e refl
 
-  -- where another comes
+  -- if another follows
   more : {next : List Lexeme} → after tokens ≡ Some next → 0 < left → (fuel : ℕ) × (left ≤ suc fuel) ×
       (whole ≡ with_front front (more_after (Some next) tokens one (repeated fuel after one)))
   unfolding repeated

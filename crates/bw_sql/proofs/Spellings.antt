@@ -1,4 +1,5 @@
--- Reserved words and delimiters, which are comparisons and marks: which bytes they are, and which is the longest.
+-- Reserved words and delimiters, which are comparisons and marks: which bytes they are, and which
+-- is the longest.
 use Rattle.std.proofs.Common.{◌≡◌, ℕ, suc, ◌≤◌, Bool, true, false, if◌then◌else◌, List, [], ◌∷◌, ◌++◌, length, Option, Some, refl, sym, ◌∙◌, ap, subst, arith}
 use Rattle.std.specs.Char.{is_ascii_digit}
 use Rattle.std.specs.List.{list_all}

@@ -151,7 +151,7 @@ past tokens place e = elim (slice_get_cases tokens place).1 [
 ]
 
 module _ (schema : Schema) (text : List ℕ) (tokens : List Spot) where
-  -- where all tokens are read no fault stands
+  -- if all tokens are read, there is no error
   none_stands : (q : QueryShape) → statement_at schema (tokens_of tokens) ≡ Ok q → (why : Refusal) (place : ℕ) →
       Stands schema (tokens_of tokens) why place → ⊥
   none_stands q e why place stands =

@@ -41,7 +41,8 @@ pub data IsToken (t : Lexeme) : List Lexeme → List Lexeme → Type 0 where
   here_is : {rest : List Lexeme} → IsToken t (t ∷ rest) rest
 
 module _ (columns : List Column) (met : Demand → Bool) where
-  -- the tokens that a symbol stands for, up to the rest: with what stands before it they make a whole
+  -- the tokens that a symbol stands for, up to the rest: with what stands before it they make a
+  -- whole
   abbrev pub Means : Symbol → List Lexeme → List Lexeme → Type 0
   Means (AWord w) tokens rest = IsToken (Reserved w) tokens rest
   Means Opening tokens rest = IsToken (Punct mark.Open) tokens rest

@@ -43,7 +43,7 @@ cut_lines-cons c [] = cut_lines-by c [] ∙ at_last (is_line_feed c) c
 cut_lines-cons c (d ∷ ds) =
     cut_lines-by c (d ∷ ds) ∙ by_cases (is_line_feed c) c (d ∷ ds) (position_or_len is_line_feed (d ∷ ds)) (cut_lines-cons d ds)
 
--- the same, by where the first line feed stands
+-- the same, by the place of the first line feed
 pub cut_at : (text : List ℕ) (at : ℕ) → 0 < length text → position is_line_feed text ≡ Some at → cut_lines text ≡ take at text ∷ cut_lines (drop (at + 1) text)
 cut_at [] at h e = absurd (omega arith)
 cut_at (c ∷ cs) at h e =
@@ -119,7 +119,7 @@ pub fed_at : (text : List ℕ) → position_or_len is_line_feed text < length te
 fed_at [] h = absurd (omega arith)
 fed_at (c ∷ cs) h = split_by (is_line_feed c) c cs (position_or_len is_line_feed cs) refl (fed_at cs) h
 
--- where the first line feed stands, the line ends; a text with none is one line
+-- the line ends at the first line feed; a text with none is one line
 pub first_at : (text : List ℕ) (at : ℕ) → position is_line_feed text ≡ Some at → IsFirstLine text (take at text) (drop (at + 1) text)
 first_at text at e =
     let found = cond_some _ _ _ e in

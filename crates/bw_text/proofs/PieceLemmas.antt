@@ -18,7 +18,7 @@ spaced-end pieces i le = rw (drop_all i pieces le) refl
 pub written : (now piece left rest start new : List ℕ) → new ≡ now ++ piece → left ≡ piece ++ rest → now ++ left ≡ start → new ++ rest ≡ start
 written now piece left rest start new is parts e = rw is (append_assoc now piece rest ∙ ap (λ (t : List ℕ). now ++ t) (sym parts) ∙ e)
 
--- where nothing is left, all is written
+-- if nothing is left, all is written
 pub all_written : (now left start : List ℕ) → left ≡ [] → now ++ left ≡ start → now ≡ start
 all_written now left start none e = sym (append-nil now) ∙ ap (λ (t : List ℕ). now ++ t) (sym none) ∙ e
 

@@ -1,4 +1,4 @@
--- Where a row is picked, their number and their total are added; else there is nothing to add.
+-- If a row is selected, their number and their total are added; else there is nothing to add.
 use Rattle.std.proofs.Common.{◌∙◌, ◌+◌, sym, ap, arith, List}
 use Rattle.bw_lanes.specs.Lanes.{lanes_of_words}
 use Rattle.bw_model.specs.declared.query.Item.{Item}

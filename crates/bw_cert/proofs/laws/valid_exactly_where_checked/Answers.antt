@@ -1,4 +1,4 @@
--- A certificate is valid exactly where no line breaks a rule.
+-- A certificate is valid if and only if no line breaks a rule.
 use Rattle.std.proofs.Common.{◌∙◌, sym, ap, ◌++◌, append-nil, length}
 use Rattle.bw_model.specs.Fault.{◌>>=◌}
 use Rattle.bw_cert_rules.specs.Pair.{pair_of}

@@ -1,4 +1,4 @@
--- Where a certificate is valid, the program fits, and selects what the condition does.
+-- If a certificate is valid, the program fits, and selects what the condition does.
 use Rattle.std.proofs.Common.{◌≡◌, ◌∙◌, refl, sym, ap, subst, true, List, length}
 use Rattle.bw_model.specs.declared.column.Column.{Column}
 use Rattle.bw_model.specs.declared.cond.Truth.TheVariants.{Yes}

@@ -1,4 +1,4 @@
--- Each turn takes the first line off the text, and answers it where it says something.
+-- Each turn takes the first line off the text, and returns it if it isn't skipped.
 use Rattle.std.proofs.Common.{◌≡◌, ◌∙◌, sym, true, false, arith}
 use Rattle.std.proofs.lemmas.Bool.{eqb-true}
 use Rattle.bw_text.specs.Lines.{is_skipped, words_of}
