@@ -4,7 +4,7 @@ ghost use Rattle.std.specs.Prelude.{◌≤◌};
 ghost use Rattle.bw_model.specs.Groups.{group_size};
 ghost use Rattle.bw_segment.specs.Meaning.{meaning_of, IsGroup};
 
-use crate::drawn::{drawn, or_null};
+use crate::random::{drawn, or_null};
 use crate::failure::Failure;
 use bw_lanes::{Plane, bytes_bit, bytes_eq, bytes_lt};
 use bw_model::{Row, Schema};

@@ -15,7 +15,7 @@
 mod case;
 mod cert;
 mod diagram;
-mod drawn;
+mod random;
 mod failure;
 mod kernels;
 mod lanes;

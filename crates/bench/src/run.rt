@@ -5,7 +5,7 @@
 //!
 //! `ways.rt` has what is timed; read it first.
 use crate::case::Case;
-use crate::drawn::nanos;
+use crate::random::nanos;
 use crate::failure::Failure;
 use crate::ways::{
     ByProgram, CalledAnds, CalledBytes, CalledComparison, CalledLoads, CalledTopBits,

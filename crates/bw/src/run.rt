@@ -9,7 +9,7 @@ use crate::in_file::InFile;
 use crate::out_file::{OutFile, is_same_file};
 use crate::out_stream::OutStream;
 use crate::session::Teller;
-use bw_cli::{CommandArgs, Invocation, USAGE, asked_by, words_given};
+use bw_cli::{CommandArgs, Invocation, USAGE, parse_invocation, process_args};
 use bw_explain::{CommandFailure, Reads, explain, explain_rows};
 use bw_file::{FromRead, Layout, Source, ToWrite};
 use bw_io::ReadAhead;
@@ -27,20 +27,20 @@ const PIECE: usize = 128 * 1024;
 
 /// Runs the command of the process's command line.
 pub fn run(rt: &HostRuntime) -> u8 {
-    match words_given(rt) {
-        Ok(words) => run_given(rt, &words),
+    match process_args(rt) {
+        Ok(words) => run_args(rt, &words),
         Err(status) => status,
     }
 }
 
-fn run_given(rt: &HostRuntime, words: &[String]) -> u8 {
-    match asked_by(rt, words) {
-        Ok(asked) => run_asked(rt, asked),
+fn run_args(rt: &HostRuntime, words: &[String]) -> u8 {
+    match parse_invocation(rt, words) {
+        Ok(asked) => run_invocation(rt, asked),
         Err(status) => status,
     }
 }
 
-fn run_asked(rt: &HostRuntime, asked: Invocation<'_>) -> u8 {
+fn run_invocation(rt: &HostRuntime, asked: Invocation<'_>) -> u8 {
     let Invocation {
         words,
         programs,
@@ -51,15 +51,15 @@ fn run_asked(rt: &HostRuntime, asked: Invocation<'_>) -> u8 {
         return USAGE;
     }
     let told = is_explained || rt.stderr().is_terminal();
-    match run_words(rt, words, &programs, told) {
+    match run_command(rt, words, &programs, told) {
         Ok(status) => status,
-        Err(ended) if told && !is_explained && ended.is_closed_pipe() => status_alone(&ended.fault),
-        Err(ended) => tell_fault(rt, &words, &ended, told),
+        Err(ended) if told && !is_explained && ended.is_closed_pipe() => quiet_status(&ended.fault),
+        Err(ended) => print_fault(rt, &words, &ended, told),
     }
 }
 
 /// Returns the status of an error that isn't printed.
-fn status_alone(fault: &Fault) -> u8 {
+fn quiet_status(fault: &Fault) -> u8 {
     report(fault, &mut ToWrite::new(io::sink()))
 }
 
@@ -75,7 +75,7 @@ fn input_as_output<'a>(rt: &HostRuntime, words: &CommandArgs<'a>) -> Option<&'a 
 
 /// Writes the line of the error that ended a command, and explains it if `told`. Returns the exit
 /// status.
-fn tell_fault(
+fn print_fault(
     rt: &HostRuntime,
     words: &CommandArgs<'_>,
     ended: &CommandFailure<'_>,
@@ -89,7 +89,7 @@ fn tell_fault(
 }
 
 /// Runs a command, and explains the row-by-row fallback if `told`. Returns the exit status.
-fn run_words<'a>(
+fn run_command<'a>(
     rt: &HostRuntime,
     words: CommandArgs<'a>,
     programs: &[&'a str],
@@ -145,7 +145,7 @@ fn run_direct<'a>(
         &mut ToWrite::new(&mut out),
     );
     let files = [(schema_path, schema.reads()), (csv_path, csv.reads())];
-    or_unwritten(done, &files, out.error())
+    or_write_failure(done, &files, out.error())
 }
 
 /// Runs `bw infer`.
@@ -159,7 +159,7 @@ fn run_infer<'a>(
     let mut out = OutStream::new(rt.stdout());
     let name = name.unwrap_or("t");
     let done = infer(rt.alloc(), name, &mut source, &mut ToWrite::new(&mut out));
-    or_unwritten(done, &[(csv_path, csv.reads())], out.error())
+    or_write_failure(done, &[(csv_path, csv.reads())], out.error())
 }
 
 /// Runs `bw load`. Both files are opened before either is read, and the third is created by the
@@ -183,7 +183,7 @@ fn run_load<'a>(
         &mut out,
     );
     let files = [(schema_path, schema.reads()), (csv_path, csv.reads())];
-    or_unwritten(done, &files, out.error())
+    or_write_failure(done, &files, out.error())
 }
 
 /// Runs `bw query`. The files are opened before any is read, and the program file is read first.
@@ -199,7 +199,7 @@ fn run_query<'a>(
     let program = program_given(rt, program)?;
     let served = answer_from(rt, table_path, table, sql, program.as_deref())?;
     if stats {
-        or_ended(stats_line(&served, &mut ToWrite::new(rt.stderr())), &[])?;
+        or_failure(stats_line(&served, &mut ToWrite::new(rt.stderr())), &[])?;
     }
     Ok(served)
 }
@@ -243,8 +243,8 @@ fn answer_input(
         &mut ToWrite::new(&mut out),
         &mut teller,
     );
-    let first = or_unwritten(done, &[], out.error())?;
-    Ok(first.map_or(0, |fault| status_alone(&fault)))
+    let first = or_write_failure(done, &[], out.error())?;
+    Ok(first.map_or(0, |fault| quiet_status(&fault)))
 }
 
 /// Returns the bytes of each program file of a session.
@@ -286,10 +286,10 @@ fn table_of<'a>(
     path: &'a str,
     mut file: InFile,
 ) -> Result<MemoryTable, CommandFailure<'a>> {
-    let mut source = ahead(rt, &mut file)?;
+    let mut source = read_ahead(rt, &mut file)?;
     let done = read_table(rt.alloc(), &mut source);
     drop(source);
-    or_ended(done, &[(path, file.reads())])
+    or_failure(done, &[(path, file.reads())])
 }
 
 /// Returns standard input, read in pieces of up to 128 KiB.
@@ -321,13 +321,13 @@ fn answer_from<'a>(
     sql: &str,
     program: Option<&[u8]>,
 ) -> Result<Served, CommandFailure<'a>> {
-    let mut source = ahead(rt, &mut table)?;
+    let mut source = read_ahead(rt, &mut table)?;
     let mut out = OutStream::new(rt.stdout());
     let mut sink = ToWrite::new(&mut out);
     let done = answer(rt.alloc(), &mut source, sql, program, &mut sink);
     drop(sink);
     drop(source);
-    or_unwritten(done, &[(path, table.reads())], out.error())
+    or_write_failure(done, &[(path, table.reads())], out.error())
 }
 
 /// Returns all bytes of a program file.
@@ -355,27 +355,27 @@ fn run_plan<'a>(
     let schema = read_schema(rt, schema_path, schema)?;
     let mut out = OutStream::new(rt.stdout());
     let done = plan(rt.alloc(), &schema, sql, &mut ToWrite::new(&mut out));
-    or_unwritten(done, &[], out.error())
+    or_write_failure(done, &[], out.error())
 }
 
 /// Runs `bw info`.
 fn run_info<'a>(rt: &HostRuntime, table_path: &'a str) -> Result<(), CommandFailure<'a>> {
     let mut table = open(rt, table_path)?;
-    let mut source = ahead(rt, &mut table)?;
+    let mut source = read_ahead(rt, &mut table)?;
     let mut out = OutStream::new(rt.stdout());
     let done = info(rt.alloc(), &mut source, &mut ToWrite::new(&mut out));
     drop(source);
-    or_unwritten(done, &[(table_path, table.reads())], out.error())
+    or_write_failure(done, &[(table_path, table.reads())], out.error())
 }
 
 /// Runs `bw dump`.
 fn run_dump<'a>(rt: &HostRuntime, table_path: &'a str) -> Result<(), CommandFailure<'a>> {
     let mut table = open(rt, table_path)?;
-    let mut source = ahead(rt, &mut table)?;
+    let mut source = read_ahead(rt, &mut table)?;
     let mut out = OutStream::new(rt.stdout());
     let done = dump(rt.alloc(), &mut source, &mut ToWrite::new(&mut out));
     drop(source);
-    or_unwritten(done, &[(table_path, table.reads())], out.error())
+    or_write_failure(done, &[(table_path, table.reads())], out.error())
 }
 
 /// Runs `bw check`: both files are opened before either is read, and read in this order.
@@ -388,10 +388,10 @@ fn run_check<'a>(
     let (schema, file) = open_both(rt, schema_path, file_path)?;
     let schema = read_schema(rt, schema_path, schema)?;
     let file = read_program(rt, file_path, file)?;
-    let accepted = or_ended(check(rt.alloc(), &schema, sql, &file), &[])?;
+    let accepted = or_failure(check(rt.alloc(), &schema, sql, &file), &[])?;
     let mut out = OutStream::new(rt.stdout());
     let told = accepted_line(&accepted, &mut ToWrite::new(&mut out));
-    or_unwritten(told, &[], out.error())
+    or_write_failure(told, &[], out.error())
 }
 
 /// Returns all bytes of a schema file.
@@ -415,12 +415,12 @@ fn read_text<'a>(
 ) -> Result<Input, CommandFailure<'a>> {
     let mut source = FromRead::new(&mut file);
     let done = read_limited(rt.alloc(), &mut source, u64::from(limit));
-    or_ended(done, &[(path, file.reads())])
+    or_failure(done, &[(path, file.reads())])
 }
 
 /// Returns the result of a call, or the failure of the command: the call's error, and the files
 /// that it read, each with whether its reads failed.
-fn or_ended<'a, T>(
+fn or_failure<'a, T>(
     done: Result<T, Fault>,
     files: &[(&'a str, Reads)],
 ) -> Result<T, CommandFailure<'a>> {
@@ -431,7 +431,7 @@ fn or_ended<'a, T>(
 }
 
 /// Returns the same for a call that writes, with the reason of a failed write.
-fn or_unwritten<'a, T>(
+fn or_write_failure<'a, T>(
     done: Result<T, Fault>,
     files: &[(&'a str, Reads)],
     error: Option<io::Error>,
@@ -462,7 +462,7 @@ fn open<'a>(rt: &HostRuntime, path: &'a str) -> Result<InFile, CommandFailure<'a
 
 /// Returns a table file that is read in large pieces, or in one if it's smaller, since unneeded
 /// memory would have to be cleared.
-fn ahead<'f>(
+fn read_ahead<'f>(
     rt: &HostRuntime,
     file: &'f mut InFile,
 ) -> Result<ReadAhead<&'f mut InFile>, CommandFailure<'static>>

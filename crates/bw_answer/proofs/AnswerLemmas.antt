@@ -12,7 +12,7 @@ use Rattle.bw_sql.specs.Items.{AreOfOneKind}
 use Rattle.bw_model.specs.Selection.{matching_rows}
 use Rattle.bw_answer.specs.Answer.{csv_text, heading_of, row_records, lists_rows, meaning, record_text, value_text, totals_record}
 use Rattle.bw_answer.specs.Aggregates.{aggregates_of, answer_for, each_once}
-use Rattle.bw_answer.specs.AreOver.{text_over}
+use Rattle.bw_answer.specs.TextAndTotals.{text_over}
 use Rattle.bw_answer.proofs.AggregateLemmas.{answers_for}
 use Rattle.bw_answer.proofs.Rows.{listed_more}
 use Rattle.bw_answer.proofs.TotalsLemmas.{both}

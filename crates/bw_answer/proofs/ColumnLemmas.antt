@@ -11,7 +11,7 @@ use Rattle.bw_model.specs.Selection.{selected_items, positions_from, positions_o
 use Rattle.bw_model.specs.Total.{item_within}
 use Rattle.bw_answer.specs.Answer.{field_of, lists_rows, value_text}
 use Rattle.bw_answer.specs.Columns.{column_of, columns_of, fields_of}
-use Rattle.bw_answer.specs.Fetched.{HasPicked, fields_in_lane, value_in_lane}
+use Rattle.bw_answer.specs.LaneFields.{HasSelected, fields_in_lane, value_in_lane}
 use Rattle.bw_answer.specs.declared.lanes.ColumnValues.{ColumnValues}
 use Rattle.bw_answer.proofs.TotalsLemmas.{both}
 
@@ -83,9 +83,9 @@ fields_same columns lanes number row e =
     map_same (λ column. value_text (value_in_lane lanes number column)) (λ column. value_text (value_in row column)) columns (λ i h. ap value_text (e i h))
 
 -- what is made of the positions of bits that are 1, and of the rows there
-nothing_picked : (bits : List Bool) → selected_items {A = List Value} bits [] ≡ []
-nothing_picked [] = refl
-nothing_picked (bit ∷ bits) = refl
+nothing_selected : (bits : List Bool) → selected_items {A = List Value} bits [] ≡ []
+nothing_selected [] = refl
+nothing_selected (bit ∷ bits) = refl
 
 at_positions : {X : Type 0} (f : ℕ → X) (g : List Value → X) (n : ℕ) (bits : List Bool) (rows : List (List Value))
     → ((k : ℕ) → k < length rows → get_or bits k false ≡ true → f (n + k) ≡ g (get_or rows k [])) → ((k : ℕ) → length rows ≤ k → get_or bits k false ≡ false)
@@ -93,7 +93,7 @@ at_positions : {X : Type 0} (f : ℕ → X) (g : List Value → X) (n : ℕ) (bi
 at_positions f g n [] rows here none = refl
 at_positions f g n (true ∷ bits) [] here none = absurd (true≢false (none 0 (omega arith)))
 at_positions f g n (false ∷ bits) [] here none =
-    at_positions f g (suc n) bits [] (λ k h _. absurd (omega arith)) (λ k h. none (suc k) (omega arith)) ∙ ap (map g) (nothing_picked bits)
+    at_positions f g (suc n) bits [] (λ k h _. absurd (omega arith)) (λ k h. none (suc k) (omega arith)) ∙ ap (map g) (nothing_selected bits)
 at_positions f g n (true ∷ bits) (row ∷ rows) here none =
     let first : n + 0 ≡ n = omega arith in
     let one : f n ≡ g row = subst (λ m. f m ≡ g row) first (here 0 (omega arith) refl) in
@@ -104,7 +104,7 @@ at_positions f g n (false ∷ bits) (row ∷ rows) here none =
     (λ k h bit. let next : n + suc k ≡ suc n + k = omega arith in subst (λ m. f m ≡ g (get_or rows k [])) next (here (suc k) (omega arith) bit)) (λ k h. none (suc k) (omega arith))
 
 pub records_same : (columns : List ℕ) (lanes : List ColumnValues) (bits : List Bool) (rows : List (List Value))
-    → HasPicked rows bits columns lanes → ((k : ℕ) → length rows ≤ k → get_or bits k false ≡ false)
+    → HasSelected rows bits columns lanes → ((k : ℕ) → length rows ≤ k → get_or bits k false ≡ false)
     → map (fields_in_lane lanes columns) (positions_of bits) ≡ map (fields_of columns) (selected_items bits rows)
 records_same columns lanes bits rows fetched none =
     at_positions (fields_in_lane lanes columns) (fields_of columns) 0 bits rows (λ k h bit. let same : 0 + k ≡ k = omega arith in

@@ -2,7 +2,7 @@
 use Rattle.std.proofs.Common.{◌≡◌, ◌≢◌, ℕ, zero, suc, ◌∷◌, ◌+◌, ◌<◌, List, [], refl, sym, ap, length, get_or, set, subst, arith, below_more, inl, inr, None, ◌∙◌}
 use Rattle.std.proofs.lemmas.Bool.{cases_eq}
 use Rattle.bw_model.specs.Row.{Value}
-use Rattle.bw_answer.specs.Fetched.{value_in_lane, values_in}
+use Rattle.bw_answer.specs.LaneFields.{value_in_lane, values_in}
 use Rattle.bw_answer.specs.declared.lanes.ColumnValues.{ColumnValues}
 
 -- the values of the column that is fetched, and of the others

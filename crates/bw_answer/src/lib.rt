@@ -11,10 +11,10 @@
 mod answer;
 mod csv_text;
 mod heading;
-mod kept;
+mod matching;
 mod lanes;
 mod listing;
-mod picked;
+mod selected;
 mod record;
 mod records;
 mod totals;

@@ -3,7 +3,7 @@ ghost use Rattle.std.specs.Prelude.{◌≡◌, ◌+◌, ◌*◌, ◌<◌, ◌≤
 ghost use Rattle.std.specs.Fmt.{signed_decimal};
 ghost use Rattle.bw_model.specs.Fault.{no_memory};
 ghost use Rattle.bw_answer.specs.Answer.{record_text, value_text};
-ghost use Rattle.bw_answer.specs.Fetched.{fields_in_lane, value_in_lane};
+ghost use Rattle.bw_answer.specs.LaneFields.{fields_in_lane, value_in_lane};
 
 use crate::lanes::ColumnValues;
 use bw_model::{Fault, Value};

@@ -14,7 +14,7 @@ ghost use Rattle.bw_answer.specs.Draft.{Holds};
 ghost use Rattle.bw_answer.specs.Totals.{is_of, has_room};
 
 use crate::csv_text::CsvText;
-use crate::kept::is_match;
+use crate::matching::is_match;
 use bw_model::{Fault, Item, Query, Row};
 use bw_rowwise::{Accumulator, Prepared};
 use std::alloc::Global;

@@ -9,7 +9,7 @@ use Rattle.bw_diagram.specs.declared.chain.ChainKind.{ChainKind}
 use Rattle.bw_diagram.specs.declared.chain.ChainKind.TheVariants.{Less, Equal}
 use Rattle.bw_diagram.specs.declared.product.Connective.{Connective}
 use Rattle.bw_diagram.specs.declared.product.Connective.TheVariants as connective
-use Rattle.bw_diagram.specs.Cited.{product_node, variable_node}
+use Rattle.bw_diagram.specs.References.{product_node, variable_node}
 use Rattle.bw_diagram.specs.Facts.{Facts}
 use Rattle.bw_program.specs.declared.instr.Instr.{Instr}
 use Rattle.bw_program.specs.declared.instr.Instr.TheVariants as does

@@ -12,7 +12,7 @@ use Rattle.bw_model.specs.Column.{admits_values}
 use Rattle.bw_model.specs.Cond.{truth_of, is_match}
 use Rattle.bw_model.specs.Groups.{group_size, lanes_of, together}
 use Rattle.bw_model.specs.Row.{Value}
-use Rattle.bw_model.specs.Stored.{no_bits}
+use Rattle.bw_model.specs.StoredCodes.{no_bits}
 use Rattle.bw_model.specs.Truth.{is_truth}
 use Rattle.bw_model.specs.Variable.{Assignment, assignment_of, bits_of, row_of}
 use Rattle.bw_program.specs.Machine.{end_state}

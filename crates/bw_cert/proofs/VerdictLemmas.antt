@@ -15,7 +15,7 @@ use Rattle.bw_cert_text.specs.CertificateText.{certificate_from, certificate_of,
 use Rattle.bw_cert.specs.Valid.{Valid, check_certificate}
 use Rattle.bw_report.specs.declared.accepted.Accepted.{Accepted}
 use Rattle.bw_cert.specs.declared.certified_file.CertifiedFile.{CertifiedFile}
-use Rattle.bw_cert.specs.Judged.{Certifies, IsFileFault, too_long, program_refused, certificate_refused, line_refused, counts_of, program_and_counts, told_of}
+use Rattle.bw_cert.specs.FileVerdict.{Certifies, IsFileFault, too_long, program_refused, certificate_refused, line_refused, counts_of, program_and_counts, told_of}
 use Rattle.bw_cert.specs.ProgramFile.{IsCut, longest_program_file}
 
 not_both : {A : Type 0} {x : A} {fault : Fault} → ◌≡◌ {A = Result A Fault} (Ok x) (Err fault) → ⊥

@@ -11,7 +11,7 @@ use Rattle.bw_cert_text.specs.declared.lines.BodyLine.{BodyLine}
 use Rattle.bw_cert_text.specs.declared.lines.Entry.TheVariants as line_of
 use Rattle.bw_cert_text.specs.declared.lines.InstructionEntry.{InstructionEntry}
 use Rattle.bw_cert_rules.specs.declared.edge.Edge.{Edge}
-use Rattle.bw_cert_rules.specs.Accepted.{KeepLine, JoinLines, Part, Obeys, keep_line, lines_of, known_before, edges_before, are_kept}
+use Rattle.bw_cert_rules.specs.Accepted.{KeepLine, JoinLines, Part, AreValidParts, keep_line, lines_of, known_before, edges_before, are_kept}
 use Rattle.bw_cert_rules.specs.Instruction.{check_instruction_line}
 use Rattle.bw_cert_rules.specs.Join.{edge_of, with_edge, edges_into}
 use Rattle.bw_cert_rules.specs.Known.{Known}
@@ -91,7 +91,7 @@ pub record FirstFault (facts : Facts) (instrs : List Instr) (end : ℕ) (lines :
   pub instructions : instrs ≡ first ++ instr ∷ others
   -- the lines begin with those of parts that satisfy the rules of the first instructions
   pub parts : List Part
-  pub obeys : Obeys facts first parts
+  pub valid_parts : AreValidParts facts first parts
   pub rest : List BodyLine
   pub spelled : lines ≡ lines_of 0 parts ++ rest
   pub whole : KeepsAreAll parts rest

@@ -4,7 +4,7 @@ use Rattle.std.proofs.lemmas.Bool.{lt-ltb, leb-true, ne_eqb}
 use Rattle.std.proofs.lemmas.Simd.{zip2-map, map-map}
 use Rattle.std.specs.Simd.Lanes.{zip2}
 use Rattle.bw_model.specs.declared.fault.Fault.{Fault}
-use Rattle.bw_model.specs.Stored.{byte_spelled, bits_in_slice}
+use Rattle.bw_model.specs.StoredCodes.{byte_spelled, bits_in_slice}
 use Rattle.bw_model.specs.Variable.{Assignment, first_variable, bit_variable}
 use Rattle.bw_diagram.specs.declared.chain.ChainKind.{ChainKind}
 use Rattle.bw_diagram.specs.declared.chain.ChainKind.TheVariants.{Less, Equal}
@@ -14,7 +14,7 @@ use Rattle.bw_diagram.specs.Chain.{compares}
 use Rattle.bw_diagram.specs.Facts.{Facts}
 use Rattle.bw_diagram.specs.Node.{node_value}
 use Rattle.bw_diagram.specs.Product.{apply_connective}
-use Rattle.bw_diagram.specs.Cited.{AreWorth, comparison_node, is_variable, variable_node}
+use Rattle.bw_diagram.specs.References.{AreWorth, comparison_node, is_variable, variable_node}
 use Rattle.bw_program.specs.declared.instr.Instr.{Instr}
 use Rattle.bw_program.specs.declared.instr.Instr.TheVariants.{Load, Nulls, Fill, And, Or, Xor, Not, ByteLt, ByteEq, Skip}
 use Rattle.bw_program.specs.Machine.{State, in_lanes, differ, step, after_skip, is_zero_in_all}

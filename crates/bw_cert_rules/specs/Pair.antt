@@ -15,7 +15,7 @@ use Rattle.bw_model.specs.declared.fault.Fault.{Fault}
 use Rattle.bw_model.specs.Fault.{at_line, ◌>>=◌}
 use Rattle.bw_model.specs.Variable.{null_variable}
 use Rattle.bw_diagram.specs.declared.product.Connective.TheVariants as connective
-use Rattle.bw_diagram.specs.Cited.{product_node}
+use Rattle.bw_diagram.specs.References.{product_node}
 use Rattle.bw_diagram.specs.Facts.{Facts}
 use Rattle.bw_cert_text.specs.declared.body.BodyLines.{BodyLines}
 use Rattle.bw_cert_text.specs.declared.lines.BodyLine.{BodyLine}

@@ -6,7 +6,7 @@ ghost use Rattle.bw_cert_rules.specs.Known.{is_known_fault, nothing_known};
 ghost use Rattle.bw_cert_rules.specs.Walk.{is_join, apply_join, keeps_taken};
 
 use crate::edge::Edge;
-use crate::judge::LineChecker;
+use crate::line_checker::LineChecker;
 use crate::known::Known;
 use bw_cert_text::{BodyLines, EdgeProducts, Entry, Keep};
 use bw_diagram::Connective;

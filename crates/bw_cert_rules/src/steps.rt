@@ -50,7 +50,7 @@ pub fn pair<'a>(
         Cond::Cmp(op, x, y) => read_comparison(schema, diagram, *op, *x, *y, lines, end),
         Cond::Between(x, y, z) => between(schema, diagram, *x, *y, *z, lines, end),
         Cond::Among(x, items) => read_list(schema, diagram, *x, items, lines, end),
-        Cond::IsNull(x) => null_tested(schema, diagram, *x, lines, end),
+        Cond::IsNull(x) => read_null_test(schema, diagram, *x, lines, end),
         Cond::And(parts) => combine_parts(schema, diagram, Junction::All, parts, lines, end),
         Cond::Or(parts) => combine_parts(schema, diagram, Junction::Any, parts, lines, end),
         Cond::Not(part) => {
@@ -204,7 +204,7 @@ fn constant<'a>(truth: Truth, lines: BodyLines<'a>, end: u64) -> Read<'a>
 
 /// Returns the truth pair of `IS NULL`, by the next line.
 #[tactic(auto, unfolding(crate::specs::Pair::by_line))]
-fn null_tested<'a>(
+fn read_null_test<'a>(
     schema: &Schema,
     diagram: &Diagram<'_>,
     x: Operand,

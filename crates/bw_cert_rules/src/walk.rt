@@ -8,7 +8,7 @@ ghost use Rattle.bw_cert_rules.specs.Walk.{check_lines, instruction_taken};
 ghost use Rattle.bw_cert_rules.specs.Known.{is_known_fault};
 
 use crate::edge::Edges;
-use crate::judge::LineChecker;
+use crate::line_checker::LineChecker;
 use crate::known::Known;
 use bw_cert_text::{BodyLines, Entry};
 use bw_diagram::Diagram;

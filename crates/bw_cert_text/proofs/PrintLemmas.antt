@@ -9,7 +9,7 @@ use Rattle.bw_cert_text.specs.declared.lines.EdgeProducts.{EdgeProducts}
 use Rattle.bw_cert_text.specs.CertificateFields.{chain_fields, body_fields, certificate_fields, ChainFields, BodyFields}
 use Rattle.bw_cert_text.specs.CertificateShape.{CertificateShape}
 use Rattle.bw_cert_text.specs.PrintText.{token_text, token_words, token_line, lines_text, body_tokens, respelled_chain, print_text}
-use Rattle.bw_text.specs.Printed.{spaced}
+use Rattle.bw_text.specs.Printing.{spaced}
 use Rattle.bw_cert_text.specs.Reprint.{are_small, numbers_fit}
 use Rattle.bw_cert_text.specs.Token.{Token, Number, edge_tokens, node_tokens, chain_tokens, row_tokens, end_tokens}
 

@@ -35,7 +35,7 @@ use Rattle.bw_model.proofs.BitsLemmas.{both}
 use Rattle.bw_text.proofs.DecimalLemmas.{natural_of-decimal, plain_number}
 use Rattle.bw_text.proofs.RegisterLemmas.{plain_register, register_of-text}
 use Rattle.bw_text.proofs.SpacedWords.{line_said}
-use Rattle.bw_text.specs.Printed.{is_plain_word}
+use Rattle.bw_text.specs.Printing.{is_plain_word}
 use Rattle.bw_model.proofs.NameLemmas.{named_column_is_there, plain_name}
 
 same_as_itself : (text : List ℕ) → same_text text text ≡ true

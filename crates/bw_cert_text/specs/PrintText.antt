@@ -5,7 +5,7 @@ use Rattle.std.specs.Fmt.{decimal}
 use Rattle.bw_model.specs.declared.column.Column as column
 use Rattle.bw_model.specs.Column.{names_of, column_named}
 use Rattle.bw_cert_text.specs.CertificateFields.{ColumnFields, One, Two, ChainFields, BodyFields, CertificateFields}
-use Rattle.bw_text.specs.Printed.{line_text}
+use Rattle.bw_text.specs.Printing.{line_text}
 use Rattle.bw_text.specs.Register.{register_text}
 use Rattle.bw_cert_text.specs.Token.{Token, Key, Number, Perhaps, Column, Register, node_tokens, chain_tokens, row_tokens, entry_tokens, end_tokens}
 

@@ -4,7 +4,7 @@ ghost use Rattle.bw_text.specs.Lines.{line_of};
 ghost use Rattle.bw_cert_text.specs.CertificateFields.{column_fields, chain_fields, keep_fields, entry_fields};
 ghost use Rattle.bw_cert_text.specs.LineText.{node_in, one_column_in, two_columns_in, columns_after, chain_in, reason_in, row_in, compare_in, compare_columns_in, is_in, condition_in, byte_in, instruction_in, edges_in, keep_in, body_at, parse_line_after, parse_line_in};
 ghost use Rattle.bw_text.specs.declared.line_kind.LineKind.TheVariants as kinds;
-ghost use Rattle.bw_cert_text.specs.SaidFields.{part_fields, parsed_fields};
+ghost use Rattle.bw_cert_text.specs.ParsedFields.{part_fields, parsed_fields};
 
 use crate::connective::connective_of;
 use crate::edge_pairs::EdgePairs;
@@ -415,29 +415,29 @@ fn parse_line_after<'a>(
         ≡ parse_line_after line kind (map (λ word. word.now) words.now)) }
 {
     match kind {
-        LineKind::Node => Ok(node_said(line, words)),
+        LineKind::Node => Ok(parse_node(line, words)),
         LineKind::Chain => {
             let Some(chain) = chain_in(alloc, line, words)? else {
                 return Ok(None);
             };
             Ok(Some(ParsedLine::Before(Part::Chain(chain))))
         }
-        LineKind::Row => Ok(row_said(line, words)),
-        LineKind::Condition(kind) => Ok(condition_said(line, kind, words)),
-        LineKind::Instruction(kind) => Ok(instruction_said(line, kind, words)),
-        LineKind::Join => Ok(join_said(line, words)),
+        LineKind::Row => Ok(parse_row(line, words)),
+        LineKind::Condition(kind) => Ok(parse_condition(line, kind, words)),
+        LineKind::Instruction(kind) => Ok(parse_instruction(line, kind, words)),
+        LineKind::Join => Ok(parse_join(line, words)),
         LineKind::Keep => {
             let Some(keep) = keep_in(alloc, words, pairs)? else {
                 return Ok(None);
             };
             Ok(Some(in_body(line, Entry::Keep(keep))))
         }
-        LineKind::End => Ok(end_said(line, words)),
+        LineKind::End => Ok(parse_end(line, words)),
     }
 }
 
 /// Returns the fields in the words after `NODE`.
-fn node_said<'a>(line: u64, words: &[&[u8]]) -> Option<ParsedLine<'a>>
+fn parse_node<'a>(line: u64, words: &[&[u8]]) -> Option<ParsedLine<'a>>
     ensures { option_map parsed_fields result
         ≡ parse_line_after line kinds.Node (map (λ word. word.now) words.now) }
 {
@@ -446,7 +446,7 @@ fn node_said<'a>(line: u64, words: &[&[u8]]) -> Option<ParsedLine<'a>>
 }
 
 /// Returns the fields in the words after `ROW`.
-fn row_said<'a>(line: u64, words: &[&[u8]]) -> Option<ParsedLine<'a>>
+fn parse_row<'a>(line: u64, words: &[&[u8]]) -> Option<ParsedLine<'a>>
     ensures { option_map parsed_fields result
         ≡ parse_line_after line kinds.Row (map (λ word. word.now) words.now) }
 {
@@ -455,7 +455,7 @@ fn row_said<'a>(line: u64, words: &[&[u8]]) -> Option<ParsedLine<'a>>
 }
 
 /// Returns the fields in the line of a condition's step.
-fn condition_said<'a>(line: u64, kind: ConditionKind, words: &[&[u8]]) -> Option<ParsedLine<'a>>
+fn parse_condition<'a>(line: u64, kind: ConditionKind, words: &[&[u8]]) -> Option<ParsedLine<'a>>
     ensures { option_map parsed_fields result
         ≡ parse_line_after line (kinds.Condition kind) (map (λ word. word.now) words.now) }
 {
@@ -464,7 +464,7 @@ fn condition_said<'a>(line: u64, kind: ConditionKind, words: &[&[u8]]) -> Option
 }
 
 /// Returns the fields in the line of an instruction.
-fn instruction_said<'a>(line: u64, kind: InstructionKind, words: &[&[u8]]) -> Option<ParsedLine<'a>>
+fn parse_instruction<'a>(line: u64, kind: InstructionKind, words: &[&[u8]]) -> Option<ParsedLine<'a>>
     ensures { option_map parsed_fields result
         ≡ parse_line_after line (kinds.Instruction kind) (map (λ word. word.now) words.now) }
 {
@@ -473,7 +473,7 @@ fn instruction_said<'a>(line: u64, kind: InstructionKind, words: &[&[u8]]) -> Op
 }
 
 /// Returns the fields in the words after `JOIN`.
-fn join_said<'a>(line: u64, words: &[&[u8]]) -> Option<ParsedLine<'a>>
+fn parse_join<'a>(line: u64, words: &[&[u8]]) -> Option<ParsedLine<'a>>
     ensures { option_map parsed_fields result
         ≡ parse_line_after line kinds.Join (map (λ word. word.now) words.now) }
 {
@@ -482,7 +482,7 @@ fn join_said<'a>(line: u64, words: &[&[u8]]) -> Option<ParsedLine<'a>>
 }
 
 /// Returns the fields in the words after `END`.
-fn end_said<'a>(line: u64, words: &[&[u8]]) -> Option<ParsedLine<'a>>
+fn parse_end<'a>(line: u64, words: &[&[u8]]) -> Option<ParsedLine<'a>>
     ensures { option_map parsed_fields result
         ≡ parse_line_after line kinds.End (map (λ word. word.now) words.now) }
 {

@@ -7,7 +7,7 @@ ghost use Rattle.bw_cert_text.specs.CertificateFields.{CertificateFields, certif
 ghost use Rattle.bw_cert_text.specs.CertificateText.{certificate_of, certificate_from, parse_line_on, section_of, with_part, end_alone, last_line, is_before, IsCertificateText, IsCertificateFault};
 ghost use Rattle.bw_cert_text.specs.Parts.{append_fields};
 ghost use Rattle.bw_cert_text.specs.Reprint.{numbers_fit};
-ghost use Rattle.bw_cert_text.specs.SaidFields.{part_fields, parsed_fields};
+ghost use Rattle.bw_cert_text.specs.ParsedFields.{part_fields, parsed_fields};
 
 use crate::body::Body;
 use crate::certificate::Certificate;

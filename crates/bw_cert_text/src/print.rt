@@ -12,7 +12,7 @@ ghost use Rattle.bw_cert_text.specs.Columns.{are_columns, has_columns};
 ghost use Rattle.bw_cert_text.specs.Reprint.{is_small, are_small, numbers_fit, renumbered};
 ghost use Rattle.bw_cert_text.specs.CertificateFields.{CertificateFields, certificate_fields, column_fields, chain_fields, keep_fields, entry_fields, body_fields};
 ghost use Rattle.bw_cert_text.specs.PrintText.{token_text, token_words, token_line, lines_text, body_tokens, schema_spelling, respelled_chain, respelled, print_text};
-ghost use Rattle.bw_text.specs.Printed.{piece_text, spaced};
+ghost use Rattle.bw_text.specs.Printing.{piece_text, spaced};
 ghost use Rattle.bw_cert_text.specs.Token.{Key, Number, Perhaps, one_key, two_key, node_tokens, chain_tokens, row_tokens, condition_tokens, instruction_tokens, edge_tokens, keep_tokens, entry_tokens, end_tokens};
 
 use crate::body::BodyLines;

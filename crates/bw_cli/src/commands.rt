@@ -3,7 +3,7 @@
 //! [--stats] TABLE SQL`, `bw session [--program FILE]... [--stats] TABLE`, `bw plan SCHEMA SQL`,
 //! `bw check SCHEMA SQL FILE`, `bw info TABLE` and `bw dump TABLE`. Each takes `--explain`, before
 //! the command or after it.
-use crate::words::CommandArgs;
+use crate::args::CommandArgs;
 use bw_file::Layout;
 use clap::{Arg, ArgAction, ArgMatches, Command, Error};
 use std::alloc::{AllocError, Global};
@@ -130,7 +130,7 @@ fn with_commands<'a>(alloc: Global) -> Result<Command<'a>, AllocError> {
     for told in &COMMANDS {
         program = with_command(program, command(alloc, told))?;
     }
-    program.arg(explained(alloc))
+    program.arg(explain_option(alloc))
 }
 
 fn with_command<'a>(
@@ -170,15 +170,15 @@ fn argument<'a>(alloc: Global, taken: ArgSpec) -> Arg<'a> {
     match taken {
         ArgSpec::File(name, help) => Arg::new(alloc, name).required(true).help(help),
         ArgSpec::Statement => statement(alloc),
-        ArgSpec::Valued(name, value, help) => valued(alloc, ArgAction::Set, name, value, help),
-        ArgSpec::Repeated(name, value, help) => valued(alloc, ArgAction::Append, name, value, help),
+        ArgSpec::Valued(name, value, help) => value_option(alloc, ArgAction::Set, name, value, help),
+        ArgSpec::Repeated(name, value, help) => value_option(alloc, ArgAction::Append, name, value, help),
         ArgSpec::Layout => layout(alloc),
         ArgSpec::Stats => stats(alloc),
     }
 }
 
 /// Returns an option with a value.
-fn valued<'a>(
+fn value_option<'a>(
     alloc: Global,
     action: ArgAction,
     name: &'static str,
@@ -212,7 +212,7 @@ pub(crate) fn is_explained(matches: &ArgMatches<'_>) -> bool {
 }
 
 /// Returns the command with its arguments.
-pub(crate) fn words_of<'a>(matches: &ArgMatches<'a>) -> Option<CommandArgs<'a>> {
+pub(crate) fn command_args<'a>(matches: &ArgMatches<'a>) -> Option<CommandArgs<'a>> {
     let (name, found) = matches.subcommand()?;
     match name {
         "direct" => direct_words(found),
@@ -312,7 +312,7 @@ fn layout<'a>(alloc: Global) -> Arg<'a> {
 }
 
 /// Returns the option `--explain`, which may precede the command or follow it.
-fn explained<'a>(alloc: Global) -> Arg<'a> {
+fn explain_option<'a>(alloc: Global) -> Arg<'a> {
     Arg::new(alloc, "explain")
         .long("explain")
         .action(ArgAction::SetTrue)

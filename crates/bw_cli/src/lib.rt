@@ -1,12 +1,12 @@
 //! The command line: the commands, their arguments and their help.
 //!
-//! [`asked_by`] parses the arguments by the kit's `clap`, which also writes help and usage errors.
+//! [`parse_invocation`] parses the arguments by the kit's `clap`, which also writes help and usage errors.
 //! Only that these calls return is proved; what they return is tested on the program.
 #![tactic(auto)]
 
 mod commands;
-mod given;
-mod words;
+mod invocation;
+mod args;
 
-pub use given::{Invocation, USAGE, asked_by, words_given};
-pub use words::CommandArgs;
+pub use invocation::{Invocation, USAGE, parse_invocation, process_args};
+pub use args::CommandArgs;

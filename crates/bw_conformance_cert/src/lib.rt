@@ -14,7 +14,7 @@ mod diagram;
 #[cfg(test)]
 mod files;
 #[cfg(test)]
-mod held_lines;
+mod lines_after_others;
 #[cfg(test)]
 mod lines;
 #[cfg(test)]

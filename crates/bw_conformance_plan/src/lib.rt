@@ -11,6 +11,6 @@ mod generated;
 #[cfg(test)]
 mod lists;
 #[cfg(test)]
-mod related;
+mod column_comparisons;
 #[cfg(test)]
 mod rows;

@@ -47,7 +47,7 @@ impl Numbers {
 pub(crate) struct Cost {
     pub(crate) loads: usize,
     pub(crate) skips: usize,
-    pub(crate) picked: u64,
+    pub(crate) selected: u64,
 }
 
 /// Returns a value of a column: one near its minimum, its maximum or another number, or any.
@@ -122,7 +122,7 @@ pub(crate) fn planned(
 
 /// Returns what a program selects from a group of rows in both layouts, which must be the rows on
 /// which the condition is TRUE.
-fn picked(
+fn selected(
     rt: &impl Abort,
     alloc: Global,
     schema: &Schema,
@@ -142,23 +142,23 @@ fn picked(
     assert!(rt; plane == other, "{text}");
     assert_eq!(rt; counts.loads, others.loads, "{text}");
     assert_eq!(rt; counts.skips, others.skips, "{text}");
-    let mut picked = 0u64;
+    let mut selected = 0u64;
     for (i, row) in rows.iter().enumerate() {
         assert!(rt; row.values.len() == schema.columns.len());
         let is_true = truth(cond, row) == Truth::Yes;
         assert!(rt; i < 512);
         assert!(rt; lane(&plane, i) == is_true, "{text} on {:?}", row.values);
-        picked = picked.saturating_add(u64::from(is_true));
+        selected = selected.saturating_add(u64::from(is_true));
     }
     Ok(Cost {
         loads: counts.loads,
         skips: counts.skips,
-        picked,
+        selected,
     })
 }
 
 /// Returns the cost of a program over all groups of rows.
-fn picked_in_all(
+fn selected_in_all(
     rt: &impl Abort,
     alloc: Global,
     schema: &Schema,
@@ -173,13 +173,13 @@ fn picked_in_all(
     let mut cost = Cost {
         loads: 0,
         skips: 0,
-        picked: 0,
+        selected: 0,
     };
     for group in rows.chunks(512) {
-        let more = picked(rt, alloc, schema, certified, cond, group, text)?;
+        let more = selected(rt, alloc, schema, certified, cond, group, text)?;
         cost.loads = cost.loads.saturating_add(more.loads);
         cost.skips = cost.skips.saturating_add(more.skips);
-        cost.picked = cost.picked.saturating_add(more.picked);
+        cost.selected = cost.selected.saturating_add(more.selected);
     }
     Ok(cost)
 }
@@ -196,7 +196,7 @@ pub(crate) fn judged(
     let cond = parse(alloc, schema, sql.as_bytes())?.cond;
     match planned(rt, alloc, schema, &cond, text) {
         Ok(certified) => {
-            let cost = picked_in_all(rt, alloc, schema, &certified, &cond, rows, text)?;
+            let cost = selected_in_all(rt, alloc, schema, &certified, &cond, rows, text)?;
             Ok(Ok(cost))
         }
         Err(fault) => Ok(Err(fault)),

@@ -8,7 +8,7 @@
 #[cfg(test)]
 mod lanes;
 #[cfg(test)]
-mod picked;
+mod selected;
 #[cfg(test)]
 mod planes;
 #[cfg(test)]

@@ -1,5 +1,5 @@
 //! Aggregates and their totals.
-use crate::picked::{Picked, total};
+use crate::selected::{Selected, total};
 use crate::segments::{SCHEMA, TABLE};
 use bw_lanes::{Plane, lane, mask};
 use bw_model::{Item, Schema, Value};
@@ -15,8 +15,8 @@ fn common_table_is_totalled(rt: HostRuntime) -> Result<(), Fail> {
     let alloc = rt.alloc();
     let schema = Schema::parse(alloc, SCHEMA)?;
     let other = [[Some(9), Some(9)]];
-    // which rows are picked, and the totals of all five and of the one more row after them, which
-    // isn't picked
+    // which rows are selected, and the totals of all five and of the one more row after them, which
+    // isn't selected
     for (name, word, item, expected) in [
         ("all", 0b11111, Item::CountAll, Some(5)),
         ("all", 0b11111, Item::Count(0), Some(5)),
@@ -41,21 +41,21 @@ fn common_table_is_totalled(rt: HostRuntime) -> Result<(), Fail> {
         ("nothing", 0, Item::Min(0), None),
         ("nothing", 0, Item::Max(0), None),
     ] {
-        let picked = Picked {
+        let selected = Selected {
             rows: &TABLE,
             plane: lanes(word),
         };
-        let none = Picked {
+        let none = Selected {
             rows: &other,
             plane: lanes(0),
         };
         assert_eq!(rt;
-            total(&rt, alloc, &schema, &item, &picked, &none)?,
+            total(&rt, alloc, &schema, &item, &selected, &none)?,
             expected,
             "{name}, {item:?}"
         );
         assert_eq!(rt;
-            total(&rt, alloc, &schema, &item, &none, &picked)?,
+            total(&rt, alloc, &schema, &item, &none, &selected)?,
             expected,
             "{name}, {item:?}"
         );
@@ -81,11 +81,11 @@ fn whole_segments_are_totalled(rt: HostRuntime) -> Result<(), Fail> {
         (Item::Min(1), Some(-7)),
         (Item::Max(1), Some(-1)),
     ] {
-        let all = Picked {
+        let all = Selected {
             rows: &first,
             plane: mask(512),
         };
-        let others = Picked {
+        let others = Selected {
             rows: &second,
             plane: mask(512),
         };
@@ -121,11 +121,11 @@ fn widest_codes_are_totalled(rt: HostRuntime) -> Result<(), Fail> {
         (Item::Min(1), Some(-9223372036854775807)),
         (Item::Max(1), Some(-1)),
     ] {
-        let all = Picked {
+        let all = Selected {
             rows: &table,
             plane: mask(3),
         };
-        let none = Picked {
+        let none = Selected {
             rows: &other,
             plane: mask(1),
         };
@@ -175,16 +175,16 @@ fn least_and_greatest_are_found_among_ties(rt: HostRuntime) -> Result<(), Fail> 
         (0b0111_1011, Item::Max(1), Some(1)),
         (0, Item::Max(1), None),
     ] {
-        let picked = Picked {
+        let selected = Selected {
             rows: &table,
             plane: lanes(word),
         };
-        let none = Picked {
+        let none = Selected {
             rows: &other,
             plane: lanes(0),
         };
         assert_eq!(rt;
-            total(&rt, alloc, &schema, &item, &picked, &none)?,
+            total(&rt, alloc, &schema, &item, &selected, &none)?,
             expected,
             "{word:b}, {item:?}"
         );
@@ -261,16 +261,16 @@ fn drawn_rows_are_totalled_as_row_by_row(rt: HostRuntime) -> Result<(), Fail> {
             Item::Min(1),
             Item::Max(1),
         ] {
-            let picked = Picked {
+            let selected = Selected {
                 rows: &table,
                 plane,
             };
-            let none = Picked {
+            let none = Selected {
                 rows: &other,
                 plane: mask(1),
             };
             assert_eq!(rt;
-                total(&rt, alloc, &schema, &item, &picked, &none)?,
+                total(&rt, alloc, &schema, &item, &selected, &none)?,
                 row_by_row(&item, &table, &plane),
                 "{item:?}, {plane:?}"
             );

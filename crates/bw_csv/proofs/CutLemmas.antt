@@ -116,11 +116,11 @@ pub record Begins (text : List ℕ) (i : ℕ) (inside : Inside) (count : ℕ) : 
   pub fields : List (List ℕ)
   pub field : List ℕ
   pub many : length fields ≡ count
-  pub few : count ≤ i
+  pub within_limit : count ≤ i
   pub reads : (rest : List ℕ) → next_record default_config st.StartRecord [] [] (take i text ++ rest) ≡ next_record default_config (state_of inside) fields field rest
 
 pub begins_nothing : (text : List ℕ) → Begins text 0 Before 0
-begins_nothing text = record { fields = []; field = []; many = refl; few = omega arith; reads = λ rest. refl }
+begins_nothing text = record { fields = []; field = []; many = refl; within_limit = omega arith; reads = λ rest. refl }
 
 step_reads : (s : State) (fields : List (List ℕ)) (field : List ℕ) (c : ℕ) (rest : List ℕ) → is_end (step default_config s c).1 ≡ false
     → next_record default_config s fields field (c ∷ rest) ≡ next_record default_config (step default_config s c).0 (fields_after (step default_config s c).1 fields field) (field_after (step default_config s c).1 c field) rest
@@ -154,7 +154,7 @@ begins_next text i inside next count b h e f s =
       fields = b.fields;
       field = field_after a (get_or text i 0) b.field;
       many = b.many;
-      few = let few = b.few in omega arith;
+      within_limit = let few = b.within_limit in omega arith;
       reads = λ rest. reads_step text i inside count b h e rest ∙ rw (s, same_fields a b.fields b.field f e) refl;
     }
 
@@ -182,7 +182,7 @@ begins_field text i inside next count b h f s =
       fields = b.fields ++ b.field ∷ [];
       field = [];
       many = length-append b.fields (b.field ∷ []) ∙ ap (λ (n : ℕ). n + 1) b.many;
-      few = let few = b.few in omega arith;
+      within_limit = let few = b.within_limit in omega arith;
       reads = λ rest. reads_step text i inside count b h (closed_ends a f) rest ∙ rw (s, is.0, is.1) refl;
     }
 

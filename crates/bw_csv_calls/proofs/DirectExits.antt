@@ -7,7 +7,7 @@ use Rattle.bw_model.specs.Fault.{no_memory, is_memory}
 use Rattle.bw_io.specs.Source.{Arrival, NotReached, Failed}
 use Rattle.bw_csv.specs.Input.{IsMadeOf}
 use Rattle.bw_sql.specs.Statement.{IsReadAs, Parses}
-use Rattle.bw_csv_calls.specs.Arrived.{IsSchemaFrom}
+use Rattle.bw_csv_calls.specs.ReadInputs.{IsSchemaFrom}
 use Rattle.bw_csv_calls.specs.Direct.{IsAnswer, answer_of}
 use Rattle.bw_csv_calls.proofs.Exits.{Given, Ends, IsFaultOf, memory_is, refused_exit}
 

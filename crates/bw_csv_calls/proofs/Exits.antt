@@ -13,7 +13,7 @@ use Rattle.bw_csv.specs.Rows.{StopsUnder, is_exempt}
 use Rattle.bw_io.specs.Sink.{is_write_fault, GoesOut, WriteOutcome}
 use Rattle.bw_io.proofs.SinkLemmas.{wrote_nothing, wrote_text}
 use Rattle.bw_io.specs.Source.{Arrival, NotReached, Whole, TooLong, Failed, ReadOutcome}
-use Rattle.bw_csv_calls.specs.Arrived.{CsvStopped, SchemaCame, IsSchemaFrom}
+use Rattle.bw_csv_calls.specs.ReadInputs.{HasStoppedInCsv, HasReadSchema, IsSchemaFrom}
 
 -- the text that goes out, or a fault
 abbrev pub Given : Type 0
@@ -76,10 +76,10 @@ pub went_nowhere : (P Q : Arrival → Type 0) (Is : Arrival → Arrival → Give
 went_nowhere P Q Is old count fault other e = (e.0, e.1, e.2, e.3, e.4, e.5, wrote_nothing (Unit {0}) is_exempt old count fault e.2 other e.6)
 
 -- a schema that was read came of a text that came whole
-pub came_of : (came : Arrival → Type 0) (schema : Schema) → ((arrived : Arrival) × came arrived × IsSchemaFrom arrived (Ok schema)) → SchemaCame came schema
+pub came_of : (came : Arrival → Type 0) (schema : Schema) → ((arrived : Arrival) × came arrived × IsSchemaFrom arrived (Ok schema)) → HasReadSchema came schema
 came_of came schema told = by told.0 told.1 told.2
   where
-    by : (arrived : Arrival) → came arrived → IsSchemaFrom arrived (Ok schema) → SchemaCame came schema
+    by : (arrived : Arrival) → came arrived → IsSchemaFrom arrived (Ok schema) → HasReadSchema came schema
     by NotReached whole spelled = absurd spelled
     by (Whole text) whole spelled = record { text = text; whole = whole; spelled = spelled }
     by TooLong whole spelled = let e : ◌≡◌ {A = Result Schema Fault} (Ok schema) (Err (nowhere 106)) = spelled in absurd (cc e)
@@ -87,6 +87,6 @@ came_of came schema told = by told.0 told.1 told.2
 
 -- a CSV text in which the reader stopped came whole
 pub stopped_of : (came : Arrival → Type 0) (schema : Schema) (bytes text : List ℕ) (fault : Fault) → ((arrived : Arrival) × came arrived × (arrived ≡ Whole bytes))
-    → text ≡ bytes → StopsUnder schema.columns.items (records_of text) fault → CsvStopped came schema fault
+    → text ≡ bytes → StopsUnder schema.columns.items (records_of text) fault → HasStoppedInCsv came schema fault
 stopped_of came schema bytes text fault told same stops =
     record { text = bytes; whole = subst came told.2 told.1; stops = subst (λ (t : List ℕ). StopsUnder schema.columns.items (records_of t) fault) same stops }

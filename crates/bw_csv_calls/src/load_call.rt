@@ -7,7 +7,7 @@ ghost use Rattle.bw_io.specs.Sink.{WriteOutcome, is_write_fault};
 ghost use Rattle.bw_io.specs.Source.{Arrival, ReadOutcome, TellsFailureOfEither, TookAtMost};
 ghost use Rattle.bw_csv.specs.Bare.{records_of};
 ghost use Rattle.bw_csv.specs.Rows.{is_exempt, is_reader_fault, MatchesUnlessExempt, IsRowsFault, StopsUnder};
-ghost use Rattle.bw_csv_calls.specs.Arrived.{CsvStopped, SchemaCame};
+ghost use Rattle.bw_csv_calls.specs.ReadInputs.{HasStoppedInCsv, HasReadSchema};
 ghost use Rattle.bw_csv_calls.specs.Direct.{is_before_csv};
 ghost use Rattle.bw_csv_calls.specs.Load.{IsFile, file_of};
 
@@ -50,10 +50,10 @@ pub fn load<S: Source, C: Source, K: Sink>(
     // If the CSV's reader has an error of its own, the schema was accepted, the CSV was read
     // completely, and the error is at the heading, or at the record after those that have rows.
     ensures reader { IfErr result (λ fault. is_reader_fault fault ≡ true → (schema : Schema)
-        × SchemaCame (ReadOutcome longest_schema (S.to_come schema_source.old)
+        × HasReadSchema (ReadOutcome longest_schema (S.to_come schema_source.old)
         (S.to_come schema_source.new)
         (S.failures schema_source.old) (S.failures schema_source.new)) schema
-        × CsvStopped (ReadOutcome longest_csv (C.to_come csv_source.old) (C.to_come csv_source.new)
+        × HasStoppedInCsv (ReadOutcome longest_csv (C.to_come csv_source.old) (C.to_come csv_source.new)
         (C.failures csv_source.old) (C.failures csv_source.new)) schema fault) }
 
     // Of a source at most one byte past its limit is read. The call fails by a failed read if and
@@ -95,10 +95,10 @@ fn build_table<S: Source, C: Source>(
         × MatchesUnlessExempt (λ file. file.items) result given }
     ensures fault { IfErr result (λ fault. is_write_fault fault ≡ false) }
     ensures reader { IfErr result (λ fault. is_reader_fault fault ≡ true → (schema : Schema)
-        × SchemaCame (ReadOutcome longest_schema (S.to_come schema_source.old)
+        × HasReadSchema (ReadOutcome longest_schema (S.to_come schema_source.old)
         (S.to_come schema_source.new)
         (S.failures schema_source.old) (S.failures schema_source.new)) schema
-        × CsvStopped (ReadOutcome longest_csv (C.to_come csv_source.old) (C.to_come csv_source.new)
+        × HasStoppedInCsv (ReadOutcome longest_csv (C.to_come csv_source.old) (C.to_come csv_source.new)
         (C.failures csv_source.old) (C.failures csv_source.new)) schema fault) }
     ensures schema { TookAtMost (longest_schema + 1) (S.to_come schema_source.old)
         (S.to_come schema_source.new) }

@@ -12,7 +12,7 @@ use Rattle.std.proofs.lemmas.Option.{option_and_then_some}
 use Rattle.bw_model.specs.declared.column.Column.{Column}
 use Rattle.bw_model.specs.Code.{width_at, has_bit}
 use Rattle.bw_model.specs.Variable.{Assignment, first_variable, bit_variable, spelled}
-use Rattle.bw_model.specs.Stored.{number_spelled}
+use Rattle.bw_model.specs.StoredCodes.{number_spelled}
 use Rattle.bw_model.proofs.BitsLemmas.{both, given}
 use Rattle.bw_model.proofs.VariableLemmas.{width_before_next}
 use Rattle.bw_diagram.specs.declared.node.Node.{Node}
@@ -349,9 +349,9 @@ some-claim columns nodes chains (Two kind left right len node prev) lower (Some 
     two-claim columns nodes chains kind left right len node prev lower e ordered before (ltb-true left (length columns) there.0) (ltb-true right (length columns) there.1) longer found chosen assignment
 
 -- a chain that obeys its rule is true, if the chains before it are
-pub obeys_chain-chain : (columns : List Column) (nodes : List Node) (chains : List Chain) (number : ℕ) (chain : Chain) → AreOrdered nodes → AllChains columns nodes chains → is_valid_chain columns nodes chains number chain ≡ true → IsChain columns nodes chain
+pub is_valid_chain-chain : (columns : List Column) (nodes : List Node) (chains : List Chain) (number : ℕ) (chain : Chain) → AreOrdered nodes → AllChains columns nodes chains → is_valid_chain columns nodes chains number chain ≡ true → IsChain columns nodes chain
 unfolding is_valid_chain is_step
-obeys_chain-chain columns nodes chains number chain ordered before is =
+is_valid_chain-chain columns nodes chains number chain ordered before is =
     let stepped = both _ _ is in
     let range = is_in_range-is columns nodes chains chain (both _ _ stepped.0).1 in
     record { chain_node = range.chain_node; claim = λ assignment. by_length (eqb (length_of chain) 0) refl stepped.1 range.within assignment }

@@ -143,10 +143,10 @@ cofactors_join nodes v row ordered low high assignment = by_side (assignment v) 
     by_side false side = from false side low
 
 -- a row that obeys its rule is true, if the rows before it are
-pub obeys_product-product : (variables : ℕ) (nodes : List Node) (rows : List Product) (number : ℕ) (row : Product) (reason : Reason) → AreOrdered nodes →
+pub is_valid_product-product : (variables : ℕ) (nodes : List Node) (rows : List Product) (number : ℕ) (row : Product) (reason : Reason) → AreOrdered nodes →
     ((k : ℕ) (row : Product) → slice_get rows k ≡ Some row → IsProduct nodes row) → is_valid_product variables nodes rows number row reason ≡ true → IsProduct nodes row
 unfolding is_valid_product
-obeys_product-product variables nodes rows number row reason ordered before is =
+is_valid_product-product variables nodes rows number row reason ordered before is =
     let reasoned = both _ _ is in
     let c = both _ _ reasoned.0 in
     let b = both _ _ c.0 in

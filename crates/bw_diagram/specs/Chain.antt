@@ -5,7 +5,7 @@ use Rattle.bw_model.specs.declared.column.Column.{Column}
 use Rattle.bw_model.specs.Column.{column_named}
 use Rattle.bw_model.specs.Code.{width_at, has_bit}
 use Rattle.bw_model.specs.Variable.{Assignment, bit_variable}
-use Rattle.bw_model.specs.Stored.{number_spelled}
+use Rattle.bw_model.specs.StoredCodes.{number_spelled}
 use Rattle.bw_diagram.specs.declared.node.Node.{Node}
 use Rattle.bw_diagram.specs.declared.chain.ChainKind.{ChainKind}
 use Rattle.bw_diagram.specs.declared.chain.ChainKind.TheVariants.{Less, Equal}

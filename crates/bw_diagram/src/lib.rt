@@ -13,13 +13,13 @@
 #![tactic(auto)]
 
 mod chain;
-mod cited;
+mod references;
 mod diagram;
 mod node;
 mod product;
 
 pub use chain::{Chain, ChainColumns, ChainKind};
-pub use cited::cited_nodes_are_worth;
+pub use references::cited_nodes_are_worth;
 pub use diagram::{
     Diagram, accepted_lines_are_true, later_nodes_change_no_value, whole_columns_are_spelled,
 };

@@ -11,7 +11,7 @@ use Rattle.std.proofs.lemmas.List.{drop_all, drop_more}
 use Rattle.std.proofs.lemmas.Bool.{cases_lt}
 use Rattle.bw_segment.proofs.LayoutLemmas.{block_added}
 use Rattle.bw_file.specs.Blocks.{form_of, bytes_before, block_size, block_fault, AreSound, rows_spelled}
-use Rattle.bw_file.specs.Reading.{◌>>=◌, give, field, State, Took, GoesOn, Fails, HasByteMore}
+use Rattle.bw_file.specs.Reading.{◌>>=◌, give, field, State, HasConsumed, GoesOn, Fails, HasByteMore}
 use Rattle.bw_file.specs.TableReading.{plane_has_padding, has_padding, padding_from, fault_place, sound_at, one_block, blocks, segment}
 use Rattle.bw_file.proofs.ReadingLemmas.{took_nothing, needs_none, begins, passes, stops, refuses}
 
@@ -135,7 +135,7 @@ segment_stops layout schema rows old new fault p =
     (begins (segment layout schema rows) old) p
 
 -- a byte in place of the end
-pub end_refused : (old new : State) (bytes : List ℕ) → Took old new bytes → new.failures ≡ old.failures → length bytes ≡ 1 → HasByteMore old new (at_byte 309 old.offset)
+pub end_refused : (old new : State) (bytes : List ℕ) → HasConsumed old new bytes → new.failures ≡ old.failures → length bytes ≡ 1 → HasByteMore old new (at_byte 309 old.offset)
 end_refused old new bytes took same one =
     record { bytes = bytes; took = took; unfinished = λ failed. absurd (cc failed); failures = omega (arith, same); refused = λ _. (one, refl) }
 

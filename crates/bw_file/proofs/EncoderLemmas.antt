@@ -103,7 +103,7 @@ whole_flushed encoder rows full holds =
 pub admitted_more : (columns : List Column) (rows : List (List Value)) (row : List Value) → AreRows columns rows → length rows < most_rows → admits_values columns row ≡ true
     → AreRows columns (rows ++ row ∷ [])
 admitted_more columns rows row are lt admitted = record {
-  few = omega (arith, length-append rows (row ∷ []));
+  within_limit = omega (arith, length-append rows (row ∷ []));
   admitted = list_all-append (admits_values columns) rows (row ∷ []) ∙ ap₂ ◌&&◌ are.admitted (ap (λ b. b && true) admitted);
 }
 

@@ -83,7 +83,7 @@ spelled_with bytes h t schema y head known same e =
       shape = same;
       text = record {
         under = subst IsSchema (sym same) known.schema;
-        admitted = record { few = omega (arith, count, known.few); admitted = admitted };
+        admitted = record { within_limit = omega (arith, count, known.within_limit); admitted = admitted };
         text = of_version h.version h.layout schema rows bytes known.version narrow whole;
       };
     }

@@ -7,7 +7,7 @@ use Rattle.bw_model.specs.Fault.{no_memory}
 use Rattle.bw_model.specs.Groups.{together}
 use Rattle.bw_model.specs.Row.{Value}
 use Rattle.bw_io.specs.Source.{is_read_fault, is_input_fault, failed_reads}
-use Rattle.bw_file.specs.Reading.{State, Took}
+use Rattle.bw_file.specs.Reading.{State, HasConsumed}
 use Rattle.bw_model.specs.declared.schema.Schema.{Schema}
 use Rattle.bw_file.specs.AnySegment.{any_meaning}
 use Rattle.bw_file.specs.declared.segments.AnySegment.{AnySegment}
@@ -20,7 +20,7 @@ together_more [] rows = append-nil rows
 together_more (group ∷ groups) rows = ap (λ (l : List (List Value)). group ++ l) (together_more groups rows) ∙ sym (append_assoc group (together groups) rows)
 
 -- out of memory, once bytes were taken, fewer of which end too early, and no read failed
-pub memory_answers : (start old now : State) (fault : Fault) → ((bytes : List ℕ) × Took start now bytes × FrontsEndEarly bytes) → now.failures ≡ old.failures → fault ≡ no_memory
+pub memory_answers : (start old now : State) (fault : Fault) → ((bytes : List ℕ) × HasConsumed start now bytes × FrontsEndEarly bytes) → now.failures ≡ old.failures → fault ≡ no_memory
     → AnswersFault start old now fault
 memory_answers start old now fault taken failures memory = record {
   bytes = taken.0;

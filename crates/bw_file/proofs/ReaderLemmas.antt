@@ -13,7 +13,7 @@ use Rattle.bw_model.specs.SchemaText.{schema_shape}
 use Rattle.bw_io.specs.Source.{is_input_fault, is_read_fault}
 use Rattle.bw_file.specs.declared.layout.Layout.{Layout}
 use Rattle.bw_file.specs.declared.table_reader.TableReader.{TableReader}
-use Rattle.bw_file.specs.Reading.{tail, Reading, ◌>>=◌, give, State, Took, GoesOn, NeedsEach, NeedsMore, HasFault, Fails, HasByteMore}
+use Rattle.bw_file.specs.Reading.{tail, Reading, ◌>>=◌, give, State, HasConsumed, GoesOn, NeedsEach, NeedsMore, HasFault, Fails, HasByteMore}
 use Rattle.bw_file.specs.TableReading.{HeaderShape, header, body, segment, end, sizes_within, group_sizes, found_in, IsReadAs}
 use Rattle.bw_file.specs.TableReader.{header_stated, ReadProgress, found_so_far, ReadWhole, FrontsEndEarly, NoneToSpare, HasFirstFault, AnswersFault}
 use Rattle.bw_file.proofs.ReadingLemmas.{passes, stops, took_more, coming_of, is_coming}
@@ -126,7 +126,7 @@ module _ (start old : State) (reader : TableReader) (groups : List (List (List V
             let more_than : n ≡ length so_far.head.bytes + m = omega (arith, same) in
             let split : take n (so_far.head.bytes ++ more) ≡ so_far.head.bytes ++ take m more =
             ap (λ (k : ℕ). take k (so_far.head.bytes ++ more)) more_than ∙ take-append-add so_far.head.bytes more m in
-            let place : so_far.after.offset + m ≡ n = omega (arith, same, so_far.first, so_far.head.took.counted) in
+            let place : so_far.after.offset + m ≡ n = omega (arith, same, so_far.first, so_far.head.took.advanced) in
             let early : whole_body (tail so_far.after.offset (take m more)) ≡ Err (at_byte 305 n) =
             rw place at (needed m (omega (arith, lt, same, length-append so_far.head.bytes more))) in
             rw (split, header_on (take m more))
@@ -135,7 +135,7 @@ module _ (start old : State) (reader : TableReader) (groups : List (List (List V
 
   after_unfinished : (more : List ℕ) → NeedsMore whole_body so_far.after.offset more → IsReadAs (so_far.head.bytes ++ more) (Err (at_byte 305 (length (so_far.head.bytes ++ more))))
   after_unfinished more p =
-      let place : so_far.after.offset + length more ≡ length (so_far.head.bytes ++ more) = omega (arith, so_far.first, so_far.head.took.counted, length-append so_far.head.bytes more) in
+      let place : so_far.after.offset + length more ≡ length (so_far.head.bytes ++ more) = omega (arith, so_far.first, so_far.head.took.advanced, length-append so_far.head.bytes more) in
       let early : whole_body (tail so_far.after.offset more) ≡ Err (at_byte 305 (length (so_far.head.bytes ++ more))) = rw place at p in
       rw (header_on more) (reader.placement.value.schema, refl, sym (ap (found_in reader.layout (schema_shape reader.placement.value.schema)) early))
 
@@ -208,7 +208,7 @@ byte_needed start old reader groups all so_far byte one n lt =
           rw (take-append-le n front byte (omega (arith, less))) (inl (ends_early start old reader groups so_far so_far.on.bytes so_far.on.needed n less))
       | inr same ↦
           let size : length front ≡ n = omega (arith, same, lt, one, length-append so_far.head.bytes (so_far.on.bytes ++ byte), length-append so_far.on.bytes byte, long) in
-          let place : old.offset ≡ n = omega (arith, size, long, so_far.first, so_far.head.took.counted, so_far.on.took.counted) in
+          let place : old.offset ≡ n = omega (arith, size, long, so_far.first, so_far.head.took.advanced, so_far.on.took.advanced) in
           rw (take_at front byte n size) (inr (found_so_far reader groups, read_so_far start old reader groups all so_far, ap (λ (k : ℕ). at_byte 309 k) place))
     ])
 
@@ -256,7 +256,7 @@ end_missed start old new reader groups fault all so_far p = record {
 }
 
 pub end_seen : (start old new : State) (reader : TableReader) (groups : List (List (List Value))) → reader.given ≡ reader.rows → ReadProgress start old reader groups
-    → Took old new [] → new.failures ≡ old.failures → IsAtEnd new.known → ReadWhole start new (found_so_far reader groups)
+    → HasConsumed old new [] → new.failures ≡ old.failures → IsAtEnd new.known → ReadWhole start new (found_so_far reader groups)
 end_seen start old new reader groups all so_far took same ended = record {
   bytes = so_far.head.bytes ++ so_far.on.bytes;
   took = rw append-nil at (took_more start old new (so_far.head.bytes ++ so_far.on.bytes) []

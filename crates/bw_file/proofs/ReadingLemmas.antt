@@ -11,7 +11,7 @@ use Rattle.std.proofs.KnownBytes.{Consumes-trans}
 use Rattle.bw_model.specs.declared.fault.Fault.{Fault}
 use Rattle.bw_model.specs.Fault.{at_byte, no_memory, nowhere}
 use Rattle.bw_io.specs.Source.{is_read_fault}
-use Rattle.bw_file.specs.Reading.{AreBytes, Tail, tail, Reading, passed, at_offset, ◌>>=◌, give, field, parsed_at, read_field, State, state, Took, GoesOn, NeedsEach, NeedsMore, HasFault, Fails, Reads}
+use Rattle.bw_file.specs.Reading.{AreBytes, Tail, tail, Reading, passed, at_offset, ◌>>=◌, give, field, parsed_at, read_field, State, state, HasConsumed, GoesOn, NeedsEach, NeedsMore, HasFault, Fails, Reads}
 
 -- the bytes of a buffer are bytes, and so are those in front, and those of several buffers
 no_bytes : AreBytes []
@@ -31,15 +31,15 @@ both_bytes [] ys p q = q
 both_bytes (x ∷ xs) ys p q = one_byte_more x (xs ++ ys) (p 0) (both_bytes xs ys (λ k. p (suc k)) q)
 
 -- nothing was taken
-pub took_nothing : (known : Option (List ℕ)) (offset failures : ℕ) → Took (state known offset failures) (state known offset failures) []
-took_nothing None offset failures = record { consumed = tt; counted = sym (omega arith); each = no_bytes }
-took_nothing (Some bytes) offset failures = record { consumed = refl; counted = omega arith; each = no_bytes }
+pub took_nothing : (known : Option (List ℕ)) (offset failures : ℕ) → HasConsumed (state known offset failures) (state known offset failures) []
+took_nothing None offset failures = record { consumed = tt; advanced = sym (omega arith); each = no_bytes }
+took_nothing (Some bytes) offset failures = record { consumed = refl; advanced = omega arith; each = no_bytes }
 
 -- bytes were taken, and then more
-pub took_more : (a b c : State) (xs ys : List ℕ) → Took a b xs → Took b c ys → Took a c (xs ++ ys)
+pub took_more : (a b c : State) (xs ys : List ℕ) → HasConsumed a b xs → HasConsumed b c ys → HasConsumed a c (xs ++ ys)
 took_more a b c xs ys p q = record {
   consumed = Consumes-trans a.known b.known c.known xs ys p.consumed q.consumed;
-  counted = omega (arith, p.counted, q.counted, length-append xs ys);
+  advanced = omega (arith, p.advanced, q.advanced, length-append xs ys);
   each = both_bytes xs ys p.each q.each;
 }
 
@@ -87,7 +87,7 @@ pub passes : {A B : Type 0} (reading : Reading B) (first : Reading A) (next : A 
 passes {A = A} reading first next x old mid new p q = record {
   bytes = p.bytes ++ q.bytes;
   took = took_more old mid new p.bytes q.bytes p.took q.took;
-  needed = needs_more reading (first >>= next) old.offset mid.offset p.bytes q.bytes p.took.counted p.needed p.on (needs_first first next mid.offset q.bytes q.needed);
+  needed = needs_more reading (first >>= next) old.offset mid.offset p.bytes q.bytes p.took.advanced p.needed p.on (needs_first first next mid.offset q.bytes q.needed);
   failures = q.failures ∙ p.failures;
   on = λ rest.
       ap (λ (bytes : List ℕ). reading (tail old.offset bytes)) (append_assoc p.bytes q.bytes rest)
@@ -115,8 +115,8 @@ pub stops : {A B : Type 0} (reading : Reading B) (first : Reading A) (next : A �
 stops {A = A} reading first next old mid new fault p q = record {
   bytes = p.bytes ++ q.bytes;
   took = took_more old mid new p.bytes q.bytes p.took q.took;
-  needed = needs_more reading (first >>= next) old.offset mid.offset p.bytes q.bytes p.took.counted p.needed p.on (needs_first first next mid.offset q.bytes q.needed);
-  unfinished = λ failed. needs_still reading first next old.offset mid.offset p.bytes q.bytes p.took.counted p.on (q.unfinished failed);
+  needed = needs_more reading (first >>= next) old.offset mid.offset p.bytes q.bytes p.took.advanced p.needed p.on (needs_first first next mid.offset q.bytes q.needed);
+  unfinished = λ failed. needs_still reading first next old.offset mid.offset p.bytes q.bytes p.took.advanced p.on (q.unfinished failed);
   failures = omega (arith, p.failures, q.failures);
   refused = λ own.
       let has = q.refused own in
@@ -143,7 +143,7 @@ stops_memory reading next old mid p = record {
 }
 
 -- a fault of bytes, whatever stands after them
-refuses_after : {A : Type 0} (reading : Reading A) (old new : State) (bytes : List ℕ) (code place : ℕ) → Took old new bytes → NeedsEach reading old.offset bytes → new.failures ≡ old.failures
+refuses_after : {A : Type 0} (reading : Reading A) (old new : State) (bytes : List ℕ) (code place : ℕ) → HasConsumed old new bytes → NeedsEach reading old.offset bytes → new.failures ≡ old.failures
     → ((rest : List ℕ) → reading (tail old.offset (bytes ++ rest)) ≡ Err (at_byte code place)) → Fails reading old new (at_byte code place)
 refuses_after reading old new bytes code place took needed same e =
     let own : is_read_fault (at_byte code place) ≡ false = refused_place (code == 701) in
@@ -178,7 +178,7 @@ field_needs size at bytes few n lt =
     rw (long, short) refl
 
 -- as many bytes as a field has
-pub field_taken : (size : ℕ) (old new : State) (bytes : List ℕ) → Took old new bytes → new.failures ≡ old.failures → length bytes ≡ size
+pub field_taken : (size : ℕ) (old new : State) (bytes : List ℕ) → HasConsumed old new bytes → new.failures ≡ old.failures → length bytes ≡ size
     → GoesOn (field size) old (give bytes) new
 unfolding field
 field_taken size old new bytes took same whole = record {
@@ -188,7 +188,7 @@ field_taken size old new bytes took same whole = record {
   failures = same;
   on = λ rest.
       let long : nat_lt (length (bytes ++ rest)) size ≡ false = le-ltb _ _ (omega (arith, length-append bytes rest)) in
-      let e : new.offset ≡ old.offset + size = omega (arith, took.counted) in
+      let e : new.offset ≡ old.offset + size = omega (arith, took.advanced) in
       rw (long, take_at bytes rest size whole, drop_at bytes rest size whole, e) refl;
 }
 
@@ -197,7 +197,7 @@ nothing_comes None ended = tt
 nothing_comes (Some bytes) ended = ended
 
 -- the source ended before a field was whole
-pub field_ended : (size : ℕ) (old : State) (known : Option (List ℕ)) (offset failures : ℕ) (bytes : List ℕ) → Took old (state known offset failures) bytes
+pub field_ended : (size : ℕ) (old : State) (known : Option (List ℕ)) (offset failures : ℕ) (bytes : List ℕ) → HasConsumed old (state known offset failures) bytes
     → failures ≡ old.failures → length bytes < size → IsAtEnd known
     → Fails (field size) old (state known offset failures) (at_byte 305 offset)
 unfolding field
@@ -209,7 +209,7 @@ field_ended size old known offset failures bytes took same short ended = record 
   failures = omega arith;
   refused = λ _.
       let few : nat_lt (length (bytes ++ [])) size ≡ true = lt-ltb _ _ (omega (arith, length-append {A = ℕ} bytes [])) in
-      let e : old.offset + length (bytes ++ []) ≡ offset = omega (arith, took.counted, length-append {A = ℕ} bytes []) in
+      let e : old.offset + length (bytes ++ []) ≡ offset = omega (arith, took.advanced, length-append {A = ℕ} bytes []) in
       let found : HasFault (field size) old (state known offset failures) bytes (at_byte 305 offset) = record {
         rest = [];
         coming = nothing_comes known ended;
@@ -219,7 +219,7 @@ field_ended size old known offset failures bytes took same short ended = record 
 }
 
 -- a read failed before a field was whole
-pub field_failed : (size : ℕ) (old new : State) (bytes : List ℕ) → Took old new bytes → new.failures ≡ old.failures + 1 → length bytes < size
+pub field_failed : (size : ℕ) (old new : State) (bytes : List ℕ) → HasConsumed old new bytes → new.failures ≡ old.failures + 1 → length bytes < size
     → Fails (field size) old new (nowhere 701)
 unfolding field
 field_failed size old new bytes took failed short = record {
@@ -241,29 +241,29 @@ front_filled filled n xs ys within few =
     ∙ ap (λ (l : List ℕ). take filled xs ++ l) (take-append-le n ys (post_of filled (length xs - filled) xs) few)
 
 -- bytes that came after others in a buffer
-pub took_into : (a b c : State) (filled n : ℕ) (xs ys : List ℕ) → filled ≤ length xs → n ≤ length ys → Took a b (take filled xs) → Took b c (take n ys)
-    → Took a c (take (filled + n) (put_mid filled (length xs - filled) xs ys))
+pub took_into : (a b c : State) (filled n : ℕ) (xs ys : List ℕ) → filled ≤ length xs → n ≤ length ys → HasConsumed a b (take filled xs) → HasConsumed b c (take n ys)
+    → HasConsumed a c (take (filled + n) (put_mid filled (length xs - filled) xs ys))
 took_into a b c filled n xs ys within few p q =
     rw (front_filled filled n xs ys within few) (took_more a b c (take filled xs) (take n ys) p q)
 
 -- a field that is judged begins with its bytes, and goes on with what they say
-judged_begins : {A : Type 0} (size : ℕ) (says : List ℕ → Result A ℕ) (old : State)
+read_field_begins : {A : Type 0} (size : ℕ) (says : List ℕ → Result A ℕ) (old : State)
     → GoesOn (read_field size says) old (field size >>= λ bytes. parsed_at old.offset (says bytes)) old
 unfolding read_field
-judged_begins size says old = record { bytes = []; took = took_nothing old.known old.offset old.failures; needed = needs_none (read_field size says) old.offset; failures = refl; on = λ rest. refl }
+read_field_begins size says old = record { bytes = []; took = took_nothing old.known old.offset old.failures; needed = needs_none (read_field size says) old.offset; failures = refl; on = λ rest. refl }
 
-pub judged_stops : {A : Type 0} (size : ℕ) (says : List ℕ → Result A ℕ) (old new : State) (fault : Fault) → Fails (field size) old new fault
+pub read_field_stops : {A : Type 0} (size : ℕ) (says : List ℕ → Result A ℕ) (old new : State) (fault : Fault) → Fails (field size) old new fault
     → Fails (read_field size says) old new fault
-judged_stops size says old new fault p =
-    stops (read_field size says) (field size) (λ bytes. parsed_at old.offset (says bytes)) old old new fault (judged_begins size says old) p
+read_field_stops size says old new fault p =
+    stops (read_field size says) (field size) (λ bytes. parsed_at old.offset (says bytes)) old old new fault (read_field_begins size says old) p
 
 said_of : {A : Type 0} (reading : Reading A) (old new : State) (at : ℕ) (said : Result A ℕ) → GoesOn reading old (parsed_at at said) new
     → Reads (λ (x : A). x) reading old new (at_offset at said)
 said_of reading old new at (Ok x) p = p
 said_of reading old new at (Err code) p = refuses reading (parsed_at at (Err code)) old new code at p (λ rest. refl)
 
-pub judged_done : {A : Type 0} (size : ℕ) (says : List ℕ → Result A ℕ) (bytes : List ℕ) (old new : State) → GoesOn (field size) old (give bytes) new
+pub read_field_done : {A : Type 0} (size : ℕ) (says : List ℕ → Result A ℕ) (bytes : List ℕ) (old new : State) → GoesOn (field size) old (give bytes) new
     → Reads (λ (x : A). x) (read_field size says) old new (at_offset old.offset (says bytes))
-judged_done size says bytes old new p =
+read_field_done size says bytes old new p =
     said_of (read_field size says) old new old.offset (says bytes)
-    (passes (read_field size says) (field size) (λ (b : List ℕ). parsed_at old.offset (says b)) bytes old old new (judged_begins size says old) p)
+    (passes (read_field size says) (field size) (λ (b : List ℕ). parsed_at old.offset (says b)) bytes old old new (read_field_begins size says old) p)

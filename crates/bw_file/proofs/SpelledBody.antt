@@ -78,7 +78,7 @@ unfolding body end
 body_reads layout columns [] before at sized admitted = (tail at [], rw append-nil refl)
 body_reads layout columns (group ∷ groups) before at sized admitted =
     let size = All-head HasSize group groups sized in
-    let is : IsGroup (group_under columns group) = record { some = size.0; few = size.1; admitted = All-head (Admits columns) group groups admitted } in
+    let is : IsGroup (group_under columns group) = record { nonempty = size.0; within_limit = size.1; admitted = All-head (Admits columns) group groups admitted } in
     let text = segment_bytes (form_of layout) columns group in
     let others = flat_map (segment_bytes (form_of layout) columns) groups in
     let r = body_reads layout columns groups (before ++ group ∷ []) (at + length text) (All-tail HasSize group groups sized) (All-tail (Admits columns) group groups admitted) in

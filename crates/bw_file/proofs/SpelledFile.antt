@@ -55,10 +55,10 @@ of_version version bytes layout schema rows one_or_two room file text =
     let columns = schema.columns.items in
     let h : HeaderShape = record { version = version; layout = layout; rows = length rows; schema = schema_shape schema } in
     let count : length (map column_shape columns) ≡ length columns = length-map columns column_shape in
-    let known : IsHeader h = record { version = one_or_two; few = file.admitted.few; bounds = shapes_fit version columns ∙ room; schema = file.under } in
+    let known : IsHeader h = record { version = one_or_two; within_limit = file.admitted.within_limit; bounds = shapes_fit version columns ∙ room; schema = file.under } in
     let is : IsWhole h = record {
       header = known;
-      some = omega (arith, count, schema.inhabited);
+      nonempty = omega (arith, count, schema.inhabited);
       limited = omega (arith, count, schema.limited);
       apart = ap are_apart (names_same columns) ∙ schema.apart;
     } in

@@ -82,7 +82,7 @@ file_bytes2 layout schema rows = bytes_of_version 2 layout schema.name schema.co
 
 -- the rows are at most 2^24, and the columns admit them
 pub record AreRows (columns : List Column) (rows : List (List Value)) : Type 0 where
-  pub few : length rows ≤ most_rows
+  pub within_limit : length rows ≤ most_rows
   pub admitted : list_all (admits_values columns) rows ≡ true
 
 -- the bytes are those of the table of these rows under this schema, in version 1 or 2

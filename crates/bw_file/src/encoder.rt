@@ -13,7 +13,7 @@ use crate::fields::{MAGIC, are_bounds};
 use crate::layout::Layout;
 use crate::segments::{append, placement_of};
 use bw_lanes::LANES;
-use bw_model::{Column, Fault, Name, Row, RowTaker, Schema};
+use bw_model::{Column, Fault, Name, Row, RowConsumer, Schema};
 use bw_segment::{ColumnCodes, Placement, clear_rows, keep_row, no_rows};
 use byteorder::{ByteOrder, LittleEndian};
 use std::alloc::Global;
@@ -154,7 +154,7 @@ impl Encoder {
     }
 }
 
-impl RowTaker for Encoder {
+impl RowConsumer for Encoder {
     ghost use Rattle.bw_file.specs.Encoder.{TookRows, encoder_schema, rows_in};
 
     ghost takes = { λ encoder row. admits_values (encoder_schema encoder).columns.items row };

@@ -222,7 +222,7 @@ pub(crate) fn segment_size(layout: Layout, placement: &Placement) -> usize
 
 /// Returns the number of the first error of a column's block, in a segment of `rows` rows.
 #[tactic(auto, unfolding(crate::specs::Blocks::form_of))]
-pub(crate) fn judge(
+pub(crate) fn block_fault(
     layout: Layout,
     placement: &Placement,
     col: usize,

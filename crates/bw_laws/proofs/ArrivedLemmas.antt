@@ -4,7 +4,7 @@ use Rattle.bw_model.specs.declared.fault.Fault.{Fault}
 use Rattle.bw_model.specs.declared.schema.Schema.{Schema}
 use Rattle.bw_io.specs.Source.{Arrival, NotReached, Whole, TooLong, Failed}
 use Rattle.bw_csv.specs.Input.{IsMadeOf, IsMadeAfter}
-use Rattle.bw_csv_calls.specs.Arrived.{IsSchemaFrom}
+use Rattle.bw_csv_calls.specs.ReadInputs.{IsSchemaFrom}
 use Rattle.bw_csv_calls.specs.Direct.{IsAnswer, IsAnswerUnder, answer_of}
 use Rattle.bw_laws.specs.OneAnswer.{CameOf, DirectMayWrite}
 use Rattle.bw_laws.proofs.OneAnswerLemmas.{one_answer}

@@ -13,7 +13,7 @@ use Rattle.bw_model.specs.Row.{Value}
 use Rattle.bw_model.specs.Schema.{IsSchema}
 use Rattle.bw_model.specs.SchemaText.{schema_shape}
 use Rattle.bw_io.specs.Source.{Arrival, NotReached, Whole, TooLong, Failed}
-use Rattle.bw_sql.specs.Asked.{query_shape}
+use Rattle.bw_sql.specs.QueryShape.{query_shape}
 use Rattle.bw_sql.specs.Statement.{IsReadAs}
 use Rattle.bw_sql.proofs.SameNames.{columns_too, spells_too}
 use Rattle.bw_answer.specs.Answer.{csv_text, meaning}
@@ -24,14 +24,14 @@ use Rattle.bw_file.specs.FileBytes.{IsFileBytes, file_bytes}
 use Rattle.bw_file.specs.TableReading.{Found}
 use Rattle.bw_file.proofs.SpelledFile.{of_one_table}
 use Rattle.bw_query.specs.TableAnswer.{AnswersFile, by_statement}
-use Rattle.bw_csv_calls.specs.Arrived.{IsSchemaFrom}
+use Rattle.bw_csv_calls.specs.ReadInputs.{IsSchemaFrom}
 use Rattle.bw_csv_calls.specs.Direct.{IsAnswer, IsAnswerUnder, answer_of}
 use Rattle.bw_csv_calls.specs.Load.{IsFile, file_of}
 use Rattle.bw_laws.specs.AsDirect.{IsAnswerable, LoadMayWrite, TookAnswer, TookAsDirect}
-use Rattle.bw_laws.specs.Joined.{AnswersCsv}
+use Rattle.bw_laws.specs.LoadThenQuery.{AnswersCsv}
 use Rattle.bw_laws.specs.OneAnswer.{DirectMayWrite}
 use Rattle.bw_laws.proofs.ArrivedLemmas.{csv_text_of, one_text}
-use Rattle.bw_laws.proofs.JoinedLemmas.{Loaded, answers, loaded, loaded_text}
+use Rattle.bw_laws.proofs.LoadThenQueryLemmas.{Loaded, answers, loaded, loaded_text}
 use Rattle.bw_laws.proofs.OneAnswerLemmas.{one_answer, one_schema}
 use Rattle.bw_laws.proofs.SoundSchemaLemmas.{sound_shape}
 

@@ -27,7 +27,7 @@ use Rattle.bw_csv.specs.Input.{IsMadeAfter, IsMadeOf}
 use Rattle.bw_csv.specs.Rows.{row_of_record, rows_from, rows_of, values_of_fields}
 use Rattle.bw_csv.proofs.DigitsAlone.{both}
 use Rattle.bw_csv.proofs.RowLemmas.{rows_after-rows}
-use Rattle.bw_csv_calls.specs.Arrived.{IsSchemaFrom}
+use Rattle.bw_csv_calls.specs.ReadInputs.{IsSchemaFrom}
 use Rattle.bw_csv_calls.specs.Load.{file_of}
 use Rattle.bw_io.specs.Source.{Arrival, NotReached, Whole, TooLong, Failed, PassedLimit, is_input_fault}
 use Rattle.bw_file.specs.declared.layout.Layout.{Layout}
@@ -177,7 +177,7 @@ dump_text bytes layout schema rows query file every =
 
 pub text_spells : (bytes : List ℕ) (layout : Layout) (schema : Schema) (rows : Rows) → IsFileBytes bytes layout schema rows
     → rows_of schema.columns.items (table_text schema rows) ≡ Ok rows
-text_spells bytes layout schema rows file = rows_again schema.columns.items rows schema.inhabited file.under.columns file.admitted.admitted file.admitted.few
+text_spells bytes layout schema rows file = rows_again schema.columns.items rows schema.inhabited file.under.columns file.admitted.admitted file.admitted.within_limit
 
 -- so a load of a text that spells the rows gives their file
 pub text_loads : (layout : Layout) (schema : Schema) (rows : Rows) (text : List ℕ) → rows_of schema.columns.items text ≡ Ok rows

@@ -13,7 +13,7 @@ use Rattle.bw_file.specs.declared.layout.Layout.{Layout}
 use Rattle.bw_file.specs.Blocks.{block_size, block_fault, rows_spelled}
 use Rattle.bw_file.specs.FileBytes.{IsFileBytes}
 use Rattle.bw_file.specs.Reading.{Tail, tail, Reading, passed, ◌>>=◌, give, field, parsed_at, read_field, NeedsEach}
-use Rattle.bw_file.specs.TableReading.{parse_magic, parse_version, parse_layout, parse_count, rows_say, bounds_say, parse_nullable, parse_name, name, column, columns, front_of, front, HeaderShape, header_of, header, sound_at, one_block, blocks, segment, group_sizes, end, body, Found, found_as, found_in, IsReadAfter, IsReadAs}
+use Rattle.bw_file.specs.TableReading.{parse_magic, parse_version, parse_layout, parse_count, parse_row_count, parse_bounds, parse_nullable, parse_name, name, column, columns, front_of, front, HeaderShape, header_of, header, sound_at, one_block, blocks, segment, group_sizes, end, body, Found, found_as, found_in, IsReadAfter, IsReadAs}
 use Rattle.bw_file.proofs.FileSpelling.{body_found}
 use Rattle.bw_file.proofs.ReadingLemmas.{field_needs, needs_more, needs_none}
 use Rattle.bw_file.proofs.SpelledFile.{read_one_way, spelled_is_read}
@@ -98,9 +98,9 @@ takes_as one other at same p = record {
       };
 }
 
-judged_takes : {A : Type 0} (size : ℕ) (says : List ℕ → Result A ℕ) (at : ℕ) → TakesWhole (read_field size says) at
+read_field_takes : {A : Type 0} (size : ℕ) (says : List ℕ → Result A ℕ) (at : ℕ) → TakesWhole (read_field size says) at
 unfolding read_field
-judged_takes size says at =
+read_field_takes size says at =
     takes_as (field size >>= λ bytes. parsed_at at (says bytes)) (read_field size says) at (λ bytes. refl)
     (then_takes (field size) (λ bytes. parsed_at at (says bytes)) at (field_takes size at) (λ bytes n. said_takes at n (says bytes)))
 
@@ -116,8 +116,8 @@ column_takes : (version : ℕ) (before : List (List ℕ)) (at : ℕ) → TakesWh
 unfolding column
 column_takes version before at =
     then_takes (name before) _ at (name_takes before at) (λ text n.
-    then_takes (read_field 16 (bounds_say version)) _ n (judged_takes 16 (bounds_say version) n) (λ bounds m.
-    then_takes (read_field 1 parse_nullable) _ m (judged_takes 1 parse_nullable m) (λ nullable k. give_takes (shape text bounds.lo bounds.hi nullable) k)))
+    then_takes (read_field 16 (parse_bounds version)) _ n (read_field_takes 16 (parse_bounds version) n) (λ bounds m.
+    then_takes (read_field 1 parse_nullable) _ m (read_field_takes 1 parse_nullable m) (λ nullable k. give_takes (shape text bounds.lo bounds.hi nullable) k)))
 
 columns_take : (version : ℕ) (before : List ColumnShape) (count at : ℕ) → TakesWhole (columns version before count) at
 unfolding columns
@@ -128,11 +128,11 @@ columns_take version before (suc count) at =
 front_takes : (at : ℕ) → TakesWhole front at
 unfolding front
 front_takes at =
-    then_takes (read_field 8 parse_magic) _ at (judged_takes 8 parse_magic at) (λ _ a.
-    then_takes (read_field 1 parse_version) _ a (judged_takes 1 parse_version a) (λ version b.
-    then_takes (read_field 1 parse_layout) _ b (judged_takes 1 parse_layout b) (λ layout c.
-    then_takes (read_field 2 parse_count) _ c (judged_takes 2 parse_count c) (λ count d.
-    then_takes (read_field 4 rows_say) _ d (judged_takes 4 rows_say d) (λ rows e. give_takes (front_of version layout count rows) e)))))
+    then_takes (read_field 8 parse_magic) _ at (read_field_takes 8 parse_magic at) (λ _ a.
+    then_takes (read_field 1 parse_version) _ a (read_field_takes 1 parse_version a) (λ version b.
+    then_takes (read_field 1 parse_layout) _ b (read_field_takes 1 parse_layout b) (λ layout c.
+    then_takes (read_field 2 parse_count) _ c (read_field_takes 2 parse_count c) (λ count d.
+    then_takes (read_field 4 parse_row_count) _ d (read_field_takes 4 parse_row_count d) (λ rows e. give_takes (front_of version layout count rows) e)))))
 
 header_takes : (at : ℕ) → TakesWhole header at
 unfolding header

@@ -89,4 +89,4 @@ few_columns (suc (suc (suc (suc columns)))) rows size most few all = absurd (ome
 
 pub three_columns : (bytes : List ℕ) (layout : Layout) (schema : Schema) (rows : List (List Value)) → IsFileBytes bytes layout schema rows
     → length schema.columns.items ≤ 3 → length (table_text schema rows) ≤ longest_csv
-three_columns bytes layout schema rows file few = few_columns (length schema.columns.items) (length rows) _ (table_short bytes layout schema rows file) few file.admitted.few
+three_columns bytes layout schema rows file few = few_columns (length schema.columns.items) (length rows) _ (table_short bytes layout schema rows file) few file.admitted.within_limit

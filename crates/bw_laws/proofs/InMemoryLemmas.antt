@@ -11,13 +11,13 @@ use Rattle.bw_model.specs.CondTree.{tree_of}
 use Rattle.bw_model.specs.Fault.{is_memory}
 use Rattle.bw_model.specs.Row.{Value}
 use Rattle.bw_model.specs.SchemaText.{schema_shape}
-use Rattle.bw_sql.specs.Asked.{QueryShape, query_shape}
+use Rattle.bw_sql.specs.QueryShape.{QueryShape, query_shape}
 use Rattle.bw_sql.specs.Statement.{IsReadAs}
 use Rattle.bw_sql.proofs.SameNames.{columns_too}
 use Rattle.bw_sql.proofs.Texts.{text_query}
 use Rattle.bw_program.specs.Program.{ProgramShape}
 use Rattle.bw_cert_text.specs.CertificateShape.{CertificateShape}
-use Rattle.bw_cert.specs.Judged.{Certifies, IsFileFault}
+use Rattle.bw_cert.specs.FileVerdict.{Certifies, IsFileFault}
 use Rattle.bw_answer.specs.Answer.{csv_text}
 use Rattle.bw_file.specs.declared.layout.Layout.{Layout}
 use Rattle.bw_file.specs.FileBytes.{IsFileBytes}
@@ -31,7 +31,7 @@ use Rattle.bw_file.proofs.SpelledFile.{of_one_table, spelled_is_read}
 use Rattle.bw_query.specs.MemoryAnswer.{RowsText}
 use Rattle.bw_query.specs.Scan.{IsScanFault, IsUsable}
 use Rattle.bw_query.specs.TableAnswer.{AnswersFile, AskedRefused, HeaderRead, SegmentRefused, TableGave, by_statement, is_no_verdict}
-use Rattle.bw_laws.specs.OneAnswer.{asked_in}
+use Rattle.bw_laws.specs.OneAnswer.{query_asked_in}
 use Rattle.bw_laws.proofs.OneAnswerLemmas.{one_reading}
 use Rattle.bw_laws.proofs.OneMeaningLemmas.{one_meaning}
 use Rattle.bw_laws.proofs.OneTableLemmas.{took_meaning}
@@ -52,7 +52,7 @@ pub record OneVerdict : Type 0 where
       → fault ≡ other
 
 module _ (verdict : OneVerdict) (schema other : Schema) (shape : schema_shape schema ≡ schema_shape other) (sql : List ℕ) where
-  trees : (query another : Query) → asked_in (Ok query) ≡ asked_in (Ok another) → tree_of query.cond ≡ tree_of another.cond
+  trees : (query another : Query) → query_asked_in (Ok query) ≡ query_asked_in (Ok another) → tree_of query.cond ≡ tree_of another.cond
   trees query another same =
       let one : query_shape query ≡ query_shape another = cc same in
       ap (λ (a : QueryShape). a.cond) one
@@ -76,10 +76,10 @@ module _ (verdict : OneVerdict) (schema other : Schema) (shape : schema_shape sc
   fault_here : (file : Option (List ℕ)) (cond : Cond) (fault : Fault) → IsScanFault file other.columns.items cond fault → IsScanFault file schema.columns.items cond fault
   fault_here file cond fault refused = subst (λ (cs : List Column). IsScanFault file cs cond fault) columns refused
 
-  read_alike : (reading second : Result Query Fault) → IsReadAs schema sql reading → IsReadAs other sql second → asked_in reading ≡ asked_in second
+  read_alike : (reading second : Result Query Fault) → IsReadAs schema sql reading → IsReadAs other sql second → query_asked_in reading ≡ query_asked_in second
   read_alike reading second a b = one_reading schema other sql reading second shape a b
 
-  pub one_question : (file : Option (List ℕ)) (given second : Result Query Fault) → by_statement file sql schema given → by_statement file sql other second → asked_in given ≡ asked_in second
+  pub one_question : (file : Option (List ℕ)) (given second : Result Query Fault) → by_statement file sql schema given → by_statement file sql other second → query_asked_in given ≡ query_asked_in second
   one_question file (Ok query) (Ok another) a b = read_alike (Ok query) (Ok another) a.0 b.0
   one_question file (Ok query) (Err fault) a (inl b) = absurd (cc (read_alike (Ok query) (Err fault) a.0 b))
   one_question file (Ok query) (Err fault) a (inr b) =
@@ -128,7 +128,7 @@ memory_is_none fault none = by_memory (is_memory fault) refl
     by_memory true e = absurd (cc (rw e at none))
     by_memory false e = e
 
-err_is : (fault second : Fault) → asked_in (Err fault) ≡ asked_in (Err second) → fault ≡ second
+err_is : (fault second : Fault) → query_asked_in (Err fault) ≡ query_asked_in (Err second) → fault ≡ second
 err_is fault second e = cc
 
 pub one_refusal : (verdict : OneVerdict) (bytes sql : List ℕ) (layout : Layout) (schema : Schema) (rows : List (List Value)) (program : Option (List ℕ)) (failures : ℕ) (now : State) (fault second : Fault)

@@ -21,8 +21,8 @@ use Rattle.bw_csv.specs.Bare.{bare_number, bare_row, bare_rows, bare_value, bare
 use Rattle.bw_csv.specs.Rows.{is_minus, is_null_text, unsigned, with_row, without_blanks}
 use Rattle.bw_csv.proofs.BareLemmas.{bound, passed}
 use Rattle.bw_schemas.specs.Heading.{heading_names, names_from, some_names}
-use Rattle.bw_schemas.specs.Inferred.{column_over, columns_over, infer_schema, inferred_after, or_zero, check_bounds, ranged_column, schema_over, table_of}
-use Rattle.bw_schemas.specs.Printed.{schema_text}
+use Rattle.bw_schemas.specs.InferredSchema.{column_over, columns_over, infer_schema, inferred_after, or_zero, check_bounds, ranged_column, schema_over, table_of}
+use Rattle.bw_schemas.specs.PrintedSchema.{schema_text}
 use Rattle.bw_schemas.proofs.NarrowLemmas.{greatest_of_one, least_of_one}
 use Rattle.bw_laws.proofs.ShapeText.{IsSound, AreSound, shape_spelled}
 use Rattle.bw_laws.proofs.SoundSchemaLemmas.{number_fits}
@@ -116,13 +116,13 @@ abbrev IsName : List ℕ → Type 0
 IsName name = is_name name ≡ true
 
 record AreNames (names : List (List ℕ)) : Type 0 where
-  few : length names ≤ 64
+  within_limit : length names ≤ 64
   are : All IsName names
   apart : are_apart names ≡ true
 
 no_names : AreNames []
 unfolding are_apart
-no_names = record { few = omega arith; are = All-nil IsName; apart = refl }
+no_names = record { within_limit = omega arith; are = All-nil IsName; apart = refl }
 
 not_not : (b : Bool) → not b ≡ false → b ≡ true
 not_not true h = refl
@@ -139,7 +139,7 @@ names_after before (name ∷ names) all good e =
     let new = passed (list_any (λ other. same_text other name) before) (at_record 104 0) rest all named.1 in
     let fewer : length before < 64 = leb-false _ _ room.0 in
     names_after (before ++ name ∷ []) names all (record {
-      few = omega (arith, length-append before (name ∷ []));
+      within_limit = omega (arith, length-append before (name ∷ []));
       are = All-push IsName before name good.are (not_not (is_name name) named.0);
       apart = are_apart-push before name good.apart new.0;
     }) new.1
@@ -201,8 +201,8 @@ inferred_sound table (heading ∷ more) schema named e =
     subst AreSound same (record {
       name = named;
       columns = columns.0;
-      some = omega (arith, good.1);
-      few = omega (arith, good.0.few);
+      nonempty = omega (arith, good.1);
+      within_limit = omega (arith, good.0.within_limit);
       apart = ap are_apart columns.1 ∙ good.0.apart;
     })
 

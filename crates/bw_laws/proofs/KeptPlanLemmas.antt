@@ -7,7 +7,7 @@ use Rattle.bw_model.specs.declared.fault.Fault.{Fault}
 use Rattle.bw_io.specs.Sink.{WriteOutcome, everything, none_aside}
 use Rattle.bw_program.specs.Program.{ProgramShape}
 use Rattle.bw_cert_text.specs.CertificateShape.{CertificateShape}
-use Rattle.bw_cert.specs.Judged.{Certifies}
+use Rattle.bw_cert.specs.FileVerdict.{Certifies}
 use Rattle.bw_cert.specs.Valid.{Valid}
 use Rattle.bw_query.specs.Plan.{IsPlan, IsPlanned}
 

@@ -10,7 +10,7 @@ use Rattle.bw_model.specs.SchemaText.{SchemaShape, schema_shape}
 use Rattle.bw_io.specs.Source.{Arrival, NotReached, Whole, TooLong, Failed}
 use Rattle.bw_sql.specs.declared.reader.Refusal.{Refusal}
 use Rattle.bw_sql.specs.declared.reader.Refusal.TheVariants.{Syntax, Literal}
-use Rattle.bw_sql.specs.Asked.{QueryShape, query_shape}
+use Rattle.bw_sql.specs.QueryShape.{QueryShape, query_shape}
 use Rattle.bw_sql.specs.Demand.{meets, refusal}
 use Rattle.bw_sql.specs.Frontier.{Begins, Stands, IsFirst, asked_for, at_token, at_sign, at_end}
 use Rattle.bw_sql.specs.Grammar.{StatementIs}
@@ -22,9 +22,9 @@ use Rattle.bw_sql.proofs.Texts.{text_query, same_fault, spelled_or_refused}
 use Rattle.bw_answer.specs.Answer.{csv_text, meaning}
 use Rattle.bw_csv.specs.Input.{IsMadeOf, IsMadeAfter}
 use Rattle.bw_csv.specs.Rows.{rows_of}
-use Rattle.bw_csv_calls.specs.Arrived.{IsSchemaFrom}
+use Rattle.bw_csv_calls.specs.ReadInputs.{IsSchemaFrom}
 use Rattle.bw_csv_calls.specs.Direct.{IsAnswer, IsAnswerUnder, answer_of}
-use Rattle.bw_laws.specs.OneAnswer.{asked_in, shape_in}
+use Rattle.bw_laws.specs.OneAnswer.{query_asked_in, shape_in}
 use Rattle.bw_laws.proofs.OneMeaningLemmas.{one_meaning}
 use Rattle.bw_laws.proofs.SchemaTextLemmas as texts
 
@@ -67,7 +67,7 @@ fault_too s t text fault same (refused short refusal) = refused short (refusal_t
 
 -- a statement is read in one way under schemas of one shape
 pub one_reading : (s t : Schema) (text : List ℕ) (reading second : Result Query Fault) → schema_shape s ≡ schema_shape t
-    → IsReadAs s text reading → IsReadAs t text second → asked_in reading ≡ asked_in second
+    → IsReadAs s text reading → IsReadAs t text second → query_asked_in reading ≡ query_asked_in second
 one_reading s t text (Ok query) (Ok other) same a b = ap Ok (text_query t text (query_shape query) (query_shape other) (spells_too s t text (query_shape query) same a) b)
 one_reading s t text (Ok query) (Err fault) same a b = absurd (spelled_or_refused t text (query_shape query) fault (spells_too s t text (query_shape query) same a) b)
 one_reading s t text (Err fault) (Ok query) same a b = absurd (spelled_or_refused t text (query_shape query) fault b (fault_too s t text fault same a))

@@ -11,7 +11,7 @@ use Rattle.bw_csv.specs.Input.{IsMadeAfter}
 use Rattle.bw_csv.specs.Rows.{rows_of}
 use Rattle.bw_file.specs.declared.layout.Layout.{Layout}
 use Rattle.bw_file.specs.FileBytes.{bytes_of_version, version_for}
-use Rattle.bw_csv_calls.specs.Arrived.{IsSchemaFrom}
+use Rattle.bw_csv_calls.specs.ReadInputs.{IsSchemaFrom}
 use Rattle.bw_csv_calls.specs.Load.{IsFile, file_of}
 use Rattle.bw_laws.specs.AsDirect.{LoadMayWrite}
 use Rattle.bw_laws.specs.OneAnswer.{CameOf}

@@ -12,7 +12,7 @@ use Rattle.bw_model.specs.Selection.{matching_rows}
 use Rattle.bw_model.specs.Total.{total}
 use Rattle.bw_model.specs.Truth.{is_truth}
 use Rattle.bw_model.proofs.SameLemmas.{truth_of-tree_of}
-use Rattle.bw_sql.specs.Asked.{QueryShape, query_shape}
+use Rattle.bw_sql.specs.QueryShape.{QueryShape, query_shape}
 use Rattle.bw_answer.specs.Answer.{meaning, heading_of, lists_rows, field_of, value_text}
 
 kept_alike : (cond other : Cond) (rows : List (List Value)) → tree_of cond ≡ tree_of other → matching_rows cond rows ≡ matching_rows other rows

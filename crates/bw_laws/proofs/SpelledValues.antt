@@ -39,7 +39,7 @@ record Signed (n : ℤ) (field : List ℕ) : Type 0 where
 
 positive : (n : ℕ) (digits : List ℕ) → n < 2 ^ 63 → Spells n digits → Signed (pos n) digits
 unfolding number_of
-positive n [] small spells = absurd (omega (arith, spells.some))
+positive n [] small spells = absurd (omega (arith, spells.nonempty))
 positive n (c ∷ cs) small spells =
     let first = both (is_ascii_digit c) (list_all is_ascii_digit cs) spells.all in
     let unsigned : eqb c 45 ≡ false = other_than c 45 first.0 (omega arith) in
@@ -50,7 +50,7 @@ positive n (c ∷ cs) small spells =
 
 negative : (n : ℕ) (digits : List ℕ) → suc n ≤ 2 ^ 63 → Spells (suc n) digits → Signed (negsuc n) (45 ∷ digits)
 unfolding number_of
-negative n [] small spells = absurd (omega (arith, spells.some))
+negative n [] small spells = absurd (omega (arith, spells.nonempty))
 negative n (c ∷ cs) small spells =
     let minus : pos 0 -ℤ pos (suc n) ≡ negsuc n = omega (arith, ints) in
     record { digits = spells.all; number = rw (spells.value, le-leb (suc n) (2 ^ 63) small) (ap Some minus) }

@@ -7,12 +7,12 @@ use Rattle.bw_model.specs.Fault.{◌>>=◌}
 use Rattle.bw_model.specs.Limits.{longest_schema, longest_csv}
 use Rattle.bw_model.specs.SchemaText.{SchemaShape, schema_shape}
 use Rattle.bw_io.specs.Source.{Arrival, ReadOutcome}
-use Rattle.bw_sql.specs.Asked.{QueryShape, query_shape}
+use Rattle.bw_sql.specs.QueryShape.{QueryShape, query_shape}
 use Rattle.bw_csv_calls.specs.Direct.{IsAnswer}
 
 -- the query that a statement is read as, or its error
-abbrev pub asked_in : Result Query Fault → Result QueryShape Fault
-asked_in reading = reading >>= λ query. Ok (query_shape query)
+abbrev pub query_asked_in : Result Query Fault → Result QueryShape Fault
+query_asked_in reading = reading >>= λ query. Ok (query_shape query)
 
 -- the name and the columns of the schema that a text is read as, or its error
 abbrev pub shape_in : Result Schema Fault → Result SchemaShape Fault

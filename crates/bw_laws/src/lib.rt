@@ -4,7 +4,7 @@
 //! spells one schema or has one error; an inferred schema is spelled by its text. No other crate
 //! depends on them.
 //!
-//! Read `joined.rt` with `specs/Joined.antt` first, then `as_direct.rt` with `specs/AsDirect.antt`.
+//! Read `load_then_query.rt` with `specs/LoadThenQuery.antt` first, then `as_direct.rt` with `specs/AsDirect.antt`.
 #![tactic(auto)]
 
 mod as_direct;
@@ -12,7 +12,7 @@ mod backup;
 mod cut_file;
 mod in_memory;
 mod inferred_text;
-mod joined;
+mod load_then_query;
 mod kept_plan;
 mod one_answer;
 mod one_file;
@@ -29,7 +29,7 @@ pub use backup::{
 pub use cut_file::a_cut_file_is_refused;
 pub use in_memory::a_table_in_memory_is_answered_as_its_file;
 pub use inferred_text::an_inferred_schema_text_spells_its_schema;
-pub use joined::what_is_loaded_is_answered;
+pub use load_then_query::what_is_loaded_is_answered;
 pub use kept_plan::a_kept_plan_is_used;
 pub use one_answer::{one_reading_under_one_shape, there_is_one_answer};
 pub use one_file::there_is_one_file;

@@ -11,7 +11,7 @@ use Rattle.bw_file.specs.Reading.{State}
 use Rattle.bw_file.specs.TableReader.{ReadWhole}
 use Rattle.bw_file.specs.TableReading.{found_as}
 use Rattle.bw_memory.specs.declared.table.MemoryTable.{MemoryTable}
-use Rattle.bw_memory.specs.Kept.{group_kept, groups_kept}
+use Rattle.bw_memory.specs.StoredSegments.{stored_group, stored_groups}
 
 abbrev pub layout_of : MemoryTable → Layout
 layout_of table = table.layout
@@ -22,7 +22,7 @@ schema_of table = table.placement.value.schema
 -- the rows of each segment, and all rows
 abbrev pub groups_in : MemoryTable → List (List (List Value))
 groups_in table =
-    groups_kept table.layout table.placement.value.schema.columns.items table.rows table.segments
+    stored_groups table.layout table.placement.value.schema.columns.items table.rows table.segments
     table.columns.items
 
 abbrev pub rows_of : MemoryTable → List (List Value)
@@ -38,13 +38,13 @@ meaning_numbered table number =
     record {
       name = (schema_of table).name;
       columns = (schema_of table).columns.items;
-      rows = group_kept table.layout (schema_of table).columns.items table.rows table.columns.items
+      rows = stored_group table.layout (schema_of table).columns.items table.rows table.columns.items
           number;
     }
 
 -- All bytes of a source were consumed, no read failed, and no byte was read needlessly. They are
 -- the table file of these rows under this schema in this layout.
-pub record CameWhole (start now : State) (layout : Layout) (schema : Schema)
+pub record HasReadTable (start now : State) (layout : Layout) (schema : Schema)
     (rows : List (List Value)) : Type 0 where
   pub read : ReadWhole start now (found_as layout (schema_shape schema) rows)
   pub text : IsFileBytes read.bytes layout schema rows

@@ -8,7 +8,7 @@ use Rattle.bw_model.specs.Column.{column_named}
 use Rattle.bw_model.specs.Limits.{longest_name}
 use Rattle.bw_model.specs.Name.{is_name}
 use Rattle.bw_text.specs.Keyword.{is_reserved}
-use Rattle.bw_text.specs.Printed.{is_plain_word}
+use Rattle.bw_text.specs.Printing.{is_plain_word}
 use Rattle.bw_text.specs.Text.{is_word, same_text}
 use Rattle.bw_text.proofs.SpacedWords.{plain_word}
 

@@ -1,4 +1,4 @@
-//! How many facts the parts of a condition take, foretold before all are joined.
+//! How many facts the parts of a condition take, forecast before all are joined.
 use crate::facts::{Extent, Facts};
 use crate::nodes::MAX_NODES;
 use crate::refusal::Refusal;
@@ -53,8 +53,8 @@ impl Growth {
         let limit = facts.products().limit();
         if now.products.saturating_sub(self.start.products) >= limit / FIRST_ROWS {
             let early = self.early.extent;
-            let nodes = self.foretold(early.nodes, now.nodes);
-            let rows = self.foretold(early.products, now.products);
+            let nodes = self.forecast(early.nodes, now.nodes);
+            let rows = self.forecast(early.products, now.products);
             if nodes > MAX_NODES || rows > limit {
                 return Err(Refusal::NoProgram);
             }
@@ -71,7 +71,7 @@ impl Growth {
 
     /// Returns how many there will be once all parts are combined, if there were `early` of them
     /// and are `now`.
-    fn foretold(&self, early: usize, now: usize) -> usize {
+    fn forecast(&self, early: usize, now: usize) -> usize {
         let parts = self.joined.saturating_sub(self.early.joined).max(1);
         let each = now.saturating_sub(early) / parts;
         let left = self.parts.saturating_sub(self.joined);

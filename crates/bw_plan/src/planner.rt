@@ -4,7 +4,7 @@ ghost use Rattle.bw_model.specs.Cond.{names_within};
 ghost use Rattle.bw_program.specs.Program.{fits};
 ghost use Rattle.bw_cert_text.specs.CertificateFields.{certificate_fields};
 ghost use Rattle.bw_cert_text.specs.Columns.{has_columns};
-ghost use Rattle.bw_plan.specs.Refused.{IsRefusal};
+ghost use Rattle.bw_plan.specs.Refusal.{IsRefusal};
 
 use crate::code::Code;
 use crate::emit;
@@ -40,7 +40,7 @@ pub fn propose(alloc: Global, schema: &Schema, cond: &Cond) -> Result<Proposal, 
         IsTrue (has_columns schema.now.columns.items (certificate_fields proposal.certificate))) }
     ensures fault { IfErr result IsRefusal }
 {
-    match planned(alloc, schema, cond) {
+    match plan(alloc, schema, cond) {
         Ok(proposal) => Ok(proposal),
         Err(refusal) => Err(refusal.fault()),
     }
@@ -48,7 +48,7 @@ pub fn propose(alloc: Global, schema: &Schema, cond: &Cond) -> Result<Proposal, 
 
 /// A program for a condition: with skips, or if that isn't to be had, without, when it takes fewer
 /// instructions and nodes.
-fn planned(alloc: Global, schema: &Schema, cond: &Cond) -> Result<Proposal, Refusal>
+fn plan(alloc: Global, schema: &Schema, cond: &Cond) -> Result<Proposal, Refusal>
     ensures program { IfOk result (λ proposal.
         IsTrue (fits schema.now.columns.items proposal.program)) }
     ensures certificate { IfOk result (λ proposal.
@@ -56,7 +56,7 @@ fn planned(alloc: Global, schema: &Schema, cond: &Cond) -> Result<Proposal, Refu
 {
     let mut code = Code::new(alloc, Facts::new(alloc, schema, cond)?);
     let (program, row) = program_of(schema, cond, &mut code)?;
-    match certified(schema, code, row) {
+    match certificate_of(schema, code, row) {
         Ok(certificate) => Ok(Proposal {
             program,
             certificate,
@@ -88,14 +88,14 @@ fn emit_program(
 ) -> Result<(Program, u32), Refusal>
     ensures { IfOk result (λ made. IsTrue (fits schema.now.columns.items made.0)) }
 {
-    let answer = written(code, cond)?;
-    let row = agreeing(code, answer, node)?;
+    let answer = emit_condition(code, cond)?;
+    let row = agreement_row(code, answer, node)?;
     let program = emit::program(code.alloc, schema, &code.instrs, answer)?;
     Ok((program, row))
 }
 
 /// The row that says that a register holds a node.
-fn agreeing(code: &mut Code<'_>, register: Register, wanted: u32) -> Result<u32, Refusal> {
+fn agreement_row(code: &mut Code<'_>, register: Register, wanted: u32) -> Result<u32, Refusal> {
     let node = code.node(register)?;
     let row = code
         .facts
@@ -109,7 +109,7 @@ fn agreeing(code: &mut Code<'_>, register: Register, wanted: u32) -> Result<u32,
 
 /// The certificate of the instructions, after as many lines as their program has, with the row that
 /// ends it.
-fn certified(schema: &Schema, code: Code<'_>, row: u32) -> Result<Certificate, Refusal>
+fn certificate_of(schema: &Schema, code: Code<'_>, row: u32) -> Result<Certificate, Refusal>
     ensures { IfOk result (λ certificate.
         IsTrue (has_columns schema.now.columns.items (certificate_fields certificate))) }
 {
@@ -126,7 +126,7 @@ fn certified(schema: &Schema, code: Code<'_>, row: u32) -> Result<Certificate, R
 }
 
 /// Writes the instructions of a condition, and gives the result register.
-fn written(code: &mut Code<'_>, cond: &Cond) -> Result<Register, Refusal> {
+fn emit_condition(code: &mut Code<'_>, cond: &Cond) -> Result<Register, Refusal> {
     let wanted = WantedTruths {
         yes: true,
         no: false,

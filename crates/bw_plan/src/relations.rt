@@ -92,7 +92,7 @@ impl Code<'_> {
         let Bits { differs, below } = self.bits(relation, bit)?;
         if let (Some(less), Some(below)) = (less, below) {
             let below = if below == differs {
-                self.copied(differs)?
+                self.copy(differs)?
             } else {
                 self.join(Connective::And, below, below, differs)?;
                 below

@@ -65,7 +65,7 @@ impl Set {
 
     /// Returns the set of the literals of a list with which a column is compared, if there are
     /// some.
-    pub(crate) fn listed(
+    pub(crate) fn of_literals(
         facts: &Facts<'_>,
         x: Operand,
         items: &[Operand],
@@ -207,7 +207,7 @@ pub(crate) fn is_soon_done(inner: &[u64], slice: SliceIndex) -> bool {
 }
 
 /// Returns the bounds of a group that differ below a byte.
-pub(crate) fn going_on(group: &[u64], slice: SliceIndex) -> &[u64] {
+pub(crate) fn bounds_below(group: &[u64], slice: SliceIndex) -> &[u64] {
     match group {
         [first, rest @ ..] if below(*first, slice) == 0 => rest,
         _ => group,

@@ -38,7 +38,7 @@ impl TruthNodes {
     }
 
     /// Returns the nodes of the opposite condition.
-    fn exchanged(self) -> Self {
+    fn opposite(self) -> Self {
         TruthNodes {
             yes: self.no,
             no: self.yes,
@@ -58,31 +58,31 @@ pub(crate) fn steps_of(
 ) -> Result<TruthNodes, Refusal> {
     match cond {
         Cond::Always => constant(lines, Truth::Yes),
-        Cond::Cmp(op, x, y) => compared(facts, lines, *op, *x, *y),
+        Cond::Cmp(op, x, y) => add_comparison(facts, lines, *op, *x, *y),
         Cond::Between(x, y, z) => {
-            let lower = compared(facts, lines, Op::Ge, *x, *y)?;
-            let upper = compared(facts, lines, Op::Le, *x, *z)?;
-            joined(facts, lines, false, lower, upper)
+            let lower = add_comparison(facts, lines, Op::Ge, *x, *y)?;
+            let upper = add_comparison(facts, lines, Op::Le, *x, *z)?;
+            add_connective(facts, lines, false, lower, upper)
         }
         Cond::Among(x, items) => among(facts, lines, *x, items),
-        Cond::IsNull(x) => null_tested(facts, lines, *x),
-        Cond::And(parts) => all_joined(facts, lines, false, parts),
-        Cond::Or(parts) => all_joined(facts, lines, true, parts),
+        Cond::IsNull(x) => add_null_test(facts, lines, *x),
+        Cond::And(parts) => add_parts(facts, lines, false, parts),
+        Cond::Or(parts) => add_parts(facts, lines, true, parts),
         Cond::Not(part) => {
             let made = steps_of(facts, lines, part)?;
             put(lines, ConditionEntry::Not)?;
-            Ok(made.exchanged())
+            Ok(made.opposite())
         }
         Cond::Test(part, wanted) => {
             let made = steps_of(facts, lines, part)?;
-            tested(facts, lines, *wanted, made)
+            add_truth_test(facts, lines, *wanted, made)
         }
     }
 }
 
 /// Returns the nodes of the OR of all parts, or else of their AND.
 #[cycle(steps)]
-fn all_joined(
+fn add_parts(
     facts: &mut Facts<'_>,
     lines: &mut Vec<PlannedLine>,
     any: bool,
@@ -95,7 +95,7 @@ fn all_joined(
     let mut growth = Growth::of(others.len(), facts);
     for part in others {
         let next = steps_of(facts, lines, part)?;
-        made = joined(facts, lines, any, made, next)?;
+        made = add_connective(facts, lines, any, made, next)?;
         growth.join(facts)?;
     }
     Ok(made)
@@ -115,10 +115,10 @@ fn among(
     let Some((first, others)) = items.split_first() else {
         return Err(Refusal::NoProgram);
     };
-    let mut made = compared(facts, lines, Op::Eq, x, *first)?;
+    let mut made = add_comparison(facts, lines, Op::Eq, x, *first)?;
     for item in others {
-        let next = compared(facts, lines, Op::Eq, x, *item)?;
-        made = joined(facts, lines, true, made, next)?;
+        let next = add_comparison(facts, lines, Op::Eq, x, *item)?;
+        made = add_connective(facts, lines, true, made, next)?;
         if facts.products().len() > most {
             return Err(Refusal::NoProgram);
         }
@@ -128,7 +128,7 @@ fn among(
 
 /// Returns how many product rows there may be once a list is planned.
 fn most_products(facts: &Facts<'_>, x: Operand, items: &[Operand]) -> Result<usize, Refusal> {
-    Ok(match Set::listed(facts, x, items)? {
+    Ok(match Set::of_literals(facts, x, items)? {
         Some((_, set)) if set.instructions() > LONG_LIST => {
             facts
                 .products()
@@ -152,7 +152,7 @@ fn constant(lines: &mut Vec<PlannedLine>, truth: Truth) -> Result<TruthNodes, Re
 }
 
 /// Returns the nodes of two parts, combined by OR, or else by AND.
-fn joined(
+fn add_connective(
     facts: &mut Facts<'_>,
     lines: &mut Vec<PlannedLine>,
     any: bool,
@@ -182,7 +182,7 @@ fn joined(
 }
 
 /// Returns the nodes of `IS TRUE`, `IS FALSE` or `IS UNKNOWN`.
-fn tested(
+fn add_truth_test(
     facts: &mut Facts<'_>,
     lines: &mut Vec<PlannedLine>,
     wanted: Truth,
@@ -211,7 +211,7 @@ fn tested(
 }
 
 /// Returns the nodes of `IS NULL`.
-fn null_tested(
+fn add_null_test(
     facts: &mut Facts<'_>,
     lines: &mut Vec<PlannedLine>,
     x: Operand,
@@ -233,7 +233,7 @@ fn null_tested(
 }
 
 /// Returns the nodes of a comparison.
-fn compared(
+fn add_comparison(
     facts: &mut Facts<'_>,
     lines: &mut Vec<PlannedLine>,
     op: Op,
@@ -242,8 +242,8 @@ fn compared(
 ) -> Result<TruthNodes, Refusal> {
     match compare(facts, op, x, y)? {
         Comparison::Fixed(truth) => constant(lines, truth),
-        Comparison::Literal(bound) => bounded(facts, lines, bound),
-        Comparison::Columns(relation) => related(facts, lines, relation),
+        Comparison::Literal(bound) => add_literal_comparison(facts, lines, bound),
+        Comparison::Columns(relation) => add_column_comparison(facts, lines, relation),
     }
 }
 
@@ -257,7 +257,7 @@ fn values(facts: &mut Facts<'_>, column: ColumnIndex) -> Result<(Option<u64>, u3
 }
 
 /// Returns the nodes of a comparison of a column with a number.
-fn bounded(
+fn add_literal_comparison(
     facts: &mut Facts<'_>,
     lines: &mut Vec<PlannedLine>,
     bound: LiteralComparison,
@@ -288,14 +288,14 @@ fn bounded(
         no: q.node,
     };
     Ok(if bound.negated {
-        made.exchanged()
+        made.opposite()
     } else {
         made
     })
 }
 
 /// Returns the nodes of a comparison of two columns.
-fn related(
+fn add_column_comparison(
     facts: &mut Facts<'_>,
     lines: &mut Vec<PlannedLine>,
     relation: ColumnComparison,
@@ -330,7 +330,7 @@ fn related(
         no: q.node,
     };
     Ok(if relation.negated {
-        made.exchanged()
+        made.opposite()
     } else {
         made
     })

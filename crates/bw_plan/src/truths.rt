@@ -19,7 +19,7 @@ pub(crate) struct WantedTruths {
 
 impl WantedTruths {
     /// Returns what is wanted of the opposite condition.
-    fn exchanged(self) -> Self {
+    fn opposite(self) -> Self {
         WantedTruths {
             yes: self.no,
             no: self.yes,
@@ -27,8 +27,8 @@ impl WantedTruths {
     }
 
     /// Returns what is wanted of a condition that is negated, or isn't.
-    fn turned(self, negated: bool) -> Self {
-        if negated { self.exchanged() } else { self }
+    fn opposite_if(self, negated: bool) -> Self {
+        if negated { self.opposite() } else { self }
     }
 }
 
@@ -41,7 +41,7 @@ pub(crate) struct TruthRegisters {
 
 impl TruthRegisters {
     /// Returns the registers of the opposite condition.
-    fn exchanged(self) -> Self {
+    fn opposite(self) -> Self {
         TruthRegisters {
             yes: self.no,
             no: self.yes,
@@ -49,8 +49,8 @@ impl TruthRegisters {
     }
 
     /// Returns the registers of a condition that is negated, or isn't.
-    fn turned(self, negated: bool) -> Self {
-        if negated { self.exchanged() } else { self }
+    fn opposite_if(self, negated: bool) -> Self {
+        if negated { self.opposite() } else { self }
     }
 }
 
@@ -67,20 +67,20 @@ impl Code<'_> {
     ) -> Result<TruthRegisters, Refusal> {
         match cond {
             Cond::Always => self.constant(Truth::Yes, wanted),
-            Cond::Cmp(op, x, y) => self.compared(*op, *x, *y, wanted),
+            Cond::Cmp(op, x, y) => self.emit_comparison(*op, *x, *y, wanted),
             Cond::Between(x, y, z) => self.between(*x, *y, *z, wanted),
             Cond::Among(x, items) => self.among(*x, items, wanted),
-            Cond::IsNull(x) => self.null_tested(*x, wanted),
-            Cond::And(parts) => self.all_joined(false, parts, wanted),
-            Cond::Or(parts) => self.all_joined(true, parts, wanted),
-            Cond::Not(part) => Ok(self.truths(part, wanted.exchanged())?.exchanged()),
+            Cond::IsNull(x) => self.emit_null_test(*x, wanted),
+            Cond::And(parts) => self.emit_parts(false, parts, wanted),
+            Cond::Or(parts) => self.emit_parts(true, parts, wanted),
+            Cond::Not(part) => Ok(self.truths(part, wanted.opposite())?.opposite()),
             Cond::Test(part, truth) => {
                 let needed = WantedTruths {
                     yes: *truth != Truth::No,
                     no: *truth != Truth::Yes,
                 };
                 let made = self.truths(part, needed)?;
-                self.tested(*truth, made, wanted)
+                self.emit_truth_test(*truth, made, wanted)
             }
         }
     }
@@ -88,7 +88,7 @@ impl Code<'_> {
     /// Returns the registers of the OR of all parts, or else of their AND: first of the part that
     /// takes many registers, if there is one.
     #[cycle(truths)]
-    fn all_joined(
+    fn emit_parts(
         &mut self,
         any: bool,
         parts: &[Cond],
@@ -123,7 +123,7 @@ impl Code<'_> {
 
     /// Skips to the end of the parts if the others can change nothing.
     fn skip_if_settled(&mut self, any: bool, made: TruthRegisters) -> Result<(), Refusal> {
-        let made = made.turned(any);
+        let made = made.opposite_if(any);
         match (made.yes, made.no) {
             (_, Some(excluded)) => {
                 let left = self.opposite(excluded)?;
@@ -131,7 +131,7 @@ impl Code<'_> {
                 self.release(left);
                 Ok(())
             }
-            (Some(picked), None) => self.skip(picked),
+            (Some(selected), None) => self.skip(selected),
             (None, None) => Ok(()),
         }
     }
@@ -143,7 +143,7 @@ impl Code<'_> {
         made: TruthRegisters,
         next: TruthRegisters,
     ) -> Result<(), Refusal> {
-        let (made, next) = (made.turned(any), next.turned(any));
+        let (made, next) = (made.opposite_if(any), next.opposite_if(any));
         if let (Some(to), Some(y)) = (made.yes, next.yes) {
             self.join_into(Connective::And, to, y)?;
         }
@@ -169,7 +169,7 @@ impl Code<'_> {
     }
 
     /// Returns the registers of `IS TRUE`, `IS FALSE` or `IS UNKNOWN`.
-    fn tested(
+    fn emit_truth_test(
         &mut self,
         truth: Truth,
         made: TruthRegisters,
@@ -184,13 +184,13 @@ impl Code<'_> {
             _ => return Err(Refusal::NoProgram),
         };
         Ok(
-            self.sides(held, &[], false, wanted.turned(negated))?
+            self.sides(held, &[], false, wanted.opposite_if(negated))?
                 .turned(negated),
         )
     }
 
     /// Returns the registers of `IS NULL`.
-    fn null_tested(&mut self, x: Operand, wanted: WantedTruths) -> Result<TruthRegisters, Refusal> {
+    fn emit_null_test(&mut self, x: Operand, wanted: WantedTruths) -> Result<TruthRegisters, Refusal> {
         let column = match x {
             Operand::Col(column) => self.facts.column(column)?,
             Operand::Lit(_) => return self.constant(Truth::No, wanted),
@@ -212,7 +212,7 @@ impl Code<'_> {
     }
 
     /// Returns the registers of a comparison.
-    fn compared(
+    fn emit_comparison(
         &mut self,
         op: Op,
         x: Operand,
@@ -221,13 +221,13 @@ impl Code<'_> {
     ) -> Result<TruthRegisters, Refusal> {
         match compare(&self.facts, op, x, y)? {
             Comparison::Fixed(truth) => self.constant(truth, wanted),
-            Comparison::Literal(bound) => self.bounded(bound, wanted),
-            Comparison::Columns(relation) => self.related(relation, wanted),
+            Comparison::Literal(bound) => self.emit_literal_comparison(bound, wanted),
+            Comparison::Columns(relation) => self.emit_column_comparison(relation, wanted),
         }
     }
 
     /// Returns the registers of a comparison of a column with a number.
-    fn bounded(
+    fn emit_literal_comparison(
         &mut self,
         bound: LiteralComparison,
         wanted: WantedTruths,
@@ -247,9 +247,9 @@ impl Code<'_> {
         let start = self.instrs.len();
         let inside = self.codes(column, &set.bounds)?;
         let early = self.has_skips_from(start);
-        let made = self.sides(inside, &[column], early, wanted.turned(set.inverted))?;
+        let made = self.sides(inside, &[column], early, wanted.opposite_if(set.inverted))?;
         self.meet_from(first);
-        Ok(made.turned(set.inverted))
+        Ok(made.opposite_if(set.inverted))
     }
 
     /// Returns the registers of `BETWEEN`.
@@ -264,9 +264,9 @@ impl Code<'_> {
             return self.in_range(column, least, most, wanted);
         }
         let first = self.waiting()?;
-        let made = self.compared(Op::Ge, x, y, wanted)?;
+        let made = self.emit_comparison(Op::Ge, x, y, wanted)?;
         self.skip_if_settled(false, made)?;
-        let next = self.compared(Op::Le, x, z, wanted)?;
+        let next = self.emit_comparison(Op::Le, x, z, wanted)?;
         self.join_parts(false, made, next)?;
         self.meet_from(first);
         Ok(made)
@@ -295,7 +295,7 @@ impl Code<'_> {
         items: &[Operand],
         wanted: WantedTruths,
     ) -> Result<Option<TruthRegisters>, Refusal> {
-        match Set::listed(&self.facts, x, items)? {
+        match Set::of_literals(&self.facts, x, items)? {
             Some((column, set)) => match self.in_set(column, &set, wanted) {
                 Ok(made) => Ok(Some(made)),
                 Err(refusal) => Err(refusal),
@@ -321,7 +321,7 @@ impl Code<'_> {
             if let Some(made) = made {
                 self.skip_if_settled(true, made)?;
             }
-            let next = self.compared(Op::Eq, x, *item, wanted)?;
+            let next = self.emit_comparison(Op::Eq, x, *item, wanted)?;
             match made {
                 Some(made) => self.join_parts(true, made, next)?,
                 None => made = Some(next),
@@ -333,7 +333,7 @@ impl Code<'_> {
 
     /// Returns the registers of a comparison of two columns. Its skips meet right after its own
     /// instructions: after a NOT or a null plane, "less so far" would differ by them.
-    fn related(
+    fn emit_column_comparison(
         &mut self,
         relation: ColumnComparison,
         wanted: WantedTruths,
@@ -349,11 +349,11 @@ impl Code<'_> {
         let [c, d] = relation.columns;
         let both = [c, d];
         let count = if c == d { 1 } else { 2 };
-        let made = self.sides(held, &both[..count], true, wanted.turned(relation.negated))?;
+        let made = self.sides(held, &both[..count], true, wanted.opposite_if(relation.negated))?;
         self.meet_from(first);
         self.meet()?;
         self.order = VariableOrder::Whole;
-        Ok(made.turned(relation.negated))
+        Ok(made.opposite_if(relation.negated))
     }
 
     /// Returns the registers that are 1 if all of some columns have values and a register is 1, and
@@ -371,7 +371,7 @@ impl Code<'_> {
             no: None,
         };
         if wanted.no {
-            let outside = if wanted.yes { self.copied(held)? } else { held };
+            let outside = if wanted.yes { self.copy(held)? } else { held };
             for column in columns {
                 if let Some(nulls) = self.nulls(*column)? {
                     self.join_into(Connective::Or, outside, nulls)?;
@@ -397,7 +397,7 @@ impl Code<'_> {
     }
 
     /// Returns a register with the same lanes as another.
-    pub(crate) fn copied(&mut self, register: Register) -> Result<Register, Refusal> {
+    pub(crate) fn copy(&mut self, register: Register) -> Result<Register, Refusal> {
         let copy = self.fill(false)?;
         self.join(Connective::Or, copy, copy, register)?;
         Ok(copy)

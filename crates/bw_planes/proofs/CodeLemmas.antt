@@ -14,7 +14,7 @@ use Rattle.bw_model.specs.Groups.{group_size}
 use Rattle.bw_model.specs.Variable.{spelled}
 use Rattle.bw_model.proofs.BitsLemmas.{bit_worth}
 use lib.Lanes.{zip2}
-use Rattle.bw_model.specs.Stored.{byte_of}
+use Rattle.bw_model.specs.StoredCodes.{byte_of}
 use Rattle.bw_segment.proofs.ByteLemmas.{with_byte, codes_from, top_byte, byte_more, codes_whole}
 use Rattle.bw_segment.proofs.DescentLemmas.{high_more}
 use Rattle.bw_planes.specs.Planes.{plane_lanes, row_bits, planes_codes}

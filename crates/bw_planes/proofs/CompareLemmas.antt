@@ -10,7 +10,7 @@ use lib.Lanes.{zip2}
 use Rattle.bw_lanes.specs.Lanes.{lanes_of_words}
 use Rattle.bw_lanes.proofs.WordLemmas.{mapped_right, ones_are_one, zeros_are_zero}
 use Rattle.bw_model.specs.Code.{has_bit}
-use Rattle.bw_model.specs.Stored.{byte_of}
+use Rattle.bw_model.specs.StoredCodes.{byte_of}
 use Rattle.bw_planes.specs.Planes.{planes_codes}
 use Rattle.bw_planes.proofs.KeptLemmas.{low_more}
 use Rattle.bw_planes.proofs.CodeLemmas.{codes_agree, codes_long}

@@ -17,7 +17,7 @@ use Rattle.bw_model.proofs.BitsLemmas.{bit_worth}
 use Rattle.bw_planes.specs.Planes.{plane_lanes, row_bits, planes_codes, codes_in_word}
 use Rattle.bw_planes.proofs.KeptLemmas.{plane_of_codes}
 use Rattle.bw_segment.proofs.DescentLemmas.{high_more}
-use Rattle.bw_segment.proofs.PickedLemmas.{no_bits, word_more, words_summed}
+use Rattle.bw_segment.proofs.SelectedLemmas.{no_bits, word_more, words_summed}
 use Rattle.bw_planes.proofs.CodeLemmas.{codes_long, small_in_rows}
 
 lanes_range : (k n : ℕ) (bytes : List ℕ) → k + n ≤ length bytes → lanes_of_bytes (take n (drop k bytes)) ≡ take (8 * n) (drop (8 * k) (lanes_of_bytes bytes))

@@ -6,7 +6,7 @@ use Rattle.std.proofs.lemmas.Simd.{zip2_of_maps, splat_is_map}
 use lib.Lanes.{zip2}
 use Rattle.bw_lanes.specs.Shifted.{with_bit}
 use Rattle.bw_model.specs.Code.{has_bit}
-use Rattle.bw_model.specs.Stored.{byte_of}
+use Rattle.bw_model.specs.StoredCodes.{byte_of}
 use Rattle.bw_planes.specs.Planes.{planes_codes}
 use Rattle.bw_planes.proofs.CodeLemmas.{codes_long}
 use Rattle.bw_planes.proofs.CompareLemmas.{of_byte}

@@ -28,7 +28,7 @@ use Rattle.bw_text.proofs.DecimalLemmas.{natural_of-decimal, plain_number}
 use Rattle.bw_text.proofs.RegisterLemmas.{plain_register, register_of-text}
 use Rattle.bw_text.proofs.SpacedWords.{line_said}
 use Rattle.bw_text.proofs.WordSpelling.{opcode_of-spelling}
-use Rattle.bw_text.specs.Printed.{is_plain_word, line_text}
+use Rattle.bw_text.specs.Printing.{is_plain_word, line_text}
 use Rattle.bw_text.specs.Register.{is_register, register_text}
 use Rattle.bw_model.proofs.NameLemmas.{plain_name}
 

@@ -55,7 +55,7 @@ within_more end (q ∷ before) p all here = (all.0, within_more end before p all
 record Read (columns : List Column) (before : List Placed) (lines : List NumberedWords) (program : ProgramShape) : Type 0 where
   rest : List Placed
   instrs : program.instrs ≡ instrs_of (before ++ rest)
-  few : length (before ++ rest) ≤ most_instructions
+  within_limit : length (before ++ rest) ≤ most_instructions
   within : AllWithin (length (before ++ rest)) (before ++ rest)
   spelled : SpellsLines columns (length (before ++ rest)) (length before) lines (instrs_of rest) program.result
 
@@ -100,7 +100,7 @@ finished_read columns before line lines program is few e = go (result_after line
         subst (Read columns before (line ∷ lines)) ended.1 (record {
           rest = [];
           instrs = ap instrs_of (sym same);
-          few = subst (λ (p : List Placed). length p ≤ most_instructions) (sym same) few;
+          within_limit = subst (λ (p : List Placed). length p ≤ most_instructions) (sym same) few;
           within = subst (λ (p : List Placed). AllWithin (length p) p) (sym same) ended.0;
           spelled = spelled;
         })
@@ -134,7 +134,7 @@ program_read columns before (line ∷ lines) end program few e =
         record {
           rest = p ∷ after.rest;
           instrs = after.instrs ∙ ap instrs_of same;
-          few = subst (λ (all : List Placed). length all ≤ most_instructions) same after.few;
+          within_limit = subst (λ (all : List Placed). length all ≤ most_instructions) same after.within_limit;
           within = within;
           spelled = instr_line first others;
         }
@@ -159,7 +159,7 @@ pub text_spelled : (columns : List Column) (bytes : List ℕ) (program : Program
 text_spelled columns bytes program e =
     let read = program_read columns [] (lines_in (whole bytes)) (end_in (whole bytes)) program (omega arith) e in
     let count : length program.instrs ≡ length read.rest = ap length read.instrs ∙ length-map read.rest (λ (p : Placed). p.instr) in
-    let few = read.few in
+    let few = read.within_limit in
     let instrs : instrs_of read.rest ≡ program.instrs = sym read.instrs in (
       omega arith,
       subst (λ (is : List Instr). SpellsLines columns (length program.instrs) 0 (lines_in (whole bytes)) is program.result) instrs

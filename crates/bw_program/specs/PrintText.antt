@@ -9,7 +9,7 @@ use Rattle.bw_program.specs.declared.instr.Instr.TheVariants.{Load, Nulls, Fill,
 use Rattle.bw_text.specs.declared.opcode.Opcode.TheVariants as op
 use Rattle.bw_text.specs.Opcode.{opcode_spelling}
 use Rattle.bw_program.specs.Program.{ProgramShape}
-use Rattle.bw_text.specs.Printed.{line_text}
+use Rattle.bw_text.specs.Printing.{line_text}
 use Rattle.bw_text.specs.Register.{register_text}
 
 -- the name of the column of a number

@@ -7,7 +7,7 @@ ghost use Rattle.bw_model.specs.Column.{names_of};
 ghost use Rattle.bw_model.specs.Fault.{no_memory};
 ghost use Rattle.bw_model.specs.Name.{is_name, are_apart};
 ghost use Rattle.bw_text.specs.Opcode.{opcode_spelling};
-ghost use Rattle.bw_text.specs.Printed.{line_text, piece_text};
+ghost use Rattle.bw_text.specs.Printing.{line_text, piece_text};
 ghost use Rattle.bw_text.specs.Register.{register_text};
 ghost use Rattle.bw_program.specs.PrintText.{column_text, instr_words, print_text, result_words};
 ghost use Rattle.bw_program.specs.Program.{ProgramShape, is_program, fits, instr_fits};

@@ -15,11 +15,11 @@ use Rattle.bw_model.specs.Row.{Value}
 use Rattle.bw_program.specs.Program.{ProgramShape}
 use Rattle.bw_cert_text.specs.CertificateShape.{CertificateShape}
 use Rattle.bw_cert.specs.Valid.{Valid}
-use Rattle.bw_cert.specs.Judged.{Certifies}
+use Rattle.bw_cert.specs.FileVerdict.{Certifies}
 use Rattle.bw_query.specs.declared.scan.Scan.{Scan}
 use Rattle.bw_query.specs.declared.scan.Scan.TheVariants.{Program, Rows}
 use Rattle.bw_query.specs.declared.served.Scanned.{Scanned}
-use Rattle.bw_query.specs.Among.{IsChosenAmong, IsFirstUsable, IsRejected, IsServedAmong, first, none, texts_of}
+use Rattle.bw_query.specs.ProgramChoice.{IsChosenAmong, IsFirstUsable, IsRejected, IsServedAmong, first, none, texts_of}
 use Rattle.bw_query.specs.Scan.{IsChosen, IsFor, IsUsable}
 use Rattle.bw_query.specs.Served.{report_of}
 use Rattle.bw_query.specs.TableText.{IsScanOf}

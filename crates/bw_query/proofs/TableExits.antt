@@ -11,7 +11,7 @@ use Rattle.bw_model.specs.declared.schema.Schema.{Schema}
 use Rattle.bw_model.specs.Fault.{is_memory, no_memory, nowhere}
 use Rattle.bw_model.specs.SchemaText.{IsSchemaFault, is_schema_fault}
 use Rattle.bw_sql.specs.Refusal.{IsStatementFault, is_statement_fault}
-use Rattle.bw_cert.specs.Judged.{is_file_fault}
+use Rattle.bw_cert.specs.FileVerdict.{is_file_fault}
 use Rattle.bw_model.specs.Groups.{groups_of, together}
 use Rattle.bw_model.specs.Row.{Value}
 use Rattle.bw_io.specs.Sink.{GoesOut, WriteOutcome, beginning, everything, is_write_fault, none_aside, nothing}

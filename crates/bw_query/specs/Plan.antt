@@ -15,7 +15,7 @@ use Rattle.bw_cert_text.specs.CertificateShape.{CertificateShape}
 use Rattle.bw_cert_text.specs.CertificateText.{IsCertificateText}
 use Rattle.bw_cert_text.specs.PrintText as certificate_text
 use Rattle.bw_cert_text.specs.Reprint.{renumbered}
-use Rattle.bw_cert.specs.Judged.{Certifies}
+use Rattle.bw_cert.specs.FileVerdict.{Certifies}
 use Rattle.bw_sql.specs.Statement.{IsReadAs}
 
 -- The file is the printed text of a program, the line CERTIFICATE, and the printed text of a

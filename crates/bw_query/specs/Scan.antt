@@ -13,7 +13,7 @@ use Rattle.bw_program.specs.Program.{ProgramShape}
 use Rattle.bw_cert_text.specs.CertificateShape.{CertificateShape}
 use Rattle.bw_cert.specs.declared.certified.Certified.{Certified}
 use Rattle.bw_cert.specs.Valid.{Valid}
-use Rattle.bw_cert.specs.Judged.{Certifies, IsFileFault}
+use Rattle.bw_cert.specs.FileVerdict.{Certifies, IsFileFault}
 use Rattle.bw_query.specs.declared.scan.Scan.{Scan}
 use Rattle.bw_query.specs.declared.scan.Scan.TheVariants.{Program, Rows}
 

@@ -10,7 +10,7 @@ use Rattle.bw_model.specs.Row.{Value}
 use Rattle.bw_program.specs.Program.{ProgramShape}
 use Rattle.bw_cert_text.specs.CertificateShape.{CertificateShape}
 use Rattle.bw_cert.specs.Valid.{Valid}
-use Rattle.bw_cert.specs.Judged.{Certifies}
+use Rattle.bw_cert.specs.FileVerdict.{Certifies}
 use Rattle.bw_query.specs.declared.scan.Scan.{Scan}
 use Rattle.bw_query.specs.declared.scan.Scan.TheVariants.{Program, Rows}
 use Rattle.bw_report.specs.declared.served.By.{By}

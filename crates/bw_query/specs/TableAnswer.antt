@@ -18,7 +18,7 @@ use Rattle.bw_io.specs.Sink.{is_write_fault}
 use Rattle.bw_io.specs.Source.{is_read_fault, is_input_fault, failed_by}
 use Rattle.bw_file.specs.declared.layout.Layout.{Layout}
 use Rattle.bw_file.specs.FileBytes.{IsFileBytes}
-use Rattle.bw_file.specs.Reading.{State, Took, GoesOn, Fails, give}
+use Rattle.bw_file.specs.Reading.{State, HasConsumed, GoesOn, Fails, give}
 use Rattle.bw_file.specs.TableReading.{HeaderShape, Found, header}
 use Rattle.bw_file.specs.TableReader.{AreUnfinished, HasFirstFault, NoneToSpare, ReadWhole, ReadProgress, header_stated, version_in}
 use Rattle.bw_file.specs.declared.table_reader.TableReader.{TableReader}
@@ -31,7 +31,7 @@ pub record HeaderRead (start after : State) (schema : Schema) : Type 0 where
   pub shape : schema_shape schema ≡ stated.schema
 
 -- a reader has read the header, which is at the start of its file, and nothing after it
-pub record Began (start now : State) (reader : TableReader) : Type 0 where
+pub record HasReadHeader (start now : State) (reader : TableReader) : Type 0 where
   pub so_far : ReadProgress start now reader []
   pub stated : GoesOn header start (give (header_stated (version_in reader) reader)) now
 
@@ -87,7 +87,7 @@ pub record SegmentRefused (asks : Schema → Result Query Fault → Type 0) (sta
   pub head : HeaderRead start after schema
   pub asked : asks schema (Ok query)
   pub bytes : List ℕ
-  pub took : Took start now bytes
+  pub took : HasConsumed start now bytes
   pub needed : NoneToSpare bytes fault
   pub unfinished : is_read_fault fault ≡ true → AreUnfinished bytes
   pub first : is_input_fault fault ≡ false → HasFirstFault now bytes fault

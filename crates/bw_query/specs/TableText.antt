@@ -9,7 +9,7 @@ use Rattle.bw_model.specs.Groups.{groups_of, together}
 use Rattle.bw_model.specs.Row.{Value}
 use Rattle.bw_model.specs.SchemaText.{schema_shape}
 use Rattle.bw_answer.specs.Answer.{csv_text, meaning}
-use Rattle.bw_answer.specs.Over.{GoesOver}
+use Rattle.bw_answer.specs.Progress.{GoesOver}
 use Rattle.bw_answer.specs.declared.answer.Answer.{Answer}
 use Rattle.bw_file.specs.Reading.{State}
 use Rattle.bw_file.specs.TableReading.{Found}
@@ -31,7 +31,7 @@ pub record IsScanOf (columns : List Column) (scan : Scan) (groups : List (List (
 pub record TookAll (old now : State) (reader : TableReader) (scan : Scan) (before after : Answer)
     (scanned : Scanned) : Type 0 where
   pub groups : List (List (List Value))
-  pub over : GoesOver before (together groups) after
+  pub covers : GoesOver before (together groups) after
   pub counts : IsScanOf (schema_in reader).columns.items scan groups scanned
   pub read : (start : State) → ReadProgress start old reader []
       → ReadWhole start now (found_so_far reader groups)

@@ -17,7 +17,7 @@ same_at a (suc count) (suc i) = same_at a count i
 -- a lane is 1 if its row matches, and else 0
 pub record Marks (lanes : List Bool) (rows : List (List Value)) (keeps : List Value → Bool) : Type 0 where
   pub all : length lanes ≡ 512
-  pub few : length rows ≤ 512
+  pub within_limit : length rows ≤ 512
   pub kept : (lane : ℕ) → lane < length rows → get_or lanes lane false ≡ keeps (get_or rows lane [])
   pub past : (lane : ℕ) → length rows ≤ lane → lane < 512 → get_or lanes lane false ≡ false
 
@@ -38,7 +38,7 @@ lane_at lanes rows keeps marks i within (inr below) =
 pub marked : (lanes : List Bool) (rows : List (List Value)) (keeps : List Value → Bool) → Marks lanes rows keeps → lanes ≡ map keeps rows ++ replicate (512 - length rows) false
 marked lanes rows keeps marks =
     ext_get_or false lanes (map keeps rows ++ replicate (512 - length rows) false)
-    (omega (arith, length-append (map keeps rows) (replicate (512 - length rows) false), length-map rows keeps, length-replicate (512 - length rows) false, marks.all, marks.few))
+    (omega (arith, length-append (map keeps rows) (replicate (512 - length rows) false), length-map rows keeps, length-replicate (512 - length rows) false, marks.all, marks.within_limit))
     (λ i within. lane_at lanes rows keeps marks i (omega (arith, marks.all, within)) (leb_tells (length rows) i))
 
 -- the lanes of the first rows, so many

@@ -55,12 +55,12 @@ impl Filter {
     /// Returns the rows of a segment on which the condition is TRUE: neither FALSE nor UNKNOWN will
     /// do. Lane i is row i's, and 0 past the last row. Each column that the condition names is
     /// unpacked once.
-    pub fn rows_kept<S: Segment>(&mut self, segment: &S) -> Selection
+    pub fn matching_lanes<S: Segment>(&mut self, segment: &S) -> Selection
         ensures kept { lanes_of_words result
             ≡ map (λ row. is_truth (prepared_truth row self.old) Yes) (S.meaning segment.now).rows
             ++ replicate (group_size - length (S.meaning segment.now).rows) false }
         ensures same { self.new ≡ self.old }
     {
-        self.cond.rows_kept(segment, &mut self.unpacked)
+        self.cond.matching_lanes(segment, &mut self.unpacked)
     }
 }

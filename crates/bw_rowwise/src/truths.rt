@@ -77,7 +77,7 @@ impl Truths {
     }
 
     /// Returns whether each lane has a truth value.
-    pub fn tested(&self, wanted: Truth) -> Truths
+    pub fn test(&self, wanted: Truth) -> Truths
         ensures { (f : ℕ → Truth) → AreTruths self.now f
             → AreTruths result (λ lane. truth_from (is_truth (f lane) wanted)) }
     {

@@ -13,7 +13,7 @@ use Rattle.bw_csv.specs.Fields.{IsCutAfter, IsCutRecord}
 use Rattle.bw_csv.specs.Rows.{Stops, StopsAfter, is_reader_fault, without_blanks}
 use Rattle.bw_schemas.specs.Heading.{heading_names, names_from}
 use Rattle.bw_schemas.specs.Infer.{StopsInferring}
-use Rattle.bw_schemas.specs.Inferred.{infer_schema, inferred_after}
+use Rattle.bw_schemas.specs.InferredSchema.{infer_schema, inferred_after}
 
 -- two results are the same fault
 abbrev BothRefused : Result (List (List ℕ)) Fault → Result (List (List ℕ)) Fault → Type 0

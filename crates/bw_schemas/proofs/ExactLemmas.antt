@@ -24,7 +24,7 @@ use Rattle.bw_csv.specs.Bare.{bare_rows, records_of}
 use Rattle.bw_csv.specs.Rows.{is_heading, rows_after, without_blanks}
 use Rattle.bw_csv.proofs.BareLemmas.{both, bound, passed, rows_are, rows_wide}
 use Rattle.bw_schemas.specs.Heading.{heading_names}
-use Rattle.bw_schemas.specs.Inferred.{column_over, columns_over, has_null, infer_schema, inferred_after, or_zero, check_bounds, ranged_column, schema_over, table_of, IsExact, IsNarrowest}
+use Rattle.bw_schemas.specs.InferredSchema.{column_over, columns_over, has_null, infer_schema, inferred_after, or_zero, check_bounds, ranged_column, schema_over, table_of, IsExact, IsNarrowest}
 use Rattle.bw_schemas.proofs.HeadingLemmas.{heading_is}
 use Rattle.bw_schemas.proofs.NarrowLemmas.{greatest_of_one, least_of_one}
 

@@ -13,9 +13,9 @@ use Rattle.bw_model.specs.Total.{combine_totals, total}
 use Rattle.bw_model.specs.Truth.{is_null}
 use Rattle.bw_model.proofs.TotalLemmas.{total_append}
 use Rattle.bw_csv.specs.Bare.{bare_rows}
-use Rattle.bw_schemas.specs.declared.seen.ColumnStats.{ColumnStats}
-use Rattle.bw_schemas.specs.Inferred.{column_over, columns_over, has_null, check_bounds}
-use Rattle.bw_schemas.specs.Seen.{columns_after, columns_from_stats, greater, lesser, no_stats, column_stats, stats_in, with_records, with_rows, with_value, with_values}
+use Rattle.bw_schemas.specs.declared.column_stats.ColumnStats.{ColumnStats}
+use Rattle.bw_schemas.specs.InferredSchema.{column_over, columns_over, has_null, check_bounds}
+use Rattle.bw_schemas.specs.ColumnStats.{columns_after, columns_from_stats, greater, lesser, no_stats, column_stats, stats_in, with_records, with_rows, with_value, with_values}
 
 -- what the rows have in so many columns from this one on
 unfoldable seen_from : List (List Value) → ℕ → ℕ → List ColumnStats

@@ -16,8 +16,8 @@ use Rattle.bw_model.specs.Name.{is_name, are_apart}
 use Rattle.bw_model.specs.Schema.{IsColumn, IsSchema}
 use Rattle.bw_model.specs.SchemaText.{shape, shape_names, column_shape, schema_shape, column_words, table_words, is_range, SpellsColumn, SpellsSchema, IsSchemaText}
 use Rattle.bw_text.specs.Text.{same_text, is_word}
-use Rattle.bw_schemas.specs.Printed.{AreComments, column_line, columns_text, schema_text, table_line}
-use Rattle.bw_text.specs.Printed.{is_plain_word, line_text, spaced}
+use Rattle.bw_schemas.specs.PrintedSchema.{AreComments, column_line, columns_text, schema_text, table_line}
+use Rattle.bw_text.specs.Printing.{is_plain_word, line_text, spaced}
 use Rattle.bw_model.proofs.BitsLemmas.{both}
 use Rattle.bw_text.proofs.SpacedWords.{line_said, plain_word}
 use Rattle.bw_schemas.proofs.PrintedBounds.{bound_spelled, bound_plain, bound_length}

@@ -38,7 +38,7 @@ header_taken start now reader first read =
     let same : bytes ≡ head_bytes h = sym (append-nil bytes) ∙ takes.0.parts ∙ append-nil (head_bytes h) in
     let size : length bytes ≡ length (head_bytes h) = ap length same in
     let shaped = ap length (head_is (version_in reader) (rows_stated reader) (layout_in reader) (schema_in reader)) in
-    omega (arith, read.took.counted, size, shaped, first)
+    omega (arith, read.took.advanced, size, shaped, first)
 
 -- the sizes of groups, and what is said of each of them
 abbrev HasSize : List (List Value) → Type 0
@@ -62,7 +62,7 @@ groups_sized : (layout : Layout) (columns : List Column) (groups : List (List (L
 groups_sized layout columns [] sized admitted = omega arith
 groups_sized layout columns (group ∷ groups) sized admitted =
     let size = All-head HasSize group groups sized in
-    let is : IsGroup (group_under columns group) = record { some = size.0; few = size.1; admitted = All-head (Admits columns) group groups admitted } in
+    let is : IsGroup (group_under columns group) = record { nonempty = size.0; within_limit = size.1; admitted = All-head (Admits columns) group groups admitted } in
     let first : length (segment_bytes layout columns group) ≡ segment_size layout columns = length-text (form_of layout) (is_packing layout) (group_under columns group) is in
     let rest = groups_sized layout columns groups (All-tail HasSize group groups sized) (All-tail (Admits columns) group groups admitted) in
     omega (arith, length-append (segment_bytes layout columns group) (flat_map (segment_bytes layout columns) groups), first, rest)

@@ -11,9 +11,9 @@ use Rattle.bw_io.specs.Source.{Arrival}
 use Rattle.bw_csv.specs.Bare.{bare_rows, records_of}
 use Rattle.bw_csv.specs.Input.{IsMadeAfter}
 use Rattle.bw_csv.specs.Rows.{Stops, StopsAfter, is_rows_fault}
-use Rattle.bw_schemas.specs.Printed.{schema_text}
+use Rattle.bw_schemas.specs.PrintedSchema.{schema_text}
 use Rattle.bw_schemas.specs.Heading.{heading_names}
-use Rattle.bw_schemas.specs.Inferred.{infer_schema, IsExact}
+use Rattle.bw_schemas.specs.InferredSchema.{infer_schema, IsExact}
 
 -- the text of the schema that is inferred from a CSV text, or the CSV text's first error
 abbrev pub inferred_text : List ℕ → List ℕ → Result (List ℕ) Fault

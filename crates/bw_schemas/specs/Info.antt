@@ -14,8 +14,8 @@ use Rattle.bw_file.specs.Blocks.{segment_size}
 use Rattle.bw_file.specs.FileBytes.{header_bytes}
 use Rattle.bw_file.specs.Reading.{State, GoesOn, Fails, give}
 use Rattle.bw_file.specs.TableReading.{HeaderShape, header}
-use Rattle.bw_text.specs.Printed.{line_text}
-use Rattle.bw_schemas.specs.Printed.{schema_text}
+use Rattle.bw_text.specs.Printing.{line_text}
+use Rattle.bw_schemas.specs.PrintedSchema.{schema_text}
 
 -- the number of segments of this many rows
 abbrev pub segment_count : ℕ → ℕ

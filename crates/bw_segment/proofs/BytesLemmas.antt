@@ -15,7 +15,7 @@ use Rattle.bw_model.specs.Row.{Value, value_in}
 use Rattle.bw_model.specs.Code.{width_at, span_at}
 use Rattle.bw_model.specs.Column.{admits_values}
 use Rattle.bw_model.specs.Groups.{group_size}
-use Rattle.bw_model.specs.Stored.{stored_at}
+use Rattle.bw_model.specs.StoredCodes.{stored_at}
 use Rattle.bw_model.specs.Truth.{is_null}
 use Rattle.bw_model.specs.Variable.{is_nullable}
 use Rattle.bw_model.proofs.BitsLemmas.{both}
@@ -88,7 +88,7 @@ module _ (packing : Packing) (law : IsPacking packing) (meaning : Meaning) (grou
 
   few_rows : length rows ≤ 512
   unfolding group_size
-  few_rows = group.few
+  few_rows = group.within_limit
 
   pub row_admitted : (row : ℕ) → row < length rows → admits_values columns (get_or rows row []) ≡ true
   row_admitted row lt = All-get_or (λ values. admits_values columns values ≡ true) rows row [] lt (AllPass-from_list_all (admits_values columns) rows group.admitted)

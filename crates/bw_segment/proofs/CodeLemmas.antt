@@ -28,7 +28,7 @@ length_admitted (column ∷ columns) (value ∷ values) admitted =
 
 pub few_rows : (schema : Schema) (rows : List Row) → IsGroup (meaning_of schema rows) → length rows ≤ 512
 unfolding group_size
-few_rows schema rows group = omega (arith, group.few, length-map rows values_of)
+few_rows schema rows group = omega (arith, group.within_limit, length-map rows values_of)
 
 -- the value that is read in a column
 pub value_read : (values : List Value) (col : ℕ) (value : Value) → col < length values → value ≡ get_or values col value → value ≡ value_in values col

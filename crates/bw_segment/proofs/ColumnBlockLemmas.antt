@@ -11,7 +11,7 @@ use Rattle.std.proofs.lemmas.Nat.{mul-le}
 use Rattle.std.proofs.lemmas.Slice.Eq.{bytes_eq-Decides}
 use Rattle.bw_model.specs.declared.column.Column.{Column}
 use Rattle.bw_segment.specs.declared.column_blocks.ColumnBlocks.{ColumnBlocks}
-use Rattle.bw_segment.specs.ColumnBlocks.{KeepBlocks, block_numbered, block_start, bytes_kept, segment_numbered, size_kept, stands_numbered}
+use Rattle.bw_segment.specs.ColumnBlocks.{StoresBlocks, block_numbered, block_start, bytes_kept, segment_numbered, size_kept, stands_numbered}
 use Rattle.bw_segment.specs.Packing.{Packing, block_at, block_size, bytes_before, segment_size}
 use Rattle.bw_segment.proofs.LayoutLemmas.{block_of_joined, cuts_are_all, length-blocks, piece_kept, piece_last}
 use Rattle.bw_segment.proofs.PackedLemmas.{slice_is_block}
@@ -27,7 +27,7 @@ no_bytes col = []
 -- columns without a block
 pub none_kept : (packing : Packing) (columns : List Column) (kept : List ColumnBlocks) (count : ℕ) → count ≡ length columns
     → map (λ (blocks : ColumnBlocks). blocks.size) kept ≡ map (block_size packing columns) (range_with_len 0 count)
-    → map items kept ≡ map no_bytes (range_with_len 0 count) → KeepBlocks packing columns 0 kept
+    → map items kept ≡ map no_bytes (range_with_len 0 count) → StoresBlocks packing columns 0 kept
 none_kept packing columns kept count all sizes none = record {
   all = sym (length-map kept items) ∙ ap length none ∙ length-map-range_with_len no_bytes 0 count ∙ all;
   sizes = λ col lt. ap (λ (l : List ℕ). get_or l col 0) sizes ∙ get_or-map-range_with_len (block_size packing columns) 0 count col col 0 (omega arith) (omega arith);
@@ -80,7 +80,7 @@ module _ (kept : List ColumnBlocks) (number col start end : ℕ) (stands : stand
         ap₂ (λ (l : List ℕ) (size : ℕ). slice_range l (number * size) (number * size + size)) (sym (bytes_read kept col d is_column)) (sym (size_read kept col d is_column)) ∙ is_there
 
 -- the segment of a number among so many
-module _ (packing : Packing) (columns : List Column) (count : ℕ) (kept : List ColumnBlocks) (keep : KeepBlocks packing columns count kept) (number : ℕ) (there : number < count) where
+module _ (packing : Packing) (columns : List Column) (count : ℕ) (kept : List ColumnBlocks) (keep : StoresBlocks packing columns count kept) (number : ℕ) (there : number < count) where
   abbrev block : ℕ → List ℕ
   block = block_numbered kept number
 
@@ -156,10 +156,10 @@ pub all_more : (old new : List ColumnBlocks) (block : ℕ → List ℕ) (most co
 all_more old new block most count same more = subst (HaveMore old new block) same more
 
 -- a segment more
-module _ (packing : Packing) (columns : List Column) (count : ℕ) (old new : List ColumnBlocks) (bytes : List ℕ) (keep : KeepBlocks packing columns count old)
+module _ (packing : Packing) (columns : List Column) (count : ℕ) (old new : List ColumnBlocks) (bytes : List ℕ) (keep : StoresBlocks packing columns count old)
     (long : length bytes ≡ segment_size packing columns) (length-at : (col : ℕ) → col < length columns → length (block_at packing columns col bytes) ≡ block_size packing columns col)
     (more : HaveMore old new (λ col. block_at packing columns col bytes) (length columns)) where
-  pub keep_more : KeepBlocks packing columns (count + 1) new
+  pub keep_more : StoresBlocks packing columns (count + 1) new
   keep_more = record {
     all = more.all ∙ keep.all;
     sizes = λ col lt. more.sizes col ∙ keep.sizes col lt;

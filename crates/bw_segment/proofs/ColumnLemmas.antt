@@ -4,7 +4,7 @@ use Rattle.std.proofs.lemmas.List.{set-append_right, length-map, map-append, map
 use Rattle.bw_model.specs.declared.column.Column.{Column}
 use Rattle.bw_model.specs.Row.{Value, value_in}
 use Rattle.bw_model.specs.Groups.{group_size}
-use Rattle.bw_model.specs.Stored.{stored_at}
+use Rattle.bw_model.specs.StoredCodes.{stored_at}
 use Rattle.bw_model.specs.Truth.{is_null}
 use Rattle.bw_segment.specs.declared.columns.ColumnCodes.{ColumnCodes}
 use Rattle.bw_segment.specs.Columns.{kept_at, KeepRows}

@@ -13,12 +13,12 @@ use Rattle.bw_model.specs.Row.{Value, value_in}
 use Rattle.bw_model.specs.Column.{admits_values}
 use Rattle.bw_model.specs.Code.{width_at, slices_at, has_bit}
 use Rattle.bw_model.specs.Groups.{group_size, lanes_of}
-use Rattle.bw_model.specs.Stored.{stored_at, byte_of, byte_spelled, bits_in_slice, no_bits}
+use Rattle.bw_model.specs.StoredCodes.{stored_at, byte_of, byte_spelled, bits_in_slice, no_bits}
 use Rattle.bw_model.specs.Truth.{is_null}
 use Rattle.bw_model.specs.Variable.{Assignment, first_variable, null_variable, bit_variable, assignment_of, bits_of}
 use Rattle.bw_model.proofs.BitsLemmas.{both}
 use Rattle.bw_model.proofs.PlaceLemmas.{code_bit_at, null_bit_at_variable}
-use Rattle.bw_model.proofs.StoredLemmas.{byte_of_bits, spelled_zero}
+use Rattle.bw_model.proofs.StoredCodeLemmas.{byte_of_bits, spelled_zero}
 use Rattle.bw_segment.specs.Meaning.{Meaning, IsGroup, variable_lanes, byte_lanes, stored_codes, code_lanes, null_bits}
 
 map-replicate : {A B : Type 0} (f : A → B) (count : ℕ) (x : A) → map f (replicate count x) ≡ replicate count (f x)

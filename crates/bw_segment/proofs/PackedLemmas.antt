@@ -8,7 +8,7 @@ use Rattle.bw_model.specs.declared.row.Row.{Row}
 use Rattle.bw_model.specs.Code.{width_at, slices_at, span_at}
 use Rattle.bw_model.specs.Groups.{group_size}
 use Rattle.bw_model.specs.Row.{Value, value_in, values_of}
-use Rattle.bw_model.specs.Stored.{byte_of}
+use Rattle.bw_model.specs.StoredCodes.{byte_of}
 use Rattle.bw_segment.specs.declared.placement.Placement.{Placement}
 use Rattle.bw_segment.specs.BlockFault.{IsSound}
 use Rattle.bw_segment.specs.Meaning.{Meaning, IsGroup, byte_lanes, code_lanes, null_bits, meaning_of}
@@ -38,7 +38,7 @@ module _ {packing : Packing} {placement : Placement} {count : ℕ} {bytes : List
   block col = block_at packing columns col bytes
 
   pub few : count ≤ group_size
-  few = omega (arith, packed.group.few, length-rows_spelled packing columns count bytes)
+  few = omega (arith, packed.group.within_limit, length-rows_spelled packing columns count bytes)
 
   pub ruleset counted = (few, length-rows_spelled)
 
@@ -83,7 +83,7 @@ module _ {packing : Packing} {placement : Placement} {count : ℕ} {bytes : List
   module _ (col row : ℕ) (there : col < length columns) (lt : row < length meaning.rows) where
     pub row_below : row < 512
     unfolding group_size
-    row_below = omega (arith, lt, packed.group.few)
+    row_below = omega (arith, lt, packed.group.within_limit)
 
     pub code_within : get_or (code_lanes meaning col) row 0 ≤ span_at columns col
     code_within = omega (arith, code_of_row packing packed.law meaning packed.group col row lt, stored_within columns col (value_in (get_or meaning.rows row []) col) there)

@@ -15,7 +15,7 @@ use Rattle.bw_model.specs.Row.{Value, value_in}
 use Rattle.bw_model.specs.Code.{width_at, span_at}
 use Rattle.bw_model.specs.Column.{admits_values}
 use Rattle.bw_model.specs.Groups.{group_size}
-use Rattle.bw_model.specs.Stored.{stored_at}
+use Rattle.bw_model.specs.StoredCodes.{stored_at}
 use Rattle.bw_model.specs.Truth.{is_null}
 use Rattle.bw_model.specs.Variable.{is_nullable}
 use Rattle.bw_segment.specs.Packing.{Packing, IsPacking, null_size, block_size, bytes_before, block_bytes, segment_bytes, block_at, block_nulls, block_codes, value_held, value_in_block, rows_spelled}
@@ -89,8 +89,8 @@ module _ (packing : Packing) (law : IsPacking packing) (columns : List Column) (
   spelled_group name some =
       let long = length-rows_spelled packing columns count bytes in
       record {
-        some = omega (arith, some, long);
-        few = omega (arith, few, long);
+        nonempty = omega (arith, some, long);
+        within_limit = omega (arith, few, long);
         admitted = list_all-from_AllPass (admits_values columns) (map values (range_with_len 0 count)) (λ row d lt.
             let there : row < count = omega (arith, lt, length-map-range_with_len values 0 count) in
             ap (admits_values columns) (get_or-map-range_with_len values 0 count row row d there (omega arith)) ∙ row_is_admitted row there);

@@ -4,7 +4,7 @@ use Rattle.bw_model.specs.declared.column.Column.{Column}
 use Rattle.bw_model.specs.Row.{Value, value_in}
 use Rattle.bw_model.specs.Code.{span_of, span_at, stored_code, value_of_code}
 use Rattle.bw_model.specs.Column.{admits_value, admits_values}
-use Rattle.bw_model.specs.Stored.{stored_at}
+use Rattle.bw_model.specs.StoredCodes.{stored_at}
 use Rattle.bw_model.specs.Truth.{is_null}
 use Rattle.bw_model.specs.Variable.{is_nullable}
 use Rattle.bw_model.proofs.BitsLemmas.{both, given, code_in_span, value_of_distance, code_of-value_of_code}

@@ -38,7 +38,7 @@ stands_numbered kept number column start end =
     (block_numbered kept number column)
 
 -- each column has the blocks of `count` segments
-pub record KeepBlocks (packing : Packing) (columns : List Column) (count : ℕ)
+pub record StoresBlocks (packing : Packing) (columns : List Column) (count : ℕ)
     (kept : List ColumnBlocks) : Type 0 where
   pub all : length kept ≡ length columns
   pub sizes : (column : ℕ) → column < length columns → size_kept kept column

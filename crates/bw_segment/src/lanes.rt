@@ -1,7 +1,7 @@
 //! A law of groups: the content of their lanes.
 ghost use Rattle.std.specs.Prelude.{◌≡◌, ◌<◌, ℕ, Some, length, map};
 ghost use Rattle.bw_model.specs.Code.{width_at, slices_at, has_bit};
-ghost use Rattle.bw_model.specs.Stored.{byte_of};
+ghost use Rattle.bw_model.specs.StoredCodes.{byte_of};
 ghost use Rattle.bw_model.specs.Variable.{null_variable, bit_variable};
 ghost use Rattle.bw_segment.specs.Meaning.{Meaning, IsGroup, variable_lanes, byte_lanes, code_lanes, null_bits};
 

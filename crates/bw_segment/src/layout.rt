@@ -5,7 +5,7 @@ ghost use Rattle.bw_lanes.specs.Lanes.{lanes_of_words};
 ghost use Rattle.bw_model.specs.Code.{has_bit};
 ghost use Rattle.bw_model.specs.Fault.{no_memory};
 ghost use Rattle.bw_model.specs.Selection.{selected_items};
-ghost use Rattle.bw_model.specs.Stored.{byte_of};
+ghost use Rattle.bw_model.specs.StoredCodes.{byte_of};
 ghost use Rattle.bw_segment.specs.Packing.{Packing, IsPacking};
 
 use bw_lanes::{LANES, Plane, Selection};

@@ -7,7 +7,7 @@ ghost use Rattle.bw_segment.specs.Packing.{block_size, meaning_spelled, segment_
 ghost use Rattle.bw_segment.specs.Packed.{HoldBlocks, IsPacked, IsPlaced};
 
 use crate::blocks::Blocks;
-use crate::few::{greatest_in, least_in};
+use crate::extremes::{greatest_in, least_in};
 use crate::layout::CodeLayout;
 use crate::placement::Placement;
 use crate::segment::Segment;
@@ -45,7 +45,7 @@ impl<L: CodeLayout, B: Blocks> Segment for PackedSegment<L, B> {
         self.rows
     }
 
-    #[tactic(auto, unfolding(crate::specs::Picked::bit_lanes))]
+    #[tactic(auto, unfolding(crate::specs::Selected::bit_lanes))]
     #[inline(always)]
     fn bit(&self, col: usize, bit: u32) -> Plane {
         let (width, codes) = self.column_codes(col);
@@ -72,19 +72,19 @@ impl<L: CodeLayout, B: Blocks> Segment for PackedSegment<L, B> {
         L::byte_eq(width, codes, slice, c)
     }
 
-    #[tactic(auto, unfolding(crate::specs::Picked::codes_in))]
+    #[tactic(auto, unfolding(crate::specs::Selected::codes_in))]
     fn sum_of_codes(&self, col: usize, rows: &Selection) -> u128 {
         let (width, codes) = self.column_codes(col);
         L::sum(width, codes, rows)
     }
 
-    #[tactic(auto, unfolding(crate::specs::Picked::codes_in))]
+    #[tactic(auto, unfolding(crate::specs::Selected::codes_in))]
     fn min_code(&self, col: usize, rows: &Selection) -> Option<u64> {
         let (width, codes) = self.column_codes(col);
         least_in::<L>(width, codes, rows)
     }
 
-    #[tactic(auto, unfolding(crate::specs::Picked::codes_in))]
+    #[tactic(auto, unfolding(crate::specs::Selected::codes_in))]
     fn max_code(&self, col: usize, rows: &Selection) -> Option<u64> {
         let (width, codes) = self.column_codes(col);
         greatest_in::<L>(width, codes, rows)

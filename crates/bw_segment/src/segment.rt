@@ -7,7 +7,7 @@ ghost use Rattle.bw_model.specs.Groups.{group_size};
 ghost use Rattle.bw_model.specs.Row.{value_in};
 ghost use Rattle.bw_model.specs.Variable.{bit_variable, null_variable, variables_of};
 ghost use Rattle.bw_segment.specs.Meaning.{Meaning, IsGroup, variable_lanes, byte_lanes, code_lanes, null_bits};
-ghost use Rattle.bw_segment.specs.Picked.{bit_lanes, codes_in};
+ghost use Rattle.bw_segment.specs.Selected.{bit_lanes, codes_in};
 
 use bw_lanes::{LANES, Plane, Selection};
 use bw_model::{Schema, Value};

@@ -7,7 +7,7 @@ use Rattle.bw_model.specs.declared.schema.Schema.{Schema}
 use Rattle.bw_model.specs.Row.{Value}
 use Rattle.bw_sql.specs.Limits.{longest_statement}
 use Rattle.bw_sql.specs.Statement.{IsFault, refused, too_long}
-use Rattle.bw_session.specs.Reading.{most_kept}
+use Rattle.bw_session.specs.Reading.{most_stored}
 use Rattle.bw_session.specs.Session.{AsksNothing, IsOutput, answer, nothing, refusal}
 
 -- a statement that is too long asks for something
@@ -30,13 +30,13 @@ long_output schema rows kept sql _ _ kept_long long (refusal {fault} asks spelle
     refusal (long_asks sql long) (λ other. long_fault schema kept sql fault kept_long long (spelled other))
 
 pub kept_output : (schema : Schema) (rows : List (List Value)) (sql : List ℕ) (fault : Option Fault) (out : List ℕ)
-    → IsOutput schema rows (take most_kept sql) fault out → IsOutput schema rows sql fault out
-kept_output schema rows sql fault out output = by_size (leb (length sql) most_kept) refl
+    → IsOutput schema rows (take most_stored sql) fault out → IsOutput schema rows sql fault out
+kept_output schema rows sql fault out output = by_size (leb (length sql) most_stored) refl
   where
-    by_size : (fits : Bool) → leb (length sql) most_kept ≡ fits → IsOutput schema rows sql fault out
+    by_size : (fits : Bool) → leb (length sql) most_stored ≡ fits → IsOutput schema rows sql fault out
     by_size true fits =
-        subst (λ kept. IsOutput schema rows kept fault out) (take_all most_kept sql (leb-true _ _ fits)) output
+        subst (λ kept. IsOutput schema rows kept fault out) (take_all most_stored sql (leb-true _ _ fits)) output
     by_size false fits =
-        let more : most_kept < length sql = leb-false _ _ fits in
-        let size : length (take most_kept sql) ≡ most_kept = simp length-take (omega (arith, more)) in
-        long_output schema rows (take most_kept sql) sql fault out (omega (arith, size)) (omega (arith, more)) output
+        let more : most_stored < length sql = leb-false _ _ fits in
+        let size : length (take most_stored sql) ≡ most_stored = simp length-take (omega (arith, more)) in
+        long_output schema rows (take most_stored sql) sql fault out (omega (arith, size)) (omega (arith, more)) output

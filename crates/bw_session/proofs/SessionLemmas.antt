@@ -13,7 +13,7 @@ use Rattle.bw_io.specs.Source.{failed_reads, is_input_fault}
 use Rattle.bw_io.proofs.SinkLemmas.{no_write_fault}
 use Rattle.bw_session.specs.Reading.{TookBeginning, TookStatement}
 use Rattle.std.specs.Prelude.{if◌then◌else◌}
-use Rattle.bw_session.specs.Session.{CameWhole, Ended, IsOutput, SoFar, Stopped, WroteOutput, WrotePart, begun, failed_writes, first_of, more, reading, whole, writing}
+use Rattle.bw_session.specs.Session.{IsReadCompletely, Ended, IsOutput, RanSoFar, EndedEarly, WroteOutput, WrotePart, begun, failed_writes, first_of, more, reading, whole, writing}
 use Rattle.bw_session.proofs.CutLemmas.{none_opened}
 use Rattle.bw_session.proofs.KeptLemmas.{kept_output}
 
@@ -21,7 +21,7 @@ true_is_not_false : true ≡ false → ⊥
 true_is_not_false p = cc
 
 pub begins : (schema : Schema) (rows : List (List Value)) (known taken : Option (List ℕ))
-    → SoFar schema rows known known taken taken None
+    → RanSoFar schema rows known known taken taken None
 begins schema rows known taken = record {
   text = [];
   output = [];
@@ -38,9 +38,9 @@ of_all schema rows old new statement goes_on fault out took is =
     kept_output schema rows took.bytes fault out (subst (λ kept. IsOutput schema rows kept fault out) took.kept is)
 
 pub goes_on : (schema : Schema) (rows : List (List Value)) (old before now taken_old taken_before taken_now : Option (List ℕ))
-    (statement : List ℕ) (first fault : Option Fault) → SoFar schema rows old before taken_old taken_before first
+    (statement : List ℕ) (first fault : Option Fault) → RanSoFar schema rows old before taken_old taken_before first
     → TookStatement before now statement true → WroteOutput schema rows statement taken_before taken_now fault
-    → SoFar schema rows old now taken_old taken_now (first_of first fault)
+    → RanSoFar schema rows old now taken_old taken_now (first_of first fault)
 goes_on schema rows old before now taken_old taken_before taken_now statement first fault so_far took wrote = record {
   text = so_far.text ++ took.bytes;
   output = so_far.output ++ wrote.out;
@@ -51,7 +51,7 @@ goes_on schema rows old before now taken_old taken_before taken_now statement fi
 }
 
 pub ends : (schema : Schema) (rows : List (List Value)) (old before now taken_old taken_before taken_now : Option (List ℕ))
-    (statement : List ℕ) (first fault : Option Fault) → SoFar schema rows old before taken_old taken_before first
+    (statement : List ℕ) (first fault : Option Fault) → RanSoFar schema rows old before taken_old taken_before first
     → TookStatement before now statement false → WroteOutput schema rows statement taken_before taken_now fault
     → Ended schema rows old now taken_old taken_now (first_of first fault)
 ends schema rows old before now taken_old taken_before taken_now statement first fault so_far took wrote = record {
@@ -66,23 +66,23 @@ ends schema rows old before now taken_old taken_before taken_now statement first
 
 -- it ended before the next statement had come
 pub stops : (schema : Schema) (rows : List (List Value)) (old now taken_old taken_now : Option (List ℕ))
-    (first : Option Fault) (fault : Fault) → SoFar schema rows old now taken_old taken_now first
-    → IsTrue (is_input_fault fault) → Stopped schema rows old now taken_old taken_now fault
+    (first : Option Fault) (fault : Fault) → RanSoFar schema rows old now taken_old taken_now first
+    → IsTrue (is_input_fault fault) → EndedEarly schema rows old now taken_old taken_now fault
 stops schema rows old now taken_old taken_now first fault so_far input =
     reading so_far.text [] so_far.output input so_far.answered (subst (Consumes old now) (sym (append-nil so_far.text)) so_far.came)
     (record { front = []; rest = []; is = refl; short = omega arith; opened = none_opened }) so_far.went
 
 -- it ended while the next statement came
 pub stops_reading : (schema : Schema) (rows : List (List Value)) (old before now taken_old taken_now : Option (List ℕ))
-    (first : Option Fault) (fault : Fault) → SoFar schema rows old before taken_old taken_now first
-    → IsTrue (is_input_fault fault) → TookBeginning before now → Stopped schema rows old now taken_old taken_now fault
+    (first : Option Fault) (fault : Fault) → RanSoFar schema rows old before taken_old taken_now first
+    → IsTrue (is_input_fault fault) → TookBeginning before now → EndedEarly schema rows old now taken_old taken_now fault
 stops_reading schema rows old before now taken_old taken_now first fault so_far input took =
     reading so_far.text took.bytes so_far.output input so_far.answered
     (Consumes-trans old before now so_far.text took.bytes so_far.came took.came) took.begun so_far.went
 
 -- what came is a statement, with what ends it or up to the end of the source
 came_whole : (old new : Option (List ℕ)) (statement : List ℕ) (goes_on : Bool) → (took : TookStatement old new statement goes_on)
-    → CameWhole new took.bytes
+    → IsReadCompletely new took.bytes
 came_whole old new statement true took = inl (took.whole refl)
 came_whole old new statement false took = inr (took.last refl, took.end refl)
 
@@ -98,11 +98,11 @@ part_after old mid new text rest went part = (
 -- it ended by a failed write
 pub stops_writing : (schema : Schema) (rows : List (List Value)) (old before now taken_old taken_before taken_now : Option (List ℕ))
     (statement sql : List ℕ) (goes : Bool) (first : Option Fault) (fault : Fault)
-    → SoFar schema rows old before taken_old taken_before first → TookStatement before now statement goes
+    → RanSoFar schema rows old before taken_old taken_before first → TookStatement before now statement goes
     → WrotePart schema rows sql taken_before taken_now → sql ≡ statement → fault ≡ nowhere WRITE_FAILED
-    → Stopped schema rows old now taken_old taken_now fault
+    → EndedEarly schema rows old now taken_old taken_now fault
 stops_writing schema rows old before now taken_old taken_before taken_now statement sql goes first fault so_far took wrote same failed =
-    subst (Stopped schema rows old now taken_old taken_now) (sym failed)
+    subst (EndedEarly schema rows old now taken_old taken_now) (sym failed)
     (writing so_far.text took.bytes so_far.output wrote.out so_far.answered
     (Consumes-trans old before now so_far.text took.bytes so_far.came took.came)
     (came_whole before now statement goes took)
@@ -113,18 +113,18 @@ stops_writing schema rows old before now taken_old taken_before taken_now statem
 -- what is read and written once more, as the loop has it
 pub goes_on_as : (schema : Schema) (rows : List (List Value)) (old before now taken_old taken_before taken_now : Option (List ℕ))
     (statement sql : List ℕ) (first fault result : Option Fault) (goes : Bool)
-    → SoFar schema rows old before taken_old taken_before first → TookStatement before now statement goes → goes ≡ true
+    → RanSoFar schema rows old before taken_old taken_before first → TookStatement before now statement goes → goes ≡ true
     → WroteOutput schema rows sql taken_before taken_now fault → sql ≡ statement → result ≡ first_of first fault
-    → SoFar schema rows old now taken_old taken_now result
+    → RanSoFar schema rows old now taken_old taken_now result
 goes_on_as schema rows old before now taken_old taken_before taken_now statement sql first fault result goes so_far took on wrote same is =
-    subst (SoFar schema rows old now taken_old taken_now) (sym is)
+    subst (RanSoFar schema rows old now taken_old taken_now) (sym is)
     (goes_on schema rows old before now taken_old taken_before taken_now statement first fault so_far
     (subst (TookStatement before now statement) on took)
     (subst (λ text. WroteOutput schema rows text taken_before taken_now fault) same wrote))
 
 pub ends_as : (schema : Schema) (rows : List (List Value)) (old before now taken_old taken_before taken_now : Option (List ℕ))
     (statement sql : List ℕ) (first fault result : Option Fault) (goes : Bool)
-    → SoFar schema rows old before taken_old taken_before first → TookStatement before now statement goes → goes ≡ false
+    → RanSoFar schema rows old before taken_old taken_before first → TookStatement before now statement goes → goes ≡ false
     → WroteOutput schema rows sql taken_before taken_now fault → sql ≡ statement → result ≡ first_of first fault
     → Ended schema rows old now taken_old taken_now result
 ends_as schema rows old before now taken_old taken_before taken_now statement sql first fault result goes so_far took off wrote same is =

@@ -6,7 +6,7 @@ ghost use Rattle.bw_model.specs.Fault.{nowhere};
 ghost use Rattle.bw_io.specs.Source.{TellsFailure, is_input_fault};
 ghost use Rattle.bw_session.specs.Reading.{TookBeginning, TookByte, TookStatement, with_byte};
 
-use crate::standing::Standing;
+use crate::statement_state::StatementState;
 use bw_io::{Failed, Source};
 use bw_model::{Fault, code};
 use std::alloc::AllocError;
@@ -33,12 +33,12 @@ pub(crate) fn next_statement<S: Source>(
         (λ _. TookBeginning (S.to_come source.old) (S.to_come source.new)) }
 {
     statement.clear();
-    let mut standing = Standing::Blank;
+    let mut standing = StatementState::Blank;
     for _ in 0..u64::MAX {
         let Some(byte) = read_byte(source)? else {
             return Ok(false);
         };
-        keep_byte(statement, byte)?;
+        store_byte(statement, byte)?;
         standing = standing.after(byte);
         if standing.is_ended() {
             return Ok(true);
@@ -64,7 +64,7 @@ fn read_byte<S: Source>(source: &mut S) -> Result<Option<u8>, Fault>
 }
 
 /// Stores a byte of a statement, unless it already has one more than it may.
-fn keep_byte(statement: &mut Vec<u8>, byte: u8) -> Result<(), AllocError>
+fn store_byte(statement: &mut Vec<u8>, byte: u8) -> Result<(), AllocError>
     ensures { OnOk result (statement.new.items ≡ with_byte statement.old.items byte) }
 {
     if statement.len() <= MAX_LEN {

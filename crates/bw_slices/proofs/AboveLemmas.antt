@@ -15,13 +15,13 @@ use Rattle.bw_lanes.specs.Lanes.{bits_from_least, are_zero}
 use Rattle.bw_lanes.proofs.AnyLemmas.{any_mapped}
 use Rattle.bw_lanes.proofs.BitLemmas.{bits_of_not, same_on_range}
 use Rattle.bw_lanes.proofs.ByteLemmas.{compared, part_by_rows}
-use Rattle.bw_lanes.proofs.PickedLemmas.{greater_computed, kept_computed}
+use Rattle.bw_lanes.proofs.SelectedLemmas.{greater_computed, kept_computed}
 use Rattle.bw_lanes.proofs.WordLemmas.{either_is_zero, mapped_right, before_and_part, part_is, words_made}
 use Rattle.bw_model.specs.Groups.{group_size}
 use Rattle.bw_model.specs.Selection.{selected_items}
-use Rattle.bw_model.specs.Stored.{byte_of}
+use Rattle.bw_model.specs.StoredCodes.{byte_of}
 use Rattle.bw_segment.proofs.LowLemmas.{above_ones}
-use Rattle.bw_segment.proofs.PickedLemmas.{any_picked}
+use Rattle.bw_segment.proofs.SelectedLemmas.{any_selected}
 use Rattle.bw_slices.specs.Slices.{number_from, slices_codes}
 use Rattle.bw_slices.proofs.KeptLemmas.{bytes_in, byte_of_number, number_of_front, length-slices_codes}
 use Rattle.bw_slices.proofs.CodeLemmas.{code_in_lane, number_below, used_is}
@@ -170,6 +170,6 @@ pub used_any : (bytes : List ℕ) (lanes : List Bool) (count : ℕ) → list_any
 used_any bytes lanes count =
     let rows = range_with_len 0 512 in
     ap (list_any (λ lane. lane)) (sym (mapped_right (λ x y. x && y) (λ row. not (are_zero bytes row count)) lanes rows) ∙ ap (zip2 (λ x y. x && y) lanes) (sym (map-map not (λ row. are_zero bytes row count) rows) ∙ used_is bytes count))
-    ∙ any_picked set lanes (slices_codes count bytes)
+    ∙ any_selected set lanes (slices_codes count bytes)
 
 pub ruleset above_steps = (words_made, part_is, length-slices_codes)

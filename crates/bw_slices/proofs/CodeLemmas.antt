@@ -11,14 +11,14 @@ use Rattle.bw_lanes.specs.Lanes.{lanes_of_words, are_zero, bits_from_least}
 use Rattle.bw_lanes.proofs.WordLemmas.{length-lanes_of_words, zero_bits, no_lanes, lanes_more, length-first, before_and_part, part_is}
 use Rattle.bw_model.specs.Groups.{group_size}
 use Rattle.bw_model.specs.Selection.{selected_items}
-use Rattle.bw_segment.proofs.PickedLemmas.{all_picked, is_none, none_picked, word_more, words_summed}
+use Rattle.bw_segment.proofs.SelectedLemmas.{all_selected, is_none, none_selected, word_more, words_summed}
 use Rattle.bw_segment.proofs.ByteLemmas.{with_byte, codes_from, top_byte, byte_more as byte_below, codes_whole}
 use Rattle.bw_slices.specs.Slices.{number_from, slices_codes}
 use Rattle.bw_slices.proofs.KeptLemmas.{bytes_in, length-slices_codes, next_byte}
 use Rattle.std.proofs.Math.Nat.{div-eq_of_lt, mul-le-mul_right}
 use Rattle.std.proofs.lemmas.List.Sums.{sum_by-cons}
-use Rattle.bw_lanes.specs.Picked.{bytes_picked}
-use Rattle.bw_model.specs.Stored.{byte_of}
+use Rattle.bw_lanes.specs.Selected.{bytes_selected}
+use Rattle.bw_model.specs.StoredCodes.{byte_of}
 use Rattle.std.specs.Int.{bit_at, bit_not}
 use Rattle.std.proofs.lemmas.Bool.{cases_eq, cases_lt, eq-eqb}
 use Rattle.std.proofs.lemmas.List.Elements.{All-take, All-drop}
@@ -99,19 +99,19 @@ used_is bytes count =
 
 -- no code is left if no lane is 1
 pub none_left : (bytes words : List ℕ) (count : ℕ) → length words ≡ 8 → list_all not (lanes_of_words words) ≡ is_none (selected_items (lanes_of_words words) (slices_codes count bytes))
-none_left bytes words count eight = none_picked (lanes_of_words words) (slices_codes count bytes) (omega (arith, length-slices_codes count bytes, length-lanes_of_words words))
+none_left bytes words count eight = none_selected (lanes_of_words words) (slices_codes count bytes) (omega (arith, length-slices_codes count bytes, length-lanes_of_words words))
 
 pub ruleset of_bytes = (map-map)
 
 pub within_slices : (n width slices : ℕ) → slices ≡ (width + 7) / 8 → n < 2 ^ width → n < 2 ^ (8 * slices)
 within_slices n width slices all small = let wide = pow_mono {i = width} {j = 8 * slices} (omega arith) in omega arith
 
--- the bytes that are picked are those of the numbers that are picked
-pub sum_picked : (f : ℕ → ℕ) (lanes : List Bool) (ns : List ℕ) → sum (bytes_picked 0 lanes (map f ns)) ≡ sum_by f (selected_items lanes ns)
-sum_picked f [] ns = refl
-sum_picked f (lane ∷ lanes) [] = refl
-sum_picked f (true ∷ lanes) (n ∷ ns) = sum_by-cons (λ k. k) (f n) (bytes_picked 0 lanes (map f ns)) ∙ ap (λ k. f n + k) (sum_picked f lanes ns) ∙ sym (sum_by-cons f n (selected_items lanes ns))
-sum_picked f (false ∷ lanes) (n ∷ ns) = sum_by-cons (λ k. k) 0 (bytes_picked 0 lanes (map f ns)) ∙ omega (arith, sum_picked f lanes ns)
+-- the bytes that are selected are those of the numbers that are selected
+pub sum_selected : (f : ℕ → ℕ) (lanes : List Bool) (ns : List ℕ) → sum (bytes_selected 0 lanes (map f ns)) ≡ sum_by f (selected_items lanes ns)
+sum_selected f [] ns = refl
+sum_selected f (lane ∷ lanes) [] = refl
+sum_selected f (true ∷ lanes) (n ∷ ns) = sum_by-cons (λ k. k) (f n) (bytes_selected 0 lanes (map f ns)) ∙ ap (λ k. f n + k) (sum_selected f lanes ns) ∙ sym (sum_by-cons f n (selected_items lanes ns))
+sum_selected f (false ∷ lanes) (n ∷ ns) = sum_by-cons (λ k. k) 0 (bytes_selected 0 lanes (map f ns)) ∙ omega (arith, sum_selected f lanes ns)
 
 sum_next : (bit : ℕ) (ns : List ℕ) → sum_by (λ n. n / 2 ^ bit) ns ≡ 256 * sum_by (λ n. n / 2 ^ (bit + 8)) ns + sum_by (λ n. n / 2 ^ bit % 256) ns
 sum_next bit [] = refl
@@ -146,10 +146,10 @@ pub high_none : (width : ℕ) (lanes : List Bool) (bytes : List ℕ) → All (λ
 unfolding high_sum
 high_none width lanes bytes small =
     let codes = slices_codes ((width + 7) / 8) bytes in
-    sym (sum_of_high _ _ (all_picked _ lanes codes (all_within width (8 * ((width + 7) / 8 - 0)) codes (omega arith) small)))
+    sym (sum_of_high _ _ (all_selected _ lanes codes (all_within width (8 * ((width + 7) / 8 - 0)) codes (omega arith) small)))
 
 pub high_more : (width place : ℕ) (lanes : List Bool) (bytes : List ℕ) → place < (width + 7) / 8
-    → high_sum width (place + 1) lanes bytes ≡ 256 * high_sum width place lanes bytes + sum (bytes_picked 0 lanes (map (byte_of ((width + 7) / 8 - 1 - place)) (slices_codes ((width + 7) / 8) bytes)))
+    → high_sum width (place + 1) lanes bytes ≡ 256 * high_sum width place lanes bytes + sum (bytes_selected 0 lanes (map (byte_of ((width + 7) / 8 - 1 - place)) (slices_codes ((width + 7) / 8) bytes)))
 unfolding high_sum
 high_more width place lanes bytes lt =
     let slice = (width + 7) / 8 - 1 - place in
@@ -157,7 +157,7 @@ high_more width place lanes bytes lt =
     let next : 8 * ((width + 7) / 8 - (place + 1)) ≡ 8 * slice = omega arith in
     let above : 8 * slice + 8 ≡ 8 * ((width + 7) / 8 - place) = omega arith in
     ap (λ bit. sum_by (λ n. n / 2 ^ bit) (selected_items lanes codes)) next ∙ sum_next (8 * slice) (selected_items lanes codes)
-    ∙ ap₂ (λ bit part. 256 * sum_by (λ n. n / 2 ^ bit) (selected_items lanes codes) + part) above (sym (sum_picked (byte_of slice) lanes codes))
+    ∙ ap₂ (λ bit part. 256 * sum_by (λ n. n / 2 ^ bit) (selected_items lanes codes) + part) above (sym (sum_selected (byte_of slice) lanes codes))
 
 pub high_whole : (width place : ℕ) (lanes : List Bool) (bytes : List ℕ) → (width + 7) / 8 ≤ place → high_sum width place lanes bytes ≡ sum (selected_items lanes (slices_codes ((width + 7) / 8) bytes))
 unfolding high_sum
@@ -173,8 +173,8 @@ next_power place = let next : 8 * (place + 1) ≡ 8 * place + 8 = omega arith in
 pub ruleset sum_steps = (high_none, high_more, high_whole, all_summed, next_power)
 
 -- 64 of some codes
-pub picked_small : (lanes : List Bool) (first width : ℕ) (codes : List ℕ) → width ≤ 63 → All (λ code. code < 2 ^ width) codes → sum (selected_items lanes (take 64 (drop first codes))) ≤ 2 ^ 69
-picked_small lanes first width codes few small =
+pub selected_small : (lanes : List Bool) (first width : ℕ) (codes : List ℕ) → width ≤ 63 → All (λ code. code < 2 ^ width) codes → sum (selected_items lanes (take 64 (drop first codes))) ≤ 2 ^ 69
+selected_small lanes first width codes few small =
     sum_small width 64 lanes (take 64 (drop first codes)) few (omega (arith, length-take 64 (drop first codes))) (All-take (λ code. code < 2 ^ width) 64 (drop first codes) (All-drop (λ code. code < 2 ^ width) first codes small))
 
 first_item : (lane : Bool) (lanes : List Bool) (item : ℕ) (items : List ℕ) → sum (selected_items (lane ∷ lanes) (item ∷ items)) ≡ cond lane item 0 + sum (selected_items lanes items)

@@ -9,7 +9,7 @@ use Rattle.std.proofs.lemmas.List.{take-append-drop, drop_all, length-map, lengt
 use Rattle.std.proofs.lemmas.List.FromFn.{fill_by_all, length-map-range_with_len}
 use Rattle.std.proofs.lemmas.Simd.{map-map}
 use Rattle.bw_model.specs.Groups.{group_size}
-use Rattle.bw_model.specs.Stored.{byte_of}
+use Rattle.bw_model.specs.StoredCodes.{byte_of}
 use Rattle.bw_segment.specs.Packing.{IsPacking}
 use Rattle.bw_slices.specs.Slices.{number_from, slices_bytes, slices_codes, slice_packing}
 

@@ -4,7 +4,7 @@ ghost use Rattle.std.specs.Prelude.{◌≡◌, ◌==◌, ◌&&◌, ◌||◌, ◌
 ghost use Rattle.std.specs.List.{list_any};
 ghost use lib.Lanes.{zip2};
 ghost use Rattle.bw_lanes.specs.Lanes.{bits_from_least, lanes_of_words};
-ghost use Rattle.bw_model.specs.Stored.{byte_of};
+ghost use Rattle.bw_model.specs.StoredCodes.{byte_of};
 ghost use Rattle.bw_slices.specs.Slices.{slices_codes};
 
 use bw_lanes::{LANES, Plane};

@@ -20,8 +20,8 @@
 
 mod above;
 mod any;
-mod chosen;
-mod few;
+mod extremes;
+mod sparse_sum;
 mod layout;
 mod read;
 

@@ -19,7 +19,7 @@ use Rattle.bw_sql.proofs.Cases.{bool_cases}
 use Rattle.bw_sql.proofs.Machine.{Symbol, AWord, AnArgument, PartTail, SignedDigits, Choice, Ask, Pass, Stop, decide, ask, step, left_at, proceed, run, all_may_end, AStatement}
 use Rattle.bw_sql.proofs.Viable.{Path, here, there, path_viable}
 use Rattle.std.proofs.lemmas.List.{append-nil}
-use Rattle.bw_sql.specs.Asked.{QueryShape}
+use Rattle.bw_sql.specs.QueryShape.{QueryShape}
 use Rattle.bw_sql.specs.Grammar.{StatementIs}
 use Rattle.bw_sql.proofs.Runs.{statement_runs}
 use Rattle.bw_sql.proofs.Spelled.{Outcome, reads, excused, statement_read}

@@ -16,7 +16,7 @@ use Rattle.bw_sql.specs.declared.items.Aggregate.TheVariants as aggregate
 use Rattle.bw_sql.specs.declared.reader.Refusal.{Refusal}
 use Rattle.bw_sql.specs.declared.reader.Refusal.TheVariants.{Syntax, Literal}
 use Rattle.bw_sql.specs.declared.token.Mark.TheVariants as mark
-use Rattle.bw_sql.specs.Asked.{QueryShape}
+use Rattle.bw_sql.specs.QueryShape.{QueryShape}
 use Rattle.bw_model.specs.CondTree.{CondTree, CondTrees}
 use Rattle.bw_model.specs.Column.{column_named}
 use Rattle.bw_sql.specs.Demand.{Depth, is_met, meets}

@@ -13,12 +13,12 @@ use Rattle.bw_sql.specs.declared.reader.Refusal.TheVariants.{Syntax, UnknownTabl
 use Rattle.bw_sql.specs.declared.reader.Stop.{Stop}
 use Rattle.bw_sql.specs.declared.reader.Stop.TheVariants.{Refused, OutOfMemory}
 use Rattle.bw_sql.specs.declared.token.Placed.{Placed}
-use Rattle.bw_sql.specs.Asked.{QueryShape, query_shape}
+use Rattle.bw_sql.specs.QueryShape.{QueryShape, query_shape}
 use Rattle.bw_sql.specs.Cut.{IsCut, Spot, spots}
 use Rattle.bw_sql.specs.Demand.{is_met}
 use Rattle.bw_sql.specs.Frontier.{Stands, IsFirst, asked_for}
 use Rattle.bw_sql.specs.Grammar.{IsQuery}
-use Rattle.bw_sql.specs.Judged.{Answers, IsFaultOf, IsRead, fault_at, parse_verdict}
+use Rattle.bw_sql.specs.Verdict.{Answers, IsFaultOf, IsRead, fault_at, parse_verdict}
 use Rattle.bw_sql.specs.Limits.{longest_statement}
 use Rattle.bw_sql.specs.Reader.{Reads}
 use Rattle.bw_sql.specs.Reading.{Halt, statement_at}

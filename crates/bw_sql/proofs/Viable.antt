@@ -23,7 +23,7 @@ use Rattle.bw_sql.specs.declared.items.Aggregate.{Aggregate}
 use Rattle.bw_sql.specs.declared.items.Aggregate.TheVariants as aggregate
 use Rattle.bw_sql.specs.declared.reader.Refusal.{Refusal}
 use Rattle.bw_sql.specs.declared.token.Mark.TheVariants as mark
-use Rattle.bw_sql.specs.Asked.{QueryShape}
+use Rattle.bw_sql.specs.QueryShape.{QueryShape}
 use Rattle.bw_model.specs.CondTree.{CondTree, Always, Cmp, Between, IsNull, Test, Not, Among}
 use Rattle.bw_model.specs.Column.{column_named}
 use Rattle.bw_sql.specs.Demand.{Demand, NamesTable, NamesColumn, Fits, OfOneKind, Depth, every_column, is_met, meets}

@@ -19,7 +19,7 @@ use Rattle.bw_model.specs.Total.{item_within}
 use Rattle.bw_sql.specs.declared.condition.Connective.{Connective}
 use Rattle.bw_sql.specs.declared.condition.Connective.TheVariants as connective
 use Rattle.bw_sql.specs.declared.items.Aggregate.TheVariants as kind
-use Rattle.bw_sql.specs.Asked.{QueryShape, query_shape}
+use Rattle.bw_sql.specs.QueryShape.{QueryShape, query_shape}
 use Rattle.bw_sql.specs.Demand.{NamesColumn, OfOneKind, column_number, column_or_first, is_met, meets}
 use Rattle.bw_sql.specs.Grammar.{OperandIs, CommaList, RangeIs, ComparedIs, JoinedIs, MoreParts, PartIs, FactorIs, TestIs, PrimaryIs, ItemIs, NextItemIs, ItemsAre, SelectionIs, IsQuery, fold_operands, null, column, no_more, one_more, between, among, compared, comparison, range, not_range, is_null, is_not_null, parts, last_part, next_part, factor, term, test, not_test, tested, untested, is, is_not, predicate, bracket, plain, count_all, aggregate, next_item, star, items, all_rows, rows_where, statement}
 use Rattle.bw_sql.specs.Items.{AreOfOneKind, is_of_kind, are_of_kind}
@@ -169,7 +169,7 @@ pub record GoodQuery (columns : ℕ) (query : QueryShape) : Type 0 where
   pub within : tree_within columns query.cond ≡ true
   pub whole : is_whole_tree query.cond ≡ true
   pub items : list_all (item_within columns) query.items ≡ true
-  pub some : 1 ≤ length query.items
+  pub nonempty : 1 ≤ length query.items
   pub kinds : AreOfOneKind query.items
 
 pub query_good : (schema : Schema) (tokens : List Lexeme) (query : QueryShape) → IsQuery schema tokens query →
@@ -178,7 +178,7 @@ query_good schema tokens query (statement list m selection end) =
     let xs = items_good schema list in
     let c = selection_good schema selection in
     let columns : length schema.columns.items ≡ vec_len schema.columns = omega (arith, schema.columns.ok.0) in
-    subst (λ k. GoodQuery k query) columns (record { within = c.0; whole = c.1; items = xs.1; some = xs.0; kinds = xs.2 })
+    subst (λ k. GoodQuery k query) columns (record { within = c.0; whole = c.1; items = xs.1; nonempty = xs.0; kinds = xs.2 })
 
 -- so it is with the query that a text is read as
 pub if_good : (schema : Schema) (text : List ℕ) (result : Result Query Fault) (P : Query → Type 0) → Parses schema text result →

@@ -5,7 +5,7 @@ use Rattle.bw_model.specs.declared.schema.Schema.{Schema}
 use Rattle.bw_sql.specs.declared.reader.Refusal.{Refusal}
 use Rattle.bw_sql.specs.declared.reader.Refusal.TheVariants.{Syntax, Literal}
 use Rattle.bw_sql.specs.declared.token.Mark.TheVariants.{Plus, Minus}
-use Rattle.bw_sql.specs.Asked.{QueryShape}
+use Rattle.bw_sql.specs.QueryShape.{QueryShape}
 use Rattle.bw_sql.specs.Demand.{Demand, is_met, refusal}
 use Rattle.bw_sql.specs.Grammar.{StatementIs}
 use Rattle.bw_sql.specs.Refusal.{code_of}

@@ -15,7 +15,7 @@ use Rattle.bw_model.specs.declared.schema.Schema.{Schema}
 use Rattle.bw_text.specs.Keyword.{spelling}
 use Rattle.bw_text.specs.Number.{number_of}
 use Rattle.bw_text.specs.Text.{same_text}
-use Rattle.bw_sql.specs.Asked.{QueryShape}
+use Rattle.bw_sql.specs.QueryShape.{QueryShape}
 use Rattle.bw_model.specs.CondTree.{CondTree, CondTrees, Always, Cmp, Between, Among, IsNull, And, Or, Not, Test, trees_of}
 use Rattle.bw_sql.specs.declared.condition.Connective.{Connective}
 use Rattle.bw_sql.specs.declared.condition.Connective.TheVariants as connective

@@ -3,7 +3,7 @@ use Rattle.std.proofs.Common.{◌≡◌, ◌∙◌, refl, sym, ap, ℕ, ◌+◌,
 use Rattle.std.proofs.lemmas.List.{append-nil, drop_all}
 use Rattle.std.proofs.Math.Seq.{drop-cons}
 use Rattle.bw_text.specs.declared.piece.Piece.{Piece}
-use Rattle.bw_text.specs.Printed.{piece_text, spaced}
+use Rattle.bw_text.specs.Printing.{piece_text, spaced}
 
 pub spaced-next : (pieces : List Piece) (i : ℕ) (d : Piece) → i < length pieces →
     spaced (map piece_text (drop i pieces)) ≡ (32 ∷ piece_text (get_or pieces i d)) ++ spaced (map piece_text (drop (i + 1) pieces))

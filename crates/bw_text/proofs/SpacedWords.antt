@@ -7,7 +7,7 @@ use Rattle.std.proofs.lemmas.List.{append-nil}
 use Rattle.std.proofs.lemmas.List.Folds.{list_all-append}
 use Rattle.std.proofs.lemmas.List.Splits.{slice_split-cons_no, slice_split-cons_yes}
 use Rattle.bw_text.specs.Lines.{is_empty, is_blank, cut_lines, words_of, begins_comment, numbered_from, numbered}
-use Rattle.bw_text.specs.Printed.{is_above_blank, is_plain_word, line_text, spaced}
+use Rattle.bw_text.specs.Printing.{is_above_blank, is_plain_word, line_text, spaced}
 use Rattle.bw_text.specs.Text.{begins_word, goes_on_in_word, is_word}
 use Rattle.bw_text.proofs.LineLemmas.{numbered_from-said, numbered_from-skipped}
 

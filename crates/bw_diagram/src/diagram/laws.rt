@@ -3,7 +3,7 @@
 ghost use Rattle.std.specs.Prelude.{◌≡◌, ◌-◌, ◌≤◌, ℕ, false, true, List, ◌++◌, Some, Option, Ok, slice_get};
 ghost use Rattle.bw_model.specs.declared.column.Column.{Column};
 ghost use Rattle.bw_model.specs.Code.{width_at};
-ghost use Rattle.bw_model.specs.Stored.{number_spelled};
+ghost use Rattle.bw_model.specs.StoredCodes.{number_spelled};
 ghost use Rattle.bw_model.specs.Variable.{Assignment, bit_variable, spelled};
 ghost use Rattle.bw_diagram.specs.declared.chain.Chain.{Chain};
 ghost use Rattle.bw_diagram.specs.declared.node.Node.{Node};

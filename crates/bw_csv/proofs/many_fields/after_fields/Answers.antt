@@ -12,7 +12,7 @@ pub loop-i-init : goal.loop-i-init
 loop-i-init c = begins_nothing c.args.text.now
 
 pub overflow_add-closed : goal.overflow_add-closed
-overflow_add-closed c = let few = c.loop-i.invariant.few in omega arith
+overflow_add-closed c = let few = c.loop-i.invariant.within_limit in omega arith
 
 pub returns-then-closed-count : goal.returns-then-closed-count
 returns-then-closed-count c =

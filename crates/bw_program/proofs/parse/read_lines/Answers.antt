@@ -46,7 +46,7 @@ loop-line-preserved c =
     let read = sym c.in_ok-instr.was ∙ c.instr_of.ensures.parsed ∙ ap (λ (n : ℕ). instr_on columns n (line_of c.in-Some.line)) count in
     let next = instr_read columns _ _ _ _ _ _ line (sym c.is_result_line.ensures ∙ c.if-is_result_line.false) room read in
     rw c.in_ok-push.ensures.items (record {
-      few = omega (arith, length-append c.loop-line.placed.items (record { line = c.in-Some.line.number; instr = c.in_ok-instr.instr } ∷ []));
+      within_limit = omega (arith, length-append c.loop-line.placed.items (record { line = c.in-Some.line.number; instr = c.in_ok-instr.instr } ∷ []));
       told = c.loop-line.invariant.told ∙ next;
       end = c.loop-line.invariant.end ∙ sym c.in_ok-line.ensures.end;
     })

@@ -25,11 +25,11 @@ invariant_of-self-clause-capacity c =
 pub returns-clause-covers : goal.returns-clause-covers
 returns-clause-covers c = λ start before rows long led. record {
   same = led.same;
-  over = λ names query first over.
+  covers = λ names query first over.
       let self = c.args.self.now in
       let after = c.add_count.new.totals in
       let size : length after ≡ self.totals.len = c.add_count.auto.totals ∙ c.deref_mut.ensures.len in
-      let so_far = led.over names query first over in
+      let so_far = led.covers names query first over in
       let items = query.items.items in
       let all : list_all is_count_all items ≡ true = rw so_far.0 at c.requires.counts.alone in
       let some : 1 ≤ length items = rw so_far.0 at self.nonempty in

@@ -8,7 +8,7 @@ use Rattle.bw_model.specs.Column.{admits_values}
 use Rattle.bw_model.specs.Cond.{is_match}
 use Rattle.bw_model.specs.Groups.{group_size, lanes_of}
 use Rattle.bw_model.specs.Row.{Value}
-use Rattle.bw_model.specs.Stored.{no_bits}
+use Rattle.bw_model.specs.StoredCodes.{no_bits}
 use Rattle.bw_program.specs.Machine.{end_state}
 use Rattle.bw_run.specs.Run.{first_lanes}
 use Rattle.bw_cert.proofs.SelectionLemmas.{register_is, masked, on_lane}
