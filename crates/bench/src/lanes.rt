@@ -4,8 +4,8 @@ ghost use Rattle.std.specs.Prelude.{◌≤◌};
 ghost use Rattle.bw_model.specs.Groups.{group_size};
 ghost use Rattle.bw_segment.specs.Meaning.{meaning_of, IsGroup};
 
-use crate::random::{drawn, or_null};
 use crate::failure::Failure;
+use crate::random::{drawn, or_null};
 use bw_lanes::{Plane, bytes_bit, bytes_eq, bytes_lt};
 use bw_model::{Row, Schema};
 use bw_planes::{PlaneSegment, Planes};

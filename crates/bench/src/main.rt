@@ -15,10 +15,10 @@
 mod case;
 mod cert;
 mod diagram;
-mod random;
 mod failure;
 mod kernels;
 mod lanes;
+mod random;
 mod reader;
 mod run;
 mod total_ways;

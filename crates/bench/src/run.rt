@@ -5,8 +5,8 @@
 //!
 //! `ways.rt` has what is timed; read it first.
 use crate::case::Case;
-use crate::random::nanos;
 use crate::failure::Failure;
+use crate::random::nanos;
 use crate::ways::{
     ByProgram, CalledAnds, CalledBytes, CalledComparison, CalledLoads, CalledTopBits,
     FusedComparison, FusedTopBits, Way,

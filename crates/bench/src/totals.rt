@@ -3,8 +3,8 @@
 //! totals, and standard error the minimal times.
 //!
 //! `total_ways.rt` has what is timed; read it first.
-use crate::random::{drawn, nanos, or_null};
 use crate::failure::Failure;
+use crate::random::{drawn, nanos, or_null};
 use crate::total_ways::{Greatest, Least, Sum, Way};
 use bw_lanes::Plane;
 use bw_model::{Row, Schema};

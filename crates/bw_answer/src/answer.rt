@@ -18,8 +18,8 @@ ghost use Rattle.bw_answer.specs.Listing.{IsListing};
 ghost use Rattle.bw_answer.specs.Totals.{is_of, has_room};
 
 use crate::heading::heading_text;
-use crate::matching::is_match;
 use crate::listing::Listing;
+use crate::matching::is_match;
 use crate::selected::total_selected;
 use crate::totals::{add_count, add_kept, totals_of, with_totals};
 use bw_lanes::Selection;

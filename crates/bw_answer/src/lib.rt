@@ -11,12 +11,12 @@
 mod answer;
 mod csv_text;
 mod heading;
-mod matching;
 mod lanes;
 mod listing;
-mod selected;
+mod matching;
 mod record;
 mod records;
+mod selected;
 mod totals;
 
 pub use answer::Answer;

@@ -24,8 +24,8 @@ ghost use Rattle.bw_cert.specs.Selects.{Selects};
 ghost use Rattle.bw_cert.specs.Valid.{Valid, check_certificate};
 
 use bw_cert_rules::{
-    accepted_lines_are_valid, lines_are_checked_by_their_fields, valid_lines_are_accepted,
-    pairs_are_of_trees, pairs_tell_truths, skip_soundness,
+    accepted_lines_are_valid, lines_are_checked_by_their_fields, pairs_are_of_trees,
+    pairs_tell_truths, skip_soundness, valid_lines_are_accepted,
 };
 use bw_diagram::{accepted_lines_are_true, cited_nodes_are_worth};
 use bw_run::runs_come_to_the_end;

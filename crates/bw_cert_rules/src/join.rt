@@ -6,8 +6,8 @@ ghost use Rattle.bw_cert_rules.specs.Known.{is_known_fault, nothing_known};
 ghost use Rattle.bw_cert_rules.specs.Walk.{is_join, apply_join, keeps_taken};
 
 use crate::edge::Edge;
-use crate::line_checker::LineChecker;
 use crate::known::Known;
+use crate::line_checker::LineChecker;
 use bw_cert_text::{BodyLines, EdgeProducts, Entry, Keep};
 use bw_diagram::Connective;
 use bw_model::{Fault, code};

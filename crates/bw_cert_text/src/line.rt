@@ -464,7 +464,11 @@ fn parse_condition<'a>(line: u64, kind: ConditionKind, words: &[&[u8]]) -> Optio
 }
 
 /// Returns the fields in the line of an instruction.
-fn parse_instruction<'a>(line: u64, kind: InstructionKind, words: &[&[u8]]) -> Option<ParsedLine<'a>>
+fn parse_instruction<'a>(
+    line: u64,
+    kind: InstructionKind,
+    words: &[&[u8]],
+) -> Option<ParsedLine<'a>>
     ensures { option_map parsed_fields result
         ≡ parse_line_after line (kinds.Instruction kind) (map (λ word. word.now) words.now) }
 {

@@ -170,8 +170,20 @@ fn argument<'a>(alloc: Global, taken: ArgSpec) -> Arg<'a> {
     match taken {
         ArgSpec::File(name, help) => Arg::new(alloc, name).required(true).help(help),
         ArgSpec::Statement => statement(alloc),
-        ArgSpec::Valued(name, value, help) => value_option(alloc, ArgAction::Set, name, value, help),
-        ArgSpec::Repeated(name, value, help) => value_option(alloc, ArgAction::Append, name, value, help),
+        ArgSpec::Valued(name, value, help) => value_option(
+            alloc,
+            ArgAction::Set,
+            name,
+            value,
+            help,
+        ),
+        ArgSpec::Repeated(name, value, help) => value_option(
+            alloc,
+            ArgAction::Append,
+            name,
+            value,
+            help,
+        ),
         ArgSpec::Layout => layout(alloc),
         ArgSpec::Stats => stats(alloc),
     }

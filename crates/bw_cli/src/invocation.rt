@@ -1,8 +1,8 @@
 //! Parses the arguments of the process.
 ghost use Rattle.std.specs.Prelude.{◌≡◌};
 
-use crate::commands::{is_explained, matches_of, programs_of, command_args};
 use crate::args::CommandArgs;
+use crate::commands::{command_args, is_explained, matches_of, programs_of};
 use bw_io::ToWrite;
 use bw_model::{Fault, code};
 use bw_report::report;

@@ -4,9 +4,9 @@
 //! Only that these calls return is proved; what they return is tested on the program.
 #![tactic(auto)]
 
+mod args;
 mod commands;
 mod invocation;
-mod args;
 
-pub use invocation::{Invocation, USAGE, parse_invocation, process_args};
 pub use args::CommandArgs;
+pub use invocation::{Invocation, USAGE, parse_invocation, process_args};

@@ -7,10 +7,10 @@
 #![tactic(auto)]
 
 #[cfg(test)]
+mod column_comparisons;
+#[cfg(test)]
 mod generated;
 #[cfg(test)]
 mod lists;
-#[cfg(test)]
-mod column_comparisons;
 #[cfg(test)]
 mod rows;

@@ -1,6 +1,6 @@
 //! Aggregates and their totals.
-use crate::selected::{Selected, total};
 use crate::segments::{SCHEMA, TABLE};
+use crate::selected::{Selected, total};
 use bw_lanes::{Plane, lane, mask};
 use bw_model::{Item, Schema, Value};
 use std::test::Fail;

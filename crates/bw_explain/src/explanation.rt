@@ -1,6 +1,6 @@
 //! The lines below an error's own line.
-use crate::fallback::of_rows;
 use crate::csv_text::of_csv;
+use crate::fallback::of_rows;
 use crate::frontier::of_statement;
 use crate::heading::put_reason;
 use crate::kind::Kind;
@@ -107,7 +107,9 @@ pub fn explain(rt: &HostRuntime, words: &CommandArgs<'_>, ended: &CommandFailure
         print_explanation(rt, "", explain_name(rt, name, fault));
     } else if let Some(file) = file_of(words, ended) {
         let said = explain_kind(rt, words, file, fault);
-        if !print_explanation(rt, file, said) && !print_explanation(rt, file, explain_file(rt, words, file, fault)) {
+        if !print_explanation(rt, file, said)
+            && !print_explanation(rt, file, explain_file(rt, words, file, fault))
+        {
             explain_place(rt, ended, file);
         }
     }

@@ -13,8 +13,9 @@
 //! `lines.rt` those of program files.
 #![tactic(auto)]
 
-mod fallback;
 mod csv_text;
+mod explanation;
+mod fallback;
 mod frontier;
 mod heading;
 mod kind;
@@ -22,9 +23,8 @@ mod lines;
 mod missing_syntax;
 mod names;
 mod record;
-mod visible_bytes;
-mod tokens;
-mod explanation;
 mod rejected_columns;
+mod tokens;
+mod visible_bytes;
 
 pub use explanation::{CommandFailure, Reads, explain, explain_rows, explain_statement};

@@ -11,7 +11,7 @@ ghost use Rattle.bw_file.specs.TableReading.{plane_has_padding, has_padding, pad
 
 use crate::layout::Layout;
 use crate::segment_bytes::SegmentBytes;
-use crate::segments::{AnySegment, block_size, block_fault, segment_size};
+use crate::segments::{AnySegment, block_fault, block_size, segment_size};
 use crate::take::are_bytes;
 use bw_io::{Failed, Source};
 use bw_lanes::LANES;

@@ -13,7 +13,7 @@ ghost use Rattle.bw_file.specs.TableReading.{parse_magic, parse_version, parse_l
 
 use crate::fields::{
     Bounds, at_offset, parse_bounds, parse_count, parse_layout, parse_magic, parse_nullable,
-    parse_version, parse_row_count,
+    parse_row_count, parse_version,
 };
 use crate::layout::Layout;
 use crate::take::take;

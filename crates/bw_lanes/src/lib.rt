@@ -13,8 +13,8 @@ mod bytes;
 mod codes;
 mod lanes;
 mod last;
-mod selected;
 mod plane;
+mod selected;
 mod shifted;
 mod stored;
 
@@ -22,7 +22,7 @@ pub use bytes::{bytes_any, bytes_bit, bytes_eq, bytes_lt, bytes_none};
 pub use codes::{codes_eq, codes_lt};
 pub use lanes::LANES;
 pub use last::last_between;
-pub use selected::{bytes_of_plane, greatest_in, keep_in, least_in, sum_in};
 pub use plane::{Plane, Selection, and, count, count_and, is_zero, lane, mask, not, or, xor};
+pub use selected::{bytes_of_plane, greatest_in, keep_in, least_in, sum_in};
 pub use shifted::push_bit;
 pub use stored::{load, to_bytes};

@@ -5,8 +5,8 @@ ghost use Rattle.bw_lanes.specs.Lanes.{bits_from_least, lanes_of_words};
 ghost use Rattle.bw_lanes.specs.Shifted.{with_bit};
 
 use crate::lanes::LANES;
-use crate::selected::{bytes_of_word, put};
 use crate::plane::Plane;
+use crate::selected::{bytes_of_word, put};
 use std::simd::prelude::*;
 
 /// Shifts one more bit into a byte of each lane: each byte becomes its double, plus 1 if the

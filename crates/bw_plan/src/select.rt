@@ -3,7 +3,7 @@ use crate::code::Code;
 use crate::digits::Upper;
 use crate::refusal::Refusal;
 use crate::sets::{
-    byte_of, first_group, bounds_below, groups_from, is_rare, is_soon_done, most_instructions,
+    bounds_below, byte_of, first_group, groups_from, is_rare, is_soon_done, most_instructions,
 };
 use bw_diagram::{ChainKind, Connective};
 use bw_program::{ColumnIndex, Register, SliceIndex};

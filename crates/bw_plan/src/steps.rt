@@ -287,11 +287,7 @@ fn add_literal_comparison(
         yes: p.node,
         no: q.node,
     };
-    Ok(if bound.negated {
-        made.opposite()
-    } else {
-        made
-    })
+    Ok(if bound.negated { made.opposite() } else { made })
 }
 
 /// Returns the nodes of a comparison of two columns.

@@ -190,7 +190,11 @@ impl Code<'_> {
     }
 
     /// Returns the registers of `IS NULL`.
-    fn emit_null_test(&mut self, x: Operand, wanted: WantedTruths) -> Result<TruthRegisters, Refusal> {
+    fn emit_null_test(
+        &mut self,
+        x: Operand,
+        wanted: WantedTruths,
+    ) -> Result<TruthRegisters, Refusal> {
         let column = match x {
             Operand::Col(column) => self.facts.column(column)?,
             Operand::Lit(_) => return self.constant(Truth::No, wanted),
@@ -349,7 +353,12 @@ impl Code<'_> {
         let [c, d] = relation.columns;
         let both = [c, d];
         let count = if c == d { 1 } else { 2 };
-        let made = self.sides(held, &both[..count], true, wanted.opposite_if(relation.negated))?;
+        let made = self.sides(
+            held,
+            &both[..count],
+            true,
+            wanted.opposite_if(relation.negated),
+        )?;
         self.meet_from(first);
         self.meet()?;
         self.order = VariableOrder::Whole;

@@ -23,7 +23,11 @@ impl Prepared {
     /// Returns the rows of a segment on which the condition is TRUE: neither FALSE nor UNKNOWN will
     /// do. Lane i is row i's, and 0 past the last row. The columns for which `unpacked` has space
     /// are unpacked once.
-    pub(crate) fn matching_lanes<S: Segment>(&self, segment: &S, unpacked: &mut Unpacked) -> Selection
+    pub(crate) fn matching_lanes<S: Segment>(
+        &self,
+        segment: &S,
+        unpacked: &mut Unpacked,
+    ) -> Selection
         ensures { lanes_of_words result
             ≡ map (λ row. is_truth (prepared_truth row self.now) Yes) (S.meaning segment.now).rows
             ++ replicate (group_size - length (S.meaning segment.now).rows) false }

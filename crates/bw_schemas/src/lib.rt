@@ -12,13 +12,13 @@
 //! `infer_call.rt` and `info_call.rt`.
 #![tactic(auto)]
 
+mod column_stats;
 mod columns;
 mod heading;
 mod infer_call;
 mod info_call;
 mod print;
 mod schema;
-mod column_stats;
 mod text;
 
 pub use infer_call::infer;

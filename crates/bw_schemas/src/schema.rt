@@ -13,9 +13,9 @@ ghost use Rattle.bw_schemas.specs.Infer.{is_inferring_fault, StopsInferring};
 ghost use Rattle.bw_schemas.specs.InferredSchema.{infer_schema, IsExact};
 ghost use Rattle.bw_schemas.specs.ColumnStats.{columns_after, no_stats, with_records};
 
+use crate::column_stats::{ColumnStats, take_values};
 use crate::columns::columns_from_stats;
 use crate::heading::heading_names;
-use crate::column_stats::{ColumnStats, take_values};
 use bw_csv::{Records, read_bare_row, without_more_fields};
 use bw_model::{Column, Fault, MAX_COLUMNS, Name, Row, Schema, code};
 use std::alloc::{AllocError, Global};

@@ -31,7 +31,6 @@ mod column_blocks;
 mod columns;
 mod extremes;
 mod group;
-mod validation;
 mod lanes;
 mod layout;
 mod numbered_blocks;
@@ -40,6 +39,7 @@ mod packing;
 mod place;
 mod placement;
 mod segment;
+mod validation;
 mod values;
 
 pub use block::fault_of_lanes;

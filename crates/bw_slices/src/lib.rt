@@ -21,9 +21,9 @@
 mod above;
 mod any;
 mod extremes;
-mod sparse_sum;
 mod layout;
 mod read;
+mod sparse_sum;
 
 use bw_segment::PackedSegment;
 pub use layout::Slices;
