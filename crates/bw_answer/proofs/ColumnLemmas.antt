@@ -36,7 +36,7 @@ pub no_column_named : (items : List Item) (i : ℕ) → i < length items → ((c
 no_column_named items i within other =
     sym (columns_more items i within ∙ ap (λ (l : List ℕ). columns_of (take i items) ++ l) (no_column (get_or items i (Plain 0)) other) ∙ append-nil (columns_of (take i items)))
 
--- each is one of the first so many, if the items name none but these
+-- each is among the first of this number, if the items name none but these
 one_more : (width column : ℕ) (columns : List ℕ) → column < width → All (λ column. column < width) columns → All (λ column. column < width) (column ∷ columns)
 one_more width column columns here rest zero d h = here
 one_more width column columns here rest (suc k) d h = rest k d (omega arith)

@@ -29,7 +29,7 @@ counts_list_nothing (Sum column ∷ items) some e = refl
 counts_list_nothing (Min column ∷ items) some e = refl
 counts_list_nothing (Max column ∷ items) some e = refl
 
--- counts of rows, and so many more
+-- counts of rows, and this many more
 one_counted : (rows more : List (List Value)) (n : ℕ) → length more ≡ length rows + n → count_rows (tally_of CountAll rows) n ≡ tally_of CountAll more
 one_counted rows more n e = rw e refl
 
@@ -43,7 +43,7 @@ all_counted (Sum column ∷ items) rows more n e all = absurd (cc all)
 all_counted (Min column ∷ items) rows more n e all = absurd (cc all)
 all_counted (Max column ∷ items) rows more n e all = absurd (cc all)
 
--- totals of so many rows and more
+-- totals of this many rows and more
 pub is_of-counted : (width rows n : ℕ) (tallies : List Tally) → list_all (is_of width rows) tallies ≡ true
     → list_all (is_of width (rows + n)) (map (λ (tally : Tally). count_rows tally n) tallies) ≡ true
 is_of-counted width rows n [] e = refl

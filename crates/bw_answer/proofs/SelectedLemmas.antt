@@ -54,7 +54,7 @@ pub all_totals : (items : List Item) (rows more : List (List Value)) → ((item 
 all_totals [] rows more join = refl
 all_totals (item ∷ items) rows more join = λ i. one_total item rows more join i ∷ all_totals items rows more join i
 
--- and of so many rows and more
+-- and of this many rows and more
 selected_item : (tally : Tally) (more : List (List Value)) → (with_selected tally more).item ≡ tally.item
 selected_item tally [] = refl
 selected_item tally (row ∷ more) = refl

@@ -1,5 +1,5 @@
--- Where the lines of instructions and joins are refused, and that a first fault is what they are
--- refused with.
+-- Where the lines of instructions and joins are rejected, and that a first error is what they are
+-- rejected with.
 use Rattle.std.proofs.Common.{◌≡◌, ◌∙◌, refl, sym, ap, ap₂, subst, ◌⊎◌, inl, inr, ℕ, suc, ◌<◌, Bool, true, false, not, ◌&&◌, List, [], ◌∷◌, ◌++◌, map, length, Option, Some, None, Result, Ok, Err, arith}
 use Rattle.std.proofs.Math.Bool.{and-true}
 use Rattle.bw_model.proofs.BitsLemmas.{both}
@@ -35,7 +35,7 @@ ok_same is = cc
 pub err_same : (A : Type 0) (x y : Fault) → ◌≡◌ {A = Result A Fault} (Err x) (Err y) → x ≡ y
 err_same A x y is = cc
 
--- what was refused along a chain was refused at its first step, or after it
+-- what was rejected along a chain was rejected at its first step, or after it
 pub bind_err : {A B : Type 0} (r : Result A Fault) (f : A → Result B Fault) (fault : Fault) → (r >>= f) ≡ Err fault → (r ≡ Err fault) ⊎ ((x : A) × (r ≡ Ok x) × (f x ≡ Err fault))
 bind_err (Ok x) f fault is = inr (x, refl, is)
 bind_err {A = A} {B = B} (Err first) f fault is = inl (ap (λ (fault : Fault). Err fault) (err_same B first fault is))

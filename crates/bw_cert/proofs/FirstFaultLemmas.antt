@@ -1,4 +1,4 @@
--- Lines that are refused have a first fault, and are refused with it.
+-- Lines that are rejected have a first error, and are rejected with it.
 use Rattle.std.proofs.Common.{◌≡◌, ◌∙◌, refl, sym, ap, ap₂, subst, ◌⊎◌, inl, inr, ℕ, suc, ◌+◌, ◌<◌, true, not, List, [], ◌∷◌, ◌++◌, add-zero, append_assoc, drop, map, length, length-append, length-drop, Option, Some, None, Result, Ok, Err, slice_get, arith}
 use Rattle.std.proofs.lemmas.Bool.{eq-eqb}
 use Rattle.std.proofs.lemmas.Option.{slice_get_within}
@@ -90,7 +90,7 @@ come_further facts end lines first instr edges taken through gone come line took
         let joins : join.join ≡ Some lines = ap (λ (part : Part). part.join) same ∙ some in
         join_stops facts end (suc (length first)) through.known into through.rest gone (joins_some facts through.known into join.join lines joins join.valid_parts) took
 
--- lines that are refused from there on have a first fault
+-- lines that are rejected from there on have a first error
 stands_from : (facts : Facts) (end : ℕ) (lines : List BodyLine) (fault : Fault) (instrs others first : List Instr) (edges : List Edge) (taken : WalkState) → instrs ≡ first ++ others → Come facts lines first edges taken →
     check_lines_from facts end (length first) edges others taken ≡ Err fault → FirstFault facts instrs end lines fault
 unfolding check_lines_from
@@ -207,7 +207,7 @@ unfolding lines_of
 no_keep_after place [] rest none = none refl
 no_keep_after place (part ∷ parts) rest none = refl
 
--- the walk over the lines of parts that obey, from a place on, goes on after them
+-- the walk over the lines of parts that obey, from a place on, continues after them
 walk_over : (facts : Facts) (all : List Instr) (every : List Part) (end place : ℕ) (instrs : List Instr) (parts : List Part) (others : List Instr) (rest : List BodyLine) → AreValidParts facts all every → KeepsAreAll every rest →
     drop place all ≡ instrs → drop place every ≡ parts → length parts ≡ length instrs →
     check_lines_from facts end place (edges_before facts all every place) (instrs ++ others) (taken_of (lines_of place parts ++ rest) (known_before facts all every place))
@@ -244,7 +244,7 @@ walk_over facts all every end place (instr ∷ instrs) (part ∷ parts) others r
     ∙ walk_over facts all every end (suc place) instrs parts others rest valid_parts whole instr_there.1 part_there.1 (omega (arith, count))
     ∙ ap (λ n. check_lines_from facts end n (edges_before facts all every n) others (taken_of rest (known_before facts all every n))) same
 
--- lines with a first fault are refused with it
+-- lines with a first error are rejected with it
 pub refused_with_first : (facts : Facts) (instrs : List Instr) (end : ℕ) (lines : List BodyLine) (fault : Fault) → FirstFault facts instrs end lines fault → check_lines facts instrs end lines ≡ Err fault
 unfolding check_lines_from known_before edges_before
 refused_with_first facts instrs end lines fault f =
@@ -277,7 +277,7 @@ refused_with_first facts instrs end lines fault f =
         ∙ ap (λ (r : Result Known Fault). (r >>= λ through. Ok (taken_of place.rest through)) >>= past_line) place.says
         ∙ ap (λ t. t >>= past_join) (wrong_join facts end (suc (length f.first)) place.through (edges_after facts f.first f.parts f.instr) place.rest fault place.skips place.wrong)
 
--- and the fault is the same whatever lines come after the one on which it stands
+-- and the error is the same whatever lines come after the one on which it stands
 at_end : (code end : ℕ) (fault : Fault) → fault ≡ at_line code end → fault ≡ at_line fault.code end
 at_end code end fault is = is ∙ ap (λ (fault : Fault). at_line fault.code end) (sym is)
 
@@ -293,7 +293,7 @@ lines_after facts instrs end lines fault f = at f.wrong
     front : List BodyLine
     front = lines_of 0 f.parts
 
-    -- other lines with that fault
+    -- other lines with that error
     refused : (rest : List BodyLine) → KeepsAreAll f.parts rest → WrongLine facts end known f.instr rest fault ⊎ WrongPlace facts end (suc (length f.first)) known edges f.instr rest fault →
         check_lines facts instrs end (front ++ rest) ≡ Err fault
     refused rest whole wrong = refused_with_first facts instrs end (front ++ rest) fault (record {

@@ -1,4 +1,4 @@
--- A certificate that is refused has a first line that breaks a rule.
+-- A certificate that is rejected has a first line that breaks a rule.
 use Rattle.std.proofs.Common.{◌≡◌, ◌∙◌, refl, ap, ◌⊎◌, inl, inr, List, [], ◌∷◌, Result, Ok, Err}
 use Rattle.bw_model.specs.declared.column.Column.{Column}
 use Rattle.bw_model.specs.declared.cond.Cond.{Cond}

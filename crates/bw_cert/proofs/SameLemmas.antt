@@ -1,4 +1,4 @@
--- A certificate is judged by what its lines say, wherever their parts lie in memory.
+-- A certificate is checked by what its lines say, wherever their parts lie in memory.
 use Rattle.std.proofs.Common.{◌≡◌, ◌∙◌, refl, sym, ap, ℕ, List, [], ◌∷◌, map, Option, Result, Ok, Err}
 use Rattle.bw_model.specs.declared.column.Column.{Column}
 use Rattle.bw_model.specs.declared.fault.Fault.{Fault}
@@ -27,7 +27,7 @@ pub bind-same : {A B : Type 0} (r : Result A Fault) (f g : A → Result B Fault)
 bind-same (Ok x) f g each = each x
 bind-same (Err fault) f g each = refl
 
--- a CHAIN line is judged by its fields
+-- a CHAIN line is checked by its fields
 abbrev chain_said : List Column → ColumnFields → Option Chain
 chain_said columns (One kind column start len bound node prev) = one_named columns kind column start len bound node prev
 chain_said columns (Two kind left right len node prev) = two_named columns kind left right len node prev

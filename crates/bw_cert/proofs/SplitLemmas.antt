@@ -31,7 +31,7 @@ unfolding cut_lines
 no_lines [] e = refl
 no_lines (c ∷ cs) e = absurd (no_lines-by (is_line_feed c) c (cut_lines cs) e)
 
--- so many bytes were read, all of lines that don't divide, and the rest begins with the line of
+-- this many bytes were read, all of lines that don't divide, and the rest begins with the line of
 -- this number
 pub record CutSoFar (file : List ℕ) (read : ℕ) (rest : List ℕ) (next : ℕ) : Type 0 where
   pub front : List ℕ

@@ -32,7 +32,7 @@ pub with_all : {Line : Type 0} (add : Facts → Line → Result Facts Fault) (fa
 unfolding with_lines
 with_all add facts lines i le = ap (with_lines add facts) (drop_all lines i le)
 
--- a fault that isn't out of memory, put on its line
+-- an error that isn't out of memory, put on its line
 pub fault_placed : (r : Result Facts Fault) (fault stood : Fault) (line : ℕ) → (is_memory fault ≡ false → r ≡ Err fault) → (is_memory fault ≡ true → stood ≡ fault) → (is_memory fault ≡ false → stood ≡ at_line fault.code line) →
     is_memory stood ≡ false → on_line line r ≡ Err stood
 fault_placed r fault stood line exact memory placed aside = at (is_memory fault) refl

@@ -1,4 +1,4 @@
--- Lines that are judged to be right are those of parts that obey.
+-- Lines that are checked to be right are those of parts that obey.
 use Rattle.std.proofs.Common.{◌≡◌, ◌∙◌, refl, sym, ap, ap₂, subst, ◌⊎◌, inl, inr, ℕ, zero, suc, ◌+◌, ◌<◌, ◌≤◌, Bool, true, false, not, ◌&&◌, List, [], ◌∷◌, ◌++◌, add-zero, append-nil, append_assoc, drop, map, length, length-append, Option, Some, None, Result, Ok, Err, slice_get, arith}
 use Rattle.std.proofs.lemmas.Bool.{eqb-true}
 use Rattle.bw_model.specs.declared.fault.Fault.{Fault}

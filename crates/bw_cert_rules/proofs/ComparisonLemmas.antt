@@ -66,7 +66,7 @@ pub fixed-tells : (nodes : List Node) (truth : Truth) (pair : TruthPair) (entry 
 fixed-tells nodes truth pair Fixed is = subst (Tells nodes (λ assignment. truth)) (cc) (constant_tells nodes truth)
 fixed-tells nodes truth pair _ is = cc
 
--- so many bits spell a number below that power of 2
+-- this many bits spell a number below that power of 2
 spelled-lt : (assignment : Assignment) (first count : ℕ) → spelled assignment first count < 2 ^ count
 spelled-lt assignment first zero = omega arith
 spelled-lt assignment first (suc count) = by_bit (assignment first) (spelled-lt assignment (suc first) count)

@@ -43,7 +43,7 @@ holds_more by_target edges edge there holds place within = at (eqb edge.target p
         ∙ ap (λ b. edges_into place edges ++ cond b (edge ∷ []) []) (sym is)
         ∙ sym (edges_into-append place edges edge)
 
--- no edges, by so many targets
+-- no edges, by this many targets
 pub none_by_target : (count : ℕ) → Holds (replicate count []) []
 unfolding edges_into
 none_by_target zero place within = refl

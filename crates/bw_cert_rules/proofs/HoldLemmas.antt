@@ -85,7 +85,7 @@ holds_kept facts lanes known registers r node holds worth register n is = at (lo
     at (inl (same, node_is)) = ap registers same ∙ worth ∙ ap value node_is
     at (inr (differs, there)) = holds register n there
 
--- so many bits spell a number below so many powers of two
+-- this many bits spell a number below this many powers of two
 pub spelled_small : (bits : Assignment) (first count : ℕ) → spelled bits first count < 2 ^ count
 spelled_small bits first zero = omega arith
 spelled_small bits first (suc count) = at (bits first) (spelled_small bits (suc first) count)

@@ -1,4 +1,4 @@
--- Lines are judged by what they say, wherever their parts lie in memory.
+-- Lines are checked by what they say, wherever their parts lie in memory.
 use Rattle.std.proofs.Common.{◌≡◌, ◌∙◌, refl, sym, ap, ap₂, ℕ, suc, Bool, true, false, not, ◌&&◌, ◌==◌, List, [], ◌∷◌, map, Option, Some, None, Result, Ok, Err, nat_le}
 use Rattle.std.specs.Option.{option_and_then, option_map}
 use Rattle.bw_model.specs.declared.fault.Fault.{Fault}
@@ -67,7 +67,7 @@ keep-said (entry.Instruction given) = refl
 keep-said (entry.Join place) = refl
 keep-said (entry.Keep keep) = refl
 
--- a line KEEP is judged by its fields
+-- a line KEEP is checked by its fields
 skip_said : Facts → ℕ → ℕ → Edge → EdgeProducts → Bool
 skip_said facts node register edge rows =
     is_zero (option_and_then (λ differs. option_and_then (λ skipped. product_node facts connective.Diff differs skipped rows.within) (node_of edge.known edge.register))

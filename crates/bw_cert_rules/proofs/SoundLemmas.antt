@@ -295,7 +295,7 @@ forward program sound k x target there =
     let starts = both _ _ ends.0 in
     (ltb-true k target starts.1, leb-true target (length program.instrs) ends.1)
 
--- a step goes on, and not past the end
+-- a step continues, and not past the end
 goes_on : (columns : List Column) (lanes : List Assignment) (instrs : List Instr) (state : State) (instr : Instr) → Forward instrs → slice_get instrs state.place ≡ Some instr →
     (state.place < (step columns lanes instr state).place) × ((step columns lanes instr state).place ≤ length instrs)
 goes_on columns lanes instrs state (Load r column bit) forward there = (omega arith, omega (arith, slice_get_within instrs state.place _ there))
@@ -313,7 +313,7 @@ goes_on columns lanes instrs state (Skip x target) forward there = at (is_zero_i
     at true = forward state.place x target there
     at false = (omega arith, omega (arith, slice_get_within instrs state.place _ there))
 
--- after so many steps a run has come so far, or to the end
+-- after this many steps a run has come so far, or to the end
 come_far : (columns : List Column) (lanes : List Assignment) (program : ProgramShape) (steps : ℕ) → Forward program.instrs → let state : State = state_after columns lanes program steps in
     (state.place ≤ length program.instrs) × ((steps ≤ state.place) ⊎ (state.place ≡ length program.instrs))
 unfolding steps_from

@@ -87,7 +87,7 @@ fill_worth : (facts : Facts) (lanes : List Assignment) (bit : Bool) → AreWorth
 fill_worth facts lanes true worth = map_same _ _ lanes (λ assignment. sym (worth.one assignment))
 fill_worth facts lanes false worth = map_same _ _ lanes (λ assignment. sym (worth.zero assignment))
 
--- a comparison with a number past all of so many bits
+-- a comparison with a number past all of this many bits
 past_worth : (facts : Facts) (assignment : Assignment) (kind : ChainKind) (n k : ℕ) → AreWorth facts → n < k → compares kind n k ≡ node_value facts.nodes assignment (past_node kind)
 past_worth facts assignment Less n k worth small = lt-ltb n k small ∙ sym (worth.one assignment)
 past_worth facts assignment Equal n k worth small = ne_eqb n k (λ same. absurd (omega (arith, small, same))) ∙ sym (worth.zero assignment)

@@ -1,4 +1,4 @@
--- The lines of parts that obey are judged to be right.
+-- The lines of parts that obey are checked to be right.
 use Rattle.std.proofs.Common.{◌≡◌, ◌∙◌, refl, sym, ap, ap₂, ℕ, suc, ◌+◌, true, not, List, [], ◌∷◌, ◌++◌, add-zero, drop, map, length, Option, Some, None, Ok, arith}
 use Rattle.std.proofs.lemmas.Bool.{eq-eqb}
 use Rattle.bw_model.proofs.BitsLemmas.{both}

@@ -235,7 +235,7 @@ all_clear tokens clear (x ∷ xs) h =
     let here = both (list_all is_small (tokens x)) (list_all (λ x. list_all is_small (tokens x)) xs) h in
     and_true (list_all is_clear (tokens x)) (list_all (λ x. list_all is_clear (tokens x)) xs) (clear x here.0) (all_clear tokens clear xs here.1)
 
--- a section's lines, before a certificate that stands after them
+-- a section's lines, before a certificate that follows them
 from_lower : (s t : ℕ) (lines : List NumberedWords) (c : CertificateFields) → t ≤ s → SpellsFrom s lines c → SpellsFrom t lines c
 from_lower s t _ _ le (before_end part h says rest) = before_end part (omega (arith, le, h)) says rest
 from_lower s t _ _ le (at_end end says) = at_end end says

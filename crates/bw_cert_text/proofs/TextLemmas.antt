@@ -29,7 +29,7 @@ whole-end whole section lines end f told e = told ∙ ap (λ (r : Result Certifi
 
 module _ (whole : Result CertificateFields Fault) (section : ℕ) (lines rest : List NumberedWords) (line : NumberedWords) (end : ℕ) (f : CertificateFields → CertificateFields)
     (told : whole ≡ (certificate_from section lines end >>= λ c. Ok (f c))) where
-  -- a line is read, or refused
+  -- a line is read, or rejected
   pub whole-next : lines ≡ line ∷ rest → (r : Result ParsedLine Fault) → parse_line_on section line ≡ r →
       whole ≡ ((r >>= λ said. followed rest (λ s. certificate_from s rest end) said) >>= λ c. Ok (f c))
   whole-next e r is =

@@ -16,7 +16,7 @@ use Rattle.bw_csv.specs.declared.heading_end.Inside.{Inside}
 use Rattle.bw_csv.specs.declared.heading_end.Inside.TheVariants.{Before, Front, Bare, Quoted, Closed}
 use Rattle.bw_csv.proofs.RecordLemmas.{records_in-next, records_in-none}
 
--- within a record the machine goes on to the record's end
+-- within a record the machine continues to the record's end
 abbrev is_within : State → Bool
 is_within st.StartField = true
 is_within st.InField = true
@@ -211,7 +211,7 @@ fronts Bare c = in_bare_fronts c
 fronts Quoted c = other_fronts (eqb c 34) st.AfterQuote act.Skip (st.InQuoted, act.Copy) refl (λ e. absurd (cc e))
 fronts Closed c = other_fronts (eqb c 34) st.InQuoted act.Copy _ refl (in_bare_fronts c)
 
--- after the last of so many fields the text is cut
+-- after the last of this many fields the text is cut
 at_end : (fields : List (List ℕ)) → next_record default_config st.StartField fields [] [] ≡ Some (fields ++ [] ∷ [], st.StartRecord, [])
 unfolding next_record
 at_end fields = refl

@@ -1,4 +1,4 @@
--- The faults of CSV texts stand as the table of faults lists them.
+-- The errors of CSV texts stand as the table of errors lists them.
 use Rattle.std.proofs.Common.{◌≡◌, ℕ, ℤ, ◌+◌, List, [], ◌∷◌, Bool, true, false, not, ◌&&◌, ◌==◌, if◌then◌else◌, Option, Some, None, Ok, Err, refl, length, nat_lt, int_le}
 use Rattle.csv.specs.Reading.{records, strip_bom, default_config}
 use Rattle.bw_model.specs.declared.column.Column.{Column}

@@ -10,7 +10,7 @@ use Rattle.bw_csv.specs.declared.heading_end.Inside.TheVariants.{Before, Front, 
 use Rattle.bw_csv.proofs.PlainRecords.{line_end_is, records-after_return, records-skip}
 use Rattle.bw_csv.proofs.RecordLemmas.{records_in-next, records_in-none}
 
--- The first record of a text goes on with this byte.
+-- The first record of a text continues with this byte.
 pub record GoesOn (text rest : List ℕ) (inside : Inside) : Type 0 where
   pub fields : List (List ℕ)
   pub field : List ℕ

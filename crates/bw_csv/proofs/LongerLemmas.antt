@@ -1,4 +1,4 @@
--- A record of more fields than its table has columns is refused for their number.
+-- A record of more fields than its table has columns is rejected for their number.
 use Rattle.std.proofs.Common.{◌≡◌, ℕ, ◌<◌, List, [], ◌∷◌, length, Err, Bool, true, false, refl, arith, eqb}
 use Rattle.std.specs.Prelude.{◌&&◌}
 use Rattle.std.proofs.lemmas.Bool.{eqb-true}

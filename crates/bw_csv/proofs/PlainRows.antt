@@ -14,8 +14,8 @@ use Rattle.bw_csv.specs.Rows.{row_of_record, value_of_field, values_of_fields}
 use Rattle.bw_csv.proofs.FieldLemmas.{after, after-nothing, values-end, values-next}
 use Rattle.bw_csv.proofs.PlainRecords.{begins, field-comma, field-end}
 
--- Of a text's first record these are the values so far, of so many fields, and this is left of the
--- text.
+-- Of a text's first record these are the values so far, of this many fields, and this is left of
+-- the text.
 pub record ReadSoFar (number : ℕ) (columns : List Column) (text rest : List ℕ) (i : ℕ) (values : List Value) : Type 0 where
   pub done : List (List ℕ)
   pub many : length done ≡ i

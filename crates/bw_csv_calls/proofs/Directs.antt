@@ -20,7 +20,7 @@ schema_refused limit old new before after bytes fault true m came gives =
     (Failed no_memory, (same, came.1), is)
 schema_refused limit old new before after bytes fault false m came gives = (Whole bytes, came, gives m)
 
--- the schema that bytes spell, or their fault
+-- the schema that bytes spell, or their error
 pub schema_answered : (limit : ℕ) (old new : Option (List ℕ)) (before after : ℕ) (bytes : List ℕ) (result : Result Schema Fault)
     → ReadOutcome limit old new before after (Whole bytes) → IfOk result (λ schema. IsSchemaText bytes (schema_shape schema)) → MatchesUnlessOom schema_shape result (schema_of bytes)
     → CameAs limit old new before after result

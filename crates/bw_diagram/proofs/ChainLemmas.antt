@@ -25,7 +25,7 @@ use Rattle.bw_diagram.specs.Chain.{compares, padded_number, variable_at, compari
 use Rattle.bw_diagram.proofs.ProductLemmas.{either}
 use Rattle.bw_diagram.proofs.NodeLemmas.{node_value-zero, node_value-one, node_value-node_at, node_value-cofactor, node_value-append}
 
--- so many bits spell a number below that power of 2
+-- this many bits spell a number below that power of 2
 spelled-lt : (assignment : Assignment) (first count : ℕ) → spelled assignment first count < 2 ^ count
 spelled-lt assignment first zero = omega arith
 spelled-lt assignment first (suc count) = by_bit (assignment first) (spelled-lt assignment (suc first) count)

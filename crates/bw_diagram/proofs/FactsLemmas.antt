@@ -56,12 +56,12 @@ IsProduct-append nodes more row product = record {
       ∙ sym (ap₂ (apply_connective row.op) (node_value-append nodes more assignment row.a product.a_node) (node_value-append nodes more assignment row.b product.b_node));
 }
 
--- what isn't refused by a test is what comes next
+-- what isn't rejected by a test is what comes next
 passes : {A : Type 0} (test : Bool) (fault : Fault) (next : Result A Fault) (accepted : A) → refused_if test fault next ≡ Ok accepted → (test ≡ false) × (next ≡ Ok accepted)
 passes true fault next accepted is = cc
 passes false fault next accepted is = (refl, is)
 
--- what isn't refused by two tests meets both
+-- what isn't rejected by two tests meets both
 refused_if-ok : {A : Type 0} (full broken : Bool) (no_room breach : Fault) (x accepted : A) → refused_if full no_room (refused_if broken breach (Ok x)) ≡ Ok accepted → (full ≡ false) × (broken ≡ false) × (x ≡ accepted)
 refused_if-ok full broken no_room breach x accepted is =
     let room = passes full no_room (refused_if broken breach (Ok x)) accepted is in

@@ -181,7 +181,7 @@ first_group group rest rows some here there =
     let any : 0 < length (group ++ rest) = simp length-append (some_group group_size rows (length group) (length rest) positive_size some here) in
     groups_of-first (group ++ rest) any ∙ cut_group group rest rows here there
 
--- groups that were read of so many rows are the groups of these rows
+-- groups that were read of this many rows are the groups of these rows
 pub record GroupsFound (rows : ℕ) (before found : List (List (List Value))) : Type 0 where
   pub groups : List (List (List Value))
   pub after : found ≡ before ++ groups

@@ -1,4 +1,4 @@
--- What is refused of a table file is refused by one of its own faults.
+-- What is rejected of a table file is rejected by one of its own errors.
 use Rattle.std.proofs.Common.{◌≡◌, ◌∙◌, ap, refl, subst, ℕ, zero, suc, ◌+◌, ◌-◌, ◌++◌, ◌∷◌, [], Bool, true, false, not, ◌||◌, ◌&&◌, ◌==◌, List, Option, Some, None, Result, Ok, Err, if◌then◌else◌, IfErr, nat_lt, nat_le, slice_index}
 use Rattle.std.specs.Prelude.{IfSome, slice_index_or}
 use Rattle.std.proofs.Math.Bool.{or-true}
@@ -16,7 +16,7 @@ use Rattle.bw_file.specs.Blocks.{block_fault}
 use Rattle.bw_file.specs.Reading.{Tail, tail, Reading, passed, ◌>>=◌, field, parsed_at, read_field, State, Fails, HasByteMore}
 use Rattle.bw_file.specs.TableReading.{parse_magic, parse_version, parse_layout, parse_count, parse_row_count, parse_bounds, parse_nullable, parse_name, name, column, columns, front, header, fault_place, sound_at, one_block, blocks, segment, IsTableFault}
 
--- a number that is one of them wherever it stands, and reading that refuses by them alone
+-- a number that is one of them wherever it is, and reading that rejects by them alone
 abbrev IsOwn : ℕ → Type 0
 IsOwn code = (at : ℕ) → IsTableFault (at_byte code at)
 
@@ -110,7 +110,7 @@ pub header_own : RefusesOwn header
 unfolding header
 header_own = then_own _ _ front_own (λ first. then_own _ _ (name_own []) (λ text. then_own _ _ (columns_own first.version [] first.columns) (λ found t. tt)))
 
--- the fault of a block, if it has one
+-- the error of a block, if it has one
 some_own : (b : Bool) (code : ℕ) (other : Option ℕ) → IsOwn code → IfSome other IsOwn → IfSome (if b then Some code else other) IsOwn
 some_own true code other here there = here
 some_own false code other here there = there

@@ -45,7 +45,7 @@ of_version version layout schema rows bytes (inl one) narrow text =
     inl (rw same (rw one at text))
 of_version version layout schema rows bytes (inr two) narrow text = inr (rw two at text)
 
--- what was read, by the header and by what stands after it
+-- what was read, by the header and by what follows it
 abbrev pub of_groups : Layout → SchemaShape → List (List (List Value)) → Found
 of_groups layout shape groups = record { layout = layout; schema = shape; rows = together groups }
 

@@ -34,7 +34,7 @@ memory_answers start old now fault taken failures memory = record {
     add_zero : (n : ℕ) → n + 0 ≡ n
     add_zero n = omega arith
 
--- the fault of a later read
+-- the error of a later read
 pub later_answers : (start first old now : State) (fault : Fault) → old.failures ≡ first.failures → AnswersFault start old now fault → AnswersFault start first now fault
 later_answers start first old now fault same answers = record {
   bytes = answers.bytes;

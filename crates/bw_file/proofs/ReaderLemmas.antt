@@ -78,7 +78,7 @@ header_early start new fault first p n lt =
     let early : header (tail 0 (take n p.bytes)) ≡ Err (at_byte 305 n) = rw place at (short n lt) in
     rw early refl
 
--- what is refused of the header is the file's first fault
+-- what is rejected of the header is the file's first error
 pub header_refused : (start new : State) (fault : Fault) → start.offset ≡ 0 → Fails header start new fault → AnswersFault start start new fault
 header_refused start new fault first p = record {
   bytes = p.bytes;
@@ -113,7 +113,7 @@ module _ (start old : State) (reader : TableReader) (groups : List (List (List V
   header_on : (rest : List ℕ) → header (tail 0 (so_far.head.bytes ++ rest)) ≡ Ok (header_stated reader.version reader, tail so_far.after.offset rest)
   header_on rest = head_at start so_far.after (header_stated reader.version reader) rest so_far.first so_far.head
 
-  -- a file that ends within its header, or if what stands after it needs more, ends too early
+  -- a file that ends within its header, or if what follows it needs more, ends too early
   pub ends_early : (more : List ℕ) → NeedsEach whole_body so_far.after.offset more → FrontsEndEarly (so_far.head.bytes ++ more)
   ends_early more needed n lt =
       elim (cases_lt n (length so_far.head.bytes)) [
@@ -139,7 +139,7 @@ module _ (start old : State) (reader : TableReader) (groups : List (List (List V
       let early : whole_body (tail so_far.after.offset more) ≡ Err (at_byte 305 (length (so_far.head.bytes ++ more))) = rw place at p in
       rw (header_on more) (reader.placement.value.schema, refl, sym (ap (found_in reader.layout (schema_shape reader.placement.value.schema)) early))
 
-  -- the fault after the header is the file's
+  -- the error after the header is the file's
   after_fault : (new : State) (more : List ℕ) (fault : Fault) → HasFault whole_body so_far.after new more fault → HasFirstFault new (so_far.head.bytes ++ more) fault
   after_fault new more fault has =
       let e : header (tail 0 ((so_far.head.bytes ++ more) ++ has.rest)) ≡ Ok (header_stated reader.version reader, tail so_far.after.offset (more ++ has.rest)) =
@@ -180,7 +180,7 @@ at_end start old reader groups all so_far rest =
     let sizes : group_sizes (reader.rows - reader.given) ≡ [] = rw none group_sizes-none in
     rw sizes at (so_far.on.on rest)
 
--- and then, if the file ends there, it was read whole
+-- and then, if the file ends there, it was read completely
 read_so_far : (start old : State) (reader : TableReader) (groups : List (List (List Value))) → reader.given ≡ reader.rows → (so_far : ReadProgress start old reader groups)
     → IsReadAs (so_far.head.bytes ++ so_far.on.bytes) (Ok (found_so_far reader groups))
 unfolding end
@@ -190,7 +190,7 @@ read_so_far start old reader groups all so_far =
     rw (header_on start old reader groups so_far so_far.on.bytes)
     (reader.placement.value.schema, refl, sym (ap (found_in reader.layout (schema_shape reader.placement.value.schema)) read))
 
--- a byte more is a fault
+-- a byte more is an error
 byte_more : (groups : List (List (List Value))) (at : ℕ) (bytes rest : List ℕ) → length bytes ≡ 1 → (end >>= λ _. give groups) (tail at (bytes ++ rest)) ≡ Err (at_byte 309 at)
 unfolding end
 byte_more groups at [] rest one = absurd (omega (arith, one))
@@ -222,7 +222,7 @@ end_needed start old reader groups fault all so_far byte true none one =
 end_needed start old reader groups fault all so_far byte false none one =
     rw ((one refl).1) (byte_needed start old reader groups all so_far byte (one refl).0)
 
--- a fault that isn't a failed read, nor out of memory
+-- an error that isn't a failed read, nor out of memory
 own_fault : (fault : Fault) → is_input_fault fault ≡ false → is_read_fault fault ≡ false
 own_fault fault own = either (is_memory fault) (is_read_fault fault) own
   where

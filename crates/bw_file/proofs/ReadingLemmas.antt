@@ -81,7 +81,7 @@ needs_still {A = A} {B = B} reading first next at after xs ys e on p =
 pub begins : {A : Type 0} (reading : Reading A) (old : State) → GoesOn reading old reading old
 begins reading old = record { bytes = []; took = took_nothing old.known old.offset old.failures; needed = needs_none reading old.offset; failures = refl; on = λ rest. refl }
 
--- reading goes on after one thing
+-- reading continues after one thing
 pub passes : {A B : Type 0} (reading : Reading B) (first : Reading A) (next : A → Reading B) (x : A) (old mid new : State)
     → GoesOn reading old (first >>= next) mid → GoesOn first mid (give x) new → GoesOn reading old (next x) new
 passes {A = A} reading first next x old mid new p q = record {
@@ -104,12 +104,12 @@ pub is_coming : (known : Option (List ℕ)) → IfSome known (λ bytes. bytes �
 is_coming None = tt
 is_coming (Some bytes) = refl
 
--- a fault that stands at a byte is neither a failed read nor out of memory
+-- an error that stands at a byte is neither a failed read nor out of memory
 refused_place : (b : Bool) → (b && false) ≡ false
 refused_place true = refl
 refused_place false = refl
 
--- so a call that passes on what another refused refuses by it
+-- so a call that passes on what another rejected rejects by it
 pub stops : {A B : Type 0} (reading : Reading B) (first : Reading A) (next : A → Reading B) (old mid new : State) (fault : Fault)
     → GoesOn reading old (first >>= next) mid → Fails first mid new fault → Fails reading old new fault
 stops {A = A} reading first next old mid new fault p q = record {
@@ -131,7 +131,7 @@ stops {A = A} reading first next old mid new fault p q = record {
       found;
 }
 
--- out of memory refuses whatever is read
+-- out of memory rejects whatever is read
 pub stops_memory : {A : Type 0} (reading next : Reading A) (old mid : State) → GoesOn reading old next mid → Fails reading old mid no_memory
 stops_memory reading next old mid p = record {
   bytes = p.bytes;
@@ -142,7 +142,7 @@ stops_memory reading next old mid p = record {
   refused = λ own. absurd (true≢false own);
 }
 
--- a fault of bytes, whatever stands after them
+-- an error of bytes, whatever follows them
 refuses_after : {A : Type 0} (reading : Reading A) (old new : State) (bytes : List ℕ) (code place : ℕ) → HasConsumed old new bytes → NeedsEach reading old.offset bytes → new.failures ≡ old.failures
     → ((rest : List ℕ) → reading (tail old.offset (bytes ++ rest)) ≡ Err (at_byte code place)) → Fails reading old new (at_byte code place)
 refuses_after reading old new bytes code place took needed same e =
@@ -246,7 +246,7 @@ pub took_into : (a b c : State) (filled n : ℕ) (xs ys : List ℕ) → filled �
 took_into a b c filled n xs ys within few p q =
     rw (front_filled filled n xs ys within few) (took_more a b c (take filled xs) (take n ys) p q)
 
--- a field that is judged begins with its bytes, and goes on with what they say
+-- a field that is checked begins with its bytes, and continues with what they say
 read_field_begins : {A : Type 0} (size : ℕ) (says : List ℕ → Result A ℕ) (old : State)
     → GoesOn (read_field size says) old (field size >>= λ bytes. parsed_at old.offset (says bytes)) old
 unfolding read_field

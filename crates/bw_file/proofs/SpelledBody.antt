@@ -111,7 +111,7 @@ sizes_within (suc most) (row ∷ rows) few =
 pub sizes_of_groups : (rows : List (List Value)) → group_sizes (length rows) ≡ map length (groups_of rows)
 sizes_of_groups rows = sizes_within (length rows) rows (omega arith)
 
--- what stands after a header is read as the groups of its rows
+-- what follows a header is read as the groups of its rows
 pub groups_read : (layout : Layout) (columns : List Column) (rows : List (List Value)) (at : ℕ) → list_all (admits_values columns) rows ≡ true
     → (t : Tail) × (body layout columns (group_sizes (length rows)) [] (tail at (flat_map (segment_bytes (form_of layout) columns) (groups_of rows))) ≡ Ok (groups_of rows, t))
 groups_read layout columns rows at admitted =

@@ -22,7 +22,7 @@ use Rattle.bw_file.specs.Reading.{Tail, tail, Reading, passed, ◌>>=◌, give, 
 use Rattle.bw_file.specs.TableReading.{parse_magic, parse_version, parse_layout, parse_count, parse_row_count, bound_in, parse_bounds, parse_nullable, parse_name, name, column, columns, front_of, front, HeaderShape, header_of, header}
 use Rattle.bw_file.proofs.SpellingLemmas.{schema_bytes, fits_version, head_bytes, IsHeader}
 
--- reading gives this of a text, whatever stands after it
+-- reading gives this of a text, whatever follows it
 abbrev pub ReadsText : {A : Type 0} → Reading A → List ℕ → A → Type 0
 ReadsText reading text x = (at : ℕ) (rest : List ℕ) → reading (tail at (text ++ rest)) ≡ Ok (x, tail (at + length text) rest)
 

@@ -75,7 +75,7 @@ said_ok : {A : Type 0} (at : ℕ) (said : Result A ℕ) (t : Tail) (x : A × Tai
 said_ok {A = A} at (Ok y) t x e = let same = ok_is (y, t) x e in (ap (λ (z : A × Tail). Ok z.0) same, ap (λ (z : A × Tail). z.1) same)
 said_ok at (Err code) t x e = absurd cc
 
--- a field that was judged, and what it says
+-- a field that was checked, and what it says
 record Judged {A : Type 0} (size : ℕ) (says : List ℕ → Result A ℕ) (from : Tail) (x : A) (to : Tail) : Type 0 where
   text : List ℕ
   takes : Takes from text to

@@ -65,7 +65,7 @@ bytes_of_all encoder layout schema rows count bytes all same_layout same_name sa
     text (map values_of (take count rows)) holds ∙ bytes_alike (encoder_layout encoder) layout (encoder_schema encoder) schema (map values_of (take count rows)) same_layout same_name same_columns
     ∙ ap (λ given. file_bytes layout schema (map values_of given)) whole
 
--- a source that never fails answers no failed read, so what is refused is the first fault of its
+-- a source that never fails answers no failed read, so what is rejected is the first error of its
 -- bytes
 no_read_failed : (failed : Bool) → 0 ≡ 0 + (if failed then 1 else 0) → failed ≡ false
 no_read_failed true e = absurd (omega (arith, e))

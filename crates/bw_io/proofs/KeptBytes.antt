@@ -4,7 +4,7 @@ use Rattle.std.proofs.lemmas.List.{drop-take}
 use Rattle.std.specs.Prelude.{Option, Some, None}
 use Rattle.std.specs.Io.KnownBytes.{Consumes, prepend_known}
 
--- those after the first ones, so many
+-- those after the first ones, this many
 pub after_first : (xs : List ℕ) (start end count : ℕ) → count ≤ length (slice_range xs start end)
     → slice_range xs (start + count) end ≡ drop count (slice_range xs start end)
 after_first xs start end count few =

@@ -9,7 +9,7 @@ use Rattle.bw_io.specs.Source.{TookAtMost}
 take-drop_rest : (m : ℕ) (text : List ℕ) → take (length text - m) (drop m text) ≡ drop m text
 take-drop_rest m text = ap (λ k. take k (drop m text)) (sym (length-drop m text)) ∙ take-length (drop m text)
 
--- a text's front went out, and then the front of its rest
+-- a text's front was written, and then the front of its rest
 pub more_taken : (a b c : Option (List ℕ)) (text : List ℕ) (m n : ℕ) → Appends a b (take m text)
     → Appends b c (take n (take (length text - m) (drop m text))) → Appends a c (take (m + n) text)
 more_taken a b c text m n p q =

@@ -66,7 +66,7 @@ bits_of_mask flags =
     same_on_range (λ i. bit_at (mask_l flags) i == 1) (λ i. get_or flags i false) 0 (length flags) (λ i _ _. grind (arith, nat_tests, bit_mask_l flags i))
     ∙ pick_l_whole false flags (length flags) refl
 
--- a number that is the bit mask of so many flags
+-- a number that is the bit mask of this many flags
 pub bits_of_flags : (count : ℕ) (flags : List Bool) (word : ℕ) → length flags ≡ count → word ≡ mask_l flags → bits_from_least count word ≡ flags
 bits_of_flags count flags word long same = ap₂ bits_from_least (sym long) same ∙ bits_of_mask flags
 
@@ -113,7 +113,7 @@ length-bits_of_numbers width [] = omega (arith, mul-zero width)
 length-bits_of_numbers width (n ∷ numbers) =
     omega (arith, length-append (bits_from_least width n) (flat_map (bits_from_least width) numbers), length-bits_from_least width n, length-bits_of_numbers width numbers, mul-suc width (length numbers))
 
--- a bit of a list of numbers, each in so many bits
+-- a bit of a list of numbers, each in this many bits
 pub bit_in_numbers : (width : ℕ) (numbers : List ℕ) (row at bit : ℕ) → at < length numbers → bit < width → row ≡ width * at + bit
     → get_or (flat_map (bits_from_least width) numbers) row false ≡ (bit_at (get_or numbers at 0) bit == 1)
 unfolding bits_from_least

@@ -52,7 +52,7 @@ digits_fit : (p count n : ℕ) → 0 < p → Each1 (λ digit. digit < p) (digits
 digits_fit p zero n some = tt
 digits_fit p (suc count) n some = (mod-lt n some, digits_fit p count (n / p) some)
 
--- numbers of so many bits, recoded as numbers of other many bits
+-- numbers of this many bits, recoded as numbers of another number of bits
 recoded : (width other count : ℕ) (numbers : List ℕ) → Each1 (λ n. n < 2 ^ other) numbers → count * width ≡ length numbers * other
     → flat_map (bits_from_least width) (digits_l (2 ^ width) count (number_l (2 ^ other) numbers)) ≡ flat_map (bits_from_least other) numbers
 recoded width other count numbers small same =

@@ -82,7 +82,7 @@ zero_words a (word ∷ words) small =
 pub no_word : (words : List ℕ) → Each1 (Fits w64) words → (fold_l bit_or 0 words == 0) ≡ list_all not (lanes_of_words words)
 no_word words small = zero_words 0 words small
 
--- a number of so many bits has as many ones as bits that are 1
+-- a number of this many bits has as many ones as bits that are 1
 pub ones_in_bits : (count n : ℕ) → n < 2 ^ count → count_ones n ≡ count_by (λ lane. lane) (bits_from_least count n)
 unfolding bits_from_least
 ones_in_bits zero n small = omega (arith, ones_le_self n)
@@ -159,7 +159,7 @@ mapped_right f g [] ys = refl
 mapped_right f g (x ∷ xs) [] = refl
 mapped_right f g (x ∷ xs) (y ∷ ys) = ap (λ l. f x (g y) ∷ l) (mapped_right f g xs ys)
 
--- so many ones and then zeros
+-- this many ones and then zeros
 abbrev pub run : ℕ → ℕ → List Bool
 run ones zeros = replicate ones true ++ replicate zeros false
 

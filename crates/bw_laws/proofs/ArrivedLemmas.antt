@@ -9,7 +9,7 @@ use Rattle.bw_csv_calls.specs.Direct.{IsAnswer, IsAnswerUnder, answer_of}
 use Rattle.bw_laws.specs.OneAnswer.{CameOf, DirectMayWrite}
 use Rattle.bw_laws.proofs.OneAnswerLemmas.{one_answer}
 
--- what was made of a CSV and is no fault was made of a text that came whole
+-- what was made of a CSV and is no error was made of a text that was read completely
 pub record CsvText {A : Type 0} (csv : Arrival) (make : List ℕ → Result A Fault) (x : A) : Type 0 where
   pub text : List ℕ
   pub came : csv ≡ Whole text
@@ -40,7 +40,7 @@ came_whole_after limit csv given came (Ok x) make source made =
     let of = csv_text_of came (make x) given made in csv_came_whole limit csv of.text came source of.came
 came_whole_after limit csv given came (Err fault) make source made = absurd (cc (made.1))
 
--- both texts came whole
+-- both texts were read completely
 pub record Arrived (schema csv : List ℕ) (schema_came csv_came : Arrival) : Type 0 where
   pub schema_whole : schema_came ≡ Whole schema
   pub csv_whole : csv_came ≡ Whole csv

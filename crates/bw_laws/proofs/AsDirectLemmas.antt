@@ -38,7 +38,7 @@ use Rattle.bw_laws.proofs.SoundSchemaLemmas.{sound_shape}
 abbrev Rows : Type 0
 Rows = List (List Value)
 
--- columns admit each row of a text, and a text has at most so many
+-- columns admit each row of a text, and a text has at most this many
 abbrev pub AdmitsRows : Type 0
 AdmitsRows = (columns : List Column) (text : List ℕ) → IfOk (rows_of columns text) (λ rows. IsTrue (list_all (admits_values columns) rows))
 

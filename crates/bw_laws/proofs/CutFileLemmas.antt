@@ -1,4 +1,4 @@
--- A table file that is cut is refused: reading takes each field whole before it judges it.
+-- A table file that is cut is rejected: reading takes each field whole before it judges it.
 use Rattle.std.proofs.Common.{◌≡◌, ◌∙◌, refl, sym, ap, subst, inl, inr, ℕ, zero, suc, ◌+◌, ◌-◌, ◌<◌, true, List, [], ◌∷◌, ◌++◌, length, take, drop, append_assoc, length-append, take-append-drop, Option, Some, None, Result, Ok, Err, arith, nat_lt, slice_index}
 use Rattle.std.proofs.Math.Seq.{take-append-add}
 use Rattle.std.proofs.lemmas.Bool.{cases_lt, lt-ltb}
@@ -19,7 +19,7 @@ use Rattle.bw_file.proofs.ReadingLemmas.{field_needs, needs_more, needs_none}
 use Rattle.bw_file.proofs.SpelledFile.{read_one_way, spelled_is_read}
 use Rattle.bw_file.proofs.SpelledHeader.{field_reads}
 
--- what a reading took of bytes, each of which it needs, whatever stands after them
+-- what a reading took of bytes, each of which it needs, whatever follows them
 record Takes {A : Type 0} (reading : Reading A) (at : ℕ) (bytes : List ℕ) (read : A × Tail) : Type 0 where
   taken : List ℕ
   split : bytes ≡ taken ++ read.1.bytes
@@ -34,7 +34,7 @@ record TakesWhole {A : Type 0} (reading : Reading A) (at : ℕ) : Type 0 where
 ok_same : {A : Type 0} {x y : A} → ◌≡◌ {A = Result A Fault} (Ok x) (Ok y) → x ≡ y
 ok_same e = cc
 
--- a reading that takes these bytes, whatever stands after them
+-- a reading that takes these bytes, whatever follows them
 takes_text : {A : Type 0} (reading : Reading A) (at : ℕ) (taken rest : List ℕ) (x : A) (after : ℕ) (bytes : List ℕ) (read : A × Tail) → after ≡ at + length taken
     → ((rest : List ℕ) → reading (tail at (taken ++ rest)) ≡ Ok (x, tail after rest)) → NeedsEach reading at taken → taken ++ rest ≡ bytes → reading (tail at bytes) ≡ Ok read → Takes reading at bytes read
 takes_text reading at taken rest x after bytes read place on needs whole e =
@@ -189,7 +189,7 @@ body_needs layout schema (size ∷ sizes) before at bytes read e =
     then_needs (segment layout schema size) (λ group. body layout schema sizes (before ++ group ∷ [])) at bytes read (segment layout schema size (tail at bytes)) (segment_takes layout schema size at)
     (λ x is. body_needs layout schema sizes (before ++ x.0 ∷ []) x.1.at x.1.bytes read is) refl e
 
--- so the beginning of a file that is read as a table is refused at its length
+-- so the beginning of a file that is read as a table is rejected at its length
 cut_by : (bytes : List ℕ) (n : ℕ) (h : Result (HeaderShape × Tail) Fault) (found : Found) → n < length bytes → header (tail 0 bytes) ≡ h → IsReadAfter h (Ok found)
     → IsReadAs (take n bytes) (Err (at_byte 305 n))
 cut_by bytes n (Err fault) found less is read = absurd (cc read)

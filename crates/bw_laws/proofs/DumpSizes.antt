@@ -24,7 +24,7 @@ use Rattle.bw_laws.specs.Backup.{table_text}
 use Rattle.bw_laws.proofs.BackupLemmas.{as_wide}
 use Rattle.bw_laws.proofs.SpelledValues.{AreColumns, first_is, fits_in, others_are}
 
--- each field has at most so many bytes
+-- each field has at most this many bytes
 abbrev AreShort : ℕ → List (List ℕ) → Type 0
 AreShort most [] = ⊤
 AreShort most (field ∷ fields) = (length field ≤ most) × AreShort most fields

@@ -44,7 +44,7 @@ one_text bytes sql text layout schema rows program second old new is told file =
     let same = one_meaning names took.query told.query rows (text_query schema sql (query_shape took.query) (query_shape told.query) took.spelled told.asked.0) in
     subst (λ (those : List ℕ). Appends old new those) (ap csv_text same ∙ sym told.is) took.took
 
--- one file is judged in one way, for conditions of one tree
+-- one file is checked in one way, for conditions of one tree
 pub record OneVerdict : Type 0 where
   pub accepted : (columns : List Column) (cond same : Cond) (file : List ℕ) (program : ProgramShape) (certificate : CertificateShape) (fault : Fault)
       → tree_of cond ≡ tree_of same → Certifies columns cond file program certificate → IsFileFault columns same file fault → ⊥

@@ -156,7 +156,7 @@ heading_sound fields names e =
     let same : one.0 ≡ names = cc two.1 in
     subst (λ (names : List (List ℕ)). AreNames names × (1 ≤ length names)) same (names_after [] (map without_blanks fields) one.0 no_names one.1, some_are one.0 two.0)
 
--- columns over rows that aren't refused
+-- columns over rows that aren't rejected
 abbrev Columns : List (List ℕ) → List ColumnShape → Type 0
 Columns names columns = All IsSound columns × (shape_names columns ≡ names)
 

@@ -1,5 +1,5 @@
--- A schema text spells one schema or has one fault: what is read is spelled, what is spelled is
--- read, and what is refused is refused by a fault of schema texts.
+-- A schema text spells one schema or has one error: what is read is spelled, what is spelled is
+-- read, and what is rejected is rejected by an error of schema texts.
 use Rattle.std.proofs.Common.{◌≡◌, ◌∙◌, sym, ◌≤◌, ◌⊎◌, inl, inr, ℕ, List, [], ◌∷◌, ◌++◌, length, Bool, true, false, not, Option, Some, None, Result, Ok, Err, refl, subst, IfErr, nat_le, nat_lt, arith}
 use Rattle.std.specs.List.{list_any}
 use Rattle.bw_model.specs.declared.fault.Fault.{Fault}
@@ -27,7 +27,7 @@ one_schema text shape other one two = let same : ◌≡◌ {A = Result SchemaSha
 pub one_fault : (text : List ℕ) (fault other : Fault) → schema_of text ≡ Err fault → schema_of text ≡ Err other → fault ≡ other
 one_fault text fault other one two = let same : ◌≡◌ {A = Result SchemaShape Fault} (Err fault) (Err other) = sym one ∙ two in cc
 
--- each test refuses by a number of schema texts, and so does what follows it
+-- each test rejects by a number of schema texts, and so does what follows it
 abbrev IsNumbered : Fault → Type 0
 IsNumbered fault = (101 ≤ fault.code) × (fault.code ≤ 106)
 

@@ -120,7 +120,7 @@ goes_on false false true true e = refl
 goes_on false false true false e = refl
 goes_on false false false d e = absurd (cc e)
 
--- a name begins with a byte, and goes on in words' bytes
+-- a name begins with a byte, and continues in words' bytes
 abbrev pub is_solid : List ℕ → Bool
 is_solid [] = false
 is_solid (c ∷ cs) = list_all goes_on_in_word (c ∷ cs)

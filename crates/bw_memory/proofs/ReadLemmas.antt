@@ -98,7 +98,7 @@ all_kept old now first reader next count kept same segments counted few read cut
     groups : List (List (List Value))
     groups = stored_groups (layout_in first) (schema_in first).columns.items (rows_given reader) count kept
 
--- the table of a file that was read whole
+-- the table of a file that was read completely
 came_so : (start now : State) (first : TableReader) (schema : Schema) (rows : List (List Value)) → schema.name ≡ (schema_in first).name → schema.columns.items ≡ (schema_in first).columns.items
     → ReadWhole start now (found_as (layout_in first) (schema_shape (schema_in first)) rows) → HasReadTable start now (layout_in first) schema rows
 came_so start now first schema rows name columns read = record {

@@ -84,7 +84,7 @@ code_bits true null width code before after =
 code_bits false null width code before after =
     ap (λ first. spelled (assignment_of (before ++ (low_bits width code ++ after))) first width) (add-zero (length before)) ∙ spelled_low width code before after
 
--- the value that its bits spell, wherever they stand
+-- the value that its bits spell, wherever they are
 value_spelled-value_bits : (column : Column) (value : Value) (before after : List Bool) → admits_value column value ≡ true →
     value_spelled column (assignment_of (before ++ (value_bits column value ++ after))) (length before) ≡ value
 value_spelled-value_bits column None before after nullable =

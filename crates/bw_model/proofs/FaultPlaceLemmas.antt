@@ -1,4 +1,4 @@
--- The faults of schema texts stand as the table of faults lists them.
+-- The errors of schema texts stand as the table of errors lists them.
 use Rattle.std.proofs.Common.{◌≡◌, ℕ, List, [], ◌∷◌, ◌++◌, Bool, true, false, not, Option, Some, None, Result, Ok, Err, refl, subst, length, nat_le, nat_lt}
 use Rattle.std.specs.List.{list_any}
 use Rattle.bw_model.specs.declared.fault.Fault.{Fault}
@@ -19,7 +19,7 @@ pub bind_listed : {A B : Type 0} (r : Result A Fault) (f : A → Result B Fault)
 bind_listed (Ok x) f listed rest = rest x
 bind_listed (Err fault) f listed rest = listed
 
--- an answer that is a fault
+-- an answer that is an error
 pub listed_fault : {A : Type 0} (r : Result A Fault) (fault : Fault) → FaultAsListed r → r ≡ Err fault → StandsAsListed fault
 listed_fault {A} r fault listed is = let P : Result A Fault → Type 0 = λ r. FaultAsListed r in subst P is listed
 

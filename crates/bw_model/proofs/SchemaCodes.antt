@@ -1,4 +1,4 @@
--- What is refused of a schema text is refused by one of its own faults.
+-- What is rejected of a schema text is rejected by one of its own errors.
 use Rattle.std.proofs.Common.{◌≡◌, ◌∙◌, ap, ◌&&◌, ◌||◌, ℕ, List, [], ◌∷◌, ◌++◌, Bool, true, false, not, Option, Some, None, Result, Ok, Err, refl, subst, IfErr, nat_le, nat_lt, length}
 use Rattle.std.specs.List.{list_any}
 use Rattle.std.proofs.Math.Bool.{or-true}
@@ -67,7 +67,7 @@ fault_by : (memory : Bool) (text : List ℕ) (fault : Fault) → is_memory fault
 fault_by true text fault m given = memory_so fault m
 fault_by false text fault m given = refused_by (schema_of text) fault (given m) (text_so text)
 
--- so whatever reads a schema text refuses by one of them, out of memory included
+-- so whatever reads a schema text rejects by one of them, out of memory included
 pub codes_of_schema : (text : List ℕ) (result : Result Schema Fault) → MatchesUnlessOom schema_shape result (schema_of text) → IfErr result IsSchemaFault
 codes_of_schema text (Ok schema) gives = tt
 codes_of_schema text (Err fault) gives = fault_by (is_memory fault) text fault refl gives

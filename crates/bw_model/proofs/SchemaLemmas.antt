@@ -120,7 +120,7 @@ pub schema_on-first : (lines rest : List NumberedWords) (line : NumberedWords) (
 unfolding schema_on
 schema_on-first lines rest line end name e t = rw (e, t) refl
 
--- the next line is a column's, or has the fault
+-- the next line is a column's, or has the error
 pub columns_on-next : (columns : List Column) (lines rest : List NumberedWords) (line : NumberedWords) (column : Result ColumnShape Fault)
     → lines ≡ line ∷ rest → column_on (names_of columns) line ≡ column
     → columns_on (map column_shape columns) lines ≡ (column >>= λ c. columns_on (map column_shape columns ++ c ∷ []) rest)

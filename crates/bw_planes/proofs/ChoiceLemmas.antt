@@ -28,7 +28,7 @@ module _ (g : Bool) (width : ℕ) (bytes lanes : List ℕ) where
   no_codes : (words : List ℕ) → length words ≡ 8 → is_none (codes_in words) ≡ list_all not (lanes_of_words words)
   no_codes words eight = sym (none_selected (lanes_of_words words) (planes_codes width bytes) (omega (arith, codes_long width bytes, length-lanes_of_words words)))
 
-  -- the codes in the lanes that are left after so many places have the same top bits, and what is
+  -- the codes in the lanes that are left after this many places have the same top bits, and what is
   -- chosen of all is one of them
   abbrev pub IsLeft : List ℕ → ℕ → ℕ → Type 0
   IsLeft left place code = IsDescended g (codes_in lanes) (codes_in left) (width - place) place code

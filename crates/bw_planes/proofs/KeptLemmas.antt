@@ -83,7 +83,7 @@ bit_of_spelled bits first (suc count) (suc k) lt =
     ∙ sym (low_bit (spelled bits first (suc count)) count bit (omega arith)) ∙ ap (λ n. has_bit n bit) low
     ∙ bit_of_spelled bits (suc first) count k (omega arith) ∙ ap bits next
 
--- variables that have the low bits of a number, so many, from the top one, spell these
+-- variables that have the low bits of a number, this many, from the top one, spell these
 spelled_low : (bits : Assignment) (n first count : ℕ)
     → ((k : ℕ) → k < count → bits (first + k) ≡ has_bit n (count - suc k)) → spelled bits first count ≡ n % 2 ^ count
 spelled_low bits n first zero each = omega arith
@@ -170,7 +170,7 @@ plane_of_codes width bit bytes long lt =
     ∙ (λ i. map (λ row. (ap (has_bit (spelled (row_bits bytes row) 0 width)) same
     ∙ bit_of_spelled (row_bits bytes row) 0 width k (omega arith) ∙ ap (row_bits bytes row) here) i) rows))
 
--- the planes of the numbers that planes spell, of so many low bits
+-- the planes of the numbers that planes spell, of this many low bits
 text_of_codes : (width : ℕ) (bytes : List ℕ) → length bytes ≡ 64 * width → All (λ byte. byte < 2 ^ 8) bytes
     → (bits : ℕ) → bits ≤ width → planes_bytes bits (planes_codes width bytes) ≡ drop (64 * (width - bits)) bytes
 text_of_codes width bytes long small zero le = sym (drop_all (64 * (width - 0)) bytes (omega (arith, long)))

@@ -11,7 +11,7 @@ use Rattle.bw_planes.specs.Planes.{planes_codes}
 use Rattle.bw_planes.proofs.CodeLemmas.{codes_long}
 use Rattle.bw_planes.proofs.CompareLemmas.{of_byte}
 
--- so many bits of codes from one on
+-- this many bits of codes from one on
 abbrev pub bits_from : ℕ → ℕ → List ℕ → List ℕ
 bits_from bit count codes = map (λ code. code / 2 ^ bit % 2 ^ count) codes
 

@@ -21,7 +21,7 @@ negated_not : (b : Bool) → not b ≡ false → b ≡ true
 negated_not true e = refl
 negated_not false e = absurd (cc e)
 
--- what is after a test that did not refuse
+-- what is after a test that did not reject
 passed : {A : Type 0} (b : Bool) (fault : Fault) (r : Result A Fault) (x : A) → refused_if b fault r ≡ Ok x → (b ≡ false) × (r ≡ Ok x)
 passed true fault r x e = absurd (cc e)
 passed false fault r x e = (refl, e)

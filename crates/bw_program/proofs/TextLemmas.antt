@@ -64,7 +64,7 @@ result_refused columns before lines rest line end whole (Ok register) told e is 
 result_refused columns before lines rest line end whole (Err fault) told e is read = λ _.
     told ∙ program_on-result columns before lines rest line end e is ∙ ap (λ r. r >>= λ result. finished before rest result) (sym read)
 
--- an instruction was read, or refused
+-- an instruction was read, or rejected
 pub instr_read : (columns : List Column) (before : List Placed) (lines rest : List NumberedWords) (line : NumberedWords) (end : ℕ) (instr : Result Instr Fault) →
     lines ≡ line ∷ rest → is_result_line line ≡ false → length before < most_instructions → instr ≡ instr_on columns (length before) line →
     program_on columns before lines end ≡ (instr >>= λ i. program_on columns (before ++ record { line = line.number; instr = i } ∷ []) rest end)

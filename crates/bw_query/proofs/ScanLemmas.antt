@@ -56,7 +56,7 @@ serves None schema query rows Rows scanned chosen counts = record {
   });
 }
 
--- a fault that can't be another one is out of memory
+-- an error that can't be another one is out of memory
 pub only_memory : (fault : Fault) → (is_memory fault ≡ false → ⊥) → is_memory fault ≡ true
 only_memory fault other = by_case (is_memory fault) refl
   where

@@ -50,12 +50,12 @@ Stated start after reader = GoesOn header start (give (header_stated (version_in
 head_of : (start after : State) (reader : TableReader) → Stated start after reader → HeaderRead start after (schema_in reader)
 head_of start after reader told = record { stated = header_stated (version_in reader) reader; read = told; shape = refl }
 
--- the header was refused
+-- the header was rejected
 pub header_exit : (asks : Schema → Result Query Fault → Type 0) (start : State) (now : ℕ → State) (fault : Fault)
     → ((offset : ℕ) × Fails header start (now offset) fault) → Gives asks start now (Err fault)
 header_exit asks start now fault fails = (fails.0, record { failures = fails.1.failures; answer = inl fails.1 })
 
--- what is asked was refused
+-- what is asked was rejected
 pub asked_refused : (asks : Schema → Result Query Fault → Type 0) (start now : State) (reader : TableReader) (fault : Fault)
     → Stated start now reader → failed_reads fault ≡ 0 → (is_memory fault ≡ false → asks (schema_in reader) (Err fault)) → TableGave asks start now (Err fault)
 asked_refused asks start now reader fault told none asked = record {
@@ -63,7 +63,7 @@ asked_refused asks start now reader fault told none asked = record {
   answer = inr (inl (record { schema = schema_in reader; head = head_of start now reader told; asked = asked }));
 }
 
--- a segment was refused, or a read of one failed
+-- a segment was rejected, or a read of one failed
 pub segment_refused : (asks : Schema → Result Query Fault → Type 0) (start old now : State) (reader : TableReader) (query : Query) (fault : Fault)
     → Stated start old reader → asks (schema_in reader) (Ok query) → AnswersFault start old now fault → TableGave asks start now (Err fault)
 segment_refused asks start old now reader query fault told asked answers = record {
@@ -116,7 +116,7 @@ all_came bytes taken (Some xs) (Some ys) e consumes ends =
     let same : xs ≡ bytes = cc e in
     sym (append-nil taken) ∙ ap (λ (l : List ℕ). taken ++ l) (sym ends) ∙ sym consumes ∙ same
 
--- so the text went out for known bytes, which are a table file's
+-- so the text was written for known bytes, which are a table file's
 pub table_answered : (asks : Schema → Result Query Fault → Type 0) (start now : State) (text : List ℕ) (found : TableText asks start now text)
     (Told : Schema → Query → List (List Value) → Type 0) → Told found.schema found.query found.rows → (bytes : List ℕ) → start.known ≡ Some bytes
     → (old new : Option (List ℕ)) → Appends old new text
@@ -145,18 +145,18 @@ answered_or_not asks start now text found bytes known old new before after (Ok x
     (table_answered asks start now text found (λ s q r. Unit {0}) tt bytes known old new goes.0).0
 answered_or_not asks start now text found bytes known old new before after (Err fault) goes = tt
 
--- the file was read whole
+-- the file was read completely
 pub text_gave : (asks : Schema → Result Query Fault → Type 0) (start now : State) (schema : Schema) (query : Query) (scan : Scan) (text : List ℕ) (scanned : Scanned)
     → asks schema (Ok query) → TextOver start now schema query scan text scanned → TableGave asks start now (Ok text)
 text_gave asks start now schema query scan text scanned asked over =
     let found = text_over asks start now schema query scan text scanned (λ s q r. Unit {0}) (λ rows counts. tt) asked over in
     record { failures = omega (arith, over.read.failures); answer = found.0 }
 
--- a fault was answered that is no failed write, and nothing was written
+-- an error was answered that is no failed write, and nothing was written
 pub refused : (T : Type 0) (old : Option (List ℕ)) (count : ℕ) (fault : Fault) → is_write_fault fault ≡ false → WriteOutcome {T = T} none_aside old old count count (Err fault) (Err fault)
 refused T old count fault other = wrote_nothing T none_aside old count fault (Err fault) other (λ _. refl)
 
--- the text went out whole, or up to a failed write
+-- the text was written whole, or up to a failed write
 pub went : (T : Type 0) (old new : Option (List ℕ)) (before after : ℕ) (text : List ℕ) (result : Result T Fault) → GoesOut {T = T} old new before after text result
     → WriteOutcome {T = T} none_aside old new before after (Ok text) result
 went T old new before after text result goes = wrote_text T none_aside old new before after text (Ok text) result refl goes
@@ -172,7 +172,7 @@ pub tells : (T : Type 0) (asks : Schema → Result Query Fault → Type 0) (star
     → (told : Ends asks start now (λ given. WriteOutcome none_aside old new before after given result)) → TellsFailure start.failures (now told.0).failures result
 tells T asks start now old new before after result told = told.2.failures ∙ ap (λ (n : ℕ). start.failures + n) (tells_as T old new before after told.1 result told.3)
 
--- faults of a schema, of a statement, of a table file and of a program file, and out of memory, are
+-- errors of a schema, of a statement, of a table file and of a program file, and out of memory, are
 -- no failed writes
 pub schema_writes_nothing : (fault : Fault) → IsSchemaFault fault → is_write_fault fault ≡ false
 schema_writes_nothing fault is = no_write_fault is_schema_fault fault is refl
@@ -196,7 +196,7 @@ unplanned_writes_nothing fault own = by_memory (is_memory fault) refl
     by_memory true is = no_write_fault is_memory fault is refl
     by_memory false is = ap is_write_fault (own is)
 
--- a fault that isn't a failed read
+-- an error that isn't a failed read
 pub no_failed_read : (allowed : Fault → Bool) (fault : Fault) → allowed fault ≡ true → allowed (record { code = 701; place = fault.place }) ≡ false → is_read_fault fault ≡ false
 no_failed_read allowed fault is none = by_code (fault.code == 701) refl
   where
@@ -222,7 +222,7 @@ memory_verdict fault is = input_verdict fault (either (is_memory fault) (is_read
     either true b e = refl
     either false b e = absurd (cc e)
 
--- out of memory is a refusal that no statement calls for
+-- out of memory is a rejection that no statement calls for
 pub memory_output : (fault : Fault) → is_memory fault ≡ true → is_output_fault fault ≡ true
 memory_output fault is = either (is_memory fault) (is_write_fault fault) is
   where

@@ -41,7 +41,7 @@ marked lanes rows keeps marks =
     (omega (arith, length-append (map keeps rows) (replicate (512 - length rows) false), length-map rows keeps, length-replicate (512 - length rows) false, marks.all, marks.within_limit))
     (λ i within. lane_at lanes rows keeps marks i (omega (arith, marks.all, within)) (leb_tells (length rows) i))
 
--- the lanes of the first rows, so many
+-- the lanes of the first rows, this many
 pub first_lane : (count rest lane : ℕ) → lane < count → get_or (replicate count true ++ replicate rest false) lane false ≡ true
 first_lane count rest lane within =
     get_or_append_left (replicate count true) (replicate rest false) false lane (omega (arith, length-replicate count true, within)) ∙ get_or-replicate count lane true false within

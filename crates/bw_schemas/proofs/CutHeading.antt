@@ -1,4 +1,4 @@
--- Of a heading of more than 64 fields the first 64, and that there is one more, say which fault it
+-- Of a heading of more than 64 fields the first 64, and that there is one more, say which error it
 -- has.
 use Rattle.std.proofs.Common.{◌≡◌, ◌∙◌, sym, ap, subst, refl, ℕ, ◌+◌, ◌≤◌, Bool, true, false, not, List, [], ◌∷◌, ◌++◌, length, map, nat_le, Result, Ok, Err, arith, inl, inr, length-append}
 use Rattle.std.specs.Prelude.{IfErr}
@@ -15,7 +15,7 @@ use Rattle.bw_schemas.specs.Heading.{heading_names, names_from}
 use Rattle.bw_schemas.specs.Infer.{StopsInferring}
 use Rattle.bw_schemas.specs.InferredSchema.{infer_schema, inferred_after}
 
--- two results are the same fault
+-- two results are the same error
 abbrev BothRefused : Result (List (List ℕ)) Fault → Result (List (List ℕ)) Fault → Type 0
 BothRefused r s = (fault : Fault) × (r ≡ Err fault) × (s ≡ Err fault)
 

@@ -169,7 +169,7 @@ narrow_at (column ∷ columns) rows i (name ∷ names) e (suc k) n d same h =
     let rest = tails (column_shape column) (column_over rows i name) (map column_shape columns) (columns_over rows (suc i) names) e in
     narrow_at columns rows (suc i) names rest k n d (omega arith) (omega arith)
 
--- columns that aren't refused are what they were
+-- columns that aren't rejected are what they were
 ranged_is : (columns found : List ColumnShape) → check_bounds columns ≡ Ok found → columns ≡ found
 unfolding check_bounds
 ranged_is [] found e = cc e

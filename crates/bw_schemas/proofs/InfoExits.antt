@@ -26,7 +26,7 @@ Given = Result (List ℕ) Fault
 abbrev pub Ends : State → (ℕ → State) → (Given → Type 0) → Type 0
 Ends start now W = (offset : ℕ) × (given : Given) × InfoGave start (now offset) given × W given
 
--- the header was refused
+-- the header was rejected
 pub header_exit : (start : State) (now : ℕ → State) (W : Given → Type 0) (fault : Fault) → ((offset : ℕ) × Fails header start (now offset) fault) → W (Err fault) → Ends start now W
 header_exit start now W fault fails w =
     let given : Given = Err fault in
@@ -66,7 +66,7 @@ text_exit start now offset W reader text read is spelled w =
       w,
     )
 
--- a fault of a table file was answered, or out of memory, and nothing was written
+-- an error of a table file was answered, or out of memory, and nothing was written
 pub refused_table : (old : Option (List ℕ)) (count : ℕ) (fault : Fault) → IsTableFault fault → WriteOutcome {T = Unit {0}} none_aside old old count count (Err fault) (Err fault)
 refused_table old count fault is =
     wrote_nothing (Unit {0}) none_aside old count fault (Err fault) (no_write_fault is_table_fault fault is refl) (λ _. refl)

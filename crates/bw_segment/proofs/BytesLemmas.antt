@@ -1,4 +1,4 @@
--- The bytes of a group: its blocks, which are without fault, and the rows that they spell.
+-- The bytes of a group: its blocks, which are without error, and the rows that they spell.
 use Rattle.std.proofs.Common.{◌≡◌, ◌∙◌, refl, sym, ap, ap₂, ℕ, zero, suc, ◌+◌, ◌-◌, ◌<◌, ◌≤◌, ◌^◌, Bool, true, false, cond, List, [], ◌∷◌, ◌++◌, map, length, take, drop, get_or, replicate, length-append, None, inl, inr, arith, ext_get_or}
 use Rattle.std.specs.List.{range_with_len, list_all, All}
 use Rattle.std.proofs.Math.Seq.{drop-append_seam, take-append_seam}

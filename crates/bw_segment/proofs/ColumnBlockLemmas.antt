@@ -79,7 +79,7 @@ module _ (kept : List ColumnBlocks) (number col start end : ℕ) (stands : stand
     block_read =
         ap₂ (λ (l : List ℕ) (size : ℕ). slice_range l (number * size) (number * size + size)) (sym (bytes_read kept col d is_column)) (sym (size_read kept col d is_column)) ∙ is_there
 
--- the segment of a number among so many
+-- the segment of a number among this many
 module _ (packing : Packing) (columns : List Column) (count : ℕ) (kept : List ColumnBlocks) (keep : StoresBlocks packing columns count kept) (number : ℕ) (there : number < count) where
   abbrev block : ℕ → List ℕ
   block = block_numbered kept number
@@ -116,7 +116,7 @@ module _ (packing : Packing) (columns : List Column) (count : ℕ) (kept : List 
       and_from _ _ (and_from _ _ (lt-ltb _ _ there) (le-leb _ _ (room col lt)))
       ((bytes_eq-Decides _ _).1 (slice_is_block packing columns (segment_numbered kept number) col ∙ block_of_segment col lt))
 
--- Each of the first columns, so many, has a block more than before, and the others are as they
+-- Each of the first columns, this many, has a block more than before, and the others are as they
 -- were.
 pub record HaveMore (old new : List ColumnBlocks) (block : ℕ → List ℕ) (count : ℕ) : Type 0 where
   pub all : length new ≡ length old

@@ -93,7 +93,7 @@ module _ {packing : Packing} {placement : Placement} {count : ℕ} {bytes : List
         ap₂ (value_held columns col) (null_of_row packing packed.law meaning packed.group col row lt) (code_of_row packing packed.law meaning packed.group col row lt)
         ∙ held_admitted columns (get_or meaning.rows row []) col (row_admitted packing packed.law meaning packed.group row lt) there
 
--- blocks without fault stand one after the other in one piece
+-- blocks without error stand one after the other in one piece
 pub held_in_one_piece : (packing : Packing) (columns : List Column) (count : ℕ) (bytes : List ℕ) → IsSound packing columns count bytes
     → HoldBlocks (λ column start end. leb start end && leb end (length bytes)) packing columns
 held_in_one_piece packing columns count bytes sound = λ column lt.

@@ -1,4 +1,4 @@
--- Bytes whose blocks are without fault are the bytes of the rows that they spell.
+-- Bytes whose blocks are without error are the bytes of the rows that they spell.
 use Rattle.std.proofs.Common.{◌≡◌, ◌∙◌, refl, sym, ap, ap₂, ℕ, zero, suc, ◌+◌, ◌<◌, ◌≤◌, ◌^◌, Bool, true, false, cond, List, [], ◌∷◌, ◌++◌, map, flat_map, length, take, drop, get_or, replicate, None, inl, inr, arith}
 use Rattle.std.specs.List.{range_with_len, All}
 use Rattle.std.proofs.lemmas.List.{take-append-drop, length-take, length-drop, length-replicate}

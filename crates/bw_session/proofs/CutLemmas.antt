@@ -96,7 +96,7 @@ comment-snoc (first ∷ second ∷ rest) byte =
     by_test true x y z e = refl
     by_test false x y z e = e
 
--- if a text goes on, by whether its next byte is an LF, a ; or a dash, and in a blank line by
+-- if a text continues, by whether its next byte is an LF, a ; or a dash, and in a blank line by
 -- whether it is blank, too
 abbrev text_on : Bool → Bool → Bool → StatementState
 text_on lf end dash = if lf then Blank else if end then Ended else if dash then Dash else Text

@@ -14,7 +14,7 @@ use Rattle.bw_session.specs.Session.{AsksNothing, IsOutput, answer, nothing, ref
 long_asks : (sql : List ℕ) → longest_statement < length sql → AsksNothing sql → ⊥
 long_asks sql long asks = omega (arith, asks.0)
 
--- and its fault is that of its length
+-- and its error is that of its length
 long_fault : (schema : Schema) (kept sql : List ℕ) (fault : Fault) → longest_statement < length kept
     → longest_statement < length sql → IsFault schema kept fault → IsFault schema sql fault
 long_fault schema kept sql _ _ long (too_long _) = too_long long

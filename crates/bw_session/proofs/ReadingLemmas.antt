@@ -134,7 +134,7 @@ one_more old before now statement standing byte so_far came = record {
   };
 }
 
--- what holds in any case holds of a fault
+-- what holds in any case holds of an error
 pub of_any : {A E : Type 0} (P : Type 0) (result : Result A E) → P → IfErr result (λ fault. P)
 of_any P (Ok x) holds = tt
 of_any P (Err fault) holds = holds

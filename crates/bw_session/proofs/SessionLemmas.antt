@@ -86,7 +86,7 @@ came_whole : (old new : Option (List ℕ)) (statement : List ℕ) (goes_on : Boo
 came_whole old new statement true took = inl (took.whole refl)
 came_whole old new statement false took = inr (took.last refl, took.end refl)
 
--- a text went out, and then a part of what follows it
+-- a text was written, and then a part of what follows it
 part_after : (old mid new : Option (List ℕ)) (text rest : List ℕ) → Appends old mid text → TookPart mid new rest
     → TookPart old new (text ++ rest)
 part_after old mid new text rest went part = (
@@ -133,7 +133,7 @@ ends_as schema rows old before now taken_old taken_before taken_now statement sq
     (subst (TookStatement before now statement) off took)
     (subst (λ text. WroteOutput schema rows text taken_before taken_now fault) same wrote))
 
--- a fault that isn't that of a failed write counts for none
+-- an error that isn't that of a failed write counts for none
 pub no_writes : (fault : Fault) (before after : ℕ) → is_write_fault fault ≡ false → after ≡ before
     → after ≡ before + failed_writes fault
 no_writes fault before after other same =
@@ -151,6 +151,6 @@ no_reads fault before after failed same =
     let none : failed_reads fault ≡ 0 = ap failed_reads failed in
     omega (arith, same, none)
 
--- a fault of an input is no failed write
+-- an error of an input is no failed write
 pub input_alone : (fault : Fault) → IsTrue (is_input_fault fault) → is_write_fault fault ≡ false
 input_alone fault input = no_write_fault is_input_fault fault input refl

@@ -103,7 +103,7 @@ next_row most n bit =
     ordered c b (c * p) (b * p) p (most % p) (n % p) (mod-lt n (pow_pos bit)) (mod-lt most (pow_pos bit)) (above_by c b p) (above_by b c p) (λ e. ap (λ k. k * p) e)
     ∙ sym (ap₂ ltb (mod-pow-add most 8 bit) (mod-pow-add n 8 bit))
 
--- whether the code of a row is above the number, as far as so many lowest bytes tell
+-- whether the code of a row is above the number, as far as this many lowest bytes tell
 abbrev pub above_in : List ℕ → ℕ → ℕ → ℕ → ℕ → Bool
 above_in bytes slices most low row = ltb (most % 2 ^ (8 * low)) (number_from (bytes_in bytes row) slices % 2 ^ (8 * low))
 

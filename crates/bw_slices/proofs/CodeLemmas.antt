@@ -40,7 +40,7 @@ number_below byte zero small = omega arith
 number_below byte (suc count) small =
     let more : 8 * suc count ≡ 8 * count + 8 = omega arith in rw more (next_small _ _ (8 * count) (number_below byte count small) (small count))
 
--- so many bytes spell a number of so many
+-- this many bytes spell a number of this many
 pub codes_below : (bytes : List ℕ) (count : ℕ) → ((at : ℕ) → get_or bytes at 0 < 256) → AllByRecursion (λ code. code < 2 ^ (8 * count)) (slices_codes count bytes)
 unfolding slices_codes
 codes_below bytes count small = each (range_with_len 0 group_size)
@@ -60,7 +60,7 @@ pub code_in_lane : (bytes : List ℕ) (count lane : ℕ) → lane < 512 → numb
 unfolding slices_codes group_size
 code_in_lane bytes count lane lt = sym (get_or-map-range_with_len (λ row. number_from (bytes_in bytes row) count) 0 512 lane lane 0 lt (omega arith))
 
--- the number that the first bytes, so many, of a lane spell
+-- the number that the first bytes, this many, of a lane spell
 unfoldable pub front_code : ℕ → ℕ → List ℕ → ℕ
 front_code place lane bytes = number_from (bytes_in bytes lane) place
 
@@ -138,7 +138,7 @@ pub sum_small : (width most : ℕ) (lanes : List Bool) (ns : List ℕ) → width
 sum_small width most lanes ns few long small =
     omega (arith, small_sums lanes ns (all_within width 63 ns few small), mul-le-mul_right {m = length ns} {n = most} (2 ^ 63) long)
 
--- the sum of the numbers that the first bytes, so many, of the codes in some lanes spell
+-- the sum of the numbers that the first bytes, this many, of the codes in some lanes spell
 unfoldable pub high_sum : ℕ → ℕ → List Bool → List ℕ → ℕ
 high_sum width place lanes bytes = sum_by (λ n. n / 2 ^ (8 * ((width + 7) / 8 - place))) (selected_items lanes (slices_codes ((width + 7) / 8) bytes))
 

@@ -41,7 +41,7 @@ word_only c w = (grind (arith, nat_tests), grind (arith, nat_tests))
 pub digit_only : (c : ℕ) → is_ascii_digit c ≡ true → (is_blank c ≡ false) × (begins_word c ≡ false)
 digit_only c d = (grind (arith, nat_tests), grind (arith, nat_tests))
 
--- a piece goes on as its first byte says
+-- a piece continues as its first byte says
 word_run : (bytes : List ℕ) → is_word bytes ≡ true → is_run bytes ≡ true
 word_run [] h = cc
 word_run (c ∷ tail) h =
@@ -261,7 +261,7 @@ one_longest text rest after p q a b =
     let same = same_front a.front b.front rest after (sym a.cut ∙ b.cut) (omega arith) in
     (one_piece b.front p q (subst (λ bytes. IsPiece bytes p) same.0 a.is) b.is, same.0, same.1)
 
--- a cut is at its end if no piece begins, and else goes on after the longest
+-- a cut is at its end if no piece begins, and else continues after the longest
 abbrev end_of : ℕ → List ℕ → Option ℕ
 end_of at [] = None
 end_of at (c ∷ rest) = Some at

@@ -1,4 +1,4 @@
--- The faults of statements stand as the table of faults lists them.
+-- The errors of statements stand as the table of errors lists them.
 use Rattle.std.proofs.Common.{ℕ, List, refl}
 use Rattle.bw_model.specs.declared.fault.Fault.{Fault}
 use Rattle.bw_model.specs.declared.schema.Schema.{Schema}
@@ -10,7 +10,7 @@ use Rattle.bw_sql.specs.declared.reader.Refusal.TheVariants.{Syntax, UnknownTabl
 use Rattle.bw_sql.specs.Refusal.{code_of}
 use Rattle.bw_sql.specs.Statement.{IsFault, too_long, refused, token_refused, end_refused, byte_refused}
 
--- each reason to refuse stands at a byte
+-- each reason to reject stands at a byte
 by_reason : (why : Refusal) (at : ℕ) → StandsAsListed (at_byte (code_of why) at)
 unfolding standing_of
 by_reason Syntax at = refl

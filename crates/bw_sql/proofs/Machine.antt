@@ -19,7 +19,7 @@ use Rattle.bw_sql.specs.Token.{Lexeme, Name, Digits, Reserved, Compare, Punct}
 
 -- What is to come: a word, a bracket, an operand, the digits after a sign, what follows the first
 -- operand of a predicate, its NOT or its IS, further operands or items; a factor or a primary
--- inside of so many brackets and NOTs, what may follow a primary, its IS, a truth value, further
+-- inside of this many brackets and NOTs, what may follow a primary, its IS, a truth value, further
 -- parts that a connective joins; the items, an item after a first one of a kind, what stands in
 -- brackets; a table, a selection, the end, a statement.
 pub data Symbol : Type 0 where
@@ -62,7 +62,7 @@ abbrev pub one_of : Option Bool → Symbol
 one_of None = AnOperand
 one_of (Some first) = AnItem first
 
--- a factor, or a term, and then what stands after it
+-- a factor, or a term, and then what follows it
 abbrev pub a_part : Connective → ℕ → List Symbol → List Symbol
 a_part connective.And depth after = AFactor depth ∷ after
 a_part connective.Or depth after = AFactor depth ∷ PartTail connective.And depth ∷ after
@@ -70,7 +70,7 @@ a_part connective.Or depth after = AFactor depth ∷ PartTail connective.And dep
 abbrev pub in_brackets : ℕ → List Symbol → List Symbol
 in_brackets depth after = a_part connective.Or depth (PartTail connective.Or depth ∷ Closing ∷ after)
 
--- an operand, and then what stands after it
+-- an operand, and then what follows it
 abbrev pub operand_choice : List Symbol → Lexeme → Choice
 operand_choice after (Reserved word.Null) = Take after
 operand_choice after (Name text) = Ask (NamesColumn text ∷ []) after
@@ -176,7 +176,7 @@ unfoldable pub step : (Demand → Bool) → List Symbol → Lexeme → Result (L
 step met [] t = Err Syntax
 step met (s ∷ stack) t = chosen met (decide s t) stack (step met stack t)
 
--- how many tokens are left when a token is refused, after a sign or not: a literal is refused at
+-- how many tokens are left when a token is rejected, after a sign or not: a literal is rejected at
 -- its sign
 abbrev pub left_at : Refusal → Bool → ℕ → ℕ
 left_at Literal true after = suc (suc after)

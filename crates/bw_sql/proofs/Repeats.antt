@@ -12,7 +12,7 @@ pub length-lexemes : (tokens : List Placed) → length (lexemes tokens) ≡ leng
 length-lexemes [] = refl
 length-lexemes (placed ∷ tokens) = ap suc (length-lexemes tokens)
 
--- what is left to read, of so many tokens at most, goes after what was read
+-- what is left to read, of this many tokens at most, goes after what was read
 pub record Repeats {A : Type 0} (after : List Lexeme → Option (List Lexeme)) (one : List Lexeme → Result (A × List Lexeme) Halt)
     (front : List A) (left : ℕ) (tokens : List Lexeme) (whole : Result (List A × List Lexeme) Halt) : Type 0 where
   pub fuel : ℕ

@@ -48,8 +48,8 @@ module _ (schema : Schema) where
   same_halt : (a b : Halt) → ◌≡◌ {A = Result (Unit {0}) Halt} (Err a) (Err b) → (a.why ≡ b.why) × (a.left ≡ b.left)
   same_halt a b e = let same : a ≡ b = cc in (ap (λ (h : Halt). h.why) same, ap (λ (h : Halt). h.left) same)
 
-  -- a refusal by the grammar is at one of the tokens, so a reader leaves no more of them than there
-  -- were
+  -- a rejection by the grammar is at one of the tokens, so a reader leaves no more of them than
+  -- there were
   refused_within : (signed : Bool) (stack : List Symbol) (tokens : List Lexeme) (n : ℕ) →
       run schema signed stack tokens ≡ Err (record { why = Syntax; left = suc n }) → n < length tokens
   unfolding run

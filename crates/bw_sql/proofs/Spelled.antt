@@ -26,7 +26,7 @@ use Rattle.bw_sql.specs.Words.{word_of, aggregate_word, of_column}
 use Rattle.bw_sql.proofs.Cases.{bool_cases, option_cases}
 use Rattle.bw_sql.proofs.Runs.{level_runs, next_item_runs, operand_runs, part_runs, takes, too_deep}
 
--- What reading gives: what was spelled, or the refusal for a demand that isn't met and was let
+-- What reading gives: what was spelled, or the rejection for a demand that isn't met and was let
 -- pass.
 pub data Outcome (schema : Schema) (met : Demand → Bool) {A : Type 0} (reading : Result A Halt) (x : A) : Type 0 where
   reads : reading ≡ Ok x → Outcome schema met reading x

@@ -1,4 +1,4 @@
--- What a text is read as, and that it spells it or is refused for it.
+-- What a text is read as, and that it spells it or is rejected for it.
 use Rattle.std.proofs.Common.{◌≡◌, ℕ, ◌-◌, ◌<◌, ◌≤◌, ◌⊎◌, inl, inr, true, false, ◌==◌, List, [], ◌∷◌, length, Option, Some, None, Result, Ok, Err, IfErr, slice_get, refl, sym, ◌∙◌, ap, subst, arith}
 use Rattle.std.specs.Prelude.{find}
 use Rattle.std.proofs.lemmas.List.{length-map}
@@ -122,7 +122,7 @@ err_is_memory schema text (Ok query) exact q s = tt
 err_is_memory schema text (Err fault) exact q s = bool_cases (is_memory fault) (λ m. m)
     (λ m. absurd (not_refused schema text q fault s (exact s.short m)))
 
--- the first fault is one
+-- the first error is one
 refusal_of : ℕ → Option Refusal
 refusal_of n = find (λ why. code_of why == n) (Syntax ∷ UnknownTable ∷ UnknownColumn ∷ Literal ∷ MixedItems ∷ Nesting ∷ [])
 
@@ -160,7 +160,7 @@ module _ (schema : Schema) (text : List ℕ) (tokens : List Spot) where
       (path_weaker schema (asked_for schema Syntax) (asked_for_weaker schema Syntax) p.1) p.2 in
       (only_at_end schema (tokens_of tokens) p.0 p.1 why place stands).2 query_shape.0 query_shape.1
 
-  -- a refusal, by its place among the tokens and after them
+  -- a rejection, by its place among the tokens and after them
   refused_at : (stop : Option ℕ) (why : Refusal) (place : ℕ) → IsCut 0 text tokens stop →
       IsFirst schema (tokens_of tokens) why place →
       (length tokens ≤ place → (place ≡ length tokens) × (why ≡ Syntax)) → (found : Option Spot) → slice_get tokens place ≡ found →
@@ -177,7 +177,7 @@ module _ (schema : Schema) (text : List ℕ) (tokens : List Spot) where
         | inr h ↦ omega (arith, past tokens place e, h.0)
       ])
 
-  -- where reading halts is the first fault
+  -- where reading halts is the first error
   halted_at : (stop : Option ℕ) (halt : Halt) → statement_at schema (tokens_of tokens) ≡ Err halt → (why : Refusal) (place : ℕ) →
       IsFirst schema (tokens_of tokens) why place →
       Err (fault_at (slice_get tokens place) stop (length text) why) ≡ parse_verdict tokens stop (length text) (Err halt)
@@ -207,7 +207,7 @@ module _ (schema : Schema) (text : List ℕ) (tokens : List Spot) where
           let same = length-map tokens (λ spot. spot.token) in
           (omega (arith, h, g.left, same), g.last (omega (arith, h, same)))
 
-  -- what has a fault is read as that fault
+  -- what has an error is read as that error
   first_read : (stop : Option ℕ) (why : Refusal) (place : ℕ) (found : Option Spot) → IsFirst schema (tokens_of tokens) why place →
       slice_get tokens place ≡ found → (reading : Result QueryShape Halt) → statement_at schema (tokens_of tokens) ≡ reading →
       Err (fault_at found stop (length text) why) ≡ parse_verdict tokens stop (length text) reading

@@ -28,7 +28,7 @@ use Rattle.bw_sql.specs.Token.{Lexeme}
 use Rattle.bw_sql.specs.Words.{join_of}
 use Rattle.bw_sql.proofs.Cases.{option_cases}
 
--- a tree names the first so many columns alone, and is whole
+-- a tree names the first columns, this many, alone, and is whole
 abbrev Good : ℕ → CondTree → Type 0
 Good columns c = (tree_within columns c ≡ true) × (is_whole_tree c ≡ true)
 

@@ -65,7 +65,7 @@ too_much digits i n lt is over =
 pub enough : (n : ℕ) → n < 2 ^ 64 → Some n ≡ where_64_bits_hold n
 enough n lt = let within : ltb n (2 ^ 64) ≡ true = lt-ltb _ _ lt in rw within refl
 
--- so many digits spell less than the power of ten with so many zeros
+-- this many digits spell less than the power of ten with this many zeros
 pub one_zero_more : (i n u : ℕ) → n < 10 ^ i → u < 10 → 10 * n + u < 10 ^ (i + 1)
 one_zero_more i n u below digit =
     let next : i + 1 ≡ suc i = omega arith in

@@ -1,4 +1,4 @@
--- What is certified has no fault, and is certified in one way.
+-- What is certified has no error, and is certified in one way.
 use Rattle.bw_cert.proofs.VerdictLemmas.{accepted_from}
 use Rattle.bw_cert.proofs.certified_file.certify.Goals as goal
 

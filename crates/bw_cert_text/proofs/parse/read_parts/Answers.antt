@@ -1,4 +1,4 @@
--- Each turn reads one more line; the end and each fault are the text's.
+-- Each turn reads one more line; the end and each error are the text's.
 use Rattle.std.proofs.Common.{◌∙◌, ℕ, ap, sym, Err}
 use Rattle.std.proofs.lemmas.Result.{err_from_is_err_and}
 use Rattle.bw_cert_text.specs.CertificateText.{form_fault}

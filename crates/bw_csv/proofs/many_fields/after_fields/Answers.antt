@@ -1,4 +1,4 @@
--- Each turn goes on by one byte, and a comma ends one field more.
+-- Each turn continues by one byte, and a comma ends one field more.
 use Rattle.std.proofs.Common.{◌≡◌, ◌∙◌, ◌+◌, false, true, arith, sym, subst, get_or}
 use Rattle.csv.specs.Machine.{is_end, step}
 use Rattle.csv.specs.Reading.{default_config}

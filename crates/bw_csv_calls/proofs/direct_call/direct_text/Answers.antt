@@ -1,4 +1,4 @@
--- Each exit, by what its calls' contracts say.
+-- Each exit, by the contracts of its calls.
 use Rattle.std.proofs.Common.{Err, refl}
 use Rattle.std.proofs.lemmas.Result.{IfErr-weaker, err_from_is_err_and}
 use Rattle.bw_model.specs.Limits.{longest_schema, longest_csv}

@@ -1,4 +1,4 @@
--- Schemas that one text spells have the same columns, and conditions of one tree are judged alike.
+-- Schemas that one text spells have the same columns, and conditions of one tree are checked alike.
 use Rattle.std.proofs.Common.{◌≡◌, ◌∙◌, refl, sym, ap, subst}
 use Rattle.bw_model.specs.CondTree.{tree_of}
 use Rattle.bw_model.specs.SchemaText.{IsSchemaText, schema_shape}

@@ -1,4 +1,4 @@
--- Each turn adds the column of the next line; the end and each fault are the text's.
+-- Each turn adds the column of the next line; the end and each error are the text's.
 use Rattle.std.proofs.Common.{◌≡◌, ◌≢◌, ◌∷◌, [], ◌<◌, ◌∙◌, length, arith, ap, sym, length-append, refl, ℕ, Ok, Err}
 use Rattle.std.proofs.lemmas.Bool.{eqb-true, eqb-false}
 use Rattle.std.proofs.lemmas.Result.{err_from_is_err_and}
