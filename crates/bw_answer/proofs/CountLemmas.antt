@@ -1,5 +1,6 @@
 -- Rows that are counted alone.
-use Rattle.std.proofs.Common.{◌≡◌, ℕ, ◌+◌, ◌≤◌, List, [], ◌∷◌, true, false, map, length, refl, ap, arith, nat_le}
+use Rattle.std.proofs.Common.{◌≡◌, ℕ, ◌+◌, ◌≤◌, List, [], ◌∷◌, true, false, map, length, refl, ap}
+use Rattle.std.proofs.Common.{arith, nat_le}
 use Rattle.std.specs.List.{list_all}
 use Rattle.std.proofs.lemmas.Bool.{leb-true, le-leb}
 use Rattle.bw_model.specs.declared.cond.Cond.{Cond}

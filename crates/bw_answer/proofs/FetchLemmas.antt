@@ -1,5 +1,6 @@
 -- The values of columns in the lanes of a segment.
-use Rattle.std.proofs.Common.{◌≡◌, ◌≢◌, ℕ, zero, suc, ◌∷◌, ◌+◌, ◌<◌, List, [], refl, sym, ap, length, get_or, set, subst, arith, below_more, inl, inr, None, ◌∙◌}
+use Rattle.std.proofs.Common.{◌≡◌, ◌≢◌, ℕ, zero, suc, ◌∷◌, ◌+◌, ◌<◌, List, [], refl, sym, ap}
+use Rattle.std.proofs.Common.{length, get_or, set, subst, arith, below_more, inl, inr, None, ◌∙◌}
 use Rattle.std.proofs.lemmas.Bool.{cases_eq}
 use Rattle.bw_model.specs.Row.{Value}
 use Rattle.bw_answer.specs.LaneFields.{value_in_lane, values_in}

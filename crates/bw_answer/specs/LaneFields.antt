@@ -1,5 +1,6 @@
 -- The values of columns in lanes.
-use Rattle.std.specs.Prelude.{◌≡◌, ◌<◌, ℕ, Bool, true, false, List, [], None, length, map, slice_index, slice_index_or, take, drop}
+use Rattle.std.specs.Prelude.{◌≡◌, ◌<◌, ℕ, Bool, true, false, List, [], None, length, map}
+use Rattle.std.specs.Prelude.{slice_index, slice_index_or, take, drop}
 use Rattle.bw_model.specs.Row.{Value, value_in}
 use Rattle.bw_model.specs.Selection.{positions_from}
 use Rattle.bw_answer.specs.Answer.{value_text}

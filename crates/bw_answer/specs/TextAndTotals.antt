@@ -7,7 +7,8 @@ use Rattle.bw_model.specs.Row.{Value}
 use Rattle.bw_model.specs.Selection.{matching_rows}
 use Rattle.bw_rowwise.specs.Accumulator.{Tally, tally_of}
 use Rattle.bw_answer.specs.Aggregates.{aggregates_of}
-use Rattle.bw_answer.specs.Answer.{csv_text, heading_of, is_count_all, row_records, lists_rows, record_text}
+use Rattle.bw_answer.specs.Answer.{csv_text, heading_of, is_count_all, row_records, lists_rows}
+use Rattle.bw_answer.specs.Answer.{record_text}
 
 -- the heading record of a query over columns of these names, followed by the records of the
 -- matching rows if the query lists them

@@ -1,5 +1,6 @@
 //! The values of columns in the lanes of a segment, fetched for the rows that a selection selects.
-ghost use Rattle.std.specs.Prelude.{◌≡◌, ◌≢◌, ◌<◌, ℕ, [], None, All, IfErr, IfOk, length, slice_index_or, vec_len};
+ghost use Rattle.std.specs.Prelude.{◌≡◌, ◌≢◌, ◌<◌, ℕ, [], None, All, IfErr, IfOk, length};
+ghost use Rattle.std.specs.Prelude.{slice_index_or, vec_len};
 ghost use Rattle.bw_lanes.specs.Lanes.{lanes_of_words};
 ghost use Rattle.bw_model.specs.Fault.{no_memory};
 ghost use Rattle.bw_model.specs.Row.{value_in, values_of};

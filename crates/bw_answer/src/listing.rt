@@ -1,5 +1,6 @@
 //! The rows that a query lists, as records of its columns.
-ghost use Rattle.std.specs.Prelude.{◌≡◌, ◌+◌, ◌*◌, ◌<◌, ◌≤◌, ◌++◌, All, IsTrue, IfErr, IfOk, OnOk, length, map, vec_len};
+ghost use Rattle.std.specs.Prelude.{◌≡◌, ◌+◌, ◌*◌, ◌<◌, ◌≤◌, ◌++◌, All, IsTrue, IfErr, IfOk, OnOk};
+ghost use Rattle.std.specs.Prelude.{length, map, vec_len};
 ghost use Rattle.std.specs.List.{list_all};
 ghost use Rattle.bw_aggregate.specs.Selected.{IsWithin, selected_rows};
 ghost use Rattle.bw_lanes.specs.Lanes.{lanes_of_words};

@@ -1,6 +1,8 @@
 -- Where the lines of instructions and joins are rejected, and that a first error is what they are
 -- rejected with.
-use Rattle.std.proofs.Common.{◌≡◌, ◌∙◌, refl, sym, ap, ap₂, subst, ◌⊎◌, inl, inr, ℕ, suc, ◌<◌, Bool, true, false, not, ◌&&◌, List, [], ◌∷◌, ◌++◌, map, length, Option, Some, None, Result, Ok, Err, arith}
+use Rattle.std.proofs.Common.{◌≡◌, ◌∙◌, refl, sym, ap, ap₂, subst, ◌⊎◌, inl, inr, ℕ, suc, ◌<◌, Bool}
+use Rattle.std.proofs.Common.{true, false, not, ◌&&◌, List, [], ◌∷◌, ◌++◌, map, length, Option}
+use Rattle.std.proofs.Common.{Some, None, Result, Ok, Err, arith}
 use Rattle.std.proofs.Math.Bool.{and-true}
 use Rattle.bw_model.proofs.BitsLemmas.{both}
 use Rattle.bw_model.specs.declared.fault.Fault.{Fault}
@@ -21,10 +23,14 @@ use Rattle.bw_cert_text.specs.declared.lines.InstructionEntry.{InstructionEntry}
 use Rattle.bw_cert_text.specs.declared.lines.Keep.{Keep}
 use Rattle.bw_cert_rules.specs.declared.edge.Edge.{Edge}
 use Rattle.bw_cert_rules.specs.Accepted.{KeepLine, keep_line, are_kept}
-use Rattle.bw_cert_rules.specs.Instruction.{check_instruction_line, put, is_fill, is_skip_line, loaded_node, operation_row, byte_chain, byte_node, terminal, plane_on, read_on, joined_on, opposite_on, byte_on}
+use Rattle.bw_cert_rules.specs.Instruction.{check_instruction_line, put, is_fill, is_skip_line}
+use Rattle.bw_cert_rules.specs.Instruction.{loaded_node, operation_row, byte_chain, byte_node}
+use Rattle.bw_cert_rules.specs.Instruction.{terminal, plane_on, read_on, joined_on, opposite_on}
+use Rattle.bw_cert_rules.specs.Instruction.{byte_on}
 use Rattle.bw_cert_rules.specs.Join.{is_valid_keep}
 use Rattle.bw_cert_rules.specs.Known.{Known, node_of, nothing_known, with_node}
-use Rattle.bw_cert_rules.specs.Walk.{WalkState, keep_in, by_keep, keeps_taken, join_taken, is_join, instruction_on, instruction_taken, apply_join}
+use Rattle.bw_cert_rules.specs.Walk.{WalkState, keep_in, by_keep, keeps_taken, join_taken, is_join}
+use Rattle.bw_cert_rules.specs.Walk.{instruction_on, instruction_taken, apply_join}
 use Rattle.bw_cert_rules.proofs.JoinLemmas.{keep_on, keep_refused}
 use Rattle.bw_cert.specs.FirstFault.{NoKeep, WrongLine, WrongKeep, WrongJoin}
 use Rattle.bw_cert.proofs.ValidLemmas.{bind_ok, not_refused}

@@ -1,5 +1,8 @@
 -- Lines that are rejected have a first error, and are rejected with it.
-use Rattle.std.proofs.Common.{◌≡◌, ◌∙◌, refl, sym, ap, ap₂, subst, ◌⊎◌, inl, inr, ℕ, suc, ◌+◌, ◌<◌, true, not, List, [], ◌∷◌, ◌++◌, add-zero, append_assoc, drop, map, length, length-append, length-drop, Option, Some, None, Result, Ok, Err, slice_get, arith}
+use Rattle.std.proofs.Common.{◌≡◌, ◌∙◌, refl, sym, ap, ap₂, subst, ◌⊎◌, inl, inr, ℕ, suc, ◌+◌, ◌<◌}
+use Rattle.std.proofs.Common.{true, not, List, [], ◌∷◌, ◌++◌, add-zero, append_assoc, drop, map}
+use Rattle.std.proofs.Common.{length, length-append, length-drop, Option, Some, None, Result, Ok}
+use Rattle.std.proofs.Common.{Err, slice_get, arith}
 use Rattle.std.proofs.lemmas.Bool.{eq-eqb}
 use Rattle.std.proofs.lemmas.Option.{slice_get_within}
 use Rattle.bw_model.proofs.BitsLemmas.{both}
@@ -10,16 +13,23 @@ use Rattle.bw_program.specs.declared.instr.Instr.{Instr}
 use Rattle.bw_cert_text.specs.declared.lines.BodyLine.{BodyLine}
 use Rattle.bw_cert_text.specs.declared.lines.Entry.TheVariants as line_of
 use Rattle.bw_cert_rules.specs.declared.edge.Edge.{Edge}
-use Rattle.bw_cert_rules.specs.Accepted.{KeepLine, JoinLines, Part, keep_line, join_lines, lines_of, known_before, edges_before, edge_at, known_on_fallthrough, known_after_join, known_past, kept_by, are_kept, is_valid_join, AreValidParts}
+use Rattle.bw_cert_rules.specs.Accepted.{KeepLine, JoinLines, Part, keep_line, join_lines, lines_of}
+use Rattle.bw_cert_rules.specs.Accepted.{known_before, edges_before, edge_at, known_on_fallthrough}
+use Rattle.bw_cert_rules.specs.Accepted.{known_after_join, known_past, kept_by, are_kept}
+use Rattle.bw_cert_rules.specs.Accepted.{is_valid_join, AreValidParts}
 use Rattle.bw_cert_rules.specs.Instruction.{check_instruction_line}
 use Rattle.bw_cert_rules.specs.Join.{edge_of, with_edge, edges_into}
 use Rattle.bw_cert_rules.specs.Known.{Known, nothing_known, with_node}
-use Rattle.bw_cert_rules.specs.Walk.{WalkState, by_keep, keeps_taken, instruction_taken, apply_join, check_lines_from, check_lines}
+use Rattle.bw_cert_rules.specs.Walk.{WalkState, by_keep, keeps_taken, instruction_taken, apply_join}
+use Rattle.bw_cert_rules.specs.Walk.{check_lines_from, check_lines}
 use Rattle.bw_cert_rules.proofs.AcceptLemmas.{Line, Joined, line_read, join_read, drop_stands}
 use Rattle.bw_cert_rules.proofs.JoinLemmas.{keep_on}
-use Rattle.bw_cert.specs.FirstFault.{NoKeep, KeepsAreAll, WrongLine, WrongJoin, WrongPlace, known_after, edges_after, FirstFault, StandsOn}
-use Rattle.bw_cert.proofs.PartsLemmas.{with_one, stands_last, edges_here, known_here, obeys_more, lines_more}
-use Rattle.bw_cert.proofs.FaultLemmas.{bind_err, taken_of, line_wrong, wrong_line, next_keep, after_join, join_wrong, wrong_join, join_stops, line_stands}
+use Rattle.bw_cert.specs.FirstFault.{NoKeep, KeepsAreAll, WrongLine, WrongJoin, WrongPlace}
+use Rattle.bw_cert.specs.FirstFault.{known_after, edges_after, FirstFault, StandsOn}
+use Rattle.bw_cert.proofs.PartsLemmas.{with_one, stands_last, edges_here, known_here, obeys_more}
+use Rattle.bw_cert.proofs.PartsLemmas.{lines_more}
+use Rattle.bw_cert.proofs.FaultLemmas.{bind_err, taken_of, line_wrong, wrong_line, next_keep}
+use Rattle.bw_cert.proofs.FaultLemmas.{after_join, join_wrong, wrong_join, join_stops, line_stands}
 
 -- how far a walk has come: after some first instructions, whose lines are those of parts that obey
 record Come (facts : Facts) (lines : List BodyLine) (first : List Instr) (edges : List Edge) (taken : WalkState) : Type 0 where

@@ -1,12 +1,16 @@
 -- One more instruction and its part, after some that obey.
-use Rattle.std.proofs.Common.{◌≡◌, ◌∙◌, refl, sym, ap, ap₂, subst, ℕ, zero, suc, ◌+◌, ◌<◌, ◌≤◌, IsTrue, List, [], ◌∷◌, ◌++◌, add-zero, append-nil, append_assoc, length, length-append, Option, Some, Ok, slice_get, arith}
+use Rattle.std.proofs.Common.{◌≡◌, ◌∙◌, refl, sym, ap, ap₂, subst, ℕ, zero, suc, ◌+◌, ◌<◌, ◌≤◌}
+use Rattle.std.proofs.Common.{IsTrue, List, [], ◌∷◌, ◌++◌, add-zero, append-nil, append_assoc}
+use Rattle.std.proofs.Common.{length, length-append, Option, Some, Ok, slice_get, arith}
 use Rattle.std.proofs.lemmas.Option.{slice_get_within}
 use Rattle.bw_diagram.specs.Facts.{Facts}
 use Rattle.bw_program.specs.declared.instr.Instr.{Instr}
 use Rattle.bw_cert_text.specs.declared.lines.BodyLine.{BodyLine}
 use Rattle.bw_cert_text.specs.declared.lines.Entry.TheVariants as line_of
 use Rattle.bw_cert_rules.specs.declared.edge.Edge.{Edge}
-use Rattle.bw_cert_rules.specs.Accepted.{Part, join_lines, lines_of, known_before, edges_before, edge_at, known_on_fallthrough, known_or_nothing, known_after_join, known_past, is_valid_join, AreValidParts}
+use Rattle.bw_cert_rules.specs.Accepted.{Part, join_lines, lines_of, known_before, edges_before}
+use Rattle.bw_cert_rules.specs.Accepted.{edge_at, known_on_fallthrough, known_or_nothing}
+use Rattle.bw_cert_rules.specs.Accepted.{known_after_join, known_past, is_valid_join, AreValidParts}
 use Rattle.bw_cert_rules.specs.Instruction.{check_instruction_line}
 use Rattle.bw_cert_rules.specs.Join.{edge_of, with_edge, edges_into}
 use Rattle.bw_cert_rules.specs.Known.{Known}

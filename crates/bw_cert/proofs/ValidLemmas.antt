@@ -1,5 +1,7 @@
 -- Sections one after another, and what a valid certificate's lines state.
-use Rattle.std.proofs.Common.{◌≡◌, ◌∙◌, refl, sym, ap, ap₂, subst, ℕ, zero, suc, Bool, true, false, not, ◌&&◌, List, [], ◌∷◌, map, length, Option, Some, None, Result, Ok, Err, slice_get, arith}
+use Rattle.std.proofs.Common.{◌≡◌, ◌∙◌, refl, sym, ap, ap₂, subst, ℕ, zero, suc, Bool, true, false}
+use Rattle.std.proofs.Common.{not, ◌&&◌, List, [], ◌∷◌, map, length, Option, Some, None, Result, Ok}
+use Rattle.std.proofs.Common.{Err, slice_get, arith}
 use Rattle.std.specs.List.{list_all}
 use Rattle.bw_model.specs.declared.column.Column.{Column}
 use Rattle.bw_model.specs.declared.fault.Fault.{Fault}
@@ -24,11 +26,13 @@ use Rattle.bw_program.specs.ProgramText.{found_on}
 use Rattle.bw_cert_text.specs.declared.lines.BodyLine.{BodyLine}
 use Rattle.bw_cert_text.specs.declared.lines.InstructionEntry.{InstructionEntry}
 use Rattle.bw_cert_text.specs.CertificateShape.{CertificateShape}
-use Rattle.bw_cert_rules.specs.Instruction.{check_instruction_line, loaded_node, byte_chain, plane_on, byte_on}
+use Rattle.bw_cert_rules.specs.Instruction.{check_instruction_line, loaded_node, byte_chain}
+use Rattle.bw_cert_rules.specs.Instruction.{plane_on, byte_on}
 use Rattle.bw_cert_rules.specs.Join.{is_zero}
 use Rattle.bw_cert_rules.specs.Known.{Known, node_of}
 use Rattle.bw_cert_rules.specs.Walk.{WalkState}
-use Rattle.bw_cert.specs.StatedFacts.{on_line, with_lines, with_node_line, with_chain_line, with_product_line, facts_stated}
+use Rattle.bw_cert.specs.StatedFacts.{on_line, with_lines, with_node_line, with_chain_line}
+use Rattle.bw_cert.specs.StatedFacts.{with_product_line, facts_stated}
 use Rattle.bw_cert.specs.Valid.{last_on, end_on}
 
 pub bind_ok : {A B : Type 0} (r : Result A Fault) (f : A → Result B Fault) (y : B) → (r >>= f) ≡ Ok y → (x : A) × (r ≡ Ok x) × (f x ≡ Ok y)

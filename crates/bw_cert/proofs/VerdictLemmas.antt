@@ -1,5 +1,6 @@
 -- A file is certified or rejected, and in one way.
-use Rattle.std.proofs.Common.{◌≡◌, ◌∙◌, refl, sym, ap, ap₂, ℕ, ◌+◌, ◌≤◌, false, List, [], length, count_by, Result, Ok, Err, IfOk, IfErr, arith}
+use Rattle.std.proofs.Common.{◌≡◌, ◌∙◌, refl, sym, ap, ap₂, ℕ, ◌+◌, ◌≤◌, false, List, [], length}
+use Rattle.std.proofs.Common.{count_by, Result, Ok, Err, IfOk, IfErr, arith}
 use Rattle.std.proofs.lemmas.List.{length-map}
 use Rattle.bw_model.specs.declared.column.Column.{Column}
 use Rattle.bw_model.specs.declared.cond.Cond.{Cond}
@@ -9,13 +10,16 @@ use Rattle.bw_model.specs.Fault.{MatchesUnlessOom, is_memory}
 use Rattle.bw_text.specs.Lines.{numbered_from}
 use Rattle.bw_program.specs.Program.{ProgramShape, is_skip}
 use Rattle.bw_program.specs.ProgramText.{program_on, program_of, IsProgramText}
-use Rattle.bw_cert_text.specs.CertificateFields.{CertificateFields, chain_fields, certificate_fields}
+use Rattle.bw_cert_text.specs.CertificateFields.{CertificateFields, chain_fields}
+use Rattle.bw_cert_text.specs.CertificateFields.{certificate_fields}
 use Rattle.bw_cert_text.specs.CertificateShape.{CertificateShape}
 use Rattle.bw_cert_text.specs.CertificateText.{certificate_from, certificate_of, IsCertificateText}
 use Rattle.bw_cert.specs.Valid.{Valid, check_certificate}
 use Rattle.bw_report.specs.declared.accepted.Accepted.{Accepted}
 use Rattle.bw_cert.specs.declared.certified_file.CertifiedFile.{CertifiedFile}
-use Rattle.bw_cert.specs.FileVerdict.{Certifies, IsFileFault, too_long, program_refused, certificate_refused, line_refused, counts_of, program_and_counts, told_of}
+use Rattle.bw_cert.specs.FileVerdict.{Certifies, IsFileFault, too_long, program_refused}
+use Rattle.bw_cert.specs.FileVerdict.{certificate_refused, line_refused, counts_of}
+use Rattle.bw_cert.specs.FileVerdict.{program_and_counts, told_of}
 use Rattle.bw_cert.specs.ProgramFile.{IsCut, longest_program_file}
 
 not_both : {A : Type 0} {x : A} {fault : Fault} → ◌≡◌ {A = Result A Fault} (Ok x) (Err fault) → ⊥

@@ -1,5 +1,6 @@
 -- The expected result of certifying a program file, under a schema's columns and for a condition.
-use Rattle.std.specs.Prelude.{◌≡◌, ◌≤◌, ◌<◌, ℕ, List, length, count_by, Err, Bool, ◌&&◌, ◌||◌, nat_le}
+use Rattle.std.specs.Prelude.{◌≡◌, ◌≤◌, ◌<◌, ℕ, List, length, count_by, Err, Bool, ◌&&◌, ◌||◌}
+use Rattle.std.specs.Prelude.{nat_le}
 use Rattle.bw_model.specs.FaultTable.{PROGRAM_FORM, PROGRAM_FILE_TOO_LONG, NODE, END}
 use Rattle.bw_model.specs.declared.column.Column.{Column}
 use Rattle.bw_model.specs.declared.cond.Cond.{Cond}

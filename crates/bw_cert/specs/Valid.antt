@@ -1,6 +1,7 @@
 -- When a certificate shows that a scan program selects the rows on which a condition is TRUE, and
 -- which line is the first that breaks a rule.
-use Rattle.std.specs.Prelude.{◌≡◌, ℕ, List, [], ◌∷◌, length, false, Some, Result, Ok, Err, not, IsTrue, Bool, ◌&&◌, ◌||◌, nat_le}
+use Rattle.std.specs.Prelude.{◌≡◌, ℕ, List, [], ◌∷◌, length, false, Some, Result, Ok, Err, not}
+use Rattle.std.specs.Prelude.{IsTrue, Bool, ◌&&◌, ◌||◌, nat_le}
 use Rattle.bw_model.specs.FaultTable.{CONDITION_LINE, REGISTER_UNKNOWN, END}
 use Rattle.bw_model.specs.declared.column.Column.{Column}
 use Rattle.bw_model.specs.declared.cond.Cond.{Cond}

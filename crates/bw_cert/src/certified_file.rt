@@ -5,7 +5,8 @@ ghost use Rattle.bw_model.specs.CondTree.{tree_of};
 ghost use Rattle.bw_model.specs.Fault.{MatchesUnlessOom, is_memory};
 ghost use Rattle.bw_program.specs.Program.{ProgramShape};
 ghost use Rattle.bw_cert_text.specs.CertificateShape.{CertificateShape};
-ghost use Rattle.bw_cert.specs.FileVerdict.{Certifies, IsFileFault, counts_of, is_file_fault, program_and_counts, told_of};
+ghost use Rattle.bw_cert.specs.FileVerdict.{Certifies, IsFileFault, counts_of, is_file_fault};
+ghost use Rattle.bw_cert.specs.FileVerdict.{program_and_counts, told_of};
 
 use crate::certified::Certified;
 use crate::checker::check;

@@ -3,7 +3,8 @@ ghost use Rattle.std.specs.Prelude.{◌≡◌, List, true, false, IfErr, IsTrue}
 ghost use Rattle.bw_model.specs.declared.column.Column.{Column};
 ghost use Rattle.bw_model.specs.Fault.{MatchesUnlessOom, is_memory, at_line, no_memory};
 ghost use Rattle.bw_diagram.specs.Facts.{is_diagram_fault};
-ghost use Rattle.bw_cert.specs.StatedFacts.{facts_stated, with_lines, with_node_line, with_chain_line, with_product_line};
+ghost use Rattle.bw_cert.specs.StatedFacts.{facts_stated, with_lines, with_node_line};
+ghost use Rattle.bw_cert.specs.StatedFacts.{with_chain_line, with_product_line};
 
 use bw_cert_text::{Certificate, ChainLine, NodeLine, ProductLine};
 use bw_diagram::Diagram;

@@ -1,5 +1,8 @@
 -- Lines that are checked to be right are those of parts that obey.
-use Rattle.std.proofs.Common.{◌≡◌, ◌∙◌, refl, sym, ap, ap₂, subst, ◌⊎◌, inl, inr, ℕ, zero, suc, ◌+◌, ◌<◌, ◌≤◌, Bool, true, false, not, ◌&&◌, List, [], ◌∷◌, ◌++◌, add-zero, append-nil, append_assoc, drop, map, length, length-append, Option, Some, None, Result, Ok, Err, slice_get, arith}
+use Rattle.std.proofs.Common.{◌≡◌, ◌∙◌, refl, sym, ap, ap₂, subst, ◌⊎◌, inl, inr, ℕ, zero, suc, ◌+◌}
+use Rattle.std.proofs.Common.{◌<◌, ◌≤◌, Bool, true, false, not, ◌&&◌, List, [], ◌∷◌, ◌++◌, add-zero}
+use Rattle.std.proofs.Common.{append-nil, append_assoc, drop, map, length, length-append, Option}
+use Rattle.std.proofs.Common.{Some, None, Result, Ok, Err, slice_get, arith}
 use Rattle.std.proofs.lemmas.Bool.{eqb-true}
 use Rattle.bw_model.specs.declared.fault.Fault.{Fault}
 use Rattle.bw_model.specs.Fault.{at_line, refused_if}
@@ -11,11 +14,16 @@ use Rattle.bw_cert_text.specs.declared.lines.Entry.TheVariants as line_of
 use Rattle.bw_cert_text.specs.declared.lines.InstructionEntry.{InstructionEntry}
 use Rattle.bw_cert_text.specs.declared.lines.Keep.{Keep}
 use Rattle.bw_cert_rules.specs.declared.edge.Edge.{Edge}
-use Rattle.bw_cert_rules.specs.Accepted.{KeepLine, JoinLines, Part, keep_line, join_lines, lines_of, known_before, edges_before, edge_at, known_on_fallthrough, known_or_nothing, known_after_join, known_past, kept_by, are_kept, is_valid_join, Accepts}
+use Rattle.bw_cert_rules.specs.Accepted.{KeepLine, JoinLines, Part, keep_line, join_lines, lines_of}
+use Rattle.bw_cert_rules.specs.Accepted.{known_before, edges_before, edge_at, known_on_fallthrough}
+use Rattle.bw_cert_rules.specs.Accepted.{known_or_nothing, known_after_join, known_past, kept_by}
+use Rattle.bw_cert_rules.specs.Accepted.{are_kept, is_valid_join, Accepts}
 use Rattle.bw_cert_rules.specs.Instruction.{check_instruction_line}
 use Rattle.bw_cert_rules.specs.Join.{edge_of, with_edge, edges_into, is_valid_keep}
 use Rattle.bw_cert_rules.specs.Known.{Known, nothing_known, with_node}
-use Rattle.bw_cert_rules.specs.Walk.{WalkState, keep_in, by_keep, keeps_taken, join_taken, is_join, instruction_on, instruction_taken, apply_join, check_lines_from, check_lines}
+use Rattle.bw_cert_rules.specs.Walk.{WalkState, keep_in, by_keep, keeps_taken, join_taken, is_join}
+use Rattle.bw_cert_rules.specs.Walk.{instruction_on, instruction_taken, apply_join}
+use Rattle.bw_cert_rules.specs.Walk.{check_lines_from, check_lines}
 use Rattle.bw_cert_rules.proofs.HoldLemmas.{bind_ok, not_refused}
 
 -- what is the same if it was returned, and what can't be

@@ -1,5 +1,8 @@
 -- Pairs of comparisons tell the truth of them under every assignment.
-use Rattle.std.proofs.Common.{◌≡◌, ◌∙◌, refl, sym, ap, ap₂, subst, ℕ, zero, suc, ℤ, pos, ◌+◌, ◌-◌, ◌^◌, ◌+ℤ◌, ◌-ℤ◌, ◌<◌, Bool, true, false, not, cond, ◌&&◌, ◌||◌, List, [], ◌∷◌, length, max, Option, Some, None, arith, int_le, int_lt, unsigned_abs}
+use Rattle.std.proofs.Common.{◌≡◌, ◌∙◌, refl, sym, ap, ap₂, subst, ℕ, zero, suc, ℤ, pos, ◌+◌, ◌-◌}
+use Rattle.std.proofs.Common.{◌^◌, ◌+ℤ◌, ◌-ℤ◌, ◌<◌, Bool, true, false, not, cond, ◌&&◌, ◌||◌, List}
+use Rattle.std.proofs.Common.{[], ◌∷◌, length, max, Option, Some, None, arith, int_le, int_lt}
+use Rattle.std.proofs.Common.{unsigned_abs}
 use Rattle.std.specs.Ordering.{int_eq}
 use Rattle.std.proofs.Math.Dec.{eqb}
 use Rattle.std.proofs.Math.Nat.{pow-succ'}
@@ -16,7 +19,8 @@ use Rattle.bw_model.specs.Cond.{operand_value, is_within}
 use Rattle.bw_model.specs.Row.{Value, value_in}
 use Rattle.bw_model.specs.StoredCodes.{number_spelled}
 use Rattle.bw_model.specs.Truth.{truth_from, is_truth, holds, compare_values, swap_operands}
-use Rattle.bw_model.specs.Variable.{Assignment, first_variable, is_nullable, spelled, row_of, null_variable, bit_variable}
+use Rattle.bw_model.specs.Variable.{Assignment, first_variable, is_nullable, spelled, row_of}
+use Rattle.bw_model.specs.Variable.{null_variable, bit_variable}
 use Rattle.bw_model.proofs.PlaceLemmas.{value_in-row_of}
 use Rattle.bw_diagram.specs.declared.chain.ChainKind.{ChainKind}
 use Rattle.bw_diagram.specs.declared.chain.ChainKind.TheVariants.{Less, Equal}
@@ -27,15 +31,22 @@ use Rattle.bw_diagram.specs.References.{AreWorth, product_node, comparison_node,
 use Rattle.bw_diagram.specs.Facts.{Facts}
 use Rattle.bw_diagram.proofs.ChainLemmas.{padded_number-whole, number_spelled-whole}
 use Rattle.bw_cert_text.specs.declared.lines.ConditionEntry.{ConditionEntry}
-use Rattle.bw_cert_text.specs.declared.lines.ConditionEntry.TheVariants.{Compare, CompareColumns, Fixed}
+use Rattle.bw_cert_text.specs.declared.lines.ConditionEntry.TheVariants.{Compare, CompareColumns}
+use Rattle.bw_cert_text.specs.declared.lines.ConditionEntry.TheVariants.{Fixed}
 use Rattle.bw_cert_rules.specs.declared.nodes.TruthPair.{TruthPair}
 use Rattle.bw_cert_rules.specs.declared.comparison.Bound.{Bound}
 use Rattle.bw_cert_rules.specs.declared.comparison.Order.{Order}
 use Rattle.bw_cert_rules.specs.Rows.{if_both, exchange_nodes, value_node}
-use Rattle.bw_cert_rules.specs.Comparison.{lo_at, constant_pair, fixed_pair, pair_if_known, exchange_if, bound_of, terminal_of, terminal_or_cited, bound_node, with_literal, order_of, order_node, both_node, with_column, comparison}
+use Rattle.bw_cert_rules.specs.Comparison.{lo_at, constant_pair, fixed_pair, pair_if_known}
+use Rattle.bw_cert_rules.specs.Comparison.{exchange_if, bound_of, terminal_of, terminal_or_cited}
+use Rattle.bw_cert_rules.specs.Comparison.{bound_node, with_literal, order_of, order_node}
+use Rattle.bw_cert_rules.specs.Comparison.{both_node, with_column, comparison}
 use Rattle.bw_cert_rules.specs.Meaning.{Tells}
-use Rattle.bw_cert_rules.proofs.NumberLemmas.{compares_to, turned_bit, lt_low, lt_high, eq_low, eq_high, lt_within, eq_within, holds_moved, holds_turned, lt_apart, le_apart, eq_apart, equal-lo}
-use Rattle.bw_cert_rules.proofs.RowLemmas.{Worth, zero_worth, one_worth, worth_so, if_both-is, product_node-worth, has_value, value_node-worth}
+use Rattle.bw_cert_rules.proofs.NumberLemmas.{compares_to, turned_bit, lt_low, lt_high, eq_low}
+use Rattle.bw_cert_rules.proofs.NumberLemmas.{eq_high, lt_within, eq_within, holds_moved}
+use Rattle.bw_cert_rules.proofs.NumberLemmas.{holds_turned, lt_apart, le_apart, eq_apart, equal-lo}
+use Rattle.bw_cert_rules.proofs.RowLemmas.{Worth, zero_worth, one_worth, worth_so, if_both-is}
+use Rattle.bw_cert_rules.proofs.RowLemmas.{product_node-worth, has_value, value_node-worth}
 
 -- a pair whose nodes are worth this tells it
 pub tells_by : (nodes : List Node) (truth : Assignment → Truth) (pair : TruthPair) → Worth nodes (λ assignment. is_truth (truth assignment) Yes) pair.yes → Worth nodes (λ assignment. is_truth (truth assignment) No) pair.no → Tells nodes truth pair

@@ -1,5 +1,7 @@
 -- Known nodes and what registers hold.
-use Rattle.std.proofs.Common.{◌≡◌, ◌≢◌, ◌∙◌, refl, ap, ap₂, ◌⊎◌, inl, inr, ℕ, zero, suc, ◌+◌, ◌^◌, ◌<◌, Bool, true, false, cond, List, [], ◌∷◌, map, replicate, get_or, Option, Some, None, Result, Ok, Err, arith}
+use Rattle.std.proofs.Common.{◌≡◌, ◌≢◌, ◌∙◌, refl, ap, ap₂, ◌⊎◌, inl, inr, ℕ, zero, suc, ◌+◌, ◌^◌}
+use Rattle.std.proofs.Common.{◌<◌, Bool, true, false, cond, List, [], ◌∷◌, map, replicate, get_or}
+use Rattle.std.proofs.Common.{Option, Some, None, Result, Ok, Err, arith}
 use Rattle.std.proofs.Math.Dec.{eqb}
 use Rattle.std.proofs.Math.Nat.{pow-succ'}
 use Rattle.std.proofs.lemmas.Bool.{eqb-true, eq-eqb}

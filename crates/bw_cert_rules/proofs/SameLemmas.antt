@@ -1,5 +1,6 @@
 -- Lines are checked by what they say, wherever their parts lie in memory.
-use Rattle.std.proofs.Common.{◌≡◌, ◌∙◌, refl, sym, ap, ap₂, ℕ, suc, Bool, true, false, not, ◌&&◌, ◌==◌, List, [], ◌∷◌, map, Option, Some, None, Result, Ok, Err, nat_le}
+use Rattle.std.proofs.Common.{◌≡◌, ◌∙◌, refl, sym, ap, ap₂, ℕ, suc, Bool, true, false, not, ◌&&◌}
+use Rattle.std.proofs.Common.{◌==◌, List, [], ◌∷◌, map, Option, Some, None, Result, Ok, Err, nat_le}
 use Rattle.std.specs.Option.{option_and_then, option_map}
 use Rattle.bw_model.specs.declared.fault.Fault.{Fault}
 use Rattle.bw_model.specs.Fault.{at_line, ◌>>=◌, refused_if}
@@ -13,12 +14,17 @@ use Rattle.bw_cert_text.specs.declared.lines.EdgeProducts.{EdgeProducts}
 use Rattle.bw_cert_text.specs.declared.lines.Entry.{Entry}
 use Rattle.bw_cert_text.specs.declared.lines.Entry.TheVariants as entry
 use Rattle.bw_cert_text.specs.declared.lines.Keep.{Keep}
-use Rattle.bw_cert_text.specs.CertificateFields.{BodyFields, EntryFields, KeepFields, Condition, Instruction, Join, Kept, body_fields, entry_fields, keep_fields}
+use Rattle.bw_cert_text.specs.CertificateFields.{BodyFields, EntryFields, KeepFields, Condition}
+use Rattle.bw_cert_text.specs.CertificateFields.{Instruction, Join, Kept, body_fields, entry_fields}
+use Rattle.bw_cert_text.specs.CertificateFields.{keep_fields}
 use Rattle.bw_cert_rules.specs.declared.edge.Edge.{Edge}
 use Rattle.bw_cert_rules.specs.Instruction.{check_instruction_line}
-use Rattle.bw_cert_rules.specs.Join.{edge_of, with_edge, edges_into, is_zero, keeps_by_skip, keeps_by_skips, is_valid_keep}
+use Rattle.bw_cert_rules.specs.Join.{edge_of, with_edge, edges_into, is_zero, keeps_by_skip}
+use Rattle.bw_cert_rules.specs.Join.{keeps_by_skips, is_valid_keep}
 use Rattle.bw_cert_rules.specs.Known.{Known, node_of, with_node, nothing_known}
-use Rattle.bw_cert_rules.specs.Walk.{WalkState, line_fields, instruction_on, instruction_taken, is_join, keep_in, by_keep, keeps_taken, apply_join, check_lines_from}
+use Rattle.bw_cert_rules.specs.Walk.{WalkState, line_fields, instruction_on, instruction_taken}
+use Rattle.bw_cert_rules.specs.Walk.{is_join, keep_in, by_keep, keeps_taken, apply_join}
+use Rattle.bw_cert_rules.specs.Walk.{check_lines_from}
 
 -- lines that say the same
 abbrev pub SayTheSame : List BodyLine → List BodyLine → Type 0

@@ -1,5 +1,7 @@
 -- What is known at each place holds in every run that reaches it, whichever skips the run takes.
-use Rattle.std.proofs.Common.{◌≡◌, ◌∙◌, refl, sym, ap, ap₂, subst, ◌⊎◌, inl, inr, ℕ, zero, suc, ◌+◌, ◌<◌, ◌≤◌, Bool, true, false, not, cond, IsTrue, List, [], ◌∷◌, ◌++◌, length, Option, Some, None, slice_get, add-zero, arith}
+use Rattle.std.proofs.Common.{◌≡◌, ◌∙◌, refl, sym, ap, ap₂, subst, ◌⊎◌, inl, inr, ℕ, zero, suc, ◌+◌}
+use Rattle.std.proofs.Common.{◌<◌, ◌≤◌, Bool, true, false, not, cond, IsTrue, List, [], ◌∷◌, ◌++◌}
+use Rattle.std.proofs.Common.{length, Option, Some, None, slice_get, add-zero, arith}
 use Rattle.std.proofs.Math.Dec.{eqb}
 use Rattle.std.proofs.lemmas.Bool.{eqb-true, eqb-false, eq-eqb, ltb-true, leb-true}
 use Rattle.std.specs.Option.{option_and_then}
@@ -13,14 +15,20 @@ use Rattle.bw_diagram.specs.Node.{node_value}
 use Rattle.bw_diagram.specs.Product.{apply_connective}
 use Rattle.bw_diagram.specs.References.{AreWorth, product_node}
 use Rattle.bw_program.specs.declared.instr.Instr.{Instr}
-use Rattle.bw_program.specs.declared.instr.Instr.TheVariants.{Load, Nulls, Fill, And, Or, Xor, Not, ByteLt, ByteEq, Skip}
-use Rattle.bw_program.specs.Machine.{State, step, step_of, state_after, steps_from, after_skip, is_zero_in_all, end_state}
+use Rattle.bw_program.specs.declared.instr.Instr.TheVariants.{Load, Nulls, Fill, And, Or, Xor, Not}
+use Rattle.bw_program.specs.declared.instr.Instr.TheVariants.{ByteLt, ByteEq, Skip}
+use Rattle.bw_program.specs.Machine.{State, step, step_of, state_after, steps_from, after_skip}
+use Rattle.bw_program.specs.Machine.{is_zero_in_all, end_state}
 use Rattle.bw_program.specs.Program.{ProgramShape, is_sound, are_sound, is_program}
 use Rattle.bw_cert_text.specs.declared.lines.EdgeProducts.{EdgeProducts}
 use Rattle.bw_cert_text.specs.declared.lines.Keep.{Keep}
 use Rattle.bw_cert_rules.specs.declared.edge.Edge.{Edge}
-use Rattle.bw_cert_rules.specs.Accepted.{KeepLine, JoinLines, Part, known_before, edges_before, edge_at, known_on_fallthrough, known_after_join, known_past, kept_by, are_kept, is_valid_join, AreValidParts}
-use Rattle.bw_cert_rules.specs.Join.{with_edge, edges_into, is_zero, is_valid_keep, keeps_through, keeps_by_skip, keeps_by_skips}
+use Rattle.bw_cert_rules.specs.Accepted.{KeepLine, JoinLines, Part, known_before, edges_before}
+use Rattle.bw_cert_rules.specs.Accepted.{edge_at, known_on_fallthrough, known_after_join}
+use Rattle.bw_cert_rules.specs.Accepted.{known_past, kept_by, are_kept, is_valid_join}
+use Rattle.bw_cert_rules.specs.Accepted.{AreValidParts}
+use Rattle.bw_cert_rules.specs.Join.{with_edge, edges_into, is_zero, is_valid_keep, keeps_through}
+use Rattle.bw_cert_rules.specs.Join.{keeps_by_skip, keeps_by_skips}
 use Rattle.bw_cert_rules.specs.Known.{Known, node_of, nothing_known, with_node}
 use Rattle.bw_cert_rules.specs.Sound.{Hold}
 use Rattle.bw_cert_rules.proofs.HoldLemmas.{map_same, holds_nothing, holds_kept}

@@ -1,5 +1,7 @@
 -- What is known after an instruction holds after its step.
-use Rattle.std.proofs.Common.{◌≡◌, ◌∙◌, refl, sym, ap, ap₂, subst, ℕ, suc, ◌+◌, ◌-◌, ◌*◌, ◌^◌, ◌<◌, Bool, true, false, not, ◌&&◌, ◌||◌, cond, List, map, Option, Some, None, Result, Ok, nat_le, arith}
+use Rattle.std.proofs.Common.{◌≡◌, ◌∙◌, refl, sym, ap, ap₂, subst, ℕ, suc, ◌+◌, ◌-◌, ◌*◌, ◌^◌, ◌<◌}
+use Rattle.std.proofs.Common.{Bool, true, false, not, ◌&&◌, ◌||◌, cond, List, map, Option, Some}
+use Rattle.std.proofs.Common.{None, Result, Ok, nat_le, arith}
 use Rattle.std.proofs.lemmas.Bool.{lt-ltb, leb-true, ne_eqb}
 use Rattle.std.proofs.lemmas.Simd.{zip2-map, map-map}
 use Rattle.std.specs.Simd.Lanes.{zip2}
@@ -16,15 +18,20 @@ use Rattle.bw_diagram.specs.Node.{node_value}
 use Rattle.bw_diagram.specs.Product.{apply_connective}
 use Rattle.bw_diagram.specs.References.{AreWorth, comparison_node, is_variable, variable_node}
 use Rattle.bw_program.specs.declared.instr.Instr.{Instr}
-use Rattle.bw_program.specs.declared.instr.Instr.TheVariants.{Load, Nulls, Fill, And, Or, Xor, Not, ByteLt, ByteEq, Skip}
+use Rattle.bw_program.specs.declared.instr.Instr.TheVariants.{Load, Nulls, Fill, And, Or, Xor, Not}
+use Rattle.bw_program.specs.declared.instr.Instr.TheVariants.{ByteLt, ByteEq, Skip}
 use Rattle.bw_program.specs.Machine.{State, in_lanes, differ, step, after_skip, is_zero_in_all}
 use Rattle.bw_program.specs.Program.{instr_fits}
 use Rattle.bw_program.specs.ProgramText.{found_on}
 use Rattle.bw_cert_text.specs.declared.lines.InstructionEntry.{InstructionEntry}
-use Rattle.bw_cert_rules.specs.Instruction.{loaded_node, operation_row, byte_chain, is_fill, is_skip_line, terminal, plane_on, operation_on, read_on, joined_on, opposite_on, past_node, byte_node, byte_on, check_instruction_line}
+use Rattle.bw_cert_rules.specs.Instruction.{loaded_node, operation_row, byte_chain, is_fill}
+use Rattle.bw_cert_rules.specs.Instruction.{is_skip_line, terminal, plane_on, operation_on, read_on}
+use Rattle.bw_cert_rules.specs.Instruction.{joined_on, opposite_on, past_node, byte_node, byte_on}
+use Rattle.bw_cert_rules.specs.Instruction.{check_instruction_line}
 use Rattle.bw_cert_rules.specs.Known.{Known}
 use Rattle.bw_cert_rules.specs.Sound.{Hold}
-use Rattle.bw_cert_rules.proofs.HoldLemmas.{bind_ok, not_refused, found_ok, map_same, holds_written, spelled_small}
+use Rattle.bw_cert_rules.proofs.HoldLemmas.{bind_ok, not_refused, found_ok, map_same, holds_written}
+use Rattle.bw_cert_rules.proofs.HoldLemmas.{spelled_small}
 
 some_same : {A : Type 0} {x y : A} → Some x ≡ Some y → x ≡ y
 some_same is = cc

@@ -1,6 +1,7 @@
 -- A condition's lines are read by its tree, and by what the lines say, wherever their parts lie in
 -- memory.
-use Rattle.std.proofs.Common.{◌≡◌, ◌∙◌, refl, sym, ap, ap₂, ℕ, List, [], ◌∷◌, map, Option, Some, None, Ok, Err}
+use Rattle.std.proofs.Common.{◌≡◌, ◌∙◌, refl, sym, ap, ap₂, ℕ, List, [], ◌∷◌, map, Option, Some}
+use Rattle.std.proofs.Common.{None, Ok, Err}
 use Rattle.std.specs.Option.{option_and_then}
 use Rattle.bw_model.specs.declared.column.Column.{Column}
 use Rattle.bw_model.specs.declared.cond.Truth.TheVariants.{Yes}
@@ -17,12 +18,16 @@ use Rattle.bw_cert_text.specs.declared.lines.BodyLine.{BodyLine}
 use Rattle.bw_cert_text.specs.declared.lines.ConditionEntry.{ConditionEntry}
 use Rattle.bw_cert_text.specs.declared.lines.Entry.{Entry}
 use Rattle.bw_cert_text.specs.declared.lines.Entry.TheVariants as entry
-use Rattle.bw_cert_text.specs.CertificateFields.{BodyFields, EntryFields, Condition, Instruction, Join, Kept, body_fields, entry_fields}
+use Rattle.bw_cert_text.specs.CertificateFields.{BodyFields, EntryFields, Condition, Instruction}
+use Rattle.bw_cert_text.specs.CertificateFields.{Join, Kept, body_fields, entry_fields}
 use Rattle.bw_cert_rules.specs.declared.nodes.TruthPair.{TruthPair}
 use Rattle.bw_cert_rules.specs.declared.steps.Junction.{Junction}
 use Rattle.bw_cert_rules.specs.declared.steps.Junction.TheVariants.{All, Any}
 use Rattle.bw_cert_rules.specs.Comparison.{fixed_pair, comparison}
-use Rattle.bw_cert_rules.specs.Pair.{Reading, line_fields, condition_entry, next_entry, expect_line, by_line, is_null_test, joined_pair, negated_pair, tested_pair, one_more, more_parts, joined_parts, equations, pair_step, pair_of}
+use Rattle.bw_cert_rules.specs.Pair.{Reading, line_fields, condition_entry, next_entry, expect_line}
+use Rattle.bw_cert_rules.specs.Pair.{by_line, is_null_test, joined_pair, negated_pair, tested_pair}
+use Rattle.bw_cert_rules.specs.Pair.{one_more, more_parts, joined_parts, equations, pair_step}
+use Rattle.bw_cert_rules.specs.Pair.{pair_of}
 
 -- lines that say the same
 abbrev pub SayTheSame : List BodyLine → List BodyLine → Type 0

@@ -1,5 +1,6 @@
 -- The pair of a condition tells its truth under every assignment.
-use Rattle.std.proofs.Common.{◌≡◌, ◌∙◌, refl, sym, ap, subst, ℕ, Bool, true, ◌&&◌, List, [], ◌∷◌, map, length, Ok}
+use Rattle.std.proofs.Common.{◌≡◌, ◌∙◌, refl, sym, ap, subst, ℕ, Bool, true, ◌&&◌, List, [], ◌∷◌}
+use Rattle.std.proofs.Common.{map, length, Ok}
 use Rattle.std.specs.List.{list_all}
 use Rattle.std.proofs.lemmas.List.Folds.{list_all-map}
 use Rattle.std.proofs.lemmas.Simd.{map-map}
@@ -10,7 +11,8 @@ use Rattle.bw_model.specs.declared.cond.Truth.{Truth}
 use Rattle.bw_model.specs.declared.cond.Truth.TheVariants.{Yes}
 use Rattle.bw_model.specs.declared.cond.Cond.{Cond, Cond-F, fold-roll-Cond, roll-Cond, ind-Cond}
 use Rattle.bw_model.specs.declared.cond.Cond.TheFolds.{map-Cond}
-use Rattle.bw_model.specs.Cond.{operand_value, is_within, truth_of, truth_step, names_within, within_step}
+use Rattle.bw_model.specs.Cond.{operand_value, is_within, truth_of, truth_step, names_within}
+use Rattle.bw_model.specs.Cond.{within_step}
 use Rattle.bw_model.specs.Row.{Value}
 use Rattle.bw_model.specs.Truth.{compare_values, least, in_list, any_of}
 use Rattle.bw_model.specs.Variable.{Assignment, row_of}
@@ -23,9 +25,13 @@ use Rattle.bw_cert_rules.specs.declared.steps.Junction.{Junction}
 use Rattle.bw_cert_rules.specs.declared.steps.Junction.TheVariants.{All, Any}
 use Rattle.bw_cert_rules.specs.Comparison.{fixed_pair, comparison}
 use Rattle.bw_cert_rules.specs.Meaning.{Tells}
-use Rattle.bw_cert_rules.specs.Pair.{Reading, by_line, is_null_test, negated_pair, tested_pair, joined_parts, equations, pair_step, pair_of}
+use Rattle.bw_cert_rules.specs.Pair.{Reading, by_line, is_null_test, negated_pair, tested_pair}
+use Rattle.bw_cert_rules.specs.Pair.{joined_parts, equations, pair_step, pair_of}
 use Rattle.bw_cert_rules.proofs.ComparisonLemmas.{tells_so, fixed-tells, comparison-tells}
-use Rattle.bw_cert_rules.proofs.TruthStepLemmas.{IsSound, truth_of_all, by_line-sound, after_part-sound, joined_parts-sound, negated_pair-tells, tested_pair-tells, is_null_test-tells}
+use Rattle.bw_cert_rules.proofs.TruthStepLemmas.{IsSound, truth_of_all, by_line-sound}
+use Rattle.bw_cert_rules.proofs.TruthStepLemmas.{after_part-sound, joined_parts-sound}
+use Rattle.bw_cert_rules.proofs.TruthStepLemmas.{negated_pair-tells, tested_pair-tells}
+use Rattle.bw_cert_rules.proofs.TruthStepLemmas.{is_null_test-tells}
 
 least-yes : (a b : Truth) → least a (least b Yes) ≡ least a b
 least-yes a b = ap (least a) (by_truth b)

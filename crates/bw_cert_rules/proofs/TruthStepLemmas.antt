@@ -1,5 +1,7 @@
 -- The pairs of a condition's steps tell its truth, if those of its parts do.
-use Rattle.std.proofs.Common.{◌≡◌, ◌∙◌, refl, sym, ap, subst, ℕ, ℤ, ◌<◌, cond, Bool, true, false, not, ◌&&◌, ◌||◌, List, [], ◌∷◌, map, length, Option, Some, None, Result, Ok, Err}
+use Rattle.std.proofs.Common.{◌≡◌, ◌∙◌, refl, sym, ap, subst, ℕ, ℤ, ◌<◌, cond, Bool, true, false}
+use Rattle.std.proofs.Common.{not, ◌&&◌, ◌||◌, List, [], ◌∷◌, map, length, Option, Some, None}
+use Rattle.std.proofs.Common.{Result, Ok, Err}
 use Rattle.std.specs.List.{list_all}
 use Rattle.std.specs.Option.{option_and_then}
 use Rattle.std.proofs.lemmas.Bool.{ltb-true}
@@ -13,7 +15,8 @@ use Rattle.bw_model.specs.declared.fault.Fault.{Fault}
 use Rattle.bw_model.specs.Cond.{operand_value, is_within}
 use Rattle.bw_model.specs.Fault.{◌>>=◌}
 use Rattle.bw_model.specs.Row.{value_in}
-use Rattle.bw_model.specs.Truth.{truth_from, is_truth, is_null, least, greatest, all_of, any_of, negation}
+use Rattle.bw_model.specs.Truth.{truth_from, is_truth, is_null, least, greatest, all_of, any_of}
+use Rattle.bw_model.specs.Truth.{negation}
 use Rattle.bw_model.specs.Variable.{Assignment, first_variable, is_nullable, null_variable, row_of}
 use Rattle.bw_model.proofs.BitsLemmas.{both}
 use Rattle.bw_diagram.specs.declared.product.Connective.TheVariants as connective
@@ -21,15 +24,20 @@ use Rattle.bw_diagram.specs.References.{AreWorth, product_node}
 use Rattle.bw_diagram.specs.Facts.{Facts}
 use Rattle.bw_cert_text.specs.declared.lines.BodyLine.{BodyLine}
 use Rattle.bw_cert_text.specs.declared.lines.ConditionEntry.{ConditionEntry}
-use Rattle.bw_cert_text.specs.declared.lines.ConditionEntry.TheVariants.{NullTest, And, Or, Not, Is, IsUnknown}
+use Rattle.bw_cert_text.specs.declared.lines.ConditionEntry.TheVariants.{NullTest, And, Or, Not, Is}
+use Rattle.bw_cert_text.specs.declared.lines.ConditionEntry.TheVariants.{IsUnknown}
 use Rattle.bw_cert_rules.specs.declared.nodes.TruthPair.{TruthPair}
 use Rattle.bw_cert_rules.specs.declared.steps.Junction.{Junction}
 use Rattle.bw_cert_rules.specs.declared.steps.Junction.TheVariants.{All, Any}
 use Rattle.bw_cert_rules.specs.Rows.{exchange_nodes}
 use Rattle.bw_cert_rules.specs.Meaning.{Tells}
-use Rattle.bw_cert_rules.specs.Pair.{Reading, next_entry, expect_line, by_line, null_test, is_null_test, joined_pair, negated_pair, with_opposite, unknown_pair, tested_pair, one_more, more_parts, joined_parts}
-use Rattle.bw_cert_rules.proofs.ComparisonLemmas.{tells_by, tells_yes, tells_no, tells_so, fixed-tells, value_if, value_in-assigned}
-use Rattle.bw_cert_rules.proofs.RowLemmas.{Worth, worth_so, one_worth, if_both-is, product_node-worth, null_pair-worth}
+use Rattle.bw_cert_rules.specs.Pair.{Reading, next_entry, expect_line, by_line, null_test}
+use Rattle.bw_cert_rules.specs.Pair.{is_null_test, joined_pair, negated_pair, with_opposite}
+use Rattle.bw_cert_rules.specs.Pair.{unknown_pair, tested_pair, one_more, more_parts, joined_parts}
+use Rattle.bw_cert_rules.proofs.ComparisonLemmas.{tells_by, tells_yes, tells_no, tells_so}
+use Rattle.bw_cert_rules.proofs.ComparisonLemmas.{fixed-tells, value_if, value_in-assigned}
+use Rattle.bw_cert_rules.proofs.RowLemmas.{Worth, worth_so, one_worth, if_both-is}
+use Rattle.bw_cert_rules.proofs.RowLemmas.{product_node-worth, null_pair-worth}
 
 -- a step that was taken has a line that makes its pair
 expect_line-is : {G : Type 0} (end : ℕ) (made : Option TruthPair) (lines rest : List BodyLine) (pair : TruthPair) → expect_line end made lines ≡ Ok (pair, rest) → (made ≡ Some pair → G) → G

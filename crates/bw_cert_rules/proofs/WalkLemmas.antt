@@ -1,5 +1,6 @@
 -- The walk over a program's lines, one instruction after another.
-use Rattle.std.proofs.Common.{◌≡◌, ◌∙◌, sym, ap, ℕ, zero, suc, List, [], ◌∷◌, drop, Some, Ok, Err, slice_get, ◌≤◌, length, arith}
+use Rattle.std.proofs.Common.{◌≡◌, ◌∙◌, sym, ap, ℕ, zero, suc, List, [], ◌∷◌, drop, Some, Ok, Err}
+use Rattle.std.proofs.Common.{slice_get, ◌≤◌, length, arith}
 use Rattle.std.proofs.Math.Seq.{drop-nil}
 use Rattle.bw_model.specs.declared.fault.Fault.{Fault}
 use Rattle.bw_model.specs.Fault.{◌>>=◌}
@@ -9,7 +10,8 @@ use Rattle.bw_cert_text.specs.declared.lines.BodyLine.{BodyLine}
 use Rattle.bw_cert_rules.specs.declared.edge.Edge.{Edge}
 use Rattle.bw_cert_rules.specs.Edges.{Holds}
 use Rattle.bw_cert_rules.specs.Join.{edge_of, with_edge, edges_into}
-use Rattle.bw_cert_rules.specs.Walk.{WalkState, instruction_taken, apply_join, check_lines_from, check_lines}
+use Rattle.bw_cert_rules.specs.Walk.{WalkState, instruction_taken, apply_join, check_lines_from}
+use Rattle.bw_cert_rules.specs.Walk.{check_lines}
 
 -- the walk has come to an instruction: what the lines say is what those that are left say, after
 -- what is known there

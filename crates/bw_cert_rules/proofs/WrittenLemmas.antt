@@ -1,5 +1,6 @@
 -- The lines of parts that obey are checked to be right.
-use Rattle.std.proofs.Common.{◌≡◌, ◌∙◌, refl, sym, ap, ap₂, ℕ, suc, ◌+◌, true, not, List, [], ◌∷◌, ◌++◌, add-zero, drop, map, length, Option, Some, None, Ok, arith}
+use Rattle.std.proofs.Common.{◌≡◌, ◌∙◌, refl, sym, ap, ap₂, ℕ, suc, ◌+◌, true, not, List, [], ◌∷◌}
+use Rattle.std.proofs.Common.{◌++◌, add-zero, drop, map, length, Option, Some, None, Ok, arith}
 use Rattle.std.proofs.lemmas.Bool.{eq-eqb}
 use Rattle.bw_model.proofs.BitsLemmas.{both}
 use Rattle.bw_model.specs.Fault.{at_line, ◌>>=◌, refused_if}
@@ -7,10 +8,14 @@ use Rattle.bw_diagram.specs.Facts.{Facts}
 use Rattle.bw_program.specs.declared.instr.Instr.{Instr}
 use Rattle.bw_cert_text.specs.declared.lines.BodyLine.{BodyLine}
 use Rattle.bw_cert_rules.specs.declared.edge.Edge.{Edge}
-use Rattle.bw_cert_rules.specs.Accepted.{KeepLine, JoinLines, Part, keep_line, join_lines, lines_of, known_before, edges_before, edge_at, known_on_fallthrough, known_after_join, known_past, kept_by, are_kept, is_valid_join, AreValidParts}
+use Rattle.bw_cert_rules.specs.Accepted.{KeepLine, JoinLines, Part, keep_line, join_lines, lines_of}
+use Rattle.bw_cert_rules.specs.Accepted.{known_before, edges_before, edge_at, known_on_fallthrough}
+use Rattle.bw_cert_rules.specs.Accepted.{known_after_join, known_past, kept_by, are_kept}
+use Rattle.bw_cert_rules.specs.Accepted.{is_valid_join, AreValidParts}
 use Rattle.bw_cert_rules.specs.Join.{edge_of, with_edge, edges_into, is_valid_keep}
 use Rattle.bw_cert_rules.specs.Known.{Known, nothing_known, with_node}
-use Rattle.bw_cert_rules.specs.Walk.{keep_in, by_keep, keeps_taken, instruction_taken, apply_join, check_lines_from, check_lines}
+use Rattle.bw_cert_rules.specs.Walk.{keep_in, by_keep, keeps_taken, instruction_taken, apply_join}
+use Rattle.bw_cert_rules.specs.Walk.{check_lines_from, check_lines}
 use Rattle.bw_cert_rules.proofs.AcceptLemmas.{drop_stands}
 use Rattle.bw_cert_rules.proofs.JoinLemmas.{keep_on}
 

@@ -1,6 +1,7 @@
 -- The rules of instructions' lines: what is known of the registers after an instruction, by its
 -- line.
-use Rattle.std.specs.Prelude.{ℕ, ◌*◌, ◌^◌, Bool, true, false, not, Option, Some, None, Result, Ok, if◌then◌else◌, nat_le}
+use Rattle.std.specs.Prelude.{ℕ, ◌*◌, ◌^◌, Bool, true, false, not, Option, Some, None, Result, Ok}
+use Rattle.std.specs.Prelude.{if◌then◌else◌, nat_le}
 use Rattle.bw_model.specs.FaultTable.{INSTRUCTION_LINE, REGISTER_UNKNOWN}
 use Rattle.bw_model.specs.declared.fault.Fault.{Fault}
 use Rattle.bw_model.specs.Fault.{at_line, ◌>>=◌, refused_if}
@@ -13,7 +14,8 @@ use Rattle.bw_diagram.specs.declared.product.Connective.TheVariants as connectiv
 use Rattle.bw_diagram.specs.Facts.{Facts}
 use Rattle.bw_diagram.specs.References.{product_node, comparison_node, variable_node}
 use Rattle.bw_program.specs.declared.instr.Instr.{Instr}
-use Rattle.bw_program.specs.declared.instr.Instr.TheVariants.{Load, Nulls, Fill, And, Or, Xor, Not, ByteLt, ByteEq, Skip}
+use Rattle.bw_program.specs.declared.instr.Instr.TheVariants.{Load, Nulls, Fill, And, Or, Xor, Not}
+use Rattle.bw_program.specs.declared.instr.Instr.TheVariants.{ByteLt, ByteEq, Skip}
 use Rattle.bw_program.specs.Program.{instr_fits}
 use Rattle.bw_program.specs.ProgramText.{found_on}
 use Rattle.bw_cert_text.specs.declared.lines.InstructionEntry.{InstructionEntry}

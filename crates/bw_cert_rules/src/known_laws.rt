@@ -7,7 +7,8 @@ ghost use Rattle.bw_program.specs.Program.{ProgramShape, is_program};
 ghost use Rattle.bw_program.specs.declared.instr.Instr.{Instr};
 ghost use Rattle.bw_cert_text.specs.CertificateFields.{body_fields};
 ghost use Rattle.bw_cert_text.specs.declared.lines.BodyLine.{BodyLine};
-ghost use Rattle.bw_cert_rules.specs.Accepted.{Part, AreValidParts, Accepts, known_before, lines_of};
+ghost use Rattle.bw_cert_rules.specs.Accepted.{Part, AreValidParts, Accepts, known_before};
+ghost use Rattle.bw_cert_rules.specs.Accepted.{lines_of};
 ghost use Rattle.bw_cert_rules.specs.Sound.{Hold};
 ghost use Rattle.bw_cert_rules.specs.Walk.{WalkState, check_lines, line_fields};
 

@@ -1,12 +1,15 @@
 //! The lines of instructions, each checked by its rule.
-ghost use Rattle.std.specs.Prelude.{◌≡◌, ◌<◌, ◌≤◌, ◌&&◌, IsTrue, IfOk, IfErr, Ok, Err, length, nat_lt};
+ghost use Rattle.std.specs.Prelude.{◌≡◌, ◌<◌, ◌≤◌, ◌&&◌, IsTrue, IfOk, IfErr, Ok, Err, length};
+ghost use Rattle.std.specs.Prelude.{nat_lt};
 ghost use Rattle.bw_model.specs.FaultTable.{INSTRUCTION_LINE};
 ghost use Rattle.bw_model.specs.Code.{width_at, slices_at};
 ghost use Rattle.bw_model.specs.Fault.{at_line};
 ghost use Rattle.bw_model.specs.Variable.{first_variable, bit_variable, is_nullable};
 ghost use Rattle.bw_program.specs.Program.{named_by};
 ghost use Rattle.bw_text.specs.Register.{register_count};
-ghost use Rattle.bw_cert_rules.specs.Instruction.{check_instruction_line, put, fill, check_skip, plane_on, read_on, joined_on, opposite_on, operation_on, byte_on, byte_node, past_node};
+ghost use Rattle.bw_cert_rules.specs.Instruction.{check_instruction_line, put, fill, check_skip};
+ghost use Rattle.bw_cert_rules.specs.Instruction.{plane_on, read_on, joined_on, opposite_on};
+ghost use Rattle.bw_cert_rules.specs.Instruction.{operation_on, byte_on, byte_node, past_node};
 ghost use Rattle.bw_cert_rules.specs.Known.{is_known_fault};
 
 use crate::known::Known;

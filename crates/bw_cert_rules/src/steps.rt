@@ -8,7 +8,10 @@ ghost use Rattle.bw_model.specs.Fault.{at_line};
 ghost use Rattle.bw_cert_rules.specs.declared.steps.Junction.TheVariants.{All, Any};
 ghost use Rattle.bw_cert_text.specs.BodyLines.{body_lines};
 ghost use Rattle.bw_cert_rules.specs.Comparison.{fixed_pair, comparison};
-ghost use Rattle.bw_cert_rules.specs.Pair.{Answers, next_entry, next_number, expect_line, by_line, null_test, is_null_test, joined_pair, negated_pair, with_opposite, tested_pair, joined_parts, one_more, equations, pair_of};
+ghost use Rattle.bw_cert_rules.specs.Pair.{Answers, next_entry, next_number, expect_line, by_line};
+ghost use Rattle.bw_cert_rules.specs.Pair.{null_test, is_null_test, joined_pair, negated_pair};
+ghost use Rattle.bw_cert_rules.specs.Pair.{with_opposite, tested_pair, joined_parts, one_more};
+ghost use Rattle.bw_cert_rules.specs.Pair.{equations, pair_of};
 
 use crate::comparison::{comparison, fixed_pair};
 use crate::nodes::{TruthPair, null_pair};

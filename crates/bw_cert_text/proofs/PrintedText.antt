@@ -1,5 +1,7 @@
 -- The canonical text of a certificate spells it, with its lines numbered one after another.
-use Rattle.std.proofs.Common.{◌≡◌, ◌∙◌, refl, sym, ap, subst, ℕ, zero, suc, ◌+◌, ◌^◌, ◌<◌, ◌≤◌, Bool, true, false, not, ◌&&◌, List, [], ◌∷◌, ◌++◌, length, map, Option, Some, None, nat_lt, append_assoc, arith}
+use Rattle.std.proofs.Common.{◌≡◌, ◌∙◌, refl, sym, ap, subst, ℕ, zero, suc, ◌+◌, ◌^◌, ◌<◌, ◌≤◌}
+use Rattle.std.proofs.Common.{Bool, true, false, not, ◌&&◌, List, [], ◌∷◌, ◌++◌, length, map}
+use Rattle.std.proofs.Common.{Option, Some, None, nat_lt, append_assoc, arith}
 use Rattle.std.specs.Char.{to_ascii_lowercase}
 use Rattle.std.specs.List.{list_all}
 use Rattle.std.proofs.lemmas.Bool.{ltb-true}
@@ -20,16 +22,29 @@ use Rattle.bw_cert_text.specs.declared.lines.ProductLine.{ProductLine}
 use Rattle.bw_cert_text.specs.declared.lines.EndLine.{EndLine}
 use Rattle.bw_cert_text.specs.declared.lines.EdgeProducts.{EdgeProducts}
 use Rattle.bw_cert_text.specs.declared.lines.ConditionEntry.{ConditionEntry}
-use Rattle.bw_cert_text.specs.declared.lines.ConditionEntry.TheVariants.{Compare, CompareColumns, Fixed, NullTest, And, Or, Not, Is, IsUnknown}
+use Rattle.bw_cert_text.specs.declared.lines.ConditionEntry.TheVariants.{Compare, CompareColumns}
+use Rattle.bw_cert_text.specs.declared.lines.ConditionEntry.TheVariants.{Fixed, NullTest, And, Or}
+use Rattle.bw_cert_text.specs.declared.lines.ConditionEntry.TheVariants.{Not, Is, IsUnknown}
 use Rattle.bw_cert_text.specs.declared.lines.InstructionEntry.{InstructionEntry}
-use Rattle.bw_cert_text.specs.declared.lines.InstructionEntry.TheVariants.{Load, Fill, Op, Byte, Skip}
-use Rattle.bw_cert_text.specs.CertificateFields.{ColumnFields, One, Two, ChainFields, EntryFields, Condition, Instruction, Join, Kept, BodyFields, CertificateFields}
+use Rattle.bw_cert_text.specs.declared.lines.InstructionEntry.TheVariants.{Load, Fill, Op, Byte}
+use Rattle.bw_cert_text.specs.declared.lines.InstructionEntry.TheVariants.{Skip}
+use Rattle.bw_cert_text.specs.CertificateFields.{ColumnFields, One, Two, ChainFields, EntryFields}
+use Rattle.bw_cert_text.specs.CertificateFields.{Condition, Instruction, Join, Kept, BodyFields}
+use Rattle.bw_cert_text.specs.CertificateFields.{CertificateFields}
 use Rattle.bw_cert_text.specs.Columns.{is_found, are_columns, has_columns}
-use Rattle.bw_cert_text.specs.CertificateText.{section_of, with_part, end_alone, SpellsFrom, before_end, at_end, IsCertificateText}
+use Rattle.bw_cert_text.specs.CertificateText.{section_of, with_part, end_alone, SpellsFrom}
+use Rattle.bw_cert_text.specs.CertificateText.{before_end, at_end, IsCertificateText}
 use Rattle.bw_cert_text.specs.LineText.{Part, Node, Chain, Row, Body}
-use Rattle.bw_cert_text.specs.PrintText.{token_text, token_line, lines_text, body_tokens, schema_spelling, spelling_at, respelled_columns, respelled_chain, respelled, certificate_text, print_text}
-use Rattle.bw_cert_text.specs.Reprint.{node_at, chain_at, row_at, body_at, numbered_on, renumbered, is_small, numbers_fit}
-use Rattle.bw_cert_text.specs.Token.{Token, Key, Number, Perhaps, Column, Register, IsSpelled, AreSpelled, none, next, node_tokens, column_tokens, chain_tokens, reason_tokens, row_tokens, condition_tokens, instruction_tokens, edge_tokens, entry_tokens, end_tokens, part_tokens, part_line}
+use Rattle.bw_cert_text.specs.PrintText.{token_text, token_line, lines_text, body_tokens}
+use Rattle.bw_cert_text.specs.PrintText.{schema_spelling, spelling_at, respelled_columns}
+use Rattle.bw_cert_text.specs.PrintText.{respelled_chain, respelled, certificate_text, print_text}
+use Rattle.bw_cert_text.specs.Reprint.{node_at, chain_at, row_at, body_at, numbered_on, renumbered}
+use Rattle.bw_cert_text.specs.Reprint.{is_small, numbers_fit}
+use Rattle.bw_cert_text.specs.Token.{Token, Key, Number, Perhaps, Column, Register, IsSpelled}
+use Rattle.bw_cert_text.specs.Token.{AreSpelled, none, next, node_tokens, column_tokens}
+use Rattle.bw_cert_text.specs.Token.{chain_tokens, reason_tokens, row_tokens, condition_tokens}
+use Rattle.bw_cert_text.specs.Token.{instruction_tokens, edge_tokens, entry_tokens, end_tokens}
+use Rattle.bw_cert_text.specs.Token.{part_tokens, part_line}
 use Rattle.bw_cert_text.specs.Connective.{connective_spelling}
 use Rattle.bw_model.proofs.BitsLemmas.{both}
 use Rattle.bw_text.proofs.DecimalLemmas.{natural_of-decimal, plain_number}

@@ -1,8 +1,11 @@
 -- Lines that are kept as their kinds, their numbers and their pairs.
-use Rattle.std.proofs.Common.{◌≡◌, ◌∙◌, refl, ap, ℕ, suc, ◌<◌, ◌≤◌, Bool, true, false, if◌then◌else◌, List, [], ◌∷◌, ◌++◌, take, drop, length, get_or, nat_le, arith}
+use Rattle.std.proofs.Common.{◌≡◌, ◌∙◌, refl, ap, ℕ, suc, ◌<◌, ◌≤◌, Bool, true, false}
+use Rattle.std.proofs.Common.{if◌then◌else◌, List, [], ◌∷◌, ◌++◌, take, drop, length, get_or}
+use Rattle.std.proofs.Common.{nat_le, arith}
 use Rattle.std.proofs.Props.{props}
 use Rattle.std.proofs.lemmas.Bool.{le-leb, lt-leb, leb-true}
-use Rattle.std.proofs.lemmas.List.{take_all, drop_all, take-append-le, drop-append-le, length-append}
+use Rattle.std.proofs.lemmas.List.{take_all, drop_all, take-append-le, drop-append-le}
+use Rattle.std.proofs.lemmas.List.{length-append}
 use Rattle.bw_model.proofs.BitsLemmas.{both}
 use Rattle.bw_cert_text.specs.declared.kind.Kind.{Kind}
 use Rattle.bw_cert_text.specs.declared.kind.Kind.TheVariants as kind
@@ -11,7 +14,8 @@ use Rattle.bw_cert_text.specs.declared.lines.BodyLine.{BodyLine}
 use Rattle.bw_cert_text.specs.declared.lines.EdgeProducts.{EdgeProducts}
 use Rattle.bw_cert_text.specs.declared.lines.Entry.TheVariants as said
 use Rattle.bw_cert_text.specs.declared.lines.Keep.{Keep}
-use Rattle.bw_cert_text.specs.StoredLines.{entry_of, size, pairs_of, line_of, is_there, lines_of, are_all}
+use Rattle.bw_cert_text.specs.StoredLines.{entry_of, size, pairs_of, line_of, is_there, lines_of}
+use Rattle.bw_cert_text.specs.StoredLines.{are_all}
 
 -- as many lines as kinds
 pub lines-count : (kinds : List Kind) (numbers : List ℕ) (pairs : List EdgeProducts) → are_all kinds numbers pairs ≡ true → length kinds ≡ length (lines_of kinds numbers pairs)

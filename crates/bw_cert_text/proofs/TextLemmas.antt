@@ -6,7 +6,8 @@ use Rattle.bw_text.specs.Lines.{NumberedWords}
 use Rattle.bw_cert_text.specs.declared.lines.EndLine.{EndLine}
 use Rattle.bw_cert_text.specs.CertificateFields.{CertificateFields}
 use Rattle.bw_cert_text.specs.LineText.{Part, ParsedLine, Before, End}
-use Rattle.bw_cert_text.specs.CertificateText.{section_of, with_part, end_alone, form_fault, parse_line_on, last_line, followed, certificate_from}
+use Rattle.bw_cert_text.specs.CertificateText.{section_of, with_part, end_alone, form_fault}
+use Rattle.bw_cert_text.specs.CertificateText.{parse_line_on, last_line, followed, certificate_from}
 
 pub certificate_from-end : (section : ℕ) (lines : List NumberedWords) (end : ℕ) → lines ≡ [] → certificate_from section lines end ≡ Err (form_fault end)
 unfolding certificate_from

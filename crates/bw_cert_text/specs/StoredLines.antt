@@ -1,15 +1,19 @@
 -- How the lines after the product rows are stored: the kinds of all lines, then their numbers one
 -- after another, and the pairs of rows of all lines KEEP one after another.
-use Rattle.std.specs.Prelude.{ℕ, Bool, true, false, ◌&&◌, if◌then◌else◌, List, [], ◌∷◌, length, take, drop, Option, Some, None, nat_le}
+use Rattle.std.specs.Prelude.{ℕ, Bool, true, false, ◌&&◌, if◌then◌else◌, List, [], ◌∷◌, length}
+use Rattle.std.specs.Prelude.{take, drop, Option, Some, None, nat_le}
 use Rattle.bw_cert_text.specs.declared.kind.Kind.{Kind}
 use Rattle.bw_cert_text.specs.declared.kind.Kind.TheVariants as kind
 use Rattle.bw_cert_text.specs.declared.lines.BodyLine.{BodyLine}
 use Rattle.bw_cert_text.specs.declared.lines.ConditionEntry.{ConditionEntry}
-use Rattle.bw_cert_text.specs.declared.lines.ConditionEntry.TheVariants.{Compare, CompareColumns, Fixed, NullTest, And, Or, Not, Is, IsUnknown}
+use Rattle.bw_cert_text.specs.declared.lines.ConditionEntry.TheVariants.{Compare, CompareColumns}
+use Rattle.bw_cert_text.specs.declared.lines.ConditionEntry.TheVariants.{Fixed, NullTest, And, Or}
+use Rattle.bw_cert_text.specs.declared.lines.ConditionEntry.TheVariants.{Not, Is, IsUnknown}
 use Rattle.bw_cert_text.specs.declared.lines.EdgeProducts.{EdgeProducts}
 use Rattle.bw_cert_text.specs.declared.lines.Entry.{Entry}
 use Rattle.bw_cert_text.specs.declared.lines.Entry.TheVariants.{Condition, Instruction, Join, Keep}
-use Rattle.bw_cert_text.specs.declared.lines.InstructionEntry.TheVariants.{Load, Fill, Op, Byte, Skip}
+use Rattle.bw_cert_text.specs.declared.lines.InstructionEntry.TheVariants.{Load, Fill, Op, Byte}
+use Rattle.bw_cert_text.specs.declared.lines.InstructionEntry.TheVariants.{Skip}
 
 -- how many numbers a line has, the first of which is the line's own
 abbrev pub size : Kind → ℕ

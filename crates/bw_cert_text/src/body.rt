@@ -1,6 +1,8 @@
 //! The lines after the product rows, stored in little memory.
-ghost use Rattle.std.specs.Prelude.{◌≡◌, ◌++◌, ◌∷◌, [], length, MatchOption, OnOk, OnErr, is_ok, is_some, if◌then◌else◌};
-ghost use Rattle.bw_cert_text.specs.StoredLines.{line_of, entry_of, condition_of, pairs_of, number_if};
+ghost use Rattle.std.specs.Prelude.{◌≡◌, ◌++◌, ◌∷◌, [], length, MatchOption, OnOk, OnErr, is_ok};
+ghost use Rattle.std.specs.Prelude.{is_some, if◌then◌else◌};
+ghost use Rattle.bw_cert_text.specs.StoredLines.{line_of, entry_of, condition_of, pairs_of};
+ghost use Rattle.bw_cert_text.specs.StoredLines.{number_if};
 ghost use Rattle.bw_cert_text.specs.declared.lines.Entry.TheVariants as said;
 
 use crate::edge_pairs::EdgePairs;

@@ -1,7 +1,7 @@
 //! The command line: the commands, their arguments and their help.
 //!
-//! [`parse_invocation`] parses the arguments by the kit's `clap`, which also writes help and usage errors.
-//! Only that these calls return is proved; what they return is tested on the program.
+//! [`parse_invocation`] parses the arguments by the kit's `clap`, which also writes help and usage
+//! errors. Only that these calls return is proved; what they return is tested on the program.
 #![tactic(auto)]
 
 mod args;

@@ -1,8 +1,11 @@
 -- A text's first record, field by field, and what it is if the text is cut after a comma.
-use Rattle.std.proofs.Common.{◌≡◌, ◌∙◌, ℕ, zero, suc, ◌+◌, ◌-◌, ◌<◌, ◌≤◌, List, [], ◌∷◌, ◌++◌, length, take, drop, get_or, Option, Some, None, Bool, true, false, refl, sym, ap, eqb, arith, inr, append_assoc, length-append}
+use Rattle.std.proofs.Common.{◌≡◌, ◌∙◌, ℕ, zero, suc, ◌+◌, ◌-◌, ◌<◌, ◌≤◌, List, [], ◌∷◌, ◌++◌}
+use Rattle.std.proofs.Common.{length, take, drop, get_or, Option, Some, None, Bool, true, false}
+use Rattle.std.proofs.Common.{refl, sym, ap, eqb, arith, inr, append_assoc, length-append}
 use Rattle.std.specs.Prelude.{◌||◌, IfSome, if◌then◌else◌, is_some}
 use Rattle.std.proofs.lemmas.List.{append-nil, take-append-drop, take_more}
-use Rattle.csv.specs.Machine.{Read, ends_at_end, field_after, fields_after, is_end, next_record, step}
+use Rattle.csv.specs.Machine.{Read, ends_at_end, field_after, fields_after, is_end, next_record}
+use Rattle.csv.specs.Machine.{step}
 use Rattle.csv.specs.Reading.{default_config, is_bom, strip_bom}
 use Rattle.csv.specs.declared.parser.State.{State}
 use Rattle.csv.specs.declared.parser.State.TheVariants as st
@@ -13,7 +16,8 @@ use Rattle.bw_csv.specs.Fields.{HasMoreFields, IsCutAfter, IsCutRecord, IsLonger
 use Rattle.bw_csv.specs.Plain.{state_of}
 use Rattle.bw_csv.specs.Records.{records_in}
 use Rattle.bw_csv.specs.declared.heading_end.Inside.{Inside}
-use Rattle.bw_csv.specs.declared.heading_end.Inside.TheVariants.{Before, Front, Bare, Quoted, Closed}
+use Rattle.bw_csv.specs.declared.heading_end.Inside.TheVariants.{Before, Front, Bare, Quoted}
+use Rattle.bw_csv.specs.declared.heading_end.Inside.TheVariants.{Closed}
 use Rattle.bw_csv.proofs.RecordLemmas.{records_in-next, records_in-none}
 
 -- within a record the machine continues to the record's end

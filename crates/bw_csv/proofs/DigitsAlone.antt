@@ -1,5 +1,7 @@
 -- A field of digits, alone or after a minus sign.
-use Rattle.std.proofs.Common.{◌≡◌, ◌∙◌, ℕ, ◌-◌, ◌<◌, ◌≤◌, List, [], ◌∷◌, ℤ, Option, Some, None, Bool, true, false, length, take, get_or, refl, sym, ap, arith, leb, ltb, eqb, suc}
+use Rattle.std.proofs.Common.{◌≡◌, ◌∙◌, ℕ, ◌-◌, ◌<◌, ◌≤◌, List, [], ◌∷◌, ℤ, Option, Some, None}
+use Rattle.std.proofs.Common.{Bool, true, false, length, take, get_or, refl, sym, ap, arith, leb}
+use Rattle.std.proofs.Common.{ltb, eqb, suc}
 use Rattle.std.specs.Prelude.{◌&&◌, if◌then◌else◌}
 use Rattle.std.specs.Char.{is_ascii_digit, to_ascii_lowercase}
 use Rattle.std.specs.List.{list_all, suffix_len}
@@ -10,7 +12,9 @@ use Rattle.std.proofs.lemmas.List.Sums.{AllPass-from_list_all, suffix_len-take_n
 use Rattle.bw_model.specs.declared.column.Column.{Column}
 use Rattle.bw_text.specs.Number.{are_digits, number_of}
 use Rattle.bw_text.specs.Text.{same_text}
-use Rattle.bw_csv.specs.Rows.{after_minus, is_blank, is_minus, is_null_text, text_value, value_of_field, within_bounds, without_blanks, without_end_blanks, without_front_blanks}
+use Rattle.bw_csv.specs.Rows.{after_minus, is_blank, is_minus, is_null_text, text_value}
+use Rattle.bw_csv.specs.Rows.{value_of_field, within_bounds, without_blanks, without_end_blanks}
+use Rattle.bw_csv.specs.Rows.{without_front_blanks}
 
 pub both : (a b : Bool) → (a && b) ≡ true → (a ≡ true) × (b ≡ true)
 both true b e = (refl, e)

@@ -1,14 +1,19 @@
 -- The errors of CSV texts stand as the table of errors lists them.
-use Rattle.std.proofs.Common.{◌≡◌, ℕ, ℤ, ◌+◌, List, [], ◌∷◌, Bool, true, false, not, ◌&&◌, ◌==◌, if◌then◌else◌, Option, Some, None, Ok, Err, refl, length, nat_lt, int_le}
+use Rattle.std.proofs.Common.{◌≡◌, ℕ, ℤ, ◌+◌, List, [], ◌∷◌, Bool, true, false, not, ◌&&◌, ◌==◌}
+use Rattle.std.proofs.Common.{if◌then◌else◌, Option, Some, None, Ok, Err, refl, length, nat_lt}
+use Rattle.std.proofs.Common.{int_le}
 use Rattle.csv.specs.Reading.{records, strip_bom, default_config}
 use Rattle.bw_model.specs.declared.column.Column.{Column}
 use Rattle.bw_model.specs.declared.fault.Fault.{Fault}
 use Rattle.bw_model.specs.Fault.{◌>>=◌, at_record, refused_if}
-use Rattle.bw_model.specs.FaultTable.{standing_of, HEADING, RECORD_LENGTH, NOT_A_NUMBER, OUT_OF_RANGE, NULL_NOT_ALLOWED, TOO_MANY_ROWS}
+use Rattle.bw_model.specs.FaultTable.{standing_of, HEADING, RECORD_LENGTH, NOT_A_NUMBER}
+use Rattle.bw_model.specs.FaultTable.{OUT_OF_RANGE, NULL_NOT_ALLOWED, TOO_MANY_ROWS}
 use Rattle.bw_model.specs.FaultPlaces.{StandsAsListed, FaultAsListed}
 use Rattle.bw_model.proofs.FaultPlaceLemmas.{refused_listed, bind_listed, listed_fault}
 use Rattle.bw_text.specs.Number.{are_digits, number_of}
-use Rattle.bw_csv.specs.Rows.{within_bounds, number_value, is_null_text, is_minus, unsigned, text_value, without_blanks, value_of_field, values_of_fields, row_of_record, with_row, rows_from, is_heading, rows_after, rows_of}
+use Rattle.bw_csv.specs.Rows.{within_bounds, number_value, is_null_text, is_minus, unsigned}
+use Rattle.bw_csv.specs.Rows.{text_value, without_blanks, value_of_field, values_of_fields}
+use Rattle.bw_csv.specs.Rows.{row_of_record, with_row, rows_from, is_heading, rows_after, rows_of}
 
 within_listed : (number : ℕ) (column : Column) (n : Option ℤ) → FaultAsListed (within_bounds number column n)
 unfolding standing_of

@@ -1,5 +1,6 @@
 -- The values of a record's plain fields, one more at a time.
-use Rattle.std.proofs.Common.{◌≡◌, ◌∙◌, ℕ, ◌+◌, ◌≤◌, List, [], ◌∷◌, ◌++◌, length, take, drop, Ok, Bool, true, false, refl, sym, ap, eqb, append_assoc, length-append}
+use Rattle.std.proofs.Common.{◌≡◌, ◌∙◌, ℕ, ◌+◌, ◌≤◌, List, [], ◌∷◌, ◌++◌, length, take, drop, Ok}
+use Rattle.std.proofs.Common.{Bool, true, false, refl, sym, ap, eqb, append_assoc, length-append}
 use Rattle.std.specs.Prelude.{◌||◌, ◌≤◌}
 use Rattle.std.proofs.lemmas.Bool.{eqb-true, le-ltb, eq-eqb}
 use Rattle.std.proofs.lemmas.List.{append-nil, take-append-drop}

@@ -5,7 +5,8 @@
 //! empty, or `NULL` in any case, is null; anything else must be an optional sign and at least one
 //! digit. The `csv` crate cuts the bytes into records and fields, and drops one byte order mark at
 //! the start.
-ghost use Rattle.std.specs.Prelude.{◌≡◌, ◌+◌, ◌<◌, ◌≤◌, ℕ, List, [], ◌∷◌, ◌++◌, Bool, true, OnOk, IfOk, Err, IfErr, IsTrue, length};
+ghost use Rattle.std.specs.Prelude.{◌≡◌, ◌+◌, ◌<◌, ◌≤◌, ℕ, List, [], ◌∷◌, ◌++◌, Bool, true, OnOk};
+ghost use Rattle.std.specs.Prelude.{IfOk, Err, IfErr, IsTrue, length};
 ghost use Rattle.std.specs.List.{list_all};
 ghost use Rattle.bw_model.specs.Column.{admits_values};
 ghost use Rattle.bw_model.specs.declared.column.Column.{Column};
@@ -16,7 +17,8 @@ ghost use Rattle.bw_model.specs.Row.{Value, values_of};
 ghost use Rattle.bw_model.specs.FaultPlaces.{StandsAsListed};
 ghost use Rattle.bw_csv.specs.Rest.{IsReadable, to_come};
 ghost use Rattle.bw_csv.specs.Bare.{records_of};
-ghost use Rattle.bw_csv.specs.Rows.{rows_of, rows_from, is_reader_fault, DeliversRows, IsRowsFault, StopsAfter, StopsUnder, located_at, stands_after};
+ghost use Rattle.bw_csv.specs.Rows.{rows_of, rows_from, is_reader_fault, DeliversRows, IsRowsFault};
+ghost use Rattle.bw_csv.specs.Rows.{StopsAfter, StopsUnder, located_at, stands_after};
 
 use crate::records::Records;
 use crate::rest::Rest;

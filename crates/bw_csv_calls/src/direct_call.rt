@@ -1,5 +1,6 @@
 //! The result of a query straight from a CSV text.
-ghost use Rattle.std.specs.Prelude.{◌≡◌, ◌+◌, ◌-◌, ◌^◌, ◌<◌, ◌≤◌, ℕ, List, Result, Ok, false, true, length, vec_len, IfErr, IsTrue};
+ghost use Rattle.std.specs.Prelude.{◌≡◌, ◌+◌, ◌-◌, ◌^◌, ◌<◌, ◌≤◌, ℕ, List, Result, Ok, false, true};
+ghost use Rattle.std.specs.Prelude.{length, vec_len, IfErr, IsTrue};
 ghost use Rattle.std.specs.List.{list_all};
 ghost use Rattle.bw_model.specs.declared.fault.Fault.{Fault};
 ghost use Rattle.bw_model.specs.declared.query.Query.{Query};
@@ -12,7 +13,8 @@ ghost use Rattle.bw_sql.specs.Items.{AreOfOneKind};
 ghost use Rattle.bw_sql.specs.Statement.{IsReadAs};
 ghost use Rattle.bw_csv_calls.specs.ReadInputs.{HasStoppedInCsv, HasReadSchema};
 ghost use Rattle.bw_csv.specs.Bare.{records_of};
-ghost use Rattle.bw_csv.specs.Rows.{is_exempt, is_reader_fault, MatchesUnlessExempt, IsRowsFault, StopsUnder};
+ghost use Rattle.bw_csv.specs.Rows.{is_exempt, is_reader_fault, MatchesUnlessExempt, IsRowsFault};
+ghost use Rattle.bw_csv.specs.Rows.{StopsUnder};
 ghost use Rattle.bw_csv_calls.specs.Direct.{IsAnswer, answer_of, is_before_csv};
 
 use crate::inputs::read_schema;

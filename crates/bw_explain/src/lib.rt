@@ -6,11 +6,11 @@
 //! row. Nothing depends on these lines: what can't be read again, or doesn't fit in memory, is left
 //! out.
 //!
-//! Read `explanation.rt` first, which finds the text with the error. Each explanation is a text of lines,
-//! each ended by a line feed; it is empty if there is nothing to explain. `csv_text.rt` explains
-//! errors of CSV texts, with `record.rt` for records, `heading.rt` for the heading and `rejected_columns.rt`
-//! for the columns that `bw infer` rejects; `frontier.rt` explains errors of statements, and
-//! `lines.rt` those of program files.
+//! Read `explanation.rt` first, which finds the text with the error. Each explanation is a text of
+//! lines, each ended by a line feed; it is empty if there is nothing to explain. `csv_text.rt`
+//! explains errors of CSV texts, with `record.rt` for records, `heading.rt` for the heading and
+//! `rejected_columns.rt` for the columns that `bw infer` rejects; `frontier.rt` explains errors of
+//! statements, and `lines.rt` those of program files.
 #![tactic(auto)]
 
 mod csv_text;

@@ -1,7 +1,10 @@
 -- The bytes of a table, row by row.
-use Rattle.std.proofs.Common.{◌≡◌, ℕ, zero, suc, ◌+◌, ◌*◌, ◌<◌, ◌≤◌, ◌&&◌, true, not, List, [], ◌∷◌, ◌++◌, length, take, drop, nat_le, append_assoc, length-append, length-drop, refl, sym, ap, ap₂, ◌∙◌, arith}
+use Rattle.std.proofs.Common.{◌≡◌, ℕ, zero, suc, ◌+◌, ◌*◌, ◌<◌, ◌≤◌, ◌&&◌, true, not, List, [], ◌∷◌}
+use Rattle.std.proofs.Common.{◌++◌, length, take, drop, nat_le, append_assoc, length-append}
+use Rattle.std.proofs.Common.{length-drop, refl, sym, ap, ap₂, ◌∙◌, arith}
 use Rattle.std.proofs.lemmas.Bool.{leb-true}
-use Rattle.std.proofs.lemmas.List.{append-nil, nil_from_length, take_all, drop_all, take-append-le, drop-append-le, flat_map_more}
+use Rattle.std.proofs.lemmas.List.{append-nil, nil_from_length, take_all, drop_all, take-append-le}
+use Rattle.std.proofs.lemmas.List.{drop-append-le, flat_map_more}
 use Rattle.std.proofs.Math.Nat.{mul-suc}
 use Rattle.std.specs.Int.{w32, to_le_bytes}
 use Rattle.std.proofs.lemmas.List.Folds.{list_all-append}
@@ -16,7 +19,8 @@ use Rattle.bw_file.specs.declared.encoder.Encoder.{Encoder}
 use Rattle.bw_file.specs.Encoder.{Holds, IsAsBefore}
 use Rattle.bw_file.specs.declared.layout.Layout.{Layout}
 use Rattle.bw_file.specs.Blocks.{segment_bytes}
-use Rattle.bw_file.specs.FileBytes.{AreRows, magic, front_bytes, header_bytes, segments_bytes, bytes_of_version, file_bytes, version_for}
+use Rattle.bw_file.specs.FileBytes.{AreRows, magic, front_bytes, header_bytes, segments_bytes}
+use Rattle.bw_file.specs.FileBytes.{bytes_of_version, file_bytes, version_for}
 use Rattle.bw_model.specs.Name.{is_name}
 use Rattle.bw_text.specs.Keyword.{is_reserved}
 use Rattle.bw_text.specs.Text.{is_word}

@@ -1,5 +1,7 @@
 -- What is rejected of a table file is rejected by one of its own errors.
-use Rattle.std.proofs.Common.{◌≡◌, ◌∙◌, ap, refl, subst, ℕ, zero, suc, ◌+◌, ◌-◌, ◌++◌, ◌∷◌, [], Bool, true, false, not, ◌||◌, ◌&&◌, ◌==◌, List, Option, Some, None, Result, Ok, Err, if◌then◌else◌, IfErr, nat_lt, nat_le, slice_index}
+use Rattle.std.proofs.Common.{◌≡◌, ◌∙◌, ap, refl, subst, ℕ, zero, suc, ◌+◌, ◌-◌, ◌++◌, ◌∷◌, []}
+use Rattle.std.proofs.Common.{Bool, true, false, not, ◌||◌, ◌&&◌, ◌==◌, List, Option, Some, None}
+use Rattle.std.proofs.Common.{Result, Ok, Err, if◌then◌else◌, IfErr, nat_lt, nat_le, slice_index}
 use Rattle.std.specs.Prelude.{IfSome, slice_index_or}
 use Rattle.std.proofs.Math.Bool.{or-true}
 use Rattle.bw_model.specs.declared.column.Column.{Column}
@@ -13,8 +15,12 @@ use Rattle.bw_segment.specs.BlockFault as faults
 use Rattle.bw_file.specs.declared.layout.Layout.{Layout}
 use Rattle.bw_file.specs.declared.layout.Layout.TheVariants.{Planes, Slices}
 use Rattle.bw_file.specs.Blocks.{block_fault}
-use Rattle.bw_file.specs.Reading.{Tail, tail, Reading, passed, ◌>>=◌, field, parsed_at, read_field, State, Fails, HasByteMore}
-use Rattle.bw_file.specs.TableReading.{parse_magic, parse_version, parse_layout, parse_count, parse_row_count, parse_bounds, parse_nullable, parse_name, name, column, columns, front, header, fault_place, sound_at, one_block, blocks, segment, IsTableFault}
+use Rattle.bw_file.specs.Reading.{Tail, tail, Reading, passed, ◌>>=◌, field, parsed_at, read_field}
+use Rattle.bw_file.specs.Reading.{State, Fails, HasByteMore}
+use Rattle.bw_file.specs.TableReading.{parse_magic, parse_version, parse_layout, parse_count}
+use Rattle.bw_file.specs.TableReading.{parse_row_count, parse_bounds, parse_nullable, parse_name}
+use Rattle.bw_file.specs.TableReading.{name, column, columns, front, header, fault_place, sound_at}
+use Rattle.bw_file.specs.TableReading.{one_block, blocks, segment, IsTableFault}
 
 -- a number that is one of them wherever it is, and reading that rejects by them alone
 abbrev IsOwn : ℕ → Type 0

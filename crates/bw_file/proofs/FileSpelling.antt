@@ -1,5 +1,6 @@
 -- What is read of a table file is a table's bytes.
-use Rattle.std.proofs.Common.{◌≡◌, ℕ, Bool, true, ◌&&◌, List, [], ◌∷◌, ◌++◌, length, map, Result, Ok, Err, refl, sym, ap, subst, ◌∙◌, arith, inl, inr, ◌⊎◌}
+use Rattle.std.proofs.Common.{◌≡◌, ℕ, Bool, true, ◌&&◌, List, [], ◌∷◌, ◌++◌, length, map, Result}
+use Rattle.std.proofs.Common.{Ok, Err, refl, sym, ap, subst, ◌∙◌, arith, inl, inr, ◌⊎◌}
 use Rattle.std.specs.List.{flat_map, list_all}
 use Rattle.std.proofs.lemmas.List.{length-map}
 use Rattle.bw_model.specs.declared.column.Column.{Column}
@@ -12,11 +13,15 @@ use Rattle.bw_model.specs.Schema.{IsSchema}
 use Rattle.bw_model.specs.SchemaText.{column_shape, SchemaShape, schema_shape}
 use Rattle.bw_file.specs.declared.layout.Layout.{Layout}
 use Rattle.bw_file.specs.Blocks.{segment_bytes}
-use Rattle.bw_file.specs.FileBytes.{IsFileBytes, file_bytes, file_bytes2, bytes_of_version, front_bytes, name_bytes, header_bytes, segments_bytes, version_for, are_bounds, column_bytes}
+use Rattle.bw_file.specs.FileBytes.{IsFileBytes, file_bytes, file_bytes2, bytes_of_version}
+use Rattle.bw_file.specs.FileBytes.{front_bytes, name_bytes, header_bytes, segments_bytes}
+use Rattle.bw_file.specs.FileBytes.{version_for, are_bounds, column_bytes}
 use Rattle.bw_file.specs.Reading.{Tail, tail}
-use Rattle.bw_file.specs.TableReading.{group_sizes, body, HeaderShape, header, Found, found_in, IsReadAs, IsReadAfter}
+use Rattle.bw_file.specs.TableReading.{group_sizes, body, HeaderShape, header, Found, found_in}
+use Rattle.bw_file.specs.TableReading.{IsReadAs, IsReadAfter}
 use Rattle.bw_model.proofs.SameColumns.{columns_same}
-use Rattle.bw_file.proofs.SpellingLemmas.{IsBytes, TakesBoth, schema_bytes, fits_version, head_bytes, IsHeader, header_takes}
+use Rattle.bw_file.proofs.SpellingLemmas.{IsBytes, TakesBoth, schema_bytes, fits_version}
+use Rattle.bw_file.proofs.SpellingLemmas.{head_bytes, IsHeader, header_takes}
 use Rattle.bw_file.proofs.BodySpelling.{groups_found, body_take}
 
 shapes_spelled : (columns : List Column) → flat_map schema_bytes (map column_shape columns) ≡ flat_map (λ (c : Column). column_bytes c.name c.lo c.hi c.nullable) columns

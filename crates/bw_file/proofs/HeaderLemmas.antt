@@ -1,5 +1,6 @@
 -- Reading a header field by field.
-use Rattle.std.proofs.Common.{◌≡◌, ◌+◌, ◌-◌, ◌<◌, ◌≤◌, map, ℕ, ℤ, suc, Bool, true, false, List, [], ◌∷◌, ◌++◌, slice_index, Ok, Err, refl, sym, ap, ◌∙◌, arith, ◌||◌, not}
+use Rattle.std.proofs.Common.{◌≡◌, ◌+◌, ◌-◌, ◌<◌, ◌≤◌, map, ℕ, ℤ, suc, Bool, true, false, List, []}
+use Rattle.std.proofs.Common.{◌∷◌, ◌++◌, slice_index, Ok, Err, refl, sym, ap, ◌∙◌, arith, ◌||◌, not}
 use Rattle.std.specs.List.{list_any}
 use Rattle.bw_model.specs.declared.column.Column.{Column}
 use Rattle.bw_model.specs.declared.fault.Fault.{Fault}
@@ -10,7 +11,10 @@ use Rattle.bw_model.specs.SchemaText.{ColumnShape, column_shape, shape, shape_na
 use Rattle.bw_file.specs.declared.fields.Bounds.{Bounds}
 use Rattle.bw_file.specs.declared.layout.Layout.{Layout}
 use Rattle.bw_file.specs.Reading.{◌>>=◌, give, field, parsed_at, read_field, State, GoesOn, Fails}
-use Rattle.bw_file.specs.TableReading.{name, parse_name, column, columns, parse_magic, parse_version, parse_layout, parse_count, parse_row_count, parse_bounds, parse_nullable, FrontShape, front_of, front, header_of, header}
+use Rattle.bw_file.specs.TableReading.{name, parse_name, column, columns, parse_magic}
+use Rattle.bw_file.specs.TableReading.{parse_version, parse_layout, parse_count, parse_row_count}
+use Rattle.bw_file.specs.TableReading.{parse_bounds, parse_nullable, FrontShape, front_of, front}
+use Rattle.bw_file.specs.TableReading.{header_of, header}
 use Rattle.bw_file.proofs.ReadingLemmas.{took_nothing, needs_none, begins, passes, stops, refuses}
 
 -- a name begins with the byte for its length

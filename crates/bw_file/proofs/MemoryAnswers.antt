@@ -1,6 +1,7 @@
 -- What is answered of a file once memory has run out, or by a later read; and groups that come one
 -- after the other.
-use Rattle.std.proofs.Common.{◌≡◌, ◌∙◌, ℕ, ◌+◌, List, [], ◌∷◌, ◌++◌, true, false, inl, sym, ap, append_assoc, arith}
+use Rattle.std.proofs.Common.{◌≡◌, ◌∙◌, ℕ, ◌+◌, List, [], ◌∷◌, ◌++◌, true, false, inl, sym, ap}
+use Rattle.std.proofs.Common.{append_assoc, arith}
 use Rattle.std.proofs.lemmas.List.{append-nil}
 use Rattle.bw_model.specs.declared.fault.Fault.{Fault}
 use Rattle.bw_model.specs.Fault.{no_memory}
@@ -11,7 +12,8 @@ use Rattle.bw_file.specs.Reading.{State, HasConsumed}
 use Rattle.bw_model.specs.declared.schema.Schema.{Schema}
 use Rattle.bw_file.specs.AnySegment.{any_meaning}
 use Rattle.bw_file.specs.declared.segments.AnySegment.{AnySegment}
-use Rattle.bw_file.specs.TableReader.{AnswersFault, FrontsEndEarly, IsSegmentOf, SameTable, schema_in}
+use Rattle.bw_file.specs.TableReader.{AnswersFault, FrontsEndEarly, IsSegmentOf, SameTable}
+use Rattle.bw_file.specs.TableReader.{schema_in}
 use Rattle.bw_file.specs.declared.table_reader.TableReader.{TableReader}
 
 -- one group more

@@ -1,5 +1,6 @@
 -- What a reader gives next: a segment, the end, an error, or what was settled.
-use Rattle.std.proofs.Common.{◌≡◌, ℕ, min, ◌+◌, ◌-◌, ◌<◌, List, [], ◌++◌, length, inl, inr, Some, None, Result, Ok, Err, refl, sym, ap, subst, ◌∙◌, arith}
+use Rattle.std.proofs.Common.{◌≡◌, ℕ, min, ◌+◌, ◌-◌, ◌<◌, List, [], ◌++◌, length, inl, inr, Some}
+use Rattle.std.proofs.Common.{None, Result, Ok, Err, refl, sym, ap, subst, ◌∙◌, arith}
 use Rattle.std.specs.Io.KnownBytes.{IsAtEnd}
 use Rattle.bw_model.specs.declared.fault.Fault.{Fault}
 use Rattle.bw_model.specs.Groups.{group_size, groups_of, together}
@@ -7,9 +8,12 @@ use Rattle.bw_model.specs.Row.{Value}
 use Rattle.bw_file.specs.declared.segments.AnySegment.{AnySegment}
 use Rattle.bw_file.specs.declared.table_reader.TableReader.{TableReader}
 use Rattle.bw_file.specs.AnySegment.{any_layout, any_meaning}
-use Rattle.bw_file.specs.Reading.{tail, State, HasConsumed, GoesOn, NeedsMore, Fails, HasByteMore, give}
+use Rattle.bw_file.specs.Reading.{tail, State, HasConsumed, GoesOn, NeedsMore, Fails, HasByteMore}
+use Rattle.bw_file.specs.Reading.{give}
 use Rattle.bw_file.specs.TableReading.{segment, end, group_sizes, IsTableFault}
-use Rattle.bw_file.specs.TableReader.{final_result, ReadProgress, SameTable, GaveSegment, EndsCompletely, FailsBy, Repeats, GivesNext, gives, ends, refuses, repeats}
+use Rattle.bw_file.specs.TableReader.{final_result, ReadProgress, SameTable, GaveSegment}
+use Rattle.bw_file.specs.TableReader.{EndsCompletely, FailsBy, Repeats, GivesNext, gives, ends}
+use Rattle.bw_file.specs.TableReader.{refuses, repeats}
 use Rattle.bw_file.proofs.BodySpelling.{groups_found}
 use Rattle.bw_file.proofs.FaultLemmas.{refused_by, segment_own, byte_own}
 use Rattle.bw_file.proofs.ReaderLemmas.{so_far_more, segment_refused, at_end, end_seen, end_missed}

@@ -1,5 +1,7 @@
 -- What the bytes of a file say, segment by segment.
-use Rattle.std.proofs.Common.{◌≡◌, ℕ, zero, suc, min, Bool, true, false, ◌||◌, ◌+◌, ◌-◌, ◌<◌, ◌≤◌, inl, inr, List, [], ◌∷◌, ◌++◌, length, length-append, take, Ok, Err, refl, sym, ap, ◌∙◌, append_assoc, arith}
+use Rattle.std.proofs.Common.{◌≡◌, ℕ, zero, suc, min, Bool, true, false, ◌||◌, ◌+◌, ◌-◌, ◌<◌, ◌≤◌}
+use Rattle.std.proofs.Common.{inl, inr, List, [], ◌∷◌, ◌++◌, length, length-append, take, Ok, Err}
+use Rattle.std.proofs.Common.{refl, sym, ap, ◌∙◌, append_assoc, arith}
 use Rattle.std.specs.Io.KnownBytes.{IsAtEnd}
 use Rattle.std.proofs.Math.Seq.{take-append-add}
 use Rattle.std.proofs.lemmas.Bool.{cases_lt}
@@ -13,9 +15,12 @@ use Rattle.bw_model.specs.SchemaText.{schema_shape}
 use Rattle.bw_io.specs.Source.{is_input_fault, is_read_fault}
 use Rattle.bw_file.specs.declared.layout.Layout.{Layout}
 use Rattle.bw_file.specs.declared.table_reader.TableReader.{TableReader}
-use Rattle.bw_file.specs.Reading.{tail, Reading, ◌>>=◌, give, State, HasConsumed, GoesOn, NeedsEach, NeedsMore, HasFault, Fails, HasByteMore}
-use Rattle.bw_file.specs.TableReading.{HeaderShape, header, body, segment, end, sizes_within, group_sizes, found_in, IsReadAs}
-use Rattle.bw_file.specs.TableReader.{header_stated, ReadProgress, found_so_far, ReadWhole, FrontsEndEarly, NoneToSpare, HasFirstFault, AnswersFault}
+use Rattle.bw_file.specs.Reading.{tail, Reading, ◌>>=◌, give, State, HasConsumed, GoesOn, NeedsEach}
+use Rattle.bw_file.specs.Reading.{NeedsMore, HasFault, Fails, HasByteMore}
+use Rattle.bw_file.specs.TableReading.{HeaderShape, header, body, segment, end, sizes_within}
+use Rattle.bw_file.specs.TableReading.{group_sizes, found_in, IsReadAs}
+use Rattle.bw_file.specs.TableReader.{header_stated, ReadProgress, found_so_far, ReadWhole}
+use Rattle.bw_file.specs.TableReader.{FrontsEndEarly, NoneToSpare, HasFirstFault, AnswersFault}
 use Rattle.bw_file.proofs.ReadingLemmas.{passes, stops, took_more, coming_of, is_coming}
 
 -- the sizes of groups don't hang on how many groups there may be

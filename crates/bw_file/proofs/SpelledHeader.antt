@@ -1,5 +1,8 @@
 -- What is spelled is read: the header of a table file.
-use Rattle.std.proofs.Common.{◌≡◌, ℕ, ℤ, suc, ◌+◌, ◌^◌, ◌<◌, ◌≤◌, Bool, true, false, ◌||◌, not, All, FitsSigned, List, [], ◌∷◌, ◌++◌, length, take, drop, eqb, nat_lt, Result, Ok, refl, sym, ap, ap₂, subst, ◌∙◌, append_assoc, length-append, arith, slice_index, inl, inr, ◌⊎◌}
+use Rattle.std.proofs.Common.{◌≡◌, ℕ, ℤ, suc, ◌+◌, ◌^◌, ◌<◌, ◌≤◌, Bool, true, false, ◌||◌, not, All}
+use Rattle.std.proofs.Common.{FitsSigned, List, [], ◌∷◌, ◌++◌, length, take, drop, eqb, nat_lt}
+use Rattle.std.proofs.Common.{Result, Ok, refl, sym, ap, ap₂, subst, ◌∙◌, append_assoc}
+use Rattle.std.proofs.Common.{length-append, arith, slice_index, inl, inr, ◌⊎◌}
 use Rattle.std.proofs.Math.Facts.{Fits-lt-pow, Fits-of_z}
 use Rattle.std.specs.Int.{w16, w32, w64, to_le_bytes, cast_unsigned}
 use Rattle.std.specs.List.{flat_map, list_all, list_any}
@@ -7,7 +10,8 @@ use Rattle.std.proofs.lemmas.Bool.{le-ltb, ne_eqb}
 use Rattle.std.proofs.lemmas.Int.{to_z-of_z}
 use Rattle.std.proofs.lemmas.List.{append-nil, take_at, drop_at, take_all}
 use Rattle.std.proofs.lemmas.List.Elements.{All-head, All-tail}
-use Rattle.std.proofs.lemmas.Nat.{from_le_bytes-to_le_bytes_2, from_le_bytes-to_le_bytes_4, from_le_bytes-to_le_bytes_8}
+use Rattle.std.proofs.lemmas.Nat.{from_le_bytes-to_le_bytes_2, from_le_bytes-to_le_bytes_4}
+use Rattle.std.proofs.lemmas.Nat.{from_le_bytes-to_le_bytes_8}
 use Rattle.bw_model.specs.declared.fault.Fault.{Fault}
 use Rattle.bw_model.specs.Limits.{most_rows, most_columns}
 use Rattle.bw_model.specs.Name.{is_name, are_apart}
@@ -17,9 +21,14 @@ use Rattle.bw_text.specs.Text.{same_text}
 use Rattle.bw_model.proofs.BitsLemmas.{both}
 use Rattle.bw_file.specs.declared.layout.Layout.{Layout}
 use Rattle.bw_file.specs.declared.layout.Layout.TheVariants.{Planes, Slices}
-use Rattle.bw_file.specs.FileBytes.{magic, layout_byte, flag_byte, front_bytes, name_bytes, bound_bytes, column_bytes, are_bounds}
-use Rattle.bw_file.specs.Reading.{Tail, tail, Reading, passed, ◌>>=◌, give, field, parsed_at, read_field}
-use Rattle.bw_file.specs.TableReading.{parse_magic, parse_version, parse_layout, parse_count, parse_row_count, bound_in, parse_bounds, parse_nullable, parse_name, name, column, columns, front_of, front, HeaderShape, header_of, header}
+use Rattle.bw_file.specs.FileBytes.{magic, layout_byte, flag_byte, front_bytes, name_bytes}
+use Rattle.bw_file.specs.FileBytes.{bound_bytes, column_bytes, are_bounds}
+use Rattle.bw_file.specs.Reading.{Tail, tail, Reading, passed, ◌>>=◌, give, field, parsed_at}
+use Rattle.bw_file.specs.Reading.{read_field}
+use Rattle.bw_file.specs.TableReading.{parse_magic, parse_version, parse_layout, parse_count}
+use Rattle.bw_file.specs.TableReading.{parse_row_count, bound_in, parse_bounds, parse_nullable}
+use Rattle.bw_file.specs.TableReading.{parse_name, name, column, columns, front_of, front}
+use Rattle.bw_file.specs.TableReading.{HeaderShape, header_of, header}
 use Rattle.bw_file.proofs.SpellingLemmas.{schema_bytes, fits_version, head_bytes, IsHeader}
 
 -- reading gives this of a text, whatever follows it

@@ -1,5 +1,9 @@
 -- What is read of a table file is spelled so.
-use Rattle.std.proofs.Common.{◌≡◌, ℕ, zero, suc, ◌+◌, ◌^◌, ◌<◌, ◌≤◌, Bool, true, false, ◌||◌, not, All, FitsSigned, cond, eqb, nat_lt, List, [], ◌∷◌, ◌++◌, length, get_or, take, drop, Result, Ok, Err, refl, sym, ap, subst, ◌∙◌, append_assoc, length-take, length-drop, arith, slice_index, inl, inr, ◌⊎◌}
+use Rattle.std.proofs.Common.{◌≡◌, ℕ, zero, suc, ◌+◌, ◌^◌, ◌<◌, ◌≤◌, Bool, true, false, ◌||◌, not}
+use Rattle.std.proofs.Common.{All, FitsSigned, cond, eqb, nat_lt, List, [], ◌∷◌, ◌++◌, length}
+use Rattle.std.proofs.Common.{get_or, take, drop, Result, Ok, Err, refl, sym, ap, subst, ◌∙◌}
+use Rattle.std.proofs.Common.{append_assoc, length-take, length-drop, arith, slice_index, inl, inr}
+use Rattle.std.proofs.Common.{◌⊎◌}
 use Rattle.std.specs.Int.{w16, w32, w64, to_le_bytes, from_le_bytes, cast_signed}
 use Rattle.std.specs.List.{flat_map, list_all}
 use Rattle.std.specs.Str.{bytes_eq}
@@ -7,7 +11,8 @@ use Rattle.std.proofs.lemmas.Bool.{cases_lt, ltb-false, eqb-true}
 use borrow.Author.Differences.{fits_in, read_fits}
 use Rattle.std.proofs.lemmas.Int.{of_z-to_z}
 use Rattle.std.proofs.lemmas.List.Elements.{All-nil, All-cons}
-use Rattle.std.proofs.lemmas.List.{take-append-drop, length-take-le, take_all, get_or-take, get_or-drop, get_or_past, append-nil}
+use Rattle.std.proofs.lemmas.List.{take-append-drop, length-take-le, take_all, get_or-take}
+use Rattle.std.proofs.lemmas.List.{get_or-drop, get_or_past, append-nil}
 use Rattle.std.proofs.lemmas.Nat.{le_bytes_2, le_bytes_4, le_bytes_8}
 use Rattle.std.proofs.lemmas.Slice.Eq.{bytes_eq-Decides}
 use Rattle.bw_model.specs.declared.fault.Fault.{Fault}
@@ -19,9 +24,14 @@ use Rattle.bw_model.specs.SchemaText.{ColumnShape, shape, shape_names}
 use Rattle.bw_file.specs.declared.fields.Bounds.{Bounds}
 use Rattle.bw_file.specs.declared.layout.Layout.{Layout}
 use Rattle.bw_file.specs.declared.layout.Layout.TheVariants.{Planes, Slices}
-use Rattle.bw_file.specs.FileBytes.{magic, layout_byte, flag_byte, front_bytes, name_bytes, bound_bytes, column_bytes, are_bounds}
-use Rattle.bw_file.specs.Reading.{Tail, tail, Reading, passed, ◌>>=◌, give, field, parsed_at, read_field}
-use Rattle.bw_file.specs.TableReading.{parse_magic, parse_version, parse_layout, parse_count, parse_row_count, bound_in, parse_bounds, parse_nullable, parse_name, name, column, columns, FrontShape, front_of, front, HeaderShape, header_of, header}
+use Rattle.bw_file.specs.FileBytes.{magic, layout_byte, flag_byte, front_bytes, name_bytes}
+use Rattle.bw_file.specs.FileBytes.{bound_bytes, column_bytes, are_bounds}
+use Rattle.bw_file.specs.Reading.{Tail, tail, Reading, passed, ◌>>=◌, give, field, parsed_at}
+use Rattle.bw_file.specs.Reading.{read_field}
+use Rattle.bw_file.specs.TableReading.{parse_magic, parse_version, parse_layout, parse_count}
+use Rattle.bw_file.specs.TableReading.{parse_row_count, bound_in, parse_bounds, parse_nullable}
+use Rattle.bw_file.specs.TableReading.{parse_name, name, column, columns, FrontShape, front_of}
+use Rattle.bw_file.specs.TableReading.{front, HeaderShape, header_of, header}
 
 abbrev pub IsBytes : List ℕ → Type 0
 IsBytes bytes = (i : ℕ) → get_or bytes i 0 < 256

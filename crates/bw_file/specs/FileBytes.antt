@@ -1,5 +1,6 @@
 -- The bytes of a table file: a header, and the segments of the table's rows.
-use Rattle.std.specs.Prelude.{◌≡◌, ℕ, ℤ, pos, ◌^◌, ◌≤◌, ◌-ℤ◌, Bool, true, false, ◌&&◌, ◌⊎◌, List, [], ◌∷◌, ◌++◌, length, codes, int_le, int_lt, if◌then◌else◌, ◌==◌}
+use Rattle.std.specs.Prelude.{◌≡◌, ℕ, ℤ, pos, ◌^◌, ◌≤◌, ◌-ℤ◌, Bool, true, false, ◌&&◌, ◌⊎◌, List}
+use Rattle.std.specs.Prelude.{[], ◌∷◌, ◌++◌, length, codes, int_le, int_lt, if◌then◌else◌, ◌==◌}
 use Rattle.std.specs.Int.{w16, w32, w64, to_le_bytes, cast_unsigned}
 use Rattle.std.specs.List.{flat_map, list_all}
 use Rattle.bw_model.specs.declared.column.Column.{Column}

@@ -1,5 +1,6 @@
 -- Reading bytes field by field: the value of a field and the bytes after it, or the first error.
-use Rattle.std.specs.Prelude.{◌≡◌, ℕ, ◌+◌, true, false, List, [], ◌++◌, length, take, drop, Option, IfSome, Result, Ok, Err, nat_lt, ◌<◌, slice_index}
+use Rattle.std.specs.Prelude.{◌≡◌, ℕ, ◌+◌, true, false, List, [], ◌++◌, length, take, drop, Option}
+use Rattle.std.specs.Prelude.{IfSome, Result, Ok, Err, nat_lt, ◌<◌, slice_index}
 use Rattle.std.specs.Io.KnownBytes.{Consumes}
 use Rattle.bw_model.specs.FaultTable.{TRUNCATED, BYTES_AFTER_END}
 use Rattle.bw_model.specs.declared.fault.Fault.{Fault}

@@ -1,5 +1,6 @@
 -- The state of a reader of a table file, and the meaning of the bytes that it has read.
-use Rattle.std.specs.Prelude.{◌≡◌, ℕ, ◌-◌, true, false, List, [], ◌∷◌, ◌++◌, ◌+◌, ◌<◌, ◌⊎◌, length, take, min, Option, Some, None, IfSome, Result, Ok, Err}
+use Rattle.std.specs.Prelude.{◌≡◌, ℕ, ◌-◌, true, false, List, [], ◌∷◌, ◌++◌, ◌+◌, ◌<◌, ◌⊎◌, length}
+use Rattle.std.specs.Prelude.{take, min, Option, Some, None, IfSome, Result, Ok, Err}
 use Rattle.std.specs.Io.KnownBytes.{IsAtEnd}
 use Rattle.bw_model.specs.FaultTable.{TRUNCATED, BYTES_AFTER_END}
 use Rattle.bw_model.specs.declared.fault.Fault.{Fault}
@@ -16,7 +17,8 @@ use Rattle.bw_file.specs.declared.phase.Phase.{Phase}
 use Rattle.bw_file.specs.declared.phase.Phase.TheVariants.{Reading, Ended, Failed}
 use Rattle.bw_file.specs.declared.table_reader.TableReader.{TableReader}
 use Rattle.bw_file.specs.Reading.{State, HasConsumed, GoesOn, NeedsMore, give}
-use Rattle.bw_file.specs.TableReading.{HeaderShape, header, body, segment, group_sizes, Found, found_as, IsReadAs, IsTableFault}
+use Rattle.bw_file.specs.TableReading.{HeaderShape, header, body, segment, group_sizes, Found}
+use Rattle.bw_file.specs.TableReading.{found_as, IsReadAs, IsTableFault}
 
 abbrev pub schema_in : TableReader → Schema
 schema_in reader = reader.placement.value.schema

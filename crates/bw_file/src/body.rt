@@ -1,13 +1,16 @@
 //! The part of a table file after its header, read from a source: segments, block by block, and the
 //! end.
-ghost use Rattle.std.specs.Prelude.{◌≡◌, ◌+◌, ◌-◌, ◌^◌, ◌<◌, ◌≤◌, [], length, take, None, OnOk, IfOk, IfErr};
+ghost use Rattle.std.specs.Prelude.{◌≡◌, ◌+◌, ◌-◌, ◌^◌, ◌<◌, ◌≤◌, [], length, take, None, OnOk};
+ghost use Rattle.std.specs.Prelude.{IfOk, IfErr};
 ghost use Rattle.std.specs.Io.KnownBytes.{IsAtEnd};
 ghost use Rattle.bw_model.specs.Groups.{group_size};
 ghost use Rattle.bw_file.specs.AnySegment.{any_layout, any_meaning};
-ghost use Rattle.bw_file.specs.Blocks.{block_size, block_fault, block_from, bytes_before, segment_size, IsPlaced, IsSound};
+ghost use Rattle.bw_file.specs.Blocks.{block_size, block_fault, block_from, bytes_before};
+ghost use Rattle.bw_file.specs.Blocks.{segment_size, IsPlaced, IsSound};
 ghost use Rattle.bw_file.specs.SegmentBytes.{bytes_held, AreNext};
 ghost use Rattle.bw_file.specs.Reading.{Reads, HasByteMore, HasConsumed, state};
-ghost use Rattle.bw_file.specs.TableReading.{plane_has_padding, has_padding, padding_from, fault_place, one_block, blocks, segment};
+ghost use Rattle.bw_file.specs.TableReading.{plane_has_padding, has_padding, padding_from};
+ghost use Rattle.bw_file.specs.TableReading.{fault_place, one_block, blocks, segment};
 
 use crate::layout::Layout;
 use crate::segment_bytes::SegmentBytes;

@@ -3,7 +3,9 @@ ghost use Rattle.std.specs.Prelude.{◌≡◌, ◌≤◌, ◌^◌, ◌≤ℤ◌,
 ghost use Rattle.bw_model.specs.Limits.{most_rows};
 ghost use Rattle.bw_file.specs.FileBytes.{are_bounds};
 ghost use Rattle.bw_file.specs.Reading.{at_offset};
-ghost use Rattle.bw_file.specs.TableReading.{bound_in, parse_magic, parse_version, parse_layout, parse_count, parse_row_count, parse_bounds, parse_nullable, parse_name};
+ghost use Rattle.bw_file.specs.TableReading.{bound_in, parse_magic, parse_version, parse_layout};
+ghost use Rattle.bw_file.specs.TableReading.{parse_count, parse_row_count, parse_bounds};
+ghost use Rattle.bw_file.specs.TableReading.{parse_nullable, parse_name};
 
 use crate::layout::Layout;
 use bw_model::{Column, Fault, MAX_ROWS, code, is_name};

@@ -1,5 +1,7 @@
 //! A table file's header, read field by field from a source.
-ghost use Rattle.std.specs.Prelude.{◌≡◌, ◌+◌, ◌-◌, ◌*◌, ◌^◌, ◌<◌, ◌≤◌, ◌≤ℤ◌, ◌<ℤ◌, ◌-ℤ◌, pos, [], map, length, false, true, Ok, Err, if◌then◌else◌, OnOk, IfOk, IsTrue};
+ghost use Rattle.std.specs.Prelude.{◌≡◌, ◌+◌, ◌-◌, ◌*◌, ◌^◌, ◌<◌, ◌≤◌, ◌≤ℤ◌, ◌<ℤ◌, ◌-ℤ◌, pos, []};
+ghost use Rattle.std.specs.Prelude.{map, length, false, true, Ok, Err, if◌then◌else◌, OnOk, IfOk};
+ghost use Rattle.std.specs.Prelude.{IsTrue};
 ghost use Rattle.std.specs.List.{list_any};
 ghost use Rattle.bw_model.specs.FaultTable.{HEADER};
 ghost use Rattle.bw_model.specs.Column.{names_of};
@@ -9,7 +11,10 @@ ghost use Rattle.bw_model.specs.SchemaText.{column_shape};
 ghost use Rattle.bw_text.specs.Text.{same_text};
 ghost use Rattle.bw_file.specs.Header.{header_shape};
 ghost use Rattle.bw_file.specs.Reading.{Reads, state, read_field};
-ghost use Rattle.bw_file.specs.TableReading.{parse_magic, parse_version, parse_layout, parse_count, parse_row_count, parse_bounds, parse_nullable, parse_name, name, column, columns, front_of, front, header_of, header};
+ghost use Rattle.bw_file.specs.TableReading.{parse_magic, parse_version, parse_layout, parse_count};
+ghost use Rattle.bw_file.specs.TableReading.{parse_row_count, parse_bounds, parse_nullable};
+ghost use Rattle.bw_file.specs.TableReading.{parse_name, name, column, columns, front_of, front};
+ghost use Rattle.bw_file.specs.TableReading.{header_of, header};
 
 use crate::fields::{
     Bounds, at_offset, parse_bounds, parse_count, parse_layout, parse_magic, parse_nullable,

@@ -1,5 +1,7 @@
 -- The text of a dump spells the table's rows, and so a load of it gives the table's file.
-use Rattle.std.proofs.Common.{◌≡◌, ◌∙◌, ◌⊎◌, inl, inr, ℕ, zero, suc, ◌+◌, ◌≤◌, List, [], ◌∷◌, ◌++◌, length, length-append, map, Option, Some, None, Result, Ok, Err, Bool, true, false, refl, sym, ap, subst, arith, slice_index, MatchBool}
+use Rattle.std.proofs.Common.{◌≡◌, ◌∙◌, ◌⊎◌, inl, inr, ℕ, zero, suc, ◌+◌, ◌≤◌, List, [], ◌∷◌, ◌++◌}
+use Rattle.std.proofs.Common.{length, length-append, map, Option, Some, None, Result, Ok, Err, Bool}
+use Rattle.std.proofs.Common.{true, false, refl, sym, ap, subst, arith, slice_index, MatchBool}
 use Rattle.std.specs.Prelude.{slice_index_or}
 use Rattle.std.specs.Io.KnownBytes.{Appends, Consumes}
 use Rattle.std.specs.List.{filter_map, list_all, range_with_len}
@@ -29,17 +31,22 @@ use Rattle.bw_csv.proofs.DigitsAlone.{both}
 use Rattle.bw_csv.proofs.RowLemmas.{rows_after-rows}
 use Rattle.bw_csv_calls.specs.ReadInputs.{IsSchemaFrom}
 use Rattle.bw_csv_calls.specs.Load.{file_of}
-use Rattle.bw_io.specs.Source.{Arrival, NotReached, Whole, TooLong, Failed, PassedLimit, is_input_fault}
+use Rattle.bw_io.specs.Source.{Arrival, NotReached, Whole, TooLong, Failed, PassedLimit}
+use Rattle.bw_io.specs.Source.{is_input_fault}
 use Rattle.bw_file.specs.declared.layout.Layout.{Layout}
-use Rattle.bw_file.specs.FileBytes.{IsFileBytes, bytes_of_version, file_bytes, file_bytes2, front_bytes, header_bytes, magic}
+use Rattle.bw_file.specs.FileBytes.{IsFileBytes, bytes_of_version, file_bytes, file_bytes2}
+use Rattle.bw_file.specs.FileBytes.{front_bytes, header_bytes, magic}
 use Rattle.bw_file.specs.Reading.{Tail, tail}
-use Rattle.bw_file.specs.TableReading.{Found, HeaderShape, IsReadAfter, IsReadAs, found_as, found_in, header}
+use Rattle.bw_file.specs.TableReading.{Found, HeaderShape, IsReadAfter, IsReadAs, found_as}
+use Rattle.bw_file.specs.TableReading.{found_in, header}
 use Rattle.bw_file.proofs.ReaderLemmas.{head_at}
 use Rattle.bw_query.specs.TableAnswer.{AnswersFile, IsEveryRow, by_dump}
 use Rattle.bw_laws.specs.OneAnswer.{CameOf}
 use Rattle.bw_laws.specs.Backup.{IsOfNeededVersion, IsThatFile, IsTold, LoadsUnder, table_text}
 use Rattle.bw_laws.proofs.SpelledRecords.{is_record, records_read, unmarked}
-use Rattle.bw_laws.proofs.SpelledValues.{AreColumns, first_is, is_solid, name_is_solid, names_head, others_are, shows, solid_shows, value_shows, value_spelled, word_unmarked}
+use Rattle.bw_laws.proofs.SpelledValues.{AreColumns, first_is, is_solid, name_is_solid, names_head}
+use Rattle.bw_laws.proofs.SpelledValues.{others_are, shows, solid_shows, value_shows, value_spelled}
+use Rattle.bw_laws.proofs.SpelledValues.{word_unmarked}
 use Rattle.bw_text.specs.Text.{goes_on_in_word}
 
 abbrev Rows : Type 0

@@ -1,5 +1,8 @@
 -- A table file that is cut is rejected: reading takes each field whole before it judges it.
-use Rattle.std.proofs.Common.{◌≡◌, ◌∙◌, refl, sym, ap, subst, inl, inr, ℕ, zero, suc, ◌+◌, ◌-◌, ◌<◌, true, List, [], ◌∷◌, ◌++◌, length, take, drop, append_assoc, length-append, take-append-drop, Option, Some, None, Result, Ok, Err, arith, nat_lt, slice_index}
+use Rattle.std.proofs.Common.{◌≡◌, ◌∙◌, refl, sym, ap, subst, inl, inr, ℕ, zero, suc, ◌+◌, ◌-◌, ◌<◌}
+use Rattle.std.proofs.Common.{true, List, [], ◌∷◌, ◌++◌, length, take, drop, append_assoc}
+use Rattle.std.proofs.Common.{length-append, take-append-drop, Option, Some, None, Result, Ok, Err}
+use Rattle.std.proofs.Common.{arith, nat_lt, slice_index}
 use Rattle.std.proofs.Math.Seq.{take-append-add}
 use Rattle.std.proofs.lemmas.Bool.{cases_lt, lt-ltb}
 use Rattle.std.proofs.lemmas.List.{length-take-le, take-append-le}
@@ -12,8 +15,14 @@ use Rattle.bw_model.specs.SchemaText.{ColumnShape, shape, shape_names, schema_sh
 use Rattle.bw_file.specs.declared.layout.Layout.{Layout}
 use Rattle.bw_file.specs.Blocks.{block_size, block_fault, rows_spelled}
 use Rattle.bw_file.specs.FileBytes.{IsFileBytes}
-use Rattle.bw_file.specs.Reading.{Tail, tail, Reading, passed, ◌>>=◌, give, field, parsed_at, read_field, NeedsEach}
-use Rattle.bw_file.specs.TableReading.{parse_magic, parse_version, parse_layout, parse_count, parse_row_count, parse_bounds, parse_nullable, parse_name, name, column, columns, front_of, front, HeaderShape, header_of, header, sound_at, one_block, blocks, segment, group_sizes, end, body, Found, found_as, found_in, IsReadAfter, IsReadAs}
+use Rattle.bw_file.specs.Reading.{Tail, tail, Reading, passed, ◌>>=◌, give, field, parsed_at}
+use Rattle.bw_file.specs.Reading.{read_field, NeedsEach}
+use Rattle.bw_file.specs.TableReading.{parse_magic, parse_version, parse_layout, parse_count}
+use Rattle.bw_file.specs.TableReading.{parse_row_count, parse_bounds, parse_nullable, parse_name}
+use Rattle.bw_file.specs.TableReading.{name, column, columns, front_of, front, HeaderShape}
+use Rattle.bw_file.specs.TableReading.{header_of, header, sound_at, one_block, blocks, segment}
+use Rattle.bw_file.specs.TableReading.{group_sizes, end, body, Found, found_as, found_in}
+use Rattle.bw_file.specs.TableReading.{IsReadAfter, IsReadAs}
 use Rattle.bw_file.proofs.FileSpelling.{body_found}
 use Rattle.bw_file.proofs.ReadingLemmas.{field_needs, needs_more, needs_none}
 use Rattle.bw_file.proofs.SpelledFile.{read_one_way, spelled_is_read}

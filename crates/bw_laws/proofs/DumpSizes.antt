@@ -1,6 +1,7 @@
 -- How long the text of a dump is at most: a name has 63 bytes at most, a number 20, and a byte
 -- follows each field.
-use Rattle.std.proofs.Common.{◌≡◌, ◌∙◌, ℕ, zero, suc, ◌+◌, ◌*◌, ◌≤◌, List, [], ◌∷◌, ◌++◌, length, length-append, append_assoc, map, Some, None, true, not, ap, arith}
+use Rattle.std.proofs.Common.{◌≡◌, ◌∙◌, ℕ, zero, suc, ◌+◌, ◌*◌, ◌≤◌, List, [], ◌∷◌, ◌++◌, length}
+use Rattle.std.proofs.Common.{length-append, append_assoc, map, Some, None, true, not, ap, arith}
 use Rattle.std.specs.Prelude.{◌&&◌, ⊤, nat_le}
 use Rattle.std.specs.List.{join_with_byte, list_all}
 use Rattle.std.proofs.lemmas.Bool.{leb-true}

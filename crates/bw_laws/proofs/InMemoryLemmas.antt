@@ -1,5 +1,6 @@
 -- Over a table in memory a statement has the answer that it has over its file.
-use Rattle.std.proofs.Common.{◌≡◌, ◌∙◌, ◌⊎◌, ℕ, Bool, true, false, List, [], ◌++◌, Option, Some, None, Result, Ok, Err, inl, inr, refl, sym, ap, subst}
+use Rattle.std.proofs.Common.{◌≡◌, ◌∙◌, ◌⊎◌, ℕ, Bool, true, false, List, [], ◌++◌, Option, Some}
+use Rattle.std.proofs.Common.{None, Result, Ok, Err, inl, inr, refl, sym, ap, subst}
 use Rattle.std.specs.Io.KnownBytes.{Appends, Consumes}
 use Rattle.bw_model.specs.declared.column.Column.{Column}
 use Rattle.bw_model.specs.declared.cond.Cond.{Cond}
@@ -30,7 +31,8 @@ use Rattle.bw_file.proofs.ReaderSpelling.{no_fault}
 use Rattle.bw_file.proofs.SpelledFile.{of_one_table, spelled_is_read}
 use Rattle.bw_query.specs.MemoryAnswer.{RowsText}
 use Rattle.bw_query.specs.Scan.{IsScanFault, IsUsable}
-use Rattle.bw_query.specs.TableAnswer.{AnswersFile, AskedRefused, HeaderRead, SegmentRefused, TableGave, by_statement, is_no_verdict}
+use Rattle.bw_query.specs.TableAnswer.{AnswersFile, AskedRefused, HeaderRead, SegmentRefused}
+use Rattle.bw_query.specs.TableAnswer.{TableGave, by_statement, is_no_verdict}
 use Rattle.bw_laws.specs.OneAnswer.{query_asked_in}
 use Rattle.bw_laws.proofs.OneAnswerLemmas.{one_reading}
 use Rattle.bw_laws.proofs.OneMeaningLemmas.{one_meaning}

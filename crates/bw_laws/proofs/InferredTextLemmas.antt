@@ -1,6 +1,9 @@
 -- The schema that is inferred from a CSV text has names that are names, and bounds that 64 bits
 -- hold, as its rows do.
-use Rattle.std.proofs.Common.{◌≡◌, ◌∙◌, sym, ap, subst, ℕ, ℤ, zero, suc, ◌+◌, ◌^◌, ◌<◌, ◌≤◌, ◌==◌, Bool, true, false, not, if◌then◌else◌, nat_le, nat_lt, List, [], ◌∷◌, ◌++◌, length, map, get_or, All, Option, Some, None, Ok, FitsSigned, w64, length-append, arith, refl}
+use Rattle.std.proofs.Common.{◌≡◌, ◌∙◌, sym, ap, subst, ℕ, ℤ, zero, suc, ◌+◌, ◌^◌, ◌<◌, ◌≤◌, ◌==◌}
+use Rattle.std.proofs.Common.{Bool, true, false, not, if◌then◌else◌, nat_le, nat_lt, List, [], ◌∷◌}
+use Rattle.std.proofs.Common.{◌++◌, length, map, get_or, All, Option, Some, None, Ok, FitsSigned}
+use Rattle.std.proofs.Common.{w64, length-append, arith, refl}
 use Rattle.std.specs.List.{list_any}
 use Rattle.std.proofs.lemmas.Bool.{leb-false}
 use Rattle.std.proofs.lemmas.Int.{ints, clamps}
@@ -17,11 +20,14 @@ use Rattle.bw_model.specs.SchemaText.{ColumnShape, SchemaShape, shape_names, is_
 use Rattle.bw_model.specs.Total.{combine_totals, total}
 use Rattle.bw_model.proofs.SchemaLemmas.{are_apart-push}
 use Rattle.bw_model.proofs.TotalLemmas.{total_append}
-use Rattle.bw_csv.specs.Bare.{bare_number, bare_row, bare_rows, bare_value, bare_values, records_of, within_64_bits}
+use Rattle.bw_csv.specs.Bare.{bare_number, bare_row, bare_rows, bare_value, bare_values, records_of}
+use Rattle.bw_csv.specs.Bare.{within_64_bits}
 use Rattle.bw_csv.specs.Rows.{is_minus, is_null_text, unsigned, with_row, without_blanks}
 use Rattle.bw_csv.proofs.BareLemmas.{bound, passed}
 use Rattle.bw_schemas.specs.Heading.{heading_names, names_from, some_names}
-use Rattle.bw_schemas.specs.InferredSchema.{column_over, columns_over, infer_schema, inferred_after, or_zero, check_bounds, ranged_column, schema_over, table_of}
+use Rattle.bw_schemas.specs.InferredSchema.{column_over, columns_over, infer_schema, inferred_after}
+use Rattle.bw_schemas.specs.InferredSchema.{or_zero, check_bounds, ranged_column, schema_over}
+use Rattle.bw_schemas.specs.InferredSchema.{table_of}
 use Rattle.bw_schemas.specs.PrintedSchema.{schema_text}
 use Rattle.bw_schemas.proofs.NarrowLemmas.{greatest_of_one, least_of_one}
 use Rattle.bw_laws.proofs.ShapeText.{IsSound, AreSound, shape_spelled}

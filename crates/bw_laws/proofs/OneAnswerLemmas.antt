@@ -1,5 +1,6 @@
 -- A schema text, a CSV text and a statement have one answer.
-use Rattle.std.proofs.Common.{◌≡◌, ◌∙◌, ℕ, not, ◌||◌, ◌==◌, List, Result, Ok, Err, refl, sym, ap, subst}
+use Rattle.std.proofs.Common.{◌≡◌, ◌∙◌, ℕ, not, ◌||◌, ◌==◌, List, Result, Ok, Err, refl, sym, ap}
+use Rattle.std.proofs.Common.{subst}
 use Rattle.bw_model.specs.declared.column.Column.{Column}
 use Rattle.bw_model.specs.declared.fault.Fault.{Fault}
 use Rattle.bw_model.specs.declared.query.Query.{Query}
@@ -15,7 +16,8 @@ use Rattle.bw_sql.specs.Demand.{meets, refusal}
 use Rattle.bw_sql.specs.Frontier.{Begins, Stands, IsFirst, asked_for, at_token, at_sign, at_end}
 use Rattle.bw_sql.specs.Grammar.{StatementIs}
 use Rattle.bw_sql.specs.Refusal.{code_of}
-use Rattle.bw_sql.specs.Statement.{IsFault, IsReadAs, IsRefusal, too_long, refused, token_refused, end_refused, byte_refused}
+use Rattle.bw_sql.specs.Statement.{IsFault, IsReadAs, IsRefusal, too_long, refused, token_refused}
+use Rattle.bw_sql.specs.Statement.{end_refused, byte_refused}
 use Rattle.bw_sql.specs.Token.{Lexeme}
 use Rattle.bw_sql.proofs.SameNames.{columns_too, spells_too}
 use Rattle.bw_sql.proofs.Texts.{text_query, same_fault, spelled_or_refused}

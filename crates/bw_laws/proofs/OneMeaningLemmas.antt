@@ -1,5 +1,6 @@
 -- Queries of the same items, whose conditions have the same tree, have one meaning.
-use Rattle.std.proofs.Common.{◌≡◌, ◌∙◌, ℕ, cond, List, [], ◌∷◌, map, filter_map, refl, sym, ap, ap₂, Bool, if◌then◌else◌}
+use Rattle.std.proofs.Common.{◌≡◌, ◌∙◌, ℕ, cond, List, [], ◌∷◌, map, filter_map, refl, sym, ap, ap₂}
+use Rattle.std.proofs.Common.{Bool, if◌then◌else◌}
 use Rattle.bw_model.specs.declared.cond.Truth.{Truth}
 use Rattle.bw_model.specs.declared.cond.Truth.TheVariants.{Yes}
 use Rattle.bw_model.specs.declared.cond.Cond.{Cond}

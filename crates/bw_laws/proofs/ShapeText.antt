@@ -1,6 +1,8 @@
 -- The text of a shape whose names are names, and whose bounds are in order and 64 bits hold, spells
 -- that shape.
-use Rattle.std.proofs.Common.{◌≡◌, sym, subst, ℕ, ℤ, ◌+◌, ◌*◌, ◌≤◌, Bool, true, false, not, ◌&&◌, All, List, [], ◌∷◌, ◌++◌, length, Some, nat_le, length-append, arith, refl}
+use Rattle.std.proofs.Common.{◌≡◌, sym, subst, ℕ, ℤ, ◌+◌, ◌*◌, ◌≤◌, Bool, true, false, not, ◌&&◌}
+use Rattle.std.proofs.Common.{All, List, [], ◌∷◌, ◌++◌, length, Some, nat_le, length-append, arith}
+use Rattle.std.proofs.Common.{refl}
 use Rattle.std.specs.Fmt.{signed_decimal}
 use Rattle.std.specs.List.{list_all, AllZip}
 use Rattle.std.proofs.lemmas.Bool.{leb-true}
@@ -13,7 +15,9 @@ use Rattle.bw_text.proofs.SpacedWords.{line_said, plain_word}
 use Rattle.bw_model.specs.Limits.{longest_name}
 use Rattle.bw_model.specs.Name.{is_name, are_apart}
 use Rattle.bw_model.specs.Schema.{IsColumn}
-use Rattle.bw_model.specs.SchemaText.{ColumnShape, SchemaShape, shape, shape_names, column_words, table_words, is_range, SpellsColumn, SpellsSchema, IsSchemaText}
+use Rattle.bw_model.specs.SchemaText.{ColumnShape, SchemaShape, shape, shape_names, column_words}
+use Rattle.bw_model.specs.SchemaText.{table_words, is_range, SpellsColumn, SpellsSchema}
+use Rattle.bw_model.specs.SchemaText.{IsSchemaText}
 use Rattle.bw_model.proofs.BitsLemmas.{both}
 use Rattle.bw_schemas.specs.PrintedSchema.{column_line, columns_text, schema_text, table_line}
 use Rattle.bw_schemas.proofs.PrintedBounds.{bound_spelled, bound_plain, bound_length}

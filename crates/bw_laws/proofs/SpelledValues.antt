@@ -1,6 +1,8 @@
 -- A number in decimal, NULL and a name, each as a field of a CSV text: it needs no quotes, and it
 -- spells itself.
-use Rattle.std.proofs.Common.{◌≡◌, ◌∙◌, ℕ, ℤ, pos, negsuc, suc, ◌-ℤ◌, ◌-◌, ◌^◌, ◌<◌, ◌≤◌, List, [], ◌∷◌, Some, None, Ok, Bool, true, false, not, length, take, get_or, map, refl, sym, ap, arith, eqb, lt-ltb, FitsSigned, w64, All}
+use Rattle.std.proofs.Common.{◌≡◌, ◌∙◌, ℕ, ℤ, pos, negsuc, suc, ◌-ℤ◌, ◌-◌, ◌^◌, ◌<◌, ◌≤◌, List, []}
+use Rattle.std.proofs.Common.{◌∷◌, Some, None, Ok, Bool, true, false, not, length, take, get_or}
+use Rattle.std.proofs.Common.{map, refl, sym, ap, arith, eqb, lt-ltb, FitsSigned, w64, All}
 use Rattle.std.specs.Prelude.{◌&&◌, ◌||◌, int_le, nat_le}
 use Rattle.std.specs.Char.{is_ascii_digit, to_ascii_lowercase}
 use Rattle.std.specs.Fmt.{decimal, signed_decimal}
@@ -23,7 +25,8 @@ use Rattle.bw_text.specs.Text.{begins_word, goes_on_in_word, is_word, same_text}
 use Rattle.bw_text.proofs.DecimalLemmas.{Spells, decimal_spells}
 use Rattle.bw_answer.specs.Answer.{value_text}
 use Rattle.bw_csv.specs.Plain.{is_plain}
-use Rattle.bw_csv.specs.Rows.{after_minus, is_blank, is_heading, is_minus, value_of_field, without_blanks, without_end_blanks, without_front_blanks}
+use Rattle.bw_csv.specs.Rows.{after_minus, is_blank, is_heading, is_minus, value_of_field}
+use Rattle.bw_csv.specs.Rows.{without_blanks, without_end_blanks, without_front_blanks}
 use Rattle.bw_csv.proofs.DigitsAlone.{both, other_than, signed_digits}
 use Rattle.bw_csv.proofs.PlainFields.{plain_number}
 

@@ -1,5 +1,6 @@
 -- The text of a dump, and the table file that a load writes of it.
-use Rattle.std.specs.Prelude.{◌≡◌, ◌⊎◌, ℕ, ◌+◌, ◌*◌, List, ◌∷◌, map, Some, Result, Ok, Err, IsTrue, slice_index}
+use Rattle.std.specs.Prelude.{◌≡◌, ◌⊎◌, ℕ, ◌+◌, ◌*◌, List, ◌∷◌, map, Some, Result, Ok, Err, IsTrue}
+use Rattle.std.specs.Prelude.{slice_index}
 use Rattle.bw_model.specs.declared.fault.Fault.{Fault}
 use Rattle.bw_model.specs.declared.schema.Schema.{Schema}
 use Rattle.bw_model.specs.Column.{names_of}

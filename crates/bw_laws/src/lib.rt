@@ -4,7 +4,8 @@
 //! spells one schema or has one error; an inferred schema is spelled by its text. No other crate
 //! depends on them.
 //!
-//! Read `load_then_query.rt` with `specs/LoadThenQuery.antt` first, then `as_direct.rt` with `specs/AsDirect.antt`.
+//! Read `load_then_query.rt` with `specs/LoadThenQuery.antt` first, then `as_direct.rt` with
+//! `specs/AsDirect.antt`.
 #![tactic(auto)]
 
 mod as_direct;

@@ -1,5 +1,6 @@
 -- A segment that is read is kept after those before it.
-use Rattle.std.proofs.Common.{◌≡◌, ◌∙◌, refl, sym, ap, ap₂, subst, ℕ, ◌+◌, ◌*◌, ◌≤◌, min, List, [], ◌∷◌, ◌++◌, length, map, arith}
+use Rattle.std.proofs.Common.{◌≡◌, ◌∙◌, refl, sym, ap, ap₂, subst, ℕ, ◌+◌, ◌*◌, ◌≤◌, min, List, []}
+use Rattle.std.proofs.Common.{◌∷◌, ◌++◌, length, map, arith}
 use Rattle.bw_model.specs.declared.column.Column.{Column}
 use Rattle.bw_model.specs.declared.schema.Schema.{Schema}
 use Rattle.bw_model.specs.Groups.{group_size, groups_of, together}
@@ -14,7 +15,8 @@ use Rattle.bw_file.specs.declared.table_reader.TableReader.{TableReader}
 use Rattle.bw_file.specs.AnySegment.{any_is_group, any_layout, any_meaning}
 use Rattle.bw_file.specs.Blocks.{IsSound, form_of, rows_spelled}
 use Rattle.bw_file.specs.Reading.{State}
-use Rattle.bw_file.specs.TableReader.{IsSegmentOf, ReadWhole, SameTable, ReadProgress, found_so_far, layout_in, rows_given, rows_stated, schema_in}
+use Rattle.bw_file.specs.TableReader.{IsSegmentOf, ReadWhole, SameTable, ReadProgress, found_so_far}
+use Rattle.bw_file.specs.TableReader.{layout_in, rows_given, rows_stated, schema_in}
 use Rattle.bw_file.specs.TableReading.{found_as}
 use Rattle.bw_file.proofs.FileSpelling.{read_is_spelled_by}
 use Rattle.bw_file.proofs.MemoryAnswers.{columns_of}

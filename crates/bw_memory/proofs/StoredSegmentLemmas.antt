@@ -1,5 +1,7 @@
 -- Segments that are kept column by column, one after the other.
-use Rattle.std.proofs.Common.{◌≡◌, ◌∙◌, refl, sym, ap, ap₂, subst, ℕ, zero, suc, ◌+◌, ◌-◌, ◌*◌, ◌<◌, ◌≤◌, min, List, [], ◌∷◌, ◌++◌, map, length, Result, Ok, Err, inl, inr, add-one, length-append, arith}
+use Rattle.std.proofs.Common.{◌≡◌, ◌∙◌, refl, sym, ap, ap₂, subst, ℕ, zero, suc, ◌+◌, ◌-◌, ◌*◌, ◌<◌}
+use Rattle.std.proofs.Common.{◌≤◌, min, List, [], ◌∷◌, ◌++◌, map, length, Result, Ok, Err, inl, inr}
+use Rattle.std.proofs.Common.{add-one, length-append, arith}
 use Rattle.std.specs.Prelude.{OnOk}
 use Rattle.std.specs.List.{range_with_len}
 use Rattle.std.proofs.lemmas.Bool.{cases_lt}
@@ -17,7 +19,8 @@ use Rattle.bw_file.specs.declared.segments.AnySegment.TheVariants.{Planes, Slice
 use Rattle.bw_file.specs.AnySegment.{any_layout, any_meaning}
 use Rattle.bw_file.specs.Blocks.{IsSound, form_of, rows_spelled}
 use Rattle.bw_file.proofs.MemoryAnswers.{together_more}
-use Rattle.bw_memory.specs.StoredSegments.{AddSegment, AreOf, StoresSegments, stored_group, stored_groups, rows_numbered}
+use Rattle.bw_memory.specs.StoredSegments.{AddSegment, AreOf, StoresSegments, stored_group}
+use Rattle.bw_memory.specs.StoredSegments.{stored_groups, rows_numbered}
 
 pub on_ok_three : {E A K L M P : Type 0} (result : Result A E) → (K → L → M → P) → OnOk result K → OnOk result L → OnOk result M → OnOk result P
 on_ok_three (Ok x) f k l m = f k l m

@@ -1,5 +1,6 @@
 //! Reads a table into memory.
-ghost use Rattle.std.specs.Prelude.{◌≡◌, ◌-◌, ◌^◌, ◌<◌, ℕ, List, [], None, Some, IsTrue, IfOk, IfErr};
+ghost use Rattle.std.specs.Prelude.{◌≡◌, ◌-◌, ◌^◌, ◌<◌, ℕ, List, [], None, Some, IsTrue, IfOk};
+ghost use Rattle.std.specs.Prelude.{IfErr};
 ghost use Rattle.bw_model.specs.declared.schema.Schema.{Schema};
 ghost use Rattle.bw_model.specs.Row.{Value};
 ghost use Rattle.bw_segment.specs.ColumnBlocks.{StoresBlocks};
@@ -8,7 +9,8 @@ ghost use Rattle.bw_file.specs.declared.layout.Layout.{Layout};
 ghost use Rattle.bw_file.specs.Blocks.{form_of};
 ghost use Rattle.bw_file.specs.FileBytes.{IsFileBytes};
 ghost use Rattle.bw_file.specs.Reading.{State, state};
-ghost use Rattle.bw_file.specs.TableReader.{AnswersFault, ReadProgress, bytes_taken, layout_in, rows_given, schema_in, final_result};
+ghost use Rattle.bw_file.specs.TableReader.{AnswersFault, ReadProgress, bytes_taken, layout_in};
+ghost use Rattle.bw_file.specs.TableReader.{rows_given, schema_in, final_result};
 ghost use Rattle.bw_file.specs.TableReading.{IsTableFault};
 ghost use Rattle.bw_memory.specs.MemoryTable.{HasReadTable, layout_of, rows_of, schema_of};
 ghost use Rattle.bw_memory.specs.ReadSegments.{StoresAllSegments};

@@ -31,7 +31,8 @@ pub struct MemoryTable {
 }
 
 impl MemoryTable {
-    ghost use Rattle.bw_memory.specs.MemoryTable.{layout_of, meaning_numbered, rows_of, schema_of, segments_in};
+    ghost use Rattle.bw_memory.specs.MemoryTable.{layout_of, meaning_numbered, rows_of, schema_of};
+    ghost use Rattle.bw_memory.specs.MemoryTable.{segments_in};
 
     /// Returns the table's schema.
     pub fn schema(&self) -> &Schema

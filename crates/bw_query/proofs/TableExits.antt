@@ -1,6 +1,7 @@
 -- Where a call over a table file ends: at the header, at the query, at a segment, or when the text
 -- is written.
-use Rattle.std.proofs.Common.{◌≡◌, ◌∙◌, ℕ, ◌+◌, List, ◌++◌, Bool, true, false, ◌||◌, ◌==◌, inl, inr, Option, Some, None, Result, Ok, Err, refl, sym, ap, subst, arith}
+use Rattle.std.proofs.Common.{◌≡◌, ◌∙◌, ℕ, ◌+◌, List, ◌++◌, Bool, true, false, ◌||◌, ◌==◌, inl, inr}
+use Rattle.std.proofs.Common.{Option, Some, None, Result, Ok, Err, refl, sym, ap, subst, arith}
 use Rattle.std.specs.Prelude.{OnOk}
 use Rattle.std.specs.Io.KnownBytes.{Appends, Consumes, IsAtEnd}
 use Rattle.std.proofs.lemmas.Bool.{eqb-true}
@@ -14,7 +15,8 @@ use Rattle.bw_sql.specs.Refusal.{IsStatementFault, is_statement_fault}
 use Rattle.bw_cert.specs.FileVerdict.{is_file_fault}
 use Rattle.bw_model.specs.Groups.{groups_of, together}
 use Rattle.bw_model.specs.Row.{Value}
-use Rattle.bw_io.specs.Sink.{GoesOut, WriteOutcome, beginning, everything, is_write_fault, none_aside, nothing}
+use Rattle.bw_io.specs.Sink.{GoesOut, WriteOutcome, beginning, everything, is_write_fault}
+use Rattle.bw_io.specs.Sink.{none_aside, nothing}
 use Rattle.bw_io.proofs.SinkLemmas.{no_write_fault, wrote_nothing, wrote_text}
 use Rattle.bw_io.specs.Source.{TellsFailure, failed_by, failed_reads, is_input_fault, is_read_fault}
 use Rattle.bw_file.specs.FileBytes.{IsFileBytes}

@@ -1,5 +1,6 @@
 -- The program that serves a condition, chosen among program files.
-use Rattle.std.specs.Prelude.{All, ◌≡◌, ◌≤◌, ℕ, List, length, map, slice_get, take, Option, Some, None, Vec}
+use Rattle.std.specs.Prelude.{All, ◌≡◌, ◌≤◌, ℕ, List, length, map, slice_get, take, Option, Some}
+use Rattle.std.specs.Prelude.{None, Vec}
 use Rattle.std.specs.declared.alloc.Global.{Global}
 use Rattle.bw_model.specs.declared.column.Column.{Column}
 use Rattle.bw_model.specs.declared.cond.Cond.{Cond}

@@ -1,5 +1,6 @@
 -- The expected result of a query over a table file, by the bytes that its source yielded.
-use Rattle.std.specs.Prelude.{◌≡◌, ◌⊎◌, ℕ, ◌+◌, ◌||◌, Bool, true, false, IsTrue, List, [], length, map, Option, Result, Ok, Err}
+use Rattle.std.specs.Prelude.{◌≡◌, ◌⊎◌, ℕ, ◌+◌, ◌||◌, Bool, true, false, IsTrue, List, [], length}
+use Rattle.std.specs.Prelude.{map, Option, Result, Ok, Err}
 use Rattle.std.specs.Io.KnownBytes.{Appends}
 use Rattle.std.specs.List.{range_with_len}
 use Rattle.bw_model.specs.declared.fault.Fault.{Fault}
@@ -20,7 +21,8 @@ use Rattle.bw_file.specs.declared.layout.Layout.{Layout}
 use Rattle.bw_file.specs.FileBytes.{IsFileBytes}
 use Rattle.bw_file.specs.Reading.{State, HasConsumed, GoesOn, Fails, give}
 use Rattle.bw_file.specs.TableReading.{HeaderShape, Found, header}
-use Rattle.bw_file.specs.TableReader.{AreUnfinished, HasFirstFault, NoneToSpare, ReadWhole, ReadProgress, header_stated, version_in}
+use Rattle.bw_file.specs.TableReader.{AreUnfinished, HasFirstFault, NoneToSpare, ReadWhole}
+use Rattle.bw_file.specs.TableReader.{ReadProgress, header_stated, version_in}
 use Rattle.bw_file.specs.declared.table_reader.TableReader.{TableReader}
 use Rattle.bw_query.specs.Scan.{IsScanFault, IsUsable}
 

@@ -1,5 +1,6 @@
 //! The text of a result over a table in memory, one segment at a time.
-ghost use Rattle.std.specs.Prelude.{◌≡◌, ◌+◌, ◌<◌, ◌≤◌, true, IsTrue, IfOk, IfErr, OnOk, length, vec_len};
+ghost use Rattle.std.specs.Prelude.{◌≡◌, ◌+◌, ◌<◌, ◌≤◌, true, IsTrue, IfOk, IfErr, OnOk, length};
+ghost use Rattle.std.specs.Prelude.{vec_len};
 ghost use Rattle.std.specs.List.{list_all};
 ghost use Rattle.bw_model.specs.Column.{names_of};
 ghost use Rattle.bw_model.specs.Fault.{no_memory};
@@ -9,7 +10,8 @@ ghost use Rattle.bw_sql.specs.Items.{AreOfOneKind};
 ghost use Rattle.bw_answer.specs.Answer.{csv_text, meaning};
 ghost use Rattle.bw_answer.specs.TextAndTotals.{CountsRows};
 ghost use Rattle.bw_answer.specs.Progress.{GoesOver, query_in};
-ghost use Rattle.bw_memory.specs.MemoryTable.{groups_in, meaning_numbered, rows_of, schema_of, segments_in};
+ghost use Rattle.bw_memory.specs.MemoryTable.{groups_in, meaning_numbered, rows_of, schema_of};
+ghost use Rattle.bw_memory.specs.MemoryTable.{segments_in};
 ghost use Rattle.bw_query.specs.Scan.{IsFor, loads_in, skips_in};
 ghost use Rattle.bw_query.specs.TableText.{IsScanOf};
 

@@ -1,5 +1,6 @@
 //! Runs queries over a table file.
-ghost use Rattle.std.specs.Prelude.{◌≡◌, ◌-◌, ◌^◌, ◌<◌, ◌≤◌, ℕ, List, Option, Result, Ok, Err, None, Some, false, length, vec_len, IsTrue, IfOk, IfErr, OnOk};
+ghost use Rattle.std.specs.Prelude.{◌≡◌, ◌-◌, ◌^◌, ◌<◌, ◌≤◌, ℕ, List, Option, Result, Ok, Err};
+ghost use Rattle.std.specs.Prelude.{None, Some, false, length, vec_len, IsTrue, IfOk, IfErr, OnOk};
 ghost use Rattle.std.specs.Io.KnownBytes.{Appends};
 ghost use Rattle.std.specs.List.{list_all};
 ghost use Rattle.bw_model.specs.declared.fault.Fault.{Fault};
@@ -21,7 +22,8 @@ ghost use Rattle.bw_io.specs.Source.{TellsFailure, is_read_fault};
 ghost use Rattle.bw_query.specs.AnswerText.{bytes_in, text_in};
 ghost use Rattle.bw_query.specs.Scan.{IsChosen, IsFor, given_file};
 ghost use Rattle.bw_query.specs.Served.{IsServed};
-ghost use Rattle.bw_query.specs.TableAnswer.{AnswersFile, HasReadHeader, IsEveryRow, TableGave, TableText, by_dump, by_statement, is_no_verdict};
+ghost use Rattle.bw_query.specs.TableAnswer.{AnswersFile, HasReadHeader, IsEveryRow, TableGave};
+ghost use Rattle.bw_query.specs.TableAnswer.{TableText, by_dump, by_statement, is_no_verdict};
 
 use crate::scan::{Scan, scan_for};
 use crate::served::report_of;

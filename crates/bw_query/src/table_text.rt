@@ -1,5 +1,6 @@
 //! The text of a result over a table file, one segment at a time.
-ghost use Rattle.std.specs.Prelude.{◌≡◌, ◌+◌, ◌-◌, ◌^◌, ◌<◌, ◌≤◌, ◌++◌, ℕ, List, [], None, false, true, IsTrue, IfOk, IfErr, OnOk, length, vec_len};
+ghost use Rattle.std.specs.Prelude.{◌≡◌, ◌+◌, ◌-◌, ◌^◌, ◌<◌, ◌≤◌, ◌++◌, ℕ, List, [], None, false};
+ghost use Rattle.std.specs.Prelude.{true, IsTrue, IfOk, IfErr, OnOk, length, vec_len};
 ghost use Rattle.std.specs.List.{list_all};
 ghost use Rattle.bw_model.specs.Column.{names_of};
 ghost use Rattle.bw_model.specs.Fault.{no_memory};
@@ -13,7 +14,8 @@ ghost use Rattle.bw_answer.specs.declared.answer.Answer.{Answer};
 ghost use Rattle.bw_io.specs.Sink.{is_write_fault};
 ghost use Rattle.bw_file.specs.AnySegment.{any_meaning};
 ghost use Rattle.bw_file.specs.Reading.{State, state};
-ghost use Rattle.bw_file.specs.TableReader.{schema_in, bytes_taken, rows_given, final_result, ReadProgress, AnswersFault};
+ghost use Rattle.bw_file.specs.TableReader.{schema_in, bytes_taken, rows_given, final_result};
+ghost use Rattle.bw_file.specs.TableReader.{ReadProgress, AnswersFault};
 ghost use Rattle.bw_query.specs.Scan.{IsFor, loads_in, skips_in};
 ghost use Rattle.bw_query.specs.TableText.{TextOver, TookAll};
 

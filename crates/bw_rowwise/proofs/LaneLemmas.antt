@@ -1,7 +1,11 @@
 -- Truth values in lanes, worked out one after another.
-use Rattle.std.proofs.Common.{◌≡◌, ◌∙◌, refl, sym, ap, ◌⊎◌, inl, inr, ℕ, zero, suc, ◌+◌, ◌-◌, ◌<◌, ◌≤◌, leb, Bool, true, false, ◌&&◌, List, [], ◌∷◌, ◌++◌, None, length, length-append, map, replicate, get_or, arith}
+use Rattle.std.proofs.Common.{◌≡◌, ◌∙◌, refl, sym, ap, ◌⊎◌, inl, inr, ℕ, zero, suc, ◌+◌, ◌-◌, ◌<◌}
+use Rattle.std.proofs.Common.{◌≤◌, leb, Bool, true, false, ◌&&◌, List, [], ◌∷◌, ◌++◌, None, length}
+use Rattle.std.proofs.Common.{length-append, map, replicate, get_or, arith}
 use Rattle.std.proofs.lemmas.Bool.Decides.{leb_tells}
-use Rattle.std.proofs.lemmas.List.{ext_get_or, get_or-append-add, get_or_past, get_or-map, get_or_append_left, get_or-replicate, length-map, length-replicate}
+use Rattle.std.proofs.lemmas.List.{ext_get_or, get_or-append-add, get_or_past, get_or-map}
+use Rattle.std.proofs.lemmas.List.{get_or_append_left, get_or-replicate, length-map}
+use Rattle.std.proofs.lemmas.List.{length-replicate}
 use Rattle.std.specs.List.{list_all}
 use Rattle.bw_model.specs.Column.{admits_values}
 use Rattle.bw_model.specs.declared.column.Column.{Column}

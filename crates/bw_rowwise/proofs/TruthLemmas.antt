@@ -1,10 +1,13 @@
 -- Truth values told by two bits: whether one is TRUE, and whether it isn't FALSE.
-use Rattle.std.proofs.Common.{◌≡◌, ◌∙◌, refl, sym, ap, ℕ, ℤ, ◌+◌, ◌<◌, List, [], ◌∷◌, ◌++◌, map, take, drop, length, get_or, Bool, true, false, not, cond, ◌&&◌, ◌||◌, Some, None}
+use Rattle.std.proofs.Common.{◌≡◌, ◌∙◌, refl, sym, ap, ℕ, ℤ, ◌+◌, ◌<◌, List, [], ◌∷◌, ◌++◌, map}
+use Rattle.std.proofs.Common.{take, drop, length, get_or, Bool, true, false, not, cond, ◌&&◌, ◌||◌}
+use Rattle.std.proofs.Common.{Some, None}
 use Rattle.std.proofs.lemmas.List.{map-append, take_more, take-append-drop}
 use Rattle.bw_model.specs.declared.cond.Op.{Op}
 use Rattle.bw_model.specs.declared.cond.Truth.{Truth}
 use Rattle.bw_model.specs.declared.cond.Truth.TheVariants.{No, Unknown, Yes}
-use Rattle.bw_model.specs.Truth.{all_of, any_of, compare_values, greatest, holds, is_truth, least, negation, truth_from}
+use Rattle.bw_model.specs.Truth.{all_of, any_of, compare_values, greatest, holds, is_truth, least}
+use Rattle.bw_model.specs.Truth.{negation, truth_from}
 use Rattle.bw_rowwise.proofs.LogicLemmas.{greatest_assoc, least_assoc}
 use Rattle.bw_rowwise.specs.Lanes.{AreTruths}
 use Rattle.bw_rowwise.specs.declared.truths.Truths.{Truths}

@@ -1,5 +1,6 @@
 //! A condition that filters the rows of segments.
-ghost use Rattle.std.specs.Prelude.{◌≡◌, ◌-◌, ◌++◌, false, length, map, replicate, IfOk, IsOkUnless};
+ghost use Rattle.std.specs.Prelude.{◌≡◌, ◌-◌, ◌++◌, false, length, map, replicate, IfOk};
+ghost use Rattle.std.specs.Prelude.{IsOkUnless};
 ghost use Rattle.bw_lanes.specs.Lanes.{lanes_of_words};
 ghost use Rattle.bw_model.specs.Fault.{no_memory};
 ghost use Rattle.bw_model.specs.Groups.{group_size};

@@ -1,5 +1,7 @@
 -- The comments after a schema's text say nothing, and are short.
-use Rattle.std.proofs.Common.{◌≡◌, ◌∙◌, refl, sym, ap, subst, ℕ, ◌+◌, ◌*◌, ◌/◌, ◌^◌, ◌<◌, ◌≤◌, true, List, [], ◌∷◌, ◌++◌, length, append_assoc, length-append, codes, arith}
+use Rattle.std.proofs.Common.{◌≡◌, ◌∙◌, refl, sym, ap, subst, ℕ, ◌+◌, ◌*◌, ◌/◌, ◌^◌, ◌<◌, ◌≤◌, true}
+use Rattle.std.proofs.Common.{List, [], ◌∷◌, ◌++◌, length, append_assoc, length-append, codes}
+use Rattle.std.proofs.Common.{arith}
 use Rattle.std.specs.Fmt.{decimal}
 use Rattle.std.specs.List.{list_all}
 use Rattle.std.proofs.lemmas.List.{append-nil}
@@ -16,7 +18,8 @@ use Rattle.bw_schemas.proofs.PrintedBounds.{natural_plain, natural_short}
 use Rattle.bw_text.specs.Printing.{is_plain_word, spaced}
 use Rattle.bw_text.proofs.SpacedWords.{line_skipped}
 use Rattle.bw_schemas.proofs.PrintedText.{no_comments}
-use Rattle.bw_schemas.specs.Info.{comment, facts_text, file_size, info_text, layout_word, segment_count}
+use Rattle.bw_schemas.specs.Info.{comment, facts_text, file_size, info_text, layout_word}
+use Rattle.bw_schemas.specs.Info.{segment_count}
 
 -- a comment line in front of comments
 comment_more : (word value rest : List ℕ) → is_plain_word word ≡ true → is_plain_word value ≡ true → AreComments rest → AreComments (comment word value ++ rest)

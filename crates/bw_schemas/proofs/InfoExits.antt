@@ -1,5 +1,6 @@
 -- Where a call that reports a header ends: at the header, or when the text is written.
-use Rattle.std.proofs.Common.{◌≡◌, ◌∙◌, ◌+◌, refl, sym, ap, subst, ℕ, Bool, true, false, ◌||◌, List, [], length, Option, Result, Ok, Err, arith}
+use Rattle.std.proofs.Common.{◌≡◌, ◌∙◌, ◌+◌, refl, sym, ap, subst, ℕ, Bool, true, false, ◌||◌, List}
+use Rattle.std.proofs.Common.{[], length, Option, Result, Ok, Err, arith}
 use Rattle.std.specs.Prelude.{OnOk}
 use Rattle.std.specs.Io.KnownBytes.{Appends}
 use Rattle.bw_model.specs.declared.fault.Fault.{Fault}
@@ -14,7 +15,8 @@ use Rattle.bw_file.specs.declared.layout.Layout.{Layout}
 use Rattle.bw_file.specs.declared.table_reader.TableReader.{TableReader}
 use Rattle.bw_file.specs.FileBytes.{IsFileBytes}
 use Rattle.bw_file.specs.Reading.{State, Fails, GoesOn, give}
-use Rattle.bw_file.specs.TableReader.{GaveFirst, header_stated, layout_in, rows_stated, schema_in, version_in}
+use Rattle.bw_file.specs.TableReader.{GaveFirst, header_stated, layout_in, rows_stated, schema_in}
+use Rattle.bw_file.specs.TableReader.{version_in}
 use Rattle.bw_file.specs.TableReading.{IsTableFault, header, is_table_fault}
 use Rattle.bw_model.proofs.SameColumns.{columns_same}
 use Rattle.bw_schemas.specs.Info.{InfoGave, TellsFile, info_text, is_no_verdict}

@@ -1,5 +1,6 @@
 -- Bounds in decimal spell themselves.
-use Rattle.std.proofs.Common.{◌≡◌, refl, ap, ◌-ℤ◌, ℕ, ℤ, pos, negsuc, FitsSigned, suc, ◌^◌, ◌<◌, ◌≤◌, true, List, [], ◌∷◌, length, Some, arith, w64}
+use Rattle.std.proofs.Common.{◌≡◌, refl, ap, ◌-ℤ◌, ℕ, ℤ, pos, negsuc, FitsSigned, suc, ◌^◌, ◌<◌}
+use Rattle.std.proofs.Common.{◌≤◌, true, List, [], ◌∷◌, length, Some, arith, w64}
 use Rattle.std.specs.Char.{is_ascii_digit}
 use Rattle.std.specs.Fmt.{decimal, signed_decimal}
 use Rattle.std.specs.List.{list_all}

@@ -1,5 +1,6 @@
 -- How long the header of a table file is, and the whole file.
-use Rattle.std.proofs.Common.{◌≡◌, ◌∙◌, sym, ap, subst, ℕ, ◌+◌, ◌*◌, ◌≤◌, All, true, List, [], ◌∷◌, ◌++◌, length, length-append, inl, inr, arith}
+use Rattle.std.proofs.Common.{◌≡◌, ◌∙◌, sym, ap, subst, ℕ, ◌+◌, ◌*◌, ◌≤◌, All, true, List, [], ◌∷◌}
+use Rattle.std.proofs.Common.{◌++◌, length, length-append, inl, inr, arith}
 use Rattle.std.specs.List.{flat_map, list_all}
 use Rattle.std.proofs.lemmas.List.{append-nil}
 use Rattle.std.proofs.lemmas.List.Elements.{All-nil, All-cons, All-head, All-tail}
@@ -16,7 +17,8 @@ use Rattle.bw_segment.proofs.BytesLemmas.{length-text}
 use Rattle.bw_file.specs.declared.layout.Layout.{Layout}
 use Rattle.bw_file.specs.declared.table_reader.TableReader.{TableReader}
 use Rattle.bw_file.specs.Blocks.{form_of, segment_size, segment_bytes}
-use Rattle.bw_file.specs.FileBytes.{AreRows, IsFileBytes, front_bytes, header_bytes, segments_bytes, bytes_of_version, version_for}
+use Rattle.bw_file.specs.FileBytes.{AreRows, IsFileBytes, front_bytes, header_bytes, segments_bytes}
+use Rattle.bw_file.specs.FileBytes.{bytes_of_version, version_for}
 use Rattle.bw_file.specs.Reading.{State, GoesOn, give, tail}
 use Rattle.bw_file.specs.TableReader.{header_stated, layout_in, rows_stated, schema_in, version_in}
 use Rattle.bw_file.specs.TableReading.{header}

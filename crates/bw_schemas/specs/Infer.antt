@@ -1,5 +1,6 @@
 -- The expected text of a call that infers a schema, by what the CSV's source yielded.
-use Rattle.std.specs.Prelude.{◌≡◌, ◌||◌, ◌&&◌, Bool, ℕ, List, length, nat_le, not, Option, Result, Ok}
+use Rattle.std.specs.Prelude.{◌≡◌, ◌||◌, ◌&&◌, Bool, ℕ, List, length, nat_le, not, Option, Result}
+use Rattle.std.specs.Prelude.{Ok}
 use Rattle.std.specs.Io.KnownBytes.{Appends}
 use Rattle.bw_model.specs.FaultTable.{SCHEMA_NAME, COLUMN_COUNT}
 use Rattle.bw_model.specs.declared.fault.Fault.{Fault}

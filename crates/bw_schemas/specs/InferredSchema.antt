@@ -1,6 +1,7 @@
 -- The schema that is inferred from a CSV text: the columns of its heading, as narrow as their
 -- values.
-use Rattle.std.specs.Prelude.{◌≡◌, ℕ, ℤ, suc, pos, ◌<◌, Bool, not, List, [], ◌∷◌, length, Option, Some, None, Result, Ok, Err, slice_index_or}
+use Rattle.std.specs.Prelude.{◌≡◌, ℕ, ℤ, suc, pos, ◌<◌, Bool, not, List, [], ◌∷◌, length, Option}
+use Rattle.std.specs.Prelude.{Some, None, Result, Ok, Err, slice_index_or}
 use Rattle.std.specs.List.{list_any}
 use Rattle.bw_model.specs.FaultTable.{SCHEMA_RANGE, NO_HEADING}
 use Rattle.bw_model.specs.declared.column.Column.{Column}

@@ -1,5 +1,6 @@
 //! The columns of a schema, from the statistics of their values.
-ghost use Rattle.std.specs.Prelude.{◌≡◌, ◌≤ℤ◌, ◌<ℤ◌, ◌-ℤ◌, ◌^◌, pos, length, map, true, false, IfOk, IfErr, IsTrue};
+ghost use Rattle.std.specs.Prelude.{◌≡◌, ◌≤ℤ◌, ◌<ℤ◌, ◌-ℤ◌, ◌^◌, pos, length, map, true, false};
+ghost use Rattle.std.specs.Prelude.{IfOk, IfErr, IsTrue};
 ghost use Rattle.bw_model.specs.Column.{names_of};
 ghost use Rattle.bw_model.specs.SchemaText.{column_shape, is_range};
 ghost use Rattle.bw_csv.specs.Rows.{MatchesUnlessExempt, is_reader_fault};

@@ -1,5 +1,6 @@
 //! The schema that is inferred from a CSV text.
-ghost use Rattle.std.specs.Prelude.{◌≡◌, ℕ, List, Ok, true, length, map, replicate, IfErr, IfOk, OnOk, IsTrue};
+ghost use Rattle.std.specs.Prelude.{◌≡◌, ℕ, List, Ok, true, length, map, replicate, IfErr, IfOk};
+ghost use Rattle.std.specs.Prelude.{OnOk, IsTrue};
 ghost use Rattle.bw_model.specs.declared.schema.Schema.{Schema};
 ghost use Rattle.bw_model.specs.Limits.{most_rows};
 ghost use Rattle.bw_model.specs.Name.{is_name};

@@ -1,13 +1,16 @@
 -- The reader finds the end of a statement: its state after the bytes so far decides whether the
 -- next one ends it.
-use Rattle.std.proofs.Common.{◌≡◌, refl, sym, ap, ◌∙◌, subst, ℕ, Bool, true, false, List, [], ◌∷◌, ◌++◌, arith}
+use Rattle.std.proofs.Common.{◌≡◌, refl, sym, ap, ◌∙◌, subst, ℕ, Bool, true, false, List, [], ◌∷◌}
+use Rattle.std.proofs.Common.{◌++◌, arith}
 use Rattle.std.proofs.lemmas.Bool.Decides.{nat_tests}
 use Rattle.std.specs.Prelude.{◌==◌, ◌&&◌, ◌||◌, not, if◌then◌else◌}
 use Rattle.std.specs.List.{list_all}
 use Rattle.bw_session.specs.declared.statement_state.StatementState.{StatementState}
-use Rattle.bw_session.specs.declared.statement_state.StatementState.TheVariants.{Blank, Text, Dash, Comment, Ended}
+use Rattle.bw_session.specs.declared.statement_state.StatementState.TheVariants.{Blank, Text, Dash}
+use Rattle.bw_session.specs.declared.statement_state.StatementState.TheVariants.{Comment, Ended}
 use Rattle.bw_session.specs.StatementState.{after, is_ended, statement_state_after}
-use Rattle.bw_session.specs.Statements.{IsOpen, ends_statement, has_comment, is_blank, last_line, line_from}
+use Rattle.bw_session.specs.Statements.{IsOpen, ends_statement, has_comment, is_blank, last_line}
+use Rattle.bw_session.specs.Statements.{line_from}
 
 pub true_is_not_false : true ≡ false → ⊥
 true_is_not_false p = cc

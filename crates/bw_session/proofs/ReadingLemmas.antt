@@ -1,5 +1,7 @@
 -- One more byte of a statement.
-use Rattle.std.proofs.Common.{◌≡◌, refl, sym, ap, ◌∙◌, subst, ℕ, ◌+◌, ◌≤◌, ◌<◌, Bool, true, false, List, [], ◌∷◌, ◌++◌, Option, None, Some, Result, Ok, Err, length, take, arith, append-nil, length-append, length-take, take_all}
+use Rattle.std.proofs.Common.{◌≡◌, refl, sym, ap, ◌∙◌, subst, ℕ, ◌+◌, ◌≤◌, ◌<◌, Bool, true, false}
+use Rattle.std.proofs.Common.{List, [], ◌∷◌, ◌++◌, Option, None, Some, Result, Ok, Err, length}
+use Rattle.std.proofs.Common.{take, arith, append-nil, length-append, length-take, take_all}
 use Rattle.std.proofs.lemmas.List.{take-append-le}
 use Rattle.std.proofs.lemmas.Bool.{ltb-true, ltb-false}
 use Rattle.std.proofs.KnownBytes.{Consumes-nil, Consumes-trans}
@@ -10,7 +12,8 @@ use Rattle.bw_session.specs.declared.statement_state.StatementState.{StatementSt
 use Rattle.bw_session.specs.declared.statement_state.StatementState.TheVariants.{Blank}
 use Rattle.bw_session.specs.StatementState.{after, is_ended, statement_state_after}
 use Rattle.bw_session.specs.Statements.{IsOpen}
-use Rattle.bw_session.proofs.CutLemmas.{ended_by, opened, statement_state_after-snoc, true_is_not_false}
+use Rattle.bw_session.proofs.CutLemmas.{ended_by, opened, statement_state_after-snoc}
+use Rattle.bw_session.proofs.CutLemmas.{true_is_not_false}
 use Rattle.bw_session.specs.Reading.{Reads, TookBeginning, TookStatement, most_stored, with_byte}
 
 no_bool : {A : Type 0} → true ≡ false → A

@@ -1,5 +1,7 @@
 -- One statement more of a session, and how it ends.
-use Rattle.std.proofs.Common.{◌≡◌, refl, sym, ap, ◌∙◌, subst, ℕ, ◌+◌, Bool, true, false, List, [], ◌++◌, Option, None, length, arith, append-nil, length-append, IsTrue, inl, inr}
+use Rattle.std.proofs.Common.{◌≡◌, refl, sym, ap, ◌∙◌, subst, ℕ, ◌+◌, Bool, true, false, List, []}
+use Rattle.std.proofs.Common.{◌++◌, Option, None, length, arith, append-nil, length-append, IsTrue}
+use Rattle.std.proofs.Common.{inl, inr}
 use Rattle.std.proofs.Math.Seq.{take-append-add}
 use Rattle.std.proofs.KnownBytes.{Appends-nil, Appends-trans, Consumes-nil, Consumes-trans}
 use Rattle.std.specs.Io.KnownBytes.{Appends, Consumes}
@@ -13,7 +15,9 @@ use Rattle.bw_io.specs.Source.{failed_reads, is_input_fault}
 use Rattle.bw_io.proofs.SinkLemmas.{no_write_fault}
 use Rattle.bw_session.specs.Reading.{TookBeginning, TookStatement}
 use Rattle.std.specs.Prelude.{if◌then◌else◌}
-use Rattle.bw_session.specs.Session.{IsReadCompletely, Ended, IsOutput, RanSoFar, EndedEarly, WroteOutput, WrotePart, begun, failed_writes, first_of, more, reading, whole, writing}
+use Rattle.bw_session.specs.Session.{IsReadCompletely, Ended, IsOutput, RanSoFar, EndedEarly}
+use Rattle.bw_session.specs.Session.{WroteOutput, WrotePart, begun, failed_writes, first_of, more}
+use Rattle.bw_session.specs.Session.{reading, whole, writing}
 use Rattle.bw_session.proofs.CutLemmas.{none_opened}
 use Rattle.bw_session.proofs.KeptLemmas.{kept_output}
 

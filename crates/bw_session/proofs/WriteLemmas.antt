@@ -1,5 +1,7 @@
 -- What is written for one statement: an answer or nothing, and then an LF.
-use Rattle.std.proofs.Common.{◌≡◌, refl, sym, ap, ◌∙◌, subst, ℕ, ◌+◌, Bool, true, false, List, [], ◌∷◌, ◌++◌, Option, Some, None, Result, Ok, Err, length, arith, length-append, inl, inr}
+use Rattle.std.proofs.Common.{◌≡◌, refl, sym, ap, ◌∙◌, subst, ℕ, ◌+◌, Bool, true, false, List, []}
+use Rattle.std.proofs.Common.{◌∷◌, ◌++◌, Option, Some, None, Result, Ok, Err, length, arith}
+use Rattle.std.proofs.Common.{length-append, inl, inr}
 use Rattle.std.proofs.lemmas.List.{take-append-le}
 use Rattle.std.proofs.Math.Seq.{take-append-add}
 use Rattle.std.proofs.KnownBytes.{Appends-nil, Appends-trans}
@@ -8,7 +10,8 @@ use Rattle.std.specs.Io.KnownBytes.{Appends}
 use Rattle.bw_model.specs.declared.fault.Fault.{Fault}
 use Rattle.bw_model.specs.declared.schema.Schema.{Schema}
 use Rattle.bw_model.specs.Row.{Value}
-use Rattle.bw_io.specs.Sink.{TookPart, WriteOutcome, beginning, everything, is_write_fault, none_aside, nothing}
+use Rattle.bw_io.specs.Sink.{TookPart, WriteOutcome, beginning, everything, is_write_fault}
+use Rattle.bw_io.specs.Sink.{none_aside, nothing}
 use Rattle.bw_query.specs.MemoryAnswer.{IsMemoryAnswer, RowsText}
 use Rattle.bw_query.specs.TableAnswer.{by_statement}
 use Rattle.bw_sql.specs.Statement.{IsReadAs}

@@ -1,5 +1,6 @@
 -- The bytes of a statement, as they are read from a source.
-use Rattle.std.specs.Prelude.{◌≡◌, ℕ, Bool, true, false, List, [], ◌∷◌, ◌++◌, length, Option, Some, None, take, ltb, if◌then◌else◌}
+use Rattle.std.specs.Prelude.{◌≡◌, ℕ, Bool, true, false, List, [], ◌∷◌, ◌++◌, length, Option, Some}
+use Rattle.std.specs.Prelude.{None, take, ltb, if◌then◌else◌}
 use Rattle.std.specs.Io.KnownBytes.{Consumes, IsAtEnd}
 use Rattle.bw_session.specs.declared.statement_state.StatementState.{StatementState}
 use Rattle.bw_session.specs.declared.statement_state.StatementState.TheVariants.{Blank}

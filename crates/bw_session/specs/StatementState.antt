@@ -1,7 +1,8 @@
 -- The state of a statement, byte by byte.
 use Rattle.std.specs.Prelude.{ℕ, Bool, true, false, List, [], ◌∷◌, ◌==◌, if◌then◌else◌}
 use Rattle.bw_session.specs.declared.statement_state.StatementState.{StatementState}
-use Rattle.bw_session.specs.declared.statement_state.StatementState.TheVariants.{Blank, Text, Dash, Comment, Ended}
+use Rattle.bw_session.specs.declared.statement_state.StatementState.TheVariants.{Blank, Text, Dash}
+use Rattle.bw_session.specs.declared.statement_state.StatementState.TheVariants.{Comment, Ended}
 use Rattle.bw_session.specs.Statements.{is_blank}
 
 -- After a byte of text: an LF begins a line that is blank so far, a semicolon ends the statement,

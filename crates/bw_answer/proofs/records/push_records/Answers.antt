@@ -1,5 +1,6 @@
 -- The records of more rows after the others.
-use Rattle.std.proofs.Common.{◌∙◌, ◌≤◌, ◌++◌, refl, ap, sym, map, arith, append-nil, length, drop, ◌-◌}
+use Rattle.std.proofs.Common.{◌∙◌, ◌≤◌, ◌++◌, refl, ap, sym, map, arith, append-nil, length, drop}
+use Rattle.std.proofs.Common.{◌-◌}
 use Rattle.std.proofs.lemmas.List.{take_all, length-drop}
 use Rattle.bw_lanes.specs.Lanes.{lanes_of_words}
 use Rattle.bw_answer.specs.Answer.{csv_text}

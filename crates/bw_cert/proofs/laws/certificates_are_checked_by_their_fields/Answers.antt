@@ -11,7 +11,8 @@ use Rattle.bw_cert_rules.specs.Pair.{pair_of}
 use Rattle.bw_cert_rules.specs.Walk.{check_lines}
 use Rattle.bw_cert.specs.StatedFacts.{facts_stated}
 use Rattle.bw_cert.specs.Valid.{end_on}
-use Rattle.bw_cert.proofs.SameLemmas.{bind-same, facts_stated-same, after_pair, after_walk, end-same}
+use Rattle.bw_cert.proofs.SameLemmas.{bind-same, facts_stated-same, after_pair, after_walk}
+use Rattle.bw_cert.proofs.SameLemmas.{end-same}
 use Rattle.bw_cert.proofs.laws.certificates_are_checked_by_their_fields.Goals as goal
 
 pub returns : goal.returns

@@ -6,7 +6,8 @@ use Rattle.bw_csv.specs.Fields.{HasMoreFields, is_field_closed}
 use Rattle.bw_csv.specs.Plain.{state_of}
 use Rattle.bw_csv.proofs.CutLemmas.{begins_field, begins_next, begins_nothing, has_more}
 use Rattle.bw_csv.proofs.many_fields.after_fields.Goals as goal
-use Rattle.bw_csv.proofs.many_fields.after_fields.Goals.{then-closes_field+else-closed-count, else-closes_field}
+use Rattle.bw_csv.proofs.many_fields.after_fields.Goals.{then-closes_field+else-closed-count}
+use Rattle.bw_csv.proofs.many_fields.after_fields.Goals.{else-closes_field}
 
 pub loop-i-init : goal.loop-i-init
 loop-i-init c = begins_nothing c.args.text.now

@@ -10,7 +10,8 @@ use Rattle.bw_csv.specs.Input.{IsMadeOf}
 use Rattle.bw_csv.proofs.InputLemmas.{made_of_none}
 use Rattle.bw_csv_calls.specs.ReadInputs.{IsSchemaFrom}
 use Rattle.bw_csv_calls.specs.Load.{IsFile, file_of}
-use Rattle.bw_csv_calls.proofs.Exits.{Given, came_of, stopped_of, refused_exit, text_exit, not_reached}
+use Rattle.bw_csv_calls.proofs.Exits.{Given, came_of, stopped_of, refused_exit, text_exit}
+use Rattle.bw_csv_calls.proofs.Exits.{not_reached}
 use Rattle.bw_csv_calls.proofs.load_call.build_table.Goals as goal
 
 -- the schema was rejected, or read

@@ -2,7 +2,8 @@ use Rattle.std.proofs.Common.{◌≡◌, ◌+◌, ◌++◌, ◌∙◌, take, ari
 use Rattle.std.proofs.KnownBytes.{Consumes-kept}
 use Rattle.std.proofs.lemmas.List.{length-take-le, take_all}
 use Rattle.bw_file.specs.Reading.{state, HasConsumed}
-use Rattle.bw_file.proofs.ReadingLemmas.{front_bytes, took_more, took_into, field_taken, field_ended, field_failed}
+use Rattle.bw_file.proofs.ReadingLemmas.{front_bytes, took_more, took_into, field_taken}
+use Rattle.bw_file.proofs.ReadingLemmas.{field_ended, field_failed}
 use Rattle.bw_file.proofs.take.take.Goals as goal
 
 -- a read of nothing is the end

@@ -5,7 +5,8 @@ use Rattle.bw_file.specs.AnySegment.{any_is_group}
 use Rattle.bw_file.specs.TableReader.{layout_in, rows_given, schema_in}
 use Rattle.bw_file.proofs.MemoryAnswers.{columns_of, later_answers, memory_answers, same_table}
 use Rattle.bw_file.proofs.NextLemmas.{end_of, refusal_of, segment_of}
-use Rattle.bw_memory.proofs.ReadLemmas.{all_kept, given_next, groups_next, kept_next, no_groups, none_given, none_read}
+use Rattle.bw_memory.proofs.ReadLemmas.{all_kept, given_next, groups_next, kept_next, no_groups}
+use Rattle.bw_memory.proofs.ReadLemmas.{none_given, none_read}
 use Rattle.bw_memory.proofs.reading.read_segments.Goals as goal
 
 pub loop-segment-init : goal.loop-segment-init

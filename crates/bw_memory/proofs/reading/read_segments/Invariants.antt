@@ -1,7 +1,8 @@
 use Rattle.std.proofs.Common.{◌≡◌, ◌-◌, ◌*◌, ◌≤◌, min, None, []}
 use Rattle.bw_model.specs.Groups.{group_size}
 use Rattle.bw_file.specs.Reading.{State, state}
-use Rattle.bw_file.specs.TableReader.{SameTable, ReadProgress, bytes_taken, layout_in, rows_given, rows_stated, schema_in, final_result}
+use Rattle.bw_file.specs.TableReader.{SameTable, ReadProgress, bytes_taken, layout_in, rows_given}
+use Rattle.bw_file.specs.TableReader.{rows_stated, schema_in, final_result}
 use Rattle.bw_memory.specs.StoredSegments.{StoresSegments, stored_groups}
 use Rattle.bw_memory.proofs.reading.read_segments.Given as goal
 

@@ -5,7 +5,8 @@ use Rattle.bw_io.specs.Source.{failed_reads}
 use Rattle.bw_file.specs.TableReader.{schema_in}
 use Rattle.bw_model.specs.Fault.{is_memory}
 use Rattle.bw_query.specs.TableAnswer.{by_dump}
-use Rattle.bw_query.proofs.TableExits.{asked_refused, input_verdict, memory_verdict, memory_writes_nothing, segment_refused, text_gave, text_over}
+use Rattle.bw_query.proofs.TableExits.{asked_refused, input_verdict, memory_verdict}
+use Rattle.bw_query.proofs.TableExits.{memory_writes_nothing, segment_refused, text_gave, text_over}
 use Rattle.bw_query.proofs.table_calls.dump_after_header.Goals as goal
 
 pub returns-in_err-query-clause-answer : goal.returns-in_err-query-clause-answer

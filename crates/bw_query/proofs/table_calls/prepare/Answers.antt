@@ -7,7 +7,8 @@ use Rattle.bw_sql.specs.QueryShape.{QueryShape, query_shape}
 use Rattle.bw_sql.specs.Refusal.{is_statement_fault}
 use Rattle.bw_query.specs.Scan.{IsUsable, given_file}
 use Rattle.bw_query.proofs.ScanLemmas.{usable}
-use Rattle.bw_query.proofs.TableExits.{file_writes_nothing, no_failed_read, statement_writes_nothing}
+use Rattle.bw_query.proofs.TableExits.{file_writes_nothing, no_failed_read}
+use Rattle.bw_query.proofs.TableExits.{statement_writes_nothing}
 use Rattle.bw_query.proofs.table_calls.prepare.Goals as goal
 
 pub returns-clause-asked : goal.returns-clause-asked

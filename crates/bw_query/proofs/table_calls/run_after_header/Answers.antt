@@ -5,7 +5,8 @@ use Rattle.bw_file.specs.TableReader.{schema_in}
 use Rattle.bw_query.specs.Scan.{given_file}
 use Rattle.bw_query.specs.TableAnswer.{by_statement}
 use Rattle.bw_query.proofs.ScanLemmas.{served, serves}
-use Rattle.bw_query.proofs.TableExits.{asked_refused, input_verdict, memory_verdict, no_read, segment_refused, text_gave, text_over}
+use Rattle.bw_query.proofs.TableExits.{asked_refused, input_verdict, memory_verdict, no_read}
+use Rattle.bw_query.proofs.TableExits.{segment_refused, text_gave, text_over}
 use Rattle.bw_query.proofs.table_calls.run_after_header.Goals as goal
 
 pub returns-in_err-prepared-clause-answer : goal.returns-in_err-prepared-clause-answer

@@ -4,7 +4,8 @@ use Rattle.bw_model.specs.Row.{Value}
 use Rattle.bw_answer.specs.TextAndTotals.{CountsRows}
 use Rattle.bw_answer.specs.Progress.{GoesOver, query_in}
 use Rattle.bw_file.specs.Reading.{State, state}
-use Rattle.bw_file.specs.TableReader.{SameTable, ReadProgress, bytes_taken, rows_given, rows_stated, schema_in, final_result}
+use Rattle.bw_file.specs.TableReader.{SameTable, ReadProgress, bytes_taken, rows_given, rows_stated}
+use Rattle.bw_file.specs.TableReader.{schema_in, final_result}
 use Rattle.bw_query.specs.TableText.{IsScanOf}
 use Rattle.bw_query.proofs.table_text.take_rows.Given as goal
 

@@ -2,7 +2,8 @@
 use Rattle.std.proofs.Common.{◌∙◌, sym, ap, ◌<◌, length, arith, refl, Err, length-append, List, ℕ}
 use Rattle.bw_model.proofs.SchemaLemmas.{are_apart-push}
 use Rattle.bw_csv.specs.Records.{fields_in}
-use Rattle.bw_schemas.proofs.HeadingLemmas.{fault_first, name_more, name_twice, names_end, no_name, none_named, nothing_apart, some_named, too_many}
+use Rattle.bw_schemas.proofs.HeadingLemmas.{fault_first, name_more, name_twice, names_end, no_name}
+use Rattle.bw_schemas.proofs.HeadingLemmas.{none_named, nothing_apart, some_named, too_many}
 use Rattle.bw_schemas.proofs.heading.heading_names.Goals as goal
 
 pub loop-i-init : goal.loop-i-init

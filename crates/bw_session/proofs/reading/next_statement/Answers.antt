@@ -1,6 +1,7 @@
 use Rattle.std.proofs.Common.{◌≡◌, refl, sym, ◌∙◌, ap, rules, false, true}
 use Rattle.bw_session.specs.StatementState.{after, is_ended}
-use Rattle.bw_session.proofs.ReadingLemmas.{begun, ended, more, no_more, of_any, one_more, unread, whole}
+use Rattle.bw_session.proofs.ReadingLemmas.{begun, ended, more, no_more, of_any, one_more, unread}
+use Rattle.bw_session.proofs.ReadingLemmas.{whole}
 use Rattle.std.proofs.KnownBytes.{Consumes-nil}
 use Rattle.bw_session.proofs.reading.next_statement.Goals as goal
 

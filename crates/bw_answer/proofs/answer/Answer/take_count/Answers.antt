@@ -1,5 +1,6 @@
 -- Each total counts the rows, and the text stays.
-use Rattle.std.proofs.Common.{◌≡◌, ◌∙◌, ◌+◌, ◌≤◌, List, ◌++◌, true, length, length-append, map, subst, sym, ap, arith}
+use Rattle.std.proofs.Common.{◌≡◌, ◌∙◌, ◌+◌, ◌≤◌, List, ◌++◌, true, length, length-append, map}
+use Rattle.std.proofs.Common.{subst, sym, ap, arith}
 use Rattle.std.specs.List.{list_all}
 use Rattle.std.proofs.lemmas.List.{with_items_is}
 use Rattle.bw_model.specs.Selection.{matching_rows}
@@ -9,7 +10,8 @@ use Rattle.bw_answer.specs.Answer.{is_count_all}
 use Rattle.bw_answer.specs.Totals.{is_of}
 use Rattle.bw_answer.proofs.AggregateLemmas.{all_asked}
 use Rattle.bw_answer.proofs.AnswerLemmas.{text_over_same}
-use Rattle.bw_answer.proofs.CountLemmas.{all_counted, counts_list_nothing, every_kept, is_of-counted}
+use Rattle.bw_answer.proofs.CountLemmas.{all_counted, counts_list_nothing, every_kept}
+use Rattle.bw_answer.proofs.CountLemmas.{is_of-counted}
 use Rattle.bw_answer.proofs.answer.Answer.take_count.Goals as goal
 
 pub invariant_of-self-clause-capacity : goal.invariant_of-self-clause-capacity

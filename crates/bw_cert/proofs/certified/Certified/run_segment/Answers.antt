@@ -1,5 +1,6 @@
 -- The result register on a segment's lanes, masked to its rows.
-use Rattle.std.proofs.Common.{◌≡◌, ◌∙◌, sym, ap, subst, ◌-◌, ◌++◌, ◌&&◌, Bool, true, false, List, length, map, replicate}
+use Rattle.std.proofs.Common.{◌≡◌, ◌∙◌, sym, ap, subst, ◌-◌, ◌++◌, ◌&&◌, Bool, true, false, List}
+use Rattle.std.proofs.Common.{length, map, replicate}
 use Rattle.std.specs.List.{list_all}
 use Rattle.std.specs.Simd.Lanes.{zip2}
 use Rattle.std.proofs.lemmas.List.{length-map, length-replicate}

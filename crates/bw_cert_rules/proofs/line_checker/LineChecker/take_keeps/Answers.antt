@@ -5,7 +5,8 @@ use Rattle.bw_cert_rules.specs.Known.{nothing_known, with_node}
 use Rattle.bw_cert_rules.specs.Walk.{keeps_taken}
 use Rattle.bw_cert_rules.proofs.EdgeLemmas.{suc-is}
 use Rattle.bw_cert_rules.proofs.JoinLemmas.{keep_on, keep_refused, no_more_lines, no_more_keeps}
-use Rattle.bw_cert_rules.proofs.line_checker.LineChecker.take_keeps.Goals.{in-Some+in_default-entry, in_default}
+use Rattle.bw_cert_rules.proofs.line_checker.LineChecker.take_keeps.Goals.{in-Some+in_default-entry}
+use Rattle.bw_cert_rules.proofs.line_checker.LineChecker.take_keeps.Goals.{in_default}
 use Rattle.bw_cert_rules.proofs.line_checker.LineChecker.take_keeps.Goals as goal
 
 pub loop-line-init : goal.loop-line-init
