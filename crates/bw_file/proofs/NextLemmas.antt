@@ -11,7 +11,7 @@ use Rattle.bw_file.specs.AnySegment.{any_layout, any_meaning}
 use Rattle.bw_file.specs.Reading.{tail, State, HasConsumed, GoesOn, NeedsMore, Fails, HasByteMore}
 use Rattle.bw_file.specs.Reading.{give}
 use Rattle.bw_file.specs.TableReading.{segment, end, group_sizes, IsTableFault}
-use Rattle.bw_file.specs.TableReader.{final_result, ReadProgress, SameTable, GaveSegment}
+use Rattle.bw_file.specs.TableReader.{final_result, ReadProgress, SameTable, ReturnsSegment}
 use Rattle.bw_file.specs.TableReader.{EndsCompletely, FailsBy, Repeats, GivesNext, gives, ends}
 use Rattle.bw_file.specs.TableReader.{refuses, repeats}
 use Rattle.bw_file.proofs.BodySpelling.{groups_found}
@@ -89,7 +89,7 @@ no_segment_again segment (Err fault) again = cc again.0
 
 module _ {S : Type 0} {source next_source : S} {old now : State} {reader next : TableReader} where
   -- a segment is given by no call but one that reads
-  pub segment_of : {segment : AnySegment} → GivesNext source next_source old now reader next (Ok (Some segment)) → GaveSegment old now reader next segment
+  pub segment_of : {segment : AnySegment} → GivesNext source next_source old now reader next (Ok (Some segment)) → ReturnsSegment old now reader next segment
   segment_of (gives unsettled gave) = gave
   segment_of {segment} (repeats again) = absurd (no_segment_again segment again.answer again.again)
 

@@ -153,7 +153,7 @@ pub record IsSegmentOf (reader : TableReader) (segment : AnySegment) : Type 0 wh
   pub count : length (any_meaning segment).rows ≡ min group_size (reader.rows - reader.given)
 
 -- A call returned the next segment.
-pub record GaveSegment (old now : State) (reader next : TableReader)
+pub record ReturnsSegment (old now : State) (reader next : TableReader)
     (segment : AnySegment) : Type 0 where
   -- it is a segment of the reader's table, of the next rows
   pub of_table : IsSegmentOf reader segment
@@ -234,7 +234,7 @@ pub data GivesNext {S : Type 0} (source next_source : S) (old now : State)
     (reader next : TableReader) :
     Result (Option AnySegment) Fault → Type 0 where
   gives : {segment : AnySegment} → final_result reader ≡ None →
-      GaveSegment old now reader next segment →
+      ReturnsSegment old now reader next segment →
       GivesNext source next_source old now reader next (Ok (Some segment))
   ends : final_result reader ≡ None → EndsCompletely old now reader next →
       GivesNext source next_source old now reader next (Ok None)
@@ -246,7 +246,7 @@ pub data GivesNext {S : Type 0} (source next_source : S) (old now : State)
 
 -- The reader states this layout, schema and number of rows, and these groups are the first ones of
 -- the rows.
-pub record GaveFirst (reader : TableReader) (groups : List (List (List Value))) (kept : Layout)
+pub record ReturnsFirstSegment (reader : TableReader) (groups : List (List (List Value))) (kept : Layout)
     (under : Schema) (rows : List (List Value)) : Type 0 where
   pub layout : layout_in reader ≡ kept
   pub schema : schema_shape (schema_in reader) ≡ schema_shape under

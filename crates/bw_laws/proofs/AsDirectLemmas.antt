@@ -28,7 +28,7 @@ use Rattle.bw_query.specs.TableAnswer.{AnswersFile, by_statement}
 use Rattle.bw_csv_calls.specs.ReadInputs.{IsSchemaFrom}
 use Rattle.bw_csv_calls.specs.Direct.{IsAnswer, IsAnswerUnder, answer_of}
 use Rattle.bw_csv_calls.specs.Load.{IsFile, file_of}
-use Rattle.bw_laws.specs.AsDirect.{IsAnswerable, LoadMayWrite, TookAnswer, TookAsDirect}
+use Rattle.bw_laws.specs.AsDirect.{IsAnswerable, LoadMayWrite, HasConsumedAnswer, HasConsumedAsDirect}
 use Rattle.bw_laws.specs.LoadThenQuery.{AnswersCsv}
 use Rattle.bw_laws.specs.OneAnswer.{DirectMayWrite}
 use Rattle.bw_laws.proofs.ArrivedLemmas.{csv_text_of, one_text}
@@ -68,7 +68,7 @@ file_of_rows layout schema text bytes admits limits under of =
 
 under_direct : AdmitsRows → LimitsRows → (layout : Layout) (came csv : Arrival) (bytes sql : List ℕ) (program old new : Option (List ℕ))
     (reading : Result Schema Fault) → IsSchemaFrom came reading → IsMadeAfter reading (file_of layout) csv (Ok bytes)
-    → AnswersFile (by_statement program sql) bytes old new → TookAnswer came csv sql old new
+    → AnswersFile (by_statement program sql) bytes old new → HasConsumedAnswer came csv sql old new
 under_direct admits limits layout came csv bytes sql program old new (Err fault) from made file = absurd (cc (made.1))
 under_direct admits limits layout came csv bytes sql program old new (Ok schema) from made file =
     let csv_came = csv_text_of csv (file_of layout schema) bytes made in
@@ -90,13 +90,13 @@ under_direct admits limits layout came csv bytes sql program old new (Ok schema)
     }
 
 pub took_answer : AdmitsRows → LimitsRows → (layout : Layout) (schema csv : Arrival) (bytes sql : List ℕ) (program old new : Option (List ℕ))
-    → IsFile layout schema csv (Ok bytes) → AnswersFile (by_statement program sql) bytes old new → TookAnswer schema csv sql old new
+    → IsFile layout schema csv (Ok bytes) → AnswersFile (by_statement program sql) bytes old new → HasConsumedAnswer schema csv sql old new
 took_answer admits limits layout schema csv bytes sql program old new is file =
     under_direct admits limits layout schema csv bytes sql program old new is.0 is.1 is.2 file
 
 -- so it is over the texts of the sources
 pub took_as_direct : AdmitsRows → LimitsRows → (layout : Layout) (schema csv bytes sql : List ℕ) (program old new : Option (List ℕ))
-    → LoadMayWrite layout schema csv bytes → AnswersFile (by_statement program sql) bytes old new → TookAsDirect schema csv sql old new
+    → LoadMayWrite layout schema csv bytes → AnswersFile (by_statement program sql) bytes old new → HasConsumedAsDirect schema csv sql old new
 took_as_direct admits limits layout schema csv bytes sql program old new load file =
     let took = took_answer admits limits layout load.schema_came load.csv_came bytes sql program old new load.is file in
     let may : DirectMayWrite schema csv sql took.text =
@@ -115,7 +115,7 @@ took_as_direct admits limits layout schema csv bytes sql program old new load fi
     }
 
 -- two sinks that took what `direct` may write took the same text
-pub took_alike : (schema csv sql : List ℕ) (old new before after : Option (List ℕ)) → TookAsDirect schema csv sql old new → TookAsDirect schema csv sql before after
+pub took_alike : (schema csv sql : List ℕ) (old new before after : Option (List ℕ)) → HasConsumedAsDirect schema csv sql old new → HasConsumedAsDirect schema csv sql before after
     → (text : List ℕ) × Appends old new text × Appends before after text
 took_alike schema csv sql old new before after a b =
     (a.text, a.took, subst (λ (text : List ℕ). Appends before after text) (a.only b.text b.may) b.took)

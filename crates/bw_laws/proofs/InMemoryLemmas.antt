@@ -31,8 +31,8 @@ use Rattle.bw_file.proofs.ReaderSpelling.{no_fault}
 use Rattle.bw_file.proofs.SpelledFile.{of_one_table, spelled_is_read}
 use Rattle.bw_query.specs.MemoryAnswer.{RowsText}
 use Rattle.bw_query.specs.Scan.{IsScanFault, IsUsable}
-use Rattle.bw_query.specs.TableAnswer.{AnswersFile, AskedRefused, HeaderRead, SegmentRefused}
-use Rattle.bw_query.specs.TableAnswer.{TableGave, by_statement, is_no_verdict}
+use Rattle.bw_query.specs.TableAnswer.{AnswersFile, HasRejectedQuery, IsHeaderOf, HasFailedAtSegment}
+use Rattle.bw_query.specs.TableAnswer.{IsTableResult, by_statement, is_no_verdict}
 use Rattle.bw_laws.specs.OneAnswer.{query_asked_in}
 use Rattle.bw_laws.proofs.OneAnswerLemmas.{one_reading}
 use Rattle.bw_laws.proofs.OneMeaningLemmas.{one_meaning}
@@ -110,7 +110,7 @@ known_rest (Some xs) (Some ys) bytes taken e consumed = (ys, sym (some_is xs byt
 
 -- a header that was read of a table's bytes tells of the table's schema
 header_of_table : (bytes : List ℕ) (layout : Layout) (schema other : Schema) (rows : List (List Value)) (start after : State) → IsFileBytes bytes layout schema rows → start.known ≡ Some bytes
-    → start.offset ≡ 0 → HeaderRead start after other → schema_shape schema ≡ schema_shape other
+    → start.offset ≡ 0 → IsHeaderOf start after other → schema_shape schema ≡ schema_shape other
 header_of_table bytes layout schema other rows start after file known first head =
     let read = head.read in
     let left = known_rest start.known after.known bytes read.bytes known read.took.consumed in
@@ -134,15 +134,15 @@ err_is : (fault second : Fault) → query_asked_in (Err fault) ≡ query_asked_i
 err_is fault second e = cc
 
 pub one_refusal : (verdict : OneVerdict) (bytes sql : List ℕ) (layout : Layout) (schema : Schema) (rows : List (List Value)) (program : Option (List ℕ)) (failures : ℕ) (now : State) (fault second : Fault)
-    → IsFileBytes bytes layout schema rows → by_statement program sql schema (Err fault) → TableGave (by_statement program sql) (state (Some bytes) 0 failures) now (Err second)
+    → IsFileBytes bytes layout schema rows → by_statement program sql schema (Err fault) → IsTableResult (by_statement program sql) (state (Some bytes) 0 failures) now (Err second)
     → is_no_verdict second ≡ false → fault ≡ second
 one_refusal verdict bytes sql layout schema rows program failures now fault second file asks gave none = by_place gave.answer
   where
     start : State
     start = state (Some bytes) 0 failures
 
-    by_place : Fails header (state (Some bytes) 0 failures) now second ⊎ AskedRefused (by_statement program sql) (state (Some bytes) 0 failures) now second
-        ⊎ SegmentRefused (by_statement program sql) (state (Some bytes) 0 failures) now second → fault ≡ second
+    by_place : Fails header (state (Some bytes) 0 failures) now second ⊎ HasRejectedQuery (by_statement program sql) (state (Some bytes) 0 failures) now second
+        ⊎ HasFailedAtSegment (by_statement program sql) (state (Some bytes) 0 failures) now second → fault ≡ second
     by_place (inl fails) = absurd (input_is_none second (no_fault bytes layout schema rows file _ _ now second refl (header_refused _ now second refl fails)) none)
     by_place (inr (inl refused)) =
         let shape = header_of_table bytes layout schema refused.schema rows _ now file refl refl refused.head in

@@ -19,7 +19,7 @@ abbrev pub shape_in : Result Schema Fault → Result SchemaShape Fault
 shape_in reading = reading >>= λ schema. Ok (schema_shape schema)
 
 -- what can be read of a source of this text, up to a limit, whether its reads fail or not
-pub record CameOf (limit : ℕ) (text : List ℕ) (came : Arrival) : Type 0 where
+pub record IsArrivalOf (limit : ℕ) (text : List ℕ) (came : Arrival) : Type 0 where
   pub left : Option (List ℕ)
   pub before : ℕ
   pub after : ℕ
@@ -30,6 +30,6 @@ pub record CameOf (limit : ℕ) (text : List ℕ) (came : Arrival) : Type 0 wher
 pub record DirectMayWrite (schema csv sql answer : List ℕ) : Type 0 where
   pub schema_came : Arrival
   pub csv_came : Arrival
-  pub schema_source : CameOf longest_schema schema schema_came
-  pub csv_source : CameOf longest_csv csv csv_came
+  pub schema_source : IsArrivalOf longest_schema schema schema_came
+  pub csv_source : IsArrivalOf longest_csv csv csv_came
   pub is : IsAnswer schema_came sql csv_came (Ok answer)

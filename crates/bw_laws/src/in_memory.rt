@@ -9,7 +9,7 @@ ghost use Rattle.bw_file.specs.declared.layout.Layout.{Layout};
 ghost use Rattle.bw_file.specs.FileBytes.{IsFileBytes};
 ghost use Rattle.bw_file.specs.Reading.{State, state};
 ghost use Rattle.bw_query.specs.MemoryAnswer.{RowsText};
-ghost use Rattle.bw_query.specs.TableAnswer.{AnswersFile, TableGave, by_statement, is_no_verdict};
+ghost use Rattle.bw_query.specs.TableAnswer.{AnswersFile, IsTableResult, by_statement, is_no_verdict};
 ghost use Rattle.bw_laws.specs.OneAnswer.{query_asked_in};
 
 use bw_cert::one_verdict;
@@ -38,7 +38,7 @@ pub fn a_table_in_memory_is_answered_as_its_file()
         (rows : List (List Value))
         (program : Option (List ℕ)) (failures : ℕ) (now : State) (fault second : Fault)
         → IsFileBytes bytes layout schema rows → by_statement program sql schema (Err fault)
-        → TableGave (by_statement program sql) (state (Some bytes) 0 failures) now (Err second)
+        → IsTableResult (by_statement program sql) (state (Some bytes) 0 failures) now (Err second)
         → is_no_verdict second ≡ false → fault ≡ second }
 {
     one_verdict();

@@ -20,7 +20,7 @@ use Rattle.bw_file.specs.TableReader.{layout_in, rows_given, rows_stated, schema
 use Rattle.bw_file.specs.TableReading.{found_as}
 use Rattle.bw_file.proofs.FileSpelling.{read_is_spelled_by}
 use Rattle.bw_file.proofs.MemoryAnswers.{columns_of}
-use Rattle.bw_memory.specs.StoredSegments.{AddSegment, AreOf, StoresSegments, stored_groups}
+use Rattle.bw_memory.specs.StoredSegments.{AddsSegment, AreBytesOf, StoresSegments, stored_groups}
 use Rattle.bw_memory.specs.MemoryTable.{HasReadTable}
 use Rattle.bw_memory.specs.ReadSegments.{StoresAllSegments}
 use Rattle.bw_memory.proofs.StoredSegmentLemmas.{groups_added, none_kept, segment_added}
@@ -39,7 +39,7 @@ none_given rows stated none = omega (arith, none)
 
 module _ (first reader next : TableReader) (segment : AnySegment) (count : ℕ) (old new : List ColumnBlocks) (same : SameTable first reader) (is : IsSegmentOf reader segment)
     (kept : StoresSegments (layout_in first) (schema_in first).columns.items (rows_given reader) count old) (given : rows_given reader ≡ min (rows_stated first) (group_size * count))
-    (added : (bytes : List ℕ) × AreOf segment bytes × AddSegment (any_layout segment) (any_meaning segment).columns bytes old new)
+    (added : (bytes : List ℕ) × AreBytesOf segment bytes × AddsSegment (any_layout segment) (any_meaning segment).columns bytes old new)
     (counted : rows_given next ≡ rows_given reader + length (any_meaning segment).rows) where
   abbrev more : ℕ
   more = length (any_meaning segment).rows
@@ -59,10 +59,10 @@ module _ (first reader next : TableReader) (segment : AnySegment) (count : ℕ) 
       subst (λ (layout : Layout). IsSound layout (schema_in first).columns.items more added.0) layout_is
       (subst (λ (columns : List Column). IsSound (any_layout segment) columns more added.0) columns_are added.1.sound)
 
-  add : AddSegment (layout_in first) (schema_in first).columns.items added.0 old new
+  add : AddsSegment (layout_in first) (schema_in first).columns.items added.0 old new
   add =
-      subst (λ (layout : Layout). AddSegment layout (schema_in first).columns.items added.0 old new) layout_is
-      (subst (λ (columns : List Column). AddSegment (any_layout segment) columns added.0 old new) columns_are added.2)
+      subst (λ (layout : Layout). AddsSegment layout (schema_in first).columns.items added.0 old new) layout_is
+      (subst (λ (columns : List Column). AddsSegment (any_layout segment) columns added.0 old new) columns_are added.2)
 
   rows_are : rows_spelled (layout_in first) (schema_in first).columns.items more added.0 ≡ (any_meaning segment).rows
   rows_are = sym (ap₂ (λ (layout : Layout) (columns : List Column). rows_spelled layout columns more added.0) layout_is columns_are) ∙ added.1.rows

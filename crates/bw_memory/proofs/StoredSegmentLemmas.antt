@@ -19,7 +19,7 @@ use Rattle.bw_file.specs.declared.segments.AnySegment.TheVariants.{Planes, Slice
 use Rattle.bw_file.specs.AnySegment.{any_layout, any_meaning}
 use Rattle.bw_file.specs.Blocks.{IsSound, form_of, rows_spelled}
 use Rattle.bw_file.proofs.MemoryAnswers.{together_more}
-use Rattle.bw_memory.specs.StoredSegments.{AddSegment, AreOf, StoresSegments, stored_group}
+use Rattle.bw_memory.specs.StoredSegments.{AddsSegment, AreBytesOf, StoresSegments, stored_group}
 use Rattle.bw_memory.specs.StoredSegments.{stored_groups, rows_numbered}
 
 pub on_ok_three : {E A K L M P : Type 0} (result : Result A E) → (K → L → M → P) → OnOk result K → OnOk result L → OnOk result M → OnOk result P
@@ -31,7 +31,7 @@ abbrev pub bytes_of : AnySegment → List ℕ
 bytes_of (Planes segment) = bytes_in segment.bytes
 bytes_of (Slices segment) = bytes_in segment.bytes
 
-pub are_of : (segment : AnySegment) → AreOf segment (bytes_of segment)
+pub are_of : (segment : AnySegment) → AreBytesOf segment (bytes_of segment)
 unfolding any_meaning form_of
 are_of (Planes segment) =
     let columns = segment.placement.value.schema.columns.items in
@@ -59,7 +59,7 @@ none_kept layout columns kept blocks = record { blocks = blocks; all = omega ari
 
 -- one segment more, after full ones
 module _ (layout : Layout) (columns : List Column) (rows count more : ℕ) (old new : List ColumnBlocks) (bytes : List ℕ) (keep : StoresSegments layout columns rows count old)
-    (full : rows ≡ group_size * count) (some : 1 ≤ more) (few : more ≤ group_size) (sound : IsSound layout columns more bytes) (add : AddSegment layout columns bytes old new) where
+    (full : rows ≡ group_size * count) (some : 1 ≤ more) (few : more ≤ group_size) (sound : IsSound layout columns more bytes) (add : AddsSegment layout columns bytes old new) where
   same_rows : (number : ℕ) → number < count → rows_numbered (rows + more) number ≡ rows_numbered rows number
   unfolding group_size
   same_rows number there = omega (arith, full)

@@ -37,7 +37,7 @@ stored_groups layout columns rows count kept =
 
 -- The blocks of a segment, of these bytes, were appended to those of the segments that the columns
 -- stored before.
-pub record AddSegment (layout : Layout) (columns : List Column) (bytes : List ℕ)
+pub record AddsSegment (layout : Layout) (columns : List Column) (bytes : List ℕ)
     (old new : List ColumnBlocks) : Type 0 where
   pub keep : (count : ℕ) → StoresBlocks (form_of layout) columns count old
       → StoresBlocks (form_of layout) columns (count + 1) new
@@ -47,7 +47,7 @@ pub record AddSegment (layout : Layout) (columns : List Column) (bytes : List �
       → segment_numbered new number ≡ segment_numbered old number
 
 -- the bytes are those of a segment that was read
-pub record AreOf (segment : AnySegment) (bytes : List ℕ) : Type 0 where
+pub record AreBytesOf (segment : AnySegment) (bytes : List ℕ) : Type 0 where
   pub sound : IsSound (any_layout segment) (any_meaning segment).columns
       (length (any_meaning segment).rows) bytes
   pub rows : rows_spelled (any_layout segment) (any_meaning segment).columns

@@ -4,7 +4,7 @@ ghost use Rattle.bw_model.specs.Fault.{no_memory};
 ghost use Rattle.bw_segment.specs.ColumnBlocks.{StoresBlocks};
 ghost use Rattle.bw_file.specs.AnySegment.{any_layout, any_meaning};
 ghost use Rattle.bw_file.specs.Blocks.{IsPlaced, form_of};
-ghost use Rattle.bw_memory.specs.StoredSegments.{AddSegment, AreOf};
+ghost use Rattle.bw_memory.specs.StoredSegments.{AddsSegment, AreBytesOf};
 
 use bw_file::{AnySegment, Layout};
 use bw_model::{Fault, Schema};
@@ -55,8 +55,8 @@ pub(crate) fn no_columns(
 #[tactic(auto, unfolding(bw_file::specs::Blocks::form_of, bw_file::specs::AnySegment::any_meaning))]
 pub(crate) fn push_segment(columns: &mut [ColumnBlocks], segment: &AnySegment) -> Result<(), Fault>
     requires { length columns.old ≡ length (any_meaning segment.now).columns }
-    ensures added { OnOk result ((bytes : List ℕ) × AreOf segment.now bytes
-        × AddSegment (any_layout segment.now) (any_meaning segment.now).columns bytes columns.old
+    ensures added { OnOk result ((bytes : List ℕ) × AreBytesOf segment.now bytes
+        × AddsSegment (any_layout segment.now) (any_meaning segment.now).columns bytes columns.old
         columns.new) }
     ensures only_oom { IsOkUnless result no_memory }
 {

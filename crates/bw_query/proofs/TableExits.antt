@@ -26,7 +26,7 @@ use Rattle.bw_file.specs.TableReader.{AnswersFault, schema_in, version_in, heade
 use Rattle.bw_file.specs.declared.table_reader.TableReader.{TableReader}
 use Rattle.bw_file.proofs.FileSpelling.{read_is_spelled_by}
 use Rattle.bw_query.specs.MemoryAnswer.{is_output_fault}
-use Rattle.bw_query.specs.TableAnswer.{AnswersFile, HeaderRead, TableGave, TableText, is_no_verdict}
+use Rattle.bw_query.specs.TableAnswer.{AnswersFile, IsHeaderOf, IsTableResult, TableText, is_no_verdict}
 use Rattle.bw_query.specs.declared.scan.Scan.{Scan}
 use Rattle.bw_query.specs.declared.served.Scanned.{Scanned}
 use Rattle.bw_query.specs.TableText.{IsScanOf, TextOver}
@@ -36,11 +36,11 @@ Given = Result (List ℕ) Fault
 
 -- a source gave this
 abbrev pub Gives : (Schema → Result Query Fault → Type 0) → State → (ℕ → State) → Given → Type 0
-Gives asks start now given = (offset : ℕ) × TableGave asks start (now offset) given
+Gives asks start now given = (offset : ℕ) × IsTableResult asks start (now offset) given
 
 -- and what is given for it went W
 abbrev pub Ends : (Schema → Result Query Fault → Type 0) → State → (ℕ → State) → (Given → Type 0) → Type 0
-Ends asks start now W = (offset : ℕ) × (given : Given) × TableGave asks start (now offset) given × W given
+Ends asks start now W = (offset : ℕ) × (given : Given) × IsTableResult asks start (now offset) given × W given
 
 pub ends : (asks : Schema → Result Query Fault → Type 0) (start : State) (now : ℕ → State) (W : Given → Type 0) (given : Given) → Gives asks start now given → W given → Ends asks start now W
 ends asks start now W given gave w = (gave.0, given, gave.1, w)
@@ -49,7 +49,7 @@ ends asks start now W given gave w = (gave.0, given, gave.1, w)
 abbrev pub Stated : State → State → TableReader → Type 0
 Stated start after reader = GoesOn header start (give (header_stated (version_in reader) reader)) after
 
-head_of : (start after : State) (reader : TableReader) → Stated start after reader → HeaderRead start after (schema_in reader)
+head_of : (start after : State) (reader : TableReader) → Stated start after reader → IsHeaderOf start after (schema_in reader)
 head_of start after reader told = record { stated = header_stated (version_in reader) reader; read = told; shape = refl }
 
 -- the header was rejected
@@ -59,7 +59,7 @@ header_exit asks start now fault fails = (fails.0, record { failures = fails.1.f
 
 -- what is asked was rejected
 pub asked_refused : (asks : Schema → Result Query Fault → Type 0) (start now : State) (reader : TableReader) (fault : Fault)
-    → Stated start now reader → failed_reads fault ≡ 0 → (is_memory fault ≡ false → asks (schema_in reader) (Err fault)) → TableGave asks start now (Err fault)
+    → Stated start now reader → failed_reads fault ≡ 0 → (is_memory fault ≡ false → asks (schema_in reader) (Err fault)) → IsTableResult asks start now (Err fault)
 asked_refused asks start now reader fault told none asked = record {
   failures = omega (arith, told.failures, none);
   answer = inr (inl (record { schema = schema_in reader; head = head_of start now reader told; asked = asked }));
@@ -67,7 +67,7 @@ asked_refused asks start now reader fault told none asked = record {
 
 -- a segment was rejected, or a read of one failed
 pub segment_refused : (asks : Schema → Result Query Fault → Type 0) (start old now : State) (reader : TableReader) (query : Query) (fault : Fault)
-    → Stated start old reader → asks (schema_in reader) (Ok query) → AnswersFault start old now fault → TableGave asks start now (Err fault)
+    → Stated start old reader → asks (schema_in reader) (Ok query) → AnswersFault start old now fault → IsTableResult asks start now (Err fault)
 segment_refused asks start old now reader query fault told asked answers = record {
   failures = answers.failures ∙ ap (λ (n : ℕ). n + failed_reads fault) told.failures;
   answer = inr (inr (record {
@@ -149,7 +149,7 @@ answered_or_not asks start now text found bytes known old new before after (Err 
 
 -- the file was read completely
 pub text_gave : (asks : Schema → Result Query Fault → Type 0) (start now : State) (schema : Schema) (query : Query) (scan : Scan) (text : List ℕ) (scanned : Scanned)
-    → asks schema (Ok query) → TextOver start now schema query scan text scanned → TableGave asks start now (Ok text)
+    → asks schema (Ok query) → TextOver start now schema query scan text scanned → IsTableResult asks start now (Ok text)
 text_gave asks start now schema query scan text scanned asked over =
     let found = text_over asks start now schema query scan text scanned (λ s q r. Unit {0}) (λ rows counts. tt) asked over in
     record { failures = omega (arith, over.read.failures); answer = found.0 }

@@ -27,7 +27,7 @@ use Rattle.bw_file.specs.declared.table_reader.TableReader.{TableReader}
 use Rattle.bw_query.specs.Scan.{IsScanFault, IsUsable}
 
 -- the header of the file was read, and states this schema
-pub record HeaderRead (start after : State) (schema : Schema) : Type 0 where
+pub record IsHeaderOf (start after : State) (schema : Schema) : Type 0 where
   pub stated : HeaderShape
   pub read : GoesOn header start (give stated) after
   pub shape : schema_shape schema ≡ stated.schema
@@ -38,7 +38,7 @@ pub record HasReadHeader (start now : State) (reader : TableReader) : Type 0 whe
   pub stated : GoesOn header start (give (header_stated (version_in reader) reader)) now
 
 -- all bytes of the file were consumed, and they are the table file of these rows under this schema
-pub record WholeTable (start now : State) (schema : Schema) (rows : List (List Value)) : Type
+pub record IsWholeTable (start now : State) (schema : Schema) (rows : List (List Value)) : Type
     0 where
   pub found : Found
   pub read : ReadWhole start now found
@@ -52,7 +52,7 @@ pub record TableText (asks : Schema → Result Query Fault → Type 0) (start no
   pub schema : Schema
   pub rows : List (List Value)
   pub query : Query
-  pub table : WholeTable start now schema rows
+  pub table : IsWholeTable start now schema rows
   pub asked : asks schema (Ok query)
   pub is : text ≡ csv_text (meaning (names_of schema.columns.items) query rows)
 
@@ -73,20 +73,20 @@ abbrev pub group_count : List (List Value) → ℕ
 group_count rows = length (groups_of rows)
 
 -- only the header was read, and the query was rejected, or memory ran out
-pub record AskedRefused (asks : Schema → Result Query Fault → Type 0) (start now : State)
+pub record HasRejectedQuery (asks : Schema → Result Query Fault → Type 0) (start now : State)
     (fault : Fault) : Type 0 where
   pub schema : Schema
-  pub head : HeaderRead start now schema
+  pub head : IsHeaderOf start now schema
   pub asked : is_memory fault ≡ false → asks schema (Err fault)
 
 -- The header was read, and the query accepted. Then there was an error, after no more bytes than it
 -- took to find it: a read failed; memory ran out; or it is the file's first error after the header.
-pub record SegmentRefused (asks : Schema → Result Query Fault → Type 0) (start now : State)
+pub record HasFailedAtSegment (asks : Schema → Result Query Fault → Type 0) (start now : State)
     (fault : Fault) : Type 0 where
   pub schema : Schema
   pub query : Query
   pub after : State
-  pub head : HeaderRead start after schema
+  pub head : IsHeaderOf start after schema
   pub asked : asks schema (Ok query)
   pub bytes : List ℕ
   pub took : HasConsumed start now bytes
@@ -101,17 +101,17 @@ abbrev pub IsTableAnswer : (Schema → Result Query Fault → Type 0) → State 
     → Result (List ℕ) Fault → Type 0
 IsTableAnswer asks start now (Ok text) = TableText asks start now text
 IsTableAnswer asks start now (Err fault) =
-    Fails header start now fault ⊎ AskedRefused asks start now fault
-    ⊎ SegmentRefused asks start now fault
+    Fails header start now fault ⊎ HasRejectedQuery asks start now fault
+    ⊎ HasFailedAtSegment asks start now fault
 
 -- so it is, by what a source yielded, whose failures rose if and only if the error is a failed read
-pub record TableGave (asks : Schema → Result Query Fault → Type 0) (start now : State)
+pub record IsTableResult (asks : Schema → Result Query Fault → Type 0) (start now : State)
     (given : Result (List ℕ) Fault) : Type 0 where
   pub failures : now.failures ≡ start.failures + failed_by given
   pub answer : IsTableAnswer asks start now given
 
 -- a statement spells a query, and a program file has an error for its condition
-pub record ProgramRefused (file : Option (List ℕ)) (sql : List ℕ) (schema : Schema)
+pub record HasRejectedProgram (file : Option (List ℕ)) (sql : List ℕ) (schema : Schema)
     (fault : Fault) : Type 0 where
   pub query : Query
   pub asked : IsReadAs schema sql (Ok query)
@@ -123,7 +123,7 @@ abbrev pub by_statement : Option (List ℕ) → List ℕ → Schema → Result Q
 by_statement file sql schema (Ok query) = IsReadAs schema sql (Ok query)
     × IsUsable file schema.columns.items query.cond
 by_statement file sql schema (Err fault) = IsReadAs schema sql (Err fault)
-    ⊎ ProgramRefused file sql schema fault
+    ⊎ HasRejectedProgram file sql schema fault
 
 -- the query for all rows and all columns
 pub record IsEveryRow (schema : Schema) (query : Query) : Type 0 where

@@ -22,7 +22,7 @@ ghost use Rattle.bw_io.specs.Source.{TellsFailure, is_read_fault};
 ghost use Rattle.bw_query.specs.AnswerText.{bytes_in, text_in};
 ghost use Rattle.bw_query.specs.Scan.{IsChosen, IsFor, given_file};
 ghost use Rattle.bw_query.specs.Served.{IsServed};
-ghost use Rattle.bw_query.specs.TableAnswer.{AnswersFile, HasReadHeader, IsEveryRow, TableGave};
+ghost use Rattle.bw_query.specs.TableAnswer.{AnswersFile, HasReadHeader, IsEveryRow, IsTableResult};
 ghost use Rattle.bw_query.specs.TableAnswer.{TableText, by_dump, by_statement, is_no_verdict};
 
 use crate::scan::{Scan, scan_for};
@@ -58,7 +58,7 @@ pub fn answer<S: Source, K: Sink>(
     requires table { S.failures table.old < 2 ^ 64 - 1 }
     requires sink { K.failures sink.old < 2 ^ 64 - 1 }
     ensures answer { (offset : ℕ) × (given : Result (List ℕ) Fault)
-        × TableGave (by_statement (given_file program.entry) sql.now)
+        × IsTableResult (by_statement (given_file program.entry) sql.now)
         (state (S.to_come table.old) 0 (S.failures table.old))
         (state (S.to_come table.new) offset (S.failures table.new)) given
         × WriteOutcome none_aside (K.taken sink.old) (K.taken sink.new) (K.failures sink.old)
@@ -105,7 +105,7 @@ fn run_statement<S: Source>(
     program: Option<&[u8]>,
 ) -> Result<AnswerText, Fault>
     requires { S.failures table.old < 2 ^ 64 - 1 }
-    ensures answer { (offset : ℕ) × TableGave (by_statement (given_file program.entry) sql.now)
+    ensures answer { (offset : ℕ) × IsTableResult (by_statement (given_file program.entry) sql.now)
         (state (S.to_come table.old) 0 (S.failures table.old))
         (state (S.to_come table.new) offset (S.failures table.new)) (text_in result) }
     ensures served { IfOk result (λ answered. (offset : ℕ)
@@ -137,7 +137,7 @@ fn run_after_header<S: Source>(
     requires fresh { (rows_given reader.old ≡ 0) × (final_result reader.old ≡ None) }
     ensures answer { (start : State)
         → HasReadHeader start (state (S.to_come table.old) (bytes_taken reader.old) (S.failures table.old))
-        reader.old → TableGave (by_statement (given_file program.entry) sql.now) start
+        reader.old → IsTableResult (by_statement (given_file program.entry) sql.now) start
         (state (S.to_come table.new) (bytes_taken reader.new) (S.failures table.new))
         (text_in result) }
     ensures served { IfOk result (λ answered. (start : State)
@@ -218,7 +218,7 @@ pub fn dump<S: Source, K: Sink>(alloc: Global, table: &mut S, sink: &mut K) -> R
     requires table { S.failures table.old < 2 ^ 64 - 1 }
     requires sink { K.failures sink.old < 2 ^ 64 - 1 }
     ensures answer { (offset : ℕ) × (given : Result (List ℕ) Fault)
-        × TableGave by_dump (state (S.to_come table.old) 0 (S.failures table.old))
+        × IsTableResult by_dump (state (S.to_come table.old) 0 (S.failures table.old))
         (state (S.to_come table.new) offset (S.failures table.new)) given
         × WriteOutcome none_aside (K.taken sink.old) (K.taken sink.new) (K.failures sink.old)
         (K.failures sink.new) given result }
@@ -241,7 +241,7 @@ pub fn dump<S: Source, K: Sink>(alloc: Global, table: &mut S, sink: &mut K) -> R
 fn dump_rows<S: Source>(alloc: Global, table: &mut S) -> Result<Vec<u8>, Fault>
     requires { S.failures table.old < 2 ^ 64 - 1 }
     ensures answer { (offset : ℕ)
-        × TableGave by_dump (state (S.to_come table.old) 0 (S.failures table.old))
+        × IsTableResult by_dump (state (S.to_come table.old) 0 (S.failures table.old))
         (state (S.to_come table.new) offset (S.failures table.new)) (bytes_in result) }
     ensures text { IfOk result (λ text. (offset : ℕ) × TableText by_dump
         (state (S.to_come table.old) 0 (S.failures table.old))
@@ -267,7 +267,7 @@ fn dump_after_header<S: Source>(
     requires fresh { (rows_given reader.old ≡ 0) × (final_result reader.old ≡ None) }
     ensures answer { (start : State)
         → HasReadHeader start (state (S.to_come table.old) (bytes_taken reader.old) (S.failures table.old))
-        reader.old → TableGave by_dump start
+        reader.old → IsTableResult by_dump start
         (state (S.to_come table.new) (bytes_taken reader.new) (S.failures table.new))
         (bytes_in result) }
     ensures text { IfOk result (λ text. (start : State)

@@ -17,7 +17,7 @@ ghost use Rattle.bw_file.specs.Reading.{State, state};
 ghost use Rattle.bw_file.specs.TableReader.{schema_in, bytes_taken, rows_given, final_result};
 ghost use Rattle.bw_file.specs.TableReader.{ReadProgress, AnswersFault};
 ghost use Rattle.bw_query.specs.Scan.{IsFor, loads_in, skips_in};
-ghost use Rattle.bw_query.specs.TableText.{TextOver, TookAll};
+ghost use Rattle.bw_query.specs.TableText.{TextOver, HasConsumedAll};
 
 use crate::scan::Scan;
 use crate::served::Scanned;
@@ -109,7 +109,7 @@ fn take_rows<S: Source>(
     requires none { answer.old.rows ≡ 0 }
     requires width { answer.old.width ≡ length (schema_in reader.old).columns.items }
     requires scan { IsFor (schema_in reader.old).columns.items (query_in answer.old).cond scan.now }
-    ensures took { IfOk result (λ scanned. TookAll
+    ensures took { IfOk result (λ scanned. HasConsumedAll
         (state (S.to_come source.old) (bytes_taken reader.old) (S.failures source.old))
         (state (S.to_come source.new) (bytes_taken reader.new) (S.failures source.new))
         reader.old scan.now answer.old answer.new scanned) }

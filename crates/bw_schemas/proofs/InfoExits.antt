@@ -15,18 +15,18 @@ use Rattle.bw_file.specs.declared.layout.Layout.{Layout}
 use Rattle.bw_file.specs.declared.table_reader.TableReader.{TableReader}
 use Rattle.bw_file.specs.FileBytes.{IsFileBytes}
 use Rattle.bw_file.specs.Reading.{State, Fails, GoesOn, give}
-use Rattle.bw_file.specs.TableReader.{GaveFirst, header_stated, layout_in, rows_stated, schema_in}
+use Rattle.bw_file.specs.TableReader.{ReturnsFirstSegment, header_stated, layout_in, rows_stated, schema_in}
 use Rattle.bw_file.specs.TableReader.{version_in}
 use Rattle.bw_file.specs.TableReading.{IsTableFault, header, is_table_fault}
 use Rattle.bw_model.proofs.SameColumns.{columns_same}
-use Rattle.bw_schemas.specs.Info.{InfoGave, TellsFile, info_text, is_no_verdict}
+use Rattle.bw_schemas.specs.Info.{IsInfoResult, TellsFile, info_text, is_no_verdict}
 use Rattle.bw_schemas.proofs.SizeLemmas.{file_sized}
 
 abbrev Given : Type 0
 Given = Result (List ℕ) Fault
 
 abbrev pub Ends : State → (ℕ → State) → (Given → Type 0) → Type 0
-Ends start now W = (offset : ℕ) × (given : Given) × InfoGave start (now offset) given × W given
+Ends start now W = (offset : ℕ) × (given : Given) × IsInfoResult start (now offset) given × W given
 
 -- the header was rejected
 pub header_exit : (start : State) (now : ℕ → State) (W : Given → Type 0) (fault : Fault) → ((offset : ℕ) × Fails header start (now offset) fault) → W (Err fault) → Ends start now W
@@ -86,7 +86,7 @@ text_same version l m s t n o p q r =
 
 -- a table file's header was reported
 pub told_file : (reader : TableReader) (bytes : List ℕ) (layout : Layout) (schema : Schema) (rows : List (List Value)) (text : List ℕ) → IsFileBytes bytes layout schema rows
-    → GaveFirst reader [] layout schema rows → text ≡ info_text (version_in reader) (layout_in reader) (schema_in reader) (rows_stated reader)
+    → ReturnsFirstSegment reader [] layout schema rows → text ≡ info_text (version_in reader) (layout_in reader) (schema_in reader) (rows_stated reader)
     → (old new : Option (List ℕ)) (before after : ℕ) (result : Result (Unit {0}) Fault) → GoesOut old new before after text result → OnOk result (TellsFile bytes layout schema rows old new)
 told_file reader bytes layout schema rows text file gave is old new before after (Ok x) goes =
     let version = version_in reader in

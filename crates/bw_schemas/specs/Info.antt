@@ -67,7 +67,7 @@ IsInfo start now (Ok text) = TellsHeader start now text
 IsInfo start now (Err fault) = Fails header start now fault
 
 -- so it is, by what a source yielded, whose failures rose if and only if the error is a failed read
-pub record InfoGave (start now : State) (given : Result (List ℕ) Fault) : Type 0 where
+pub record IsInfoResult (start now : State) (given : Result (List ℕ) Fault) : Type 0 where
   pub failures : TellsFailure start.failures now.failures given
   pub info : IsInfo start now given
 

@@ -14,7 +14,7 @@ use Rattle.bw_session.specs.StatementState.{after, is_ended, statement_state_aft
 use Rattle.bw_session.specs.Statements.{IsOpen}
 use Rattle.bw_session.proofs.CutLemmas.{ended_by, opened, statement_state_after-snoc}
 use Rattle.bw_session.proofs.CutLemmas.{true_is_not_false}
-use Rattle.bw_session.specs.Reading.{Reads, TookBeginning, TookStatement, most_stored, with_byte}
+use Rattle.bw_session.specs.Reading.{Reads, HasReadBeginning, HasReadStatement, most_stored, with_byte}
 
 no_bool : {A : Type 0} → true ≡ false → A
 no_bool p = absurd (true_is_not_false p)
@@ -66,7 +66,7 @@ more old before now statement standing byte so_far came goes_on = record {
 -- a byte came, and the statement ended with it
 pub whole : (old before now : Option (List ℕ)) (statement : List ℕ) (standing : StatementState) (byte : ℕ)
     → Reads old before statement standing → Consumes before now (byte ∷ []) → is_ended (after standing byte) ≡ true
-    → TookStatement old now (with_byte statement byte) true
+    → HasReadStatement old now (with_byte statement byte) true
 whole old before now statement standing byte so_far came end = record {
   bytes = so_far.bytes ++ byte ∷ [];
   came = Consumes-trans old before now so_far.bytes (byte ∷ []) so_far.came came;
@@ -85,7 +85,7 @@ whole old before now statement standing byte so_far came end = record {
 -- the source ended
 pub ended : (old before now : Option (List ℕ)) (statement : List ℕ) (standing : StatementState)
     → Reads old before statement standing → Consumes before now [] → IsAtEnd now
-    → TookStatement old now statement false
+    → HasReadStatement old now statement false
 ended old before now statement standing so_far came end = record {
   bytes = so_far.bytes ++ [];
   came = Consumes-trans old before now so_far.bytes [] so_far.came came;
@@ -103,7 +103,7 @@ keeps_as_none (Some bytes) (Some others) kept = sym kept
 
 -- no more of a statement came
 pub no_more : (old before now : Option (List ℕ)) (statement : List ℕ) (standing : StatementState)
-    → Reads old before statement standing → Consumes before now [] → TookBeginning old now
+    → Reads old before statement standing → Consumes before now [] → HasReadBeginning old now
 no_more old before now statement standing so_far same = record {
   bytes = so_far.bytes ++ [];
   came = Consumes-trans old before now so_far.bytes [] so_far.came same;
@@ -118,13 +118,13 @@ no_more old before now statement standing so_far same = record {
 
 -- a read failed
 pub unread : (old before now : Option (List ℕ)) (statement : List ℕ) (standing : StatementState)
-    → Reads old before statement standing → Keeps before now → TookBeginning old now
+    → Reads old before statement standing → Keeps before now → HasReadBeginning old now
 unread old before now statement standing so_far kept =
     no_more old before now statement standing so_far (keeps_as_none before now kept)
 
 -- one byte more came, and no more
 pub one_more : (old before now : Option (List ℕ)) (statement : List ℕ) (standing : StatementState) (byte : ℕ)
-    → Reads old before statement standing → Consumes before now (byte ∷ []) → TookBeginning old now
+    → Reads old before statement standing → Consumes before now (byte ∷ []) → HasReadBeginning old now
 one_more old before now statement standing byte so_far came = record {
   bytes = so_far.bytes ++ byte ∷ [];
   came = Consumes-trans old before now so_far.bytes (byte ∷ []) so_far.came came;

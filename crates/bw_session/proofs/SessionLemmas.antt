@@ -13,10 +13,10 @@ use Rattle.bw_model.specs.Row.{Value}
 use Rattle.bw_io.specs.Sink.{TookPart, is_write_fault}
 use Rattle.bw_io.specs.Source.{failed_reads, is_input_fault}
 use Rattle.bw_io.proofs.SinkLemmas.{no_write_fault}
-use Rattle.bw_session.specs.Reading.{TookBeginning, TookStatement}
+use Rattle.bw_session.specs.Reading.{HasReadBeginning, HasReadStatement}
 use Rattle.std.specs.Prelude.{if◌then◌else◌}
 use Rattle.bw_session.specs.Session.{IsReadCompletely, Ended, IsOutput, RanSoFar, EndedEarly}
-use Rattle.bw_session.specs.Session.{WroteOutput, WrotePart, begun, failed_writes, first_of, more}
+use Rattle.bw_session.specs.Session.{HasWrittenOutput, HasWrittenPart, begun, failed_writes, first_of, more}
 use Rattle.bw_session.specs.Session.{reading, whole, writing}
 use Rattle.bw_session.proofs.CutLemmas.{none_opened}
 use Rattle.bw_session.proofs.KeptLemmas.{kept_output}
@@ -36,14 +36,14 @@ begins schema rows known taken = record {
 
 -- what a statement's kept bytes are answered by, all its bytes are
 of_all : (schema : Schema) (rows : List (List Value)) (old new : Option (List ℕ)) (statement : List ℕ) (goes_on : Bool)
-    (fault : Option Fault) (out : List ℕ) → (took : TookStatement old new statement goes_on)
+    (fault : Option Fault) (out : List ℕ) → (took : HasReadStatement old new statement goes_on)
     → IsOutput schema rows statement fault out → IsOutput schema rows took.bytes fault out
 of_all schema rows old new statement goes_on fault out took is =
     kept_output schema rows took.bytes fault out (subst (λ kept. IsOutput schema rows kept fault out) took.kept is)
 
 pub goes_on : (schema : Schema) (rows : List (List Value)) (old before now taken_old taken_before taken_now : Option (List ℕ))
     (statement : List ℕ) (first fault : Option Fault) → RanSoFar schema rows old before taken_old taken_before first
-    → TookStatement before now statement true → WroteOutput schema rows statement taken_before taken_now fault
+    → HasReadStatement before now statement true → HasWrittenOutput schema rows statement taken_before taken_now fault
     → RanSoFar schema rows old now taken_old taken_now (first_of first fault)
 goes_on schema rows old before now taken_old taken_before taken_now statement first fault so_far took wrote = record {
   text = so_far.text ++ took.bytes;
@@ -56,7 +56,7 @@ goes_on schema rows old before now taken_old taken_before taken_now statement fi
 
 pub ends : (schema : Schema) (rows : List (List Value)) (old before now taken_old taken_before taken_now : Option (List ℕ))
     (statement : List ℕ) (first fault : Option Fault) → RanSoFar schema rows old before taken_old taken_before first
-    → TookStatement before now statement false → WroteOutput schema rows statement taken_before taken_now fault
+    → HasReadStatement before now statement false → HasWrittenOutput schema rows statement taken_before taken_now fault
     → Ended schema rows old now taken_old taken_now (first_of first fault)
 ends schema rows old before now taken_old taken_before taken_now statement first fault so_far took wrote = record {
   text = so_far.text ++ took.bytes;
@@ -79,13 +79,13 @@ stops schema rows old now taken_old taken_now first fault so_far input =
 -- it ended while the next statement came
 pub stops_reading : (schema : Schema) (rows : List (List Value)) (old before now taken_old taken_now : Option (List ℕ))
     (first : Option Fault) (fault : Fault) → RanSoFar schema rows old before taken_old taken_now first
-    → IsTrue (is_input_fault fault) → TookBeginning before now → EndedEarly schema rows old now taken_old taken_now fault
+    → IsTrue (is_input_fault fault) → HasReadBeginning before now → EndedEarly schema rows old now taken_old taken_now fault
 stops_reading schema rows old before now taken_old taken_now first fault so_far input took =
     reading so_far.text took.bytes so_far.output input so_far.answered
     (Consumes-trans old before now so_far.text took.bytes so_far.came took.came) took.begun so_far.went
 
 -- what came is a statement, with what ends it or up to the end of the source
-came_whole : (old new : Option (List ℕ)) (statement : List ℕ) (goes_on : Bool) → (took : TookStatement old new statement goes_on)
+came_whole : (old new : Option (List ℕ)) (statement : List ℕ) (goes_on : Bool) → (took : HasReadStatement old new statement goes_on)
     → IsReadCompletely new took.bytes
 came_whole old new statement true took = inl (took.whole refl)
 came_whole old new statement false took = inr (took.last refl, took.end refl)
@@ -102,8 +102,8 @@ part_after old mid new text rest went part = (
 -- it ended by a failed write
 pub stops_writing : (schema : Schema) (rows : List (List Value)) (old before now taken_old taken_before taken_now : Option (List ℕ))
     (statement sql : List ℕ) (goes : Bool) (first : Option Fault) (fault : Fault)
-    → RanSoFar schema rows old before taken_old taken_before first → TookStatement before now statement goes
-    → WrotePart schema rows sql taken_before taken_now → sql ≡ statement → fault ≡ nowhere WRITE_FAILED
+    → RanSoFar schema rows old before taken_old taken_before first → HasReadStatement before now statement goes
+    → HasWrittenPart schema rows sql taken_before taken_now → sql ≡ statement → fault ≡ nowhere WRITE_FAILED
     → EndedEarly schema rows old now taken_old taken_now fault
 stops_writing schema rows old before now taken_old taken_before taken_now statement sql goes first fault so_far took wrote same failed =
     subst (EndedEarly schema rows old now taken_old taken_now) (sym failed)
@@ -117,25 +117,25 @@ stops_writing schema rows old before now taken_old taken_before taken_now statem
 -- what is read and written once more, as the loop has it
 pub goes_on_as : (schema : Schema) (rows : List (List Value)) (old before now taken_old taken_before taken_now : Option (List ℕ))
     (statement sql : List ℕ) (first fault result : Option Fault) (goes : Bool)
-    → RanSoFar schema rows old before taken_old taken_before first → TookStatement before now statement goes → goes ≡ true
-    → WroteOutput schema rows sql taken_before taken_now fault → sql ≡ statement → result ≡ first_of first fault
+    → RanSoFar schema rows old before taken_old taken_before first → HasReadStatement before now statement goes → goes ≡ true
+    → HasWrittenOutput schema rows sql taken_before taken_now fault → sql ≡ statement → result ≡ first_of first fault
     → RanSoFar schema rows old now taken_old taken_now result
 goes_on_as schema rows old before now taken_old taken_before taken_now statement sql first fault result goes so_far took on wrote same is =
     subst (RanSoFar schema rows old now taken_old taken_now) (sym is)
     (goes_on schema rows old before now taken_old taken_before taken_now statement first fault so_far
-    (subst (TookStatement before now statement) on took)
-    (subst (λ text. WroteOutput schema rows text taken_before taken_now fault) same wrote))
+    (subst (HasReadStatement before now statement) on took)
+    (subst (λ text. HasWrittenOutput schema rows text taken_before taken_now fault) same wrote))
 
 pub ends_as : (schema : Schema) (rows : List (List Value)) (old before now taken_old taken_before taken_now : Option (List ℕ))
     (statement sql : List ℕ) (first fault result : Option Fault) (goes : Bool)
-    → RanSoFar schema rows old before taken_old taken_before first → TookStatement before now statement goes → goes ≡ false
-    → WroteOutput schema rows sql taken_before taken_now fault → sql ≡ statement → result ≡ first_of first fault
+    → RanSoFar schema rows old before taken_old taken_before first → HasReadStatement before now statement goes → goes ≡ false
+    → HasWrittenOutput schema rows sql taken_before taken_now fault → sql ≡ statement → result ≡ first_of first fault
     → Ended schema rows old now taken_old taken_now result
 ends_as schema rows old before now taken_old taken_before taken_now statement sql first fault result goes so_far took off wrote same is =
     subst (Ended schema rows old now taken_old taken_now) (sym is)
     (ends schema rows old before now taken_old taken_before taken_now statement first fault so_far
-    (subst (TookStatement before now statement) off took)
-    (subst (λ text. WroteOutput schema rows text taken_before taken_now fault) same wrote))
+    (subst (HasReadStatement before now statement) off took)
+    (subst (λ text. HasWrittenOutput schema rows text taken_before taken_now fault) same wrote))
 
 -- an error that isn't that of a failed write counts for none
 pub no_writes : (fault : Fault) (before after : ℕ) → is_write_fault fault ≡ false → after ≡ before

@@ -17,13 +17,13 @@ with_byte statement byte = if ltb (length statement) most_stored then statement 
     else statement
 
 -- the source yielded a byte, or its end
-abbrev pub TookByte : Option (List ℕ) → Option (List ℕ) → Option ℕ → Type 0
-TookByte old new (Some byte) = Consumes old new (byte ∷ [])
-TookByte old new None = Consumes old new [] × IsAtEnd new
+abbrev pub HasReadByte : Option (List ℕ) → Option (List ℕ) → Option ℕ → Type 0
+HasReadByte old new (Some byte) = Consumes old new (byte ∷ [])
+HasReadByte old new None = Consumes old new [] × IsAtEnd new
 
 -- The source yielded these bytes. They are a statement with what ends it, if there is more; else
 -- they are the last bytes of the source, in which no statement ends. The first of them are stored.
-pub record TookStatement (old new : Option (List ℕ)) (statement : List ℕ)
+pub record HasReadStatement (old new : Option (List ℕ)) (statement : List ℕ)
     (more : Bool) : Type 0 where
   pub bytes : List ℕ
   pub came : Consumes old new bytes
@@ -33,7 +33,7 @@ pub record TookStatement (old new : Option (List ℕ)) (statement : List ℕ)
   pub end : more ≡ false → IsAtEnd new
 
 -- the source yielded bytes that begin a statement, and was read no further
-pub record TookBeginning (old new : Option (List ℕ)) : Type 0 where
+pub record HasReadBeginning (old new : Option (List ℕ)) : Type 0 where
   pub bytes : List ℕ
   pub came : Consumes old new bytes
   pub begun : IsBegun bytes

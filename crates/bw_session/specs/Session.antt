@@ -35,7 +35,7 @@ pub data IsOutput (schema : Schema) (rows : List (List Value)) (sql : List ℕ) 
       → IsOutput schema rows sql (Some fault) (10 ∷ [])
 
 -- the sink consumed what a statement writes
-pub record WroteOutput (schema : Schema) (rows : List (List Value)) (sql : List ℕ)
+pub record HasWrittenOutput (schema : Schema) (rows : List (List Value)) (sql : List ℕ)
     (old new : Option (List ℕ))
     (fault : Option Fault) : Type 0 where
   pub out : List ℕ
@@ -43,7 +43,7 @@ pub record WroteOutput (schema : Schema) (rows : List (List Value)) (sql : List 
   pub went : Appends old new out
 
 -- the sink consumed a prefix of it
-pub record WrotePart (schema : Schema) (rows : List (List Value)) (sql : List ℕ)
+pub record HasWrittenPart (schema : Schema) (rows : List (List Value)) (sql : List ℕ)
     (old new : Option (List ℕ)) : Type 0 where
   pub out : List ℕ
   pub fault : Option Fault
@@ -136,9 +136,9 @@ Answers schema rows old new taken_old taken_new reads_before reads_after writes_
 abbrev pub AnswersOne : Schema → List (List Value) → List ℕ → (old new : Option (List ℕ))
     → (before after : ℕ) → Result (Option Fault) Fault → Type 0
 AnswersOne schema rows sql old new before after (Ok fault) =
-    WroteOutput schema rows sql old new fault × (after ≡ before)
+    HasWrittenOutput schema rows sql old new fault × (after ≡ before)
 AnswersOne schema rows sql old new before after (Err fault) =
-    (fault ≡ nowhere WRITE_FAILED) × WrotePart schema rows sql old new × (after ≡ before + 1)
+    (fault ≡ nowhere WRITE_FAILED) × HasWrittenPart schema rows sql old new × (after ≡ before + 1)
 
 -- an LF was written, and this is returned; or a write failed
 abbrev pub EndsLine : (old new : Option (List ℕ)) → (before after : ℕ) → Option Fault
