@@ -14,7 +14,7 @@ use Rattle.bw_csv.specs.Rows.{StopsUnder, is_exempt}
 use Rattle.bw_io.specs.Sink.{is_write_fault, GoesOut, WriteOutcome}
 use Rattle.bw_io.proofs.SinkLemmas.{wrote_nothing, wrote_text}
 use Rattle.bw_io.specs.Source.{Arrival, NotReached, Whole, TooLong, Failed, ReadOutcome}
-use Rattle.bw_csv_calls.specs.ReadInputs.{HasStoppedInCsv, HasReadSchema, IsSchemaFrom}
+use Rattle.bw_csv_calls.specs.ReadInputs.{StopsInCsv, HasReadSchema, IsSchemaFrom}
 
 -- the text that is written, or an error
 abbrev pub Given : Type 0
@@ -88,6 +88,6 @@ came_of came schema told = by told.0 told.1 told.2
 
 -- a CSV text in which the reader stopped was read completely
 pub stopped_of : (came : Arrival → Type 0) (schema : Schema) (bytes text : List ℕ) (fault : Fault) → ((arrived : Arrival) × came arrived × (arrived ≡ Whole bytes))
-    → text ≡ bytes → StopsUnder schema.columns.items (records_of text) fault → HasStoppedInCsv came schema fault
+    → text ≡ bytes → StopsUnder schema.columns.items (records_of text) fault → StopsInCsv came schema fault
 stopped_of came schema bytes text fault told same stops =
     record { text = bytes; whole = subst came told.2 told.1; stops = subst (λ (t : List ℕ). StopsUnder schema.columns.items (records_of t) fault) same stops }

@@ -27,7 +27,7 @@ pub record HasReadSchema (came : Arrival → Type 0) (schema : Schema) : Type 0 
 
 -- A CSV text was read completely, and the reader's own error is at the heading, or at the record
 -- after those that have rows.
-pub record HasStoppedInCsv (came : Arrival → Type 0) (schema : Schema) (fault : Fault) : Type 0 where
+pub record StopsInCsv (came : Arrival → Type 0) (schema : Schema) (fault : Fault) : Type 0 where
   pub text : List ℕ
   pub whole : came (Whole text)
   pub stops : StopsUnder schema.columns.items (records_of text) fault

@@ -11,7 +11,7 @@ ghost use Rattle.bw_io.specs.Source.{Arrival, ReadOutcome, TellsFailureOfEither,
 ghost use Rattle.bw_model.specs.Total.{item_within};
 ghost use Rattle.bw_sql.specs.Items.{AreOfOneKind};
 ghost use Rattle.bw_sql.specs.Statement.{IsReadAs};
-ghost use Rattle.bw_csv_calls.specs.ReadInputs.{HasStoppedInCsv, HasReadSchema};
+ghost use Rattle.bw_csv_calls.specs.ReadInputs.{StopsInCsv, HasReadSchema};
 ghost use Rattle.bw_csv.specs.Bare.{records_of};
 ghost use Rattle.bw_csv.specs.Rows.{is_exempt, is_reader_fault, MatchesUnlessExempt, IsRowsFault};
 ghost use Rattle.bw_csv.specs.Rows.{StopsUnder};
@@ -65,7 +65,7 @@ pub fn direct<S: Source, C: Source, K: Sink>(
         (S.to_come schema_source.new)
         (S.failures schema_source.old) (S.failures schema_source.new)) schema
         × IsReadAs schema sql.now (Ok query)
-        × HasStoppedInCsv (ReadOutcome longest_csv (C.to_come csv_source.old) (C.to_come csv_source.new)
+        × StopsInCsv (ReadOutcome longest_csv (C.to_come csv_source.old) (C.to_come csv_source.new)
         (C.failures csv_source.old) (C.failures csv_source.new)) schema fault) }
 
     // Of a source at most one byte past its limit is read. The call fails by a failed read if and
@@ -113,7 +113,7 @@ fn direct_text<S: Source, C: Source>(
         (S.to_come schema_source.new)
         (S.failures schema_source.old) (S.failures schema_source.new)) schema
         × IsReadAs schema sql.now (Ok query)
-        × HasStoppedInCsv (ReadOutcome longest_csv (C.to_come csv_source.old) (C.to_come csv_source.new)
+        × StopsInCsv (ReadOutcome longest_csv (C.to_come csv_source.old) (C.to_come csv_source.new)
         (C.failures csv_source.old) (C.failures csv_source.new)) schema fault) }
     ensures schema { TookAtMost (longest_schema + 1) (S.to_come schema_source.old)
         (S.to_come schema_source.new) }

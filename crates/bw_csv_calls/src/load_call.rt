@@ -9,7 +9,7 @@ ghost use Rattle.bw_io.specs.Source.{Arrival, ReadOutcome, TellsFailureOfEither,
 ghost use Rattle.bw_csv.specs.Bare.{records_of};
 ghost use Rattle.bw_csv.specs.Rows.{is_exempt, is_reader_fault, MatchesUnlessExempt, IsRowsFault};
 ghost use Rattle.bw_csv.specs.Rows.{StopsUnder};
-ghost use Rattle.bw_csv_calls.specs.ReadInputs.{HasStoppedInCsv, HasReadSchema};
+ghost use Rattle.bw_csv_calls.specs.ReadInputs.{StopsInCsv, HasReadSchema};
 ghost use Rattle.bw_csv_calls.specs.Direct.{is_before_csv};
 ghost use Rattle.bw_csv_calls.specs.Load.{IsFile, file_of};
 
@@ -55,7 +55,7 @@ pub fn load<S: Source, C: Source, K: Sink>(
         × HasReadSchema (ReadOutcome longest_schema (S.to_come schema_source.old)
         (S.to_come schema_source.new)
         (S.failures schema_source.old) (S.failures schema_source.new)) schema
-        × HasStoppedInCsv (ReadOutcome longest_csv (C.to_come csv_source.old) (C.to_come csv_source.new)
+        × StopsInCsv (ReadOutcome longest_csv (C.to_come csv_source.old) (C.to_come csv_source.new)
         (C.failures csv_source.old) (C.failures csv_source.new)) schema fault) }
 
     // Of a source at most one byte past its limit is read. The call fails by a failed read if and
@@ -100,7 +100,7 @@ fn build_table<S: Source, C: Source>(
         × HasReadSchema (ReadOutcome longest_schema (S.to_come schema_source.old)
         (S.to_come schema_source.new)
         (S.failures schema_source.old) (S.failures schema_source.new)) schema
-        × HasStoppedInCsv (ReadOutcome longest_csv (C.to_come csv_source.old) (C.to_come csv_source.new)
+        × StopsInCsv (ReadOutcome longest_csv (C.to_come csv_source.old) (C.to_come csv_source.new)
         (C.failures csv_source.old) (C.failures csv_source.new)) schema fault) }
     ensures schema { TookAtMost (longest_schema + 1) (S.to_come schema_source.old)
         (S.to_come schema_source.new) }

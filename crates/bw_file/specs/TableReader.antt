@@ -246,7 +246,7 @@ pub data GivesNext {S : Type 0} (source next_source : S) (old now : State)
 
 -- The reader states this layout, schema and number of rows, and these groups are the first ones of
 -- the rows.
-pub record ReturnsFirstSegment (reader : TableReader) (groups : List (List (List Value))) (kept : Layout)
+pub record ReturnsFirst (reader : TableReader) (groups : List (List (List Value))) (kept : Layout)
     (under : Schema) (rows : List (List Value)) : Type 0 where
   pub layout : layout_in reader ≡ kept
   pub schema : schema_shape (schema_in reader) ≡ schema_shape under

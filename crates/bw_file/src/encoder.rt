@@ -159,13 +159,13 @@ impl Encoder {
 }
 
 impl RowConsumer for Encoder {
-    ghost use Rattle.bw_file.specs.Encoder.{HasEncodedRows, encoder_schema, rows_in};
+    ghost use Rattle.bw_file.specs.Encoder.{HasEncoded, encoder_schema, rows_in};
 
     ghost takes = { λ encoder row. admits_values (encoder_schema encoder).columns.items row };
 
     ghost rows = { λ encoder. rows_in encoder };
 
-    ghost led = { HasEncodedRows };
+    ghost led = { HasEncoded };
 
     fn take(&mut self, row: &Row) -> Result<(), Fault> {
         self.add(row)

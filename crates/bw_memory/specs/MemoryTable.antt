@@ -38,7 +38,8 @@ meaning_numbered table number =
     record {
       name = (schema_of table).name;
       columns = (schema_of table).columns.items;
-      rows = stored_group table.layout (schema_of table).columns.items table.rows table.columns.items
+      rows =
+          stored_group table.layout (schema_of table).columns.items table.rows table.columns.items
           number;
     }
 

@@ -12,7 +12,8 @@ use Rattle.bw_memory.specs.StoredSegments.{StoresSegments, stored_groups}
 -- this many rows. All of the file was read, and these are the groups of its rows.
 pub record StoresAllSegments (old now : State) (reader : TableReader) (rows count : ℕ)
     (columns : List ColumnBlocks) : Type 0 where
-  pub segments : StoresSegments (layout_in reader) (schema_in reader).columns.items rows count columns
+  pub segments : StoresSegments (layout_in reader) (schema_in reader).columns.items rows count
+      columns
   pub within_limit : rows ≤ most_rows
   pub read : (start : State) → ReadProgress start old reader []
       → ReadWhole start now (found_so_far reader

@@ -104,7 +104,8 @@ fn read_segments<S: Source>(
 ) -> Result<u32, Fault>
     requires counter_fits { S.failures source.old < 2 ^ 64 - 1 }
     requires fresh { (rows_given reader.old ≡ 0) × (final_result reader.old ≡ None) }
-    requires none { StoresBlocks (form_of (layout_in reader.old)) (schema_in reader.old).columns.items
+    requires none { StoresBlocks (form_of (layout_in reader.old))
+        (schema_in reader.old).columns.items
         0 columns.old }
     ensures kept { IfOk result (λ count. StoresAllSegments
         (state (S.to_come source.old) (bytes_taken reader.old) (S.failures source.old))

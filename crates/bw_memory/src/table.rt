@@ -25,7 +25,8 @@ pub struct MemoryTable {
     ghost within_limit: { rows ≤ most_rows },
     ghost kept: { StoresSegments layout placement.value.schema.columns.items rows segments
         columns.items },
-    ghost cut: { stored_groups layout placement.value.schema.columns.items rows segments columns.items
+    ghost cut: { stored_groups layout placement.value.schema.columns.items rows segments
+        columns.items
         ≡ groups_of (together
         (stored_groups layout placement.value.schema.columns.items rows segments columns.items)) },
 }

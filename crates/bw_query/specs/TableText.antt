@@ -28,7 +28,8 @@ pub record IsScanOf (columns : List Column) (scan : Scan) (groups : List (List (
   pub skips : scanned.skips ≡ sum_by (skips_in columns scan) groups
 
 -- an answer has consumed all rows of a file, scanned in groups, after a reader had read the header
-pub record HasConsumedAll (old now : State) (reader : TableReader) (scan : Scan) (before after : Answer)
+pub record HasConsumedAll (old now : State) (reader : TableReader) (scan : Scan)
+    (before after : Answer)
     (scanned : Scanned) : Type 0 where
   pub groups : List (List (List Value))
   pub covers : GoesOver before (together groups) after

@@ -136,19 +136,22 @@ fn run_after_header<S: Source>(
     requires counter_fits { S.failures table.old < 2 ^ 64 - 1 }
     requires fresh { (rows_given reader.old ≡ 0) × (final_result reader.old ≡ None) }
     ensures answer { (start : State)
-        → HasReadHeader start (state (S.to_come table.old) (bytes_taken reader.old) (S.failures table.old))
+        → HasReadHeader start
+        (state (S.to_come table.old) (bytes_taken reader.old) (S.failures table.old))
         reader.old → IsTableResult (by_statement (given_file program.entry) sql.now) start
         (state (S.to_come table.new) (bytes_taken reader.new) (S.failures table.new))
         (text_in result) }
     ensures served { IfOk result (λ answered. (start : State)
-        → HasReadHeader start (state (S.to_come table.old) (bytes_taken reader.old) (S.failures table.old))
+        → HasReadHeader start
+        (state (S.to_come table.old) (bytes_taken reader.old) (S.failures table.old))
         reader.old → (found : TableText (by_statement (given_file program.entry) sql.now) start
         (state (S.to_come table.new) (bytes_taken reader.new) (S.failures table.new))
         answered.text.items)
         × IsServed (given_file program.entry) found.schema found.query found.rows answered.served) }
     ensures accepted { (start : State) (bytes : List ℕ) (layout : Layout) (schema : Schema)
         (rows : List (List Value)) (query : Query)
-        → HasReadHeader start (state (S.to_come table.old) (bytes_taken reader.old) (S.failures table.old))
+        → HasReadHeader start
+        (state (S.to_come table.old) (bytes_taken reader.old) (S.failures table.old))
         reader.old → start.known ≡ Some bytes → IsFileBytes bytes layout schema rows
         → by_statement (given_file program.entry) sql.now schema (Ok query)
         → IfErr result (λ fault. IsTrue (is_no_verdict fault)) }
@@ -266,17 +269,20 @@ fn dump_after_header<S: Source>(
     requires counter_fits { S.failures table.old < 2 ^ 64 - 1 }
     requires fresh { (rows_given reader.old ≡ 0) × (final_result reader.old ≡ None) }
     ensures answer { (start : State)
-        → HasReadHeader start (state (S.to_come table.old) (bytes_taken reader.old) (S.failures table.old))
+        → HasReadHeader start
+        (state (S.to_come table.old) (bytes_taken reader.old) (S.failures table.old))
         reader.old → IsTableResult by_dump start
         (state (S.to_come table.new) (bytes_taken reader.new) (S.failures table.new))
         (bytes_in result) }
     ensures text { IfOk result (λ text. (start : State)
-        → HasReadHeader start (state (S.to_come table.old) (bytes_taken reader.old) (S.failures table.old))
+        → HasReadHeader start
+        (state (S.to_come table.old) (bytes_taken reader.old) (S.failures table.old))
         reader.old → TableText by_dump start
         (state (S.to_come table.new) (bytes_taken reader.new) (S.failures table.new)) text.items) }
     ensures accepted { (start : State) (bytes : List ℕ) (layout : Layout) (schema : Schema)
         (rows : List (List Value))
-        → HasReadHeader start (state (S.to_come table.old) (bytes_taken reader.old) (S.failures table.old))
+        → HasReadHeader start
+        (state (S.to_come table.old) (bytes_taken reader.old) (S.failures table.old))
         reader.old → start.known ≡ Some bytes → IsFileBytes bytes layout schema rows
         → IfErr result (λ fault. IsTrue (is_no_verdict fault)) }
     ensures fault { IfErr result (λ fault. is_write_fault fault ≡ false) }

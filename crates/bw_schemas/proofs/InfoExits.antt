@@ -15,7 +15,7 @@ use Rattle.bw_file.specs.declared.layout.Layout.{Layout}
 use Rattle.bw_file.specs.declared.table_reader.TableReader.{TableReader}
 use Rattle.bw_file.specs.FileBytes.{IsFileBytes}
 use Rattle.bw_file.specs.Reading.{State, Fails, GoesOn, give}
-use Rattle.bw_file.specs.TableReader.{ReturnsFirstSegment, header_stated, layout_in, rows_stated, schema_in}
+use Rattle.bw_file.specs.TableReader.{ReturnsFirst, header_stated, layout_in, rows_stated, schema_in}
 use Rattle.bw_file.specs.TableReader.{version_in}
 use Rattle.bw_file.specs.TableReading.{IsTableFault, header, is_table_fault}
 use Rattle.bw_model.proofs.SameColumns.{columns_same}
@@ -86,7 +86,7 @@ text_same version l m s t n o p q r =
 
 -- a table file's header was reported
 pub told_file : (reader : TableReader) (bytes : List ℕ) (layout : Layout) (schema : Schema) (rows : List (List Value)) (text : List ℕ) → IsFileBytes bytes layout schema rows
-    → ReturnsFirstSegment reader [] layout schema rows → text ≡ info_text (version_in reader) (layout_in reader) (schema_in reader) (rows_stated reader)
+    → ReturnsFirst reader [] layout schema rows → text ≡ info_text (version_in reader) (layout_in reader) (schema_in reader) (rows_stated reader)
     → (old new : Option (List ℕ)) (before after : ℕ) (result : Result (Unit {0}) Fault) → GoesOut old new before after text result → OnOk result (TellsFile bytes layout schema rows old new)
 told_file reader bytes layout schema rows text file gave is old new before after (Ok x) goes =
     let version = version_in reader in

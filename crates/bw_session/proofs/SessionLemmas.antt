@@ -15,7 +15,7 @@ use Rattle.bw_io.specs.Source.{failed_reads, is_input_fault}
 use Rattle.bw_io.proofs.SinkLemmas.{no_write_fault}
 use Rattle.bw_session.specs.Reading.{HasReadBeginning, HasReadStatement}
 use Rattle.std.specs.Prelude.{if◌then◌else◌}
-use Rattle.bw_session.specs.Session.{IsReadCompletely, Ended, IsOutput, RanSoFar, EndedEarly}
+use Rattle.bw_session.specs.Session.{IsComplete, Ended, IsOutput, RanSoFar, IsStopped}
 use Rattle.bw_session.specs.Session.{HasWrittenOutput, HasWrittenPart, begun, failed_writes, first_of, more}
 use Rattle.bw_session.specs.Session.{reading, whole, writing}
 use Rattle.bw_session.proofs.CutLemmas.{none_opened}
@@ -71,7 +71,7 @@ ends schema rows old before now taken_old taken_before taken_now statement first
 -- it ended before the next statement had come
 pub stops : (schema : Schema) (rows : List (List Value)) (old now taken_old taken_now : Option (List ℕ))
     (first : Option Fault) (fault : Fault) → RanSoFar schema rows old now taken_old taken_now first
-    → IsTrue (is_input_fault fault) → EndedEarly schema rows old now taken_old taken_now fault
+    → IsTrue (is_input_fault fault) → IsStopped schema rows old now taken_old taken_now fault
 stops schema rows old now taken_old taken_now first fault so_far input =
     reading so_far.text [] so_far.output input so_far.answered (subst (Consumes old now) (sym (append-nil so_far.text)) so_far.came)
     (record { front = []; rest = []; is = refl; short = omega arith; opened = none_opened }) so_far.went
@@ -79,14 +79,14 @@ stops schema rows old now taken_old taken_now first fault so_far input =
 -- it ended while the next statement came
 pub stops_reading : (schema : Schema) (rows : List (List Value)) (old before now taken_old taken_now : Option (List ℕ))
     (first : Option Fault) (fault : Fault) → RanSoFar schema rows old before taken_old taken_now first
-    → IsTrue (is_input_fault fault) → HasReadBeginning before now → EndedEarly schema rows old now taken_old taken_now fault
+    → IsTrue (is_input_fault fault) → HasReadBeginning before now → IsStopped schema rows old now taken_old taken_now fault
 stops_reading schema rows old before now taken_old taken_now first fault so_far input took =
     reading so_far.text took.bytes so_far.output input so_far.answered
     (Consumes-trans old before now so_far.text took.bytes so_far.came took.came) took.begun so_far.went
 
 -- what came is a statement, with what ends it or up to the end of the source
 came_whole : (old new : Option (List ℕ)) (statement : List ℕ) (goes_on : Bool) → (took : HasReadStatement old new statement goes_on)
-    → IsReadCompletely new took.bytes
+    → IsComplete new took.bytes
 came_whole old new statement true took = inl (took.whole refl)
 came_whole old new statement false took = inr (took.last refl, took.end refl)
 
@@ -104,9 +104,9 @@ pub stops_writing : (schema : Schema) (rows : List (List Value)) (old before now
     (statement sql : List ℕ) (goes : Bool) (first : Option Fault) (fault : Fault)
     → RanSoFar schema rows old before taken_old taken_before first → HasReadStatement before now statement goes
     → HasWrittenPart schema rows sql taken_before taken_now → sql ≡ statement → fault ≡ nowhere WRITE_FAILED
-    → EndedEarly schema rows old now taken_old taken_now fault
+    → IsStopped schema rows old now taken_old taken_now fault
 stops_writing schema rows old before now taken_old taken_before taken_now statement sql goes first fault so_far took wrote same failed =
-    subst (EndedEarly schema rows old now taken_old taken_now) (sym failed)
+    subst (IsStopped schema rows old now taken_old taken_now) (sym failed)
     (writing so_far.text took.bytes so_far.output wrote.out so_far.answered
     (Consumes-trans old before now so_far.text took.bytes so_far.came took.came)
     (came_whole before now statement goes took)

@@ -98,24 +98,24 @@ pub record Ended (schema : Schema) (rows : List (List Value))
   pub answered : IsAnswered schema rows text first output
 
 -- a statement was read completely: with what ends it, or up to the end of the source
-abbrev pub IsReadCompletely : Option (List ℕ) → List ℕ → Type 0
-IsReadCompletely new sql = IsWhole sql ⊎ (IsOpen sql × IsAtEnd new)
+abbrev pub IsComplete : Option (List ℕ) → List ℕ → Type 0
+IsComplete new sql = IsWhole sql ⊎ (IsOpen sql × IsAtEnd new)
 
 -- A session that ended early, by this error. The sink consumed what the statements of a text write.
 -- Then a read failed, or memory ran out, before the next statement was read completely; or a write
 -- failed, after a prefix of what that statement writes.
-pub data EndedEarly (schema : Schema) (rows : List (List Value))
+pub data IsStopped (schema : Schema) (rows : List (List Value))
     (old new taken_old taken_new : Option (List ℕ))
     : Fault → Type 0 where
   reading : {fault : Fault} {first : Option Fault} (text begun output : List ℕ)
       → IsTrue (is_input_fault fault)
       → AreAnswered schema rows text first output → Consumes old new (text ++ begun) → IsBegun begun
-      → Appends taken_old taken_new output → EndedEarly schema rows old new taken_old taken_new fault
+      → Appends taken_old taken_new output → IsStopped schema rows old new taken_old taken_new fault
   writing : {first refused : Option Fault} (text sql output out : List ℕ)
       → AreAnswered schema rows text first output
-      → Consumes old new (text ++ sql) → IsReadCompletely new sql → IsOutput schema rows sql refused out
+      → Consumes old new (text ++ sql) → IsComplete new sql → IsOutput schema rows sql refused out
       → TookPart taken_old taken_new (output ++ out)
-      → EndedEarly schema rows old new taken_old taken_new (nowhere WRITE_FAILED)
+      → IsStopped schema rows old new taken_old taken_new (nowhere WRITE_FAILED)
 
 -- A session ran all statements of its source, and returned the first of their errors; or it ended
 -- early. The counts of failures rise by one if a failed read or write ended it, and else stay.
@@ -128,7 +128,7 @@ Answers schema rows old new taken_old taken_new reads_before reads_after writes_
     × (reads_after ≡ reads_before) × (writes_after ≡ writes_before)
 Answers schema rows old new taken_old taken_new reads_before reads_after writes_before writes_after
     (Err fault) =
-    EndedEarly schema rows old new taken_old taken_new fault
+    IsStopped schema rows old new taken_old taken_new fault
     × (reads_after ≡ reads_before + failed_reads fault)
     × (writes_after ≡ writes_before + failed_writes fault)
 
