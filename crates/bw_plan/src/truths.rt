@@ -185,7 +185,7 @@ impl Code<'_> {
         };
         Ok(
             self.sides(held, &[], false, wanted.opposite_if(negated))?
-                .turned(negated),
+                .opposite_if(negated),
         )
     }
 
