@@ -67,8 +67,8 @@ fn fault_of(
     }
 }
 
-/// Node 2 tests variable 0. Each row but the first two states, by these two, that its XOR with
-/// itself is 0.
+/// Returns the certificate's text. Node 2 tests variable 0. Each row but the first two proves from
+/// these two that its XOR with itself is 0.
 fn certificate_text(alloc: Global) -> Result<String, AllocError> {
     let mut text = String::new(alloc);
     text.push_str("NODE 2 0 0 1\nROW 0 XOR 0 0 0 S\nROW 1 XOR 1 1 0 S\n")?;

@@ -49,7 +49,7 @@ fn fill_in_turn(
     Ok(())
 }
 
-/// "Not" of the last column's least bit, and then bits of the first two columns.
+/// Adds "not" of the last column's least bit, and then bits of the first two columns.
 fn add_nodes(diagram: &mut Diagram<'_>) -> Result<(), Fault> {
     diagram.add_node(2, 31, 1, 0)?;
     for n in 3..NODES {
@@ -58,7 +58,7 @@ fn add_nodes(diagram: &mut Diagram<'_>) -> Result<(), Fault> {
     Ok(())
 }
 
-/// Chains over no bit and over one bit of the last column, in turn.
+/// Adds chains over no bit and over one bit of the last column, in turn.
 fn add_chains(diagram: &mut Diagram<'_>) -> Result<(), Fault> {
     for n in 0..CHAINS {
         let columns = ChainColumns::One {
@@ -75,7 +75,7 @@ fn add_chains(diagram: &mut Diagram<'_>) -> Result<(), Fault> {
     Ok(())
 }
 
-/// `0 AND 0` and `1 AND 1`, in turn.
+/// Adds the rows `0 AND 0` and `1 AND 1`, in turn.
 fn add_cited_rows(diagram: &mut Diagram<'_>) -> Result<(), Fault> {
     for n in 0..CITED_ROWS {
         let x = n % 2;
@@ -84,7 +84,7 @@ fn add_cited_rows(diagram: &mut Diagram<'_>) -> Result<(), Fault> {
     Ok(())
 }
 
-/// `x AND x` for nodes and cited rows here and there.
+/// Adds the row `x AND x` for scattered nodes and referenced rows.
 fn add_products(diagram: &mut Diagram<'_>) -> Result<(), Fault> {
     for n in CITED_ROWS..ROWS {
         let x = 3 + n * 40_503 % (NODES - 3);

@@ -8,11 +8,11 @@ use bw_segment::Segment;
 
 /// The kernels that the straight loops call.
 pub(crate) trait Kernels {
-    /// A plane of the first column, one of its first eight.
+    /// Returns a plane of the first column, one of its first eight.
     fn plane(case: &Case, place: u32) -> Plane
         requires { place < 8 };
 
-    /// The lanes of the first column whose byte is below k.
+    /// Returns the lanes of the first column whose byte is less than k.
     fn byte_lt(case: &Case, k: u8) -> Plane;
 
     fn and(a: &Plane, b: &Plane) -> Plane;

@@ -4,8 +4,8 @@ ghost use Rattle.std.specs.Prelude.{◌≤◌};
 ghost use Rattle.bw_model.specs.Groups.{group_size};
 ghost use Rattle.bw_segment.specs.Meaning.{meaning_of, IsGroup};
 
-use crate::drawn::{drawn, or_null};
 use crate::failure::Failure;
+use crate::random::{drawn, or_null};
 use bw_lanes::{Plane, bytes_bit, bytes_eq, bytes_lt};
 use bw_model::{Row, Schema};
 use bw_planes::{PlaneSegment, Planes};
@@ -44,12 +44,12 @@ fn tell<R: Print + Eprint + Clock>(
     Ok(())
 }
 
-/// A word of a plane, another one at each call.
+/// Returns a word of a plane, another one at each call.
 fn word_of(plane: &Plane, call: u32) -> u64 {
     plane[(call & 7) as usize]
 }
 
-/// A byte of a segment, another one at each call.
+/// Returns a byte of a segment, another one at each call.
 fn byte_of(bytes: &[u8], call: u32) -> u64 {
     u64::from(bytes.get((call & 7) as usize).copied().unwrap_or(0))
 }
@@ -82,7 +82,7 @@ fn time_kernels<R: Print + Eprint + Clock>(rt: &R, calls: u32) -> Result<(), Fai
     tell(rt, "bytes_bit", calls, start, seen)
 }
 
-/// A group of 512 rows, with a null in every eighth.
+/// Returns a group of 512 rows, with a null in every eighth.
 fn rows_of(alloc: Global) -> Result<Vec<Row>, Failure> {
     let mut rows = Vec::new(alloc);
     for lane in 0..512u16 {
@@ -132,7 +132,7 @@ fn time_builds<R: Print + Eprint + Clock, L: CodeLayout>(
 const JUDGED: &[u8] =
     b"TABLE w\nCOLUMN a 0 255 NOT NULL\nCOLUMN b -10 10\nCOLUMN c 0 1000000 NOT NULL\nCOLUMN d 0 4294967295\n";
 
-/// A group of 512 drawn rows, with a null in every eighth or so.
+/// Returns a group of 512 drawn rows, with a null in every eighth or so.
 fn drawn_rows(alloc: Global) -> Result<Vec<Row>, Failure> {
     let mut rows = Vec::new(alloc);
     let mut state = 1;

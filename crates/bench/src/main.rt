@@ -1,8 +1,9 @@
 //! Benchmarks run by hand, one after another: `bench WORD ..`, where a word is
 //!
-//! - `lanes=CALLS`: the kernels over bytes, and the building and judging of segments, with so many calls;
+//! - `lanes=CALLS`: the kernels over bytes, and building and validating segments, with this many
+//! calls;
 //! - `run`: runs of scan programs over segments, beside straight loops over the same kernels;
-//! - `totals`: SUM, MIN and MAX of picked rows, in both layouts;
+//! - `totals`: SUM, MIN and MAX of selected rows, in both layouts;
 //! - `diagram`: a diagram that is filled;
 //! - `cert`: a certificate of a million product rows, read and checked;
 //! - `reader=FILE`: the records of a file, counted by the `csv` crate alone.
@@ -14,10 +15,10 @@
 mod case;
 mod cert;
 mod diagram;
-mod drawn;
 mod failure;
 mod kernels;
 mod lanes;
+mod random;
 mod reader;
 mod run;
 mod total_ways;

@@ -5,8 +5,8 @@
 //!
 //! `ways.rt` has what is timed; read it first.
 use crate::case::Case;
-use crate::drawn::nanos;
 use crate::failure::Failure;
+use crate::random::nanos;
 use crate::ways::{
     ByProgram, CalledAnds, CalledBytes, CalledComparison, CalledLoads, CalledTopBits,
     FusedComparison, FusedTopBits, Way,
@@ -143,7 +143,7 @@ fn time_reading(
     Ok(())
 }
 
-/// The text of a program of one line, so many times.
+/// Returns the text of a program of one line, this many times.
 fn text_of(alloc: Global, line: &str, count: usize) -> Result<Vec<u8>, Failure> {
     let mut text = Vec::new(alloc);
     for _ in 0..count {
@@ -169,7 +169,7 @@ fn cases_of(alloc: Global, schema: &Schema, text: &[u8], spread: u8) -> Result<V
     Ok(cases)
 }
 
-/// A row's value of the first column, 0 to 255, from a number that each group begins with.
+/// Returns a row's value of the first column, 0 to 255, from a number that each group begins with.
 fn value_of(group: u16, row: u16, spread: u8) -> i64 {
     let number = group as u64 * 512 + row as u64;
     let scattered = number * 2_654_435_761 % 4_294_967_296 / 65_536;

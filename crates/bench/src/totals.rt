@@ -3,8 +3,8 @@
 //! totals, and standard error the minimal times.
 //!
 //! `total_ways.rt` has what is timed; read it first.
-use crate::drawn::{drawn, nanos, or_null};
 use crate::failure::Failure;
+use crate::random::{drawn, nanos, or_null};
 use crate::total_ways::{Greatest, Least, Sum, Way};
 use bw_lanes::Plane;
 use bw_model::{Row, Schema};
@@ -46,9 +46,9 @@ fn time_cases(
 ) -> Result<(), Failure> {
     let half = drawn_plane(state, 1);
     let few = drawn_plane(state, 6);
-    for (picked, name) in [(half, "half the rows"), (few, "one row in 64")] {
-        time_layout(rt, &cases.planes, &picked, "planes", name)?;
-        time_layout(rt, &cases.slices, &picked, "slices", name)?;
+    for (selected, name) in [(half, "half the rows"), (few, "one row in 64")] {
+        time_layout(rt, &cases.planes, &selected, "planes", name)?;
+        time_layout(rt, &cases.slices, &selected, "slices", name)?;
     }
     Ok(())
 }
@@ -88,20 +88,20 @@ fn add_case(
 fn time_layout<S: Segment>(
     rt: &(impl Print + Eprint + Clock),
     segments: &[S],
-    picked: &Plane,
+    selected: &Plane,
     layout: &str,
     name: &str,
 ) -> Result<(), Failure> {
-    time_way::<Sum, S>(rt, segments, picked, "SUM", layout, name)?;
-    time_way::<Least, S>(rt, segments, picked, "MIN", layout, name)?;
-    time_way::<Greatest, S>(rt, segments, picked, "MAX", layout, name)
+    time_way::<Sum, S>(rt, segments, selected, "SUM", layout, name)?;
+    time_way::<Least, S>(rt, segments, selected, "MIN", layout, name)?;
+    time_way::<Greatest, S>(rt, segments, selected, "MAX", layout, name)
 }
 
 /// Prints the minimal time of a total, in tenths of nanoseconds a segment.
 fn time_way<W: Way, S: Segment>(
     rt: &(impl Print + Eprint + Clock),
     segments: &[S],
-    picked: &Plane,
+    selected: &Plane,
     total: &str,
     layout: &str,
     name: &str,
@@ -112,7 +112,7 @@ fn time_way<W: Way, S: Segment>(
         let start = Instant::now(rt)?;
         for _ in 0..PASSES {
             for segment in segments {
-                seen = seen.wrapping_add(W::total(segment, picked).unwrap_or(0));
+                seen = seen.wrapping_add(W::total(segment, selected).unwrap_or(0));
             }
         }
         least = least.min(nanos(start.elapsed(rt)?));
@@ -127,7 +127,7 @@ fn time_way<W: Way, S: Segment>(
     Ok(())
 }
 
-/// 512 drawn rows, with a null in every eighth or so.
+/// Returns 512 drawn rows, with a null in every eighth or so.
 fn drawn_rows(alloc: Global, state: &mut u64) -> Result<Vec<Row>, Failure> {
     let mut rows = Vec::with_capacity(alloc, 512)?;
     for _ in 0..512 {
@@ -140,7 +140,7 @@ fn drawn_rows(alloc: Global, state: &mut u64) -> Result<Vec<Row>, Failure> {
     Ok(rows)
 }
 
-/// A plane in which about one row in 2 to this power is 1.
+/// Returns a plane in which about one row in 2 to this power is 1.
 fn drawn_plane(state: &mut u64, power: usize) -> Plane {
     let mut plane = [u64::MAX; 8];
     for _ in 0..power {

@@ -9,7 +9,7 @@ use bw_segment::Segment;
 
 /// A way to select rows.
 pub(crate) trait Way {
-    /// The rows that it selects, and how many planes it loaded.
+    /// Returns the rows that it selects, and how many planes it loaded.
     fn select(case: &Case) -> (Plane, usize);
 }
 

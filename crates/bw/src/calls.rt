@@ -1,4 +1,5 @@
-//! The calls of `bw` without what they promise, which nothing here rests on: so what calls them is proved sooner.
+//! The calls of `bw_shell` with weaker contracts: only their conditions. Nothing here depends on
+//! their guarantees, so callers are proved sooner.
 ghost use Rattle.std.specs.Prelude.{◌-◌, ◌^◌, ◌<◌};
 ghost use Rattle.bw_memory.specs.MemoryTable.{schema_of};
 ghost use Rattle.bw_query.specs.ProgramCache.{Serves};

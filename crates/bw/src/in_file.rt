@@ -1,23 +1,24 @@
-//! An input file, which mustn't change while it is read.
+//! An input file that mustn't change while it is read.
 use bw_explain::Reads;
 use std::fs::File;
 use std::io::{self, ErrorKind, Read};
 use std::os::unix::fs::MetadataExt;
 
-/// What the system tells of a regular file that changes wherever its bytes do.
+/// The metadata of a regular file that changes whenever its bytes do.
 #[derive(Clone, Copy)]
 struct Version {
     length: u64,
-    /// When its bytes were changed last: seconds and nanoseconds.
+    /// The time of the last change of its bytes: seconds and nanoseconds.
     modified: (i64, i64),
-    /// When anything about it was changed last, its times and its names too.
+    /// The time of the last change of anything about it, its times and its names included.
     changed: (i64, i64),
-    /// How many names it has.
+    /// The number of its names.
     names: u64,
 }
 
 impl Version {
-    /// The version of a regular file; none of a pipe or a device, or where the system doesn't tell.
+    /// Returns the version of a regular file; none for a pipe or a device, or if the system has no
+    /// metadata.
     fn of(file: &File) -> Option<Self> {
         let found = file.metadata().ok()?;
         found.is_file().then_some(Version {
@@ -28,8 +29,8 @@ impl Version {
         })
     }
 
-    /// Whether the file may have other bytes now. A file that lost a name, since another was moved onto it, has the same
-    /// bytes.
+    /// Returns whether the file may have other bytes now. A file that lost a name, because another
+    /// was moved onto it, has the same bytes.
     fn differs_from(&self, now: &Version) -> bool {
         self.length != now.length
             || self.modified != now.modified
@@ -37,8 +38,8 @@ impl Version {
     }
 }
 
-/// A file to read from. At its end a regular file is compared with what it was when it was opened: if it has changed
-/// meanwhile, the read that finds the end fails.
+/// A file to read from. At its end, a regular file is compared with what it was when it was opened.
+/// If it has changed, the read that finds the end fails.
 #[derive(Drop)]
 pub struct InFile {
     file: File,
@@ -47,7 +48,7 @@ pub struct InFile {
 }
 
 impl InFile {
-    /// A file that was just opened.
+    /// Returns a file that was just opened.
     pub fn new(file: File) -> Self {
         let opened = Version::of(&file);
         InFile {
@@ -57,12 +58,12 @@ impl InFile {
         }
     }
 
-    /// The length of a regular file when it was opened.
+    /// Returns the length of a regular file when it was opened.
     pub fn len(&self) -> Option<u64> {
         self.opened.map(|version| version.length)
     }
 
-    /// How its reads went so far.
+    /// Returns whether its reads failed so far, and why.
     pub fn reads(&self) -> Reads {
         self.reads
     }

@@ -1,11 +1,13 @@
-//! The program `bw`: `main` ends with the exit status that `run` gives.
+//! The program `bw`: `main` exits with the status that `run` returns.
 //!
-//! `run` opens the files that the command line names, and makes a call of `bw_shell` on them. What it answers goes to
-//! standard output, and the table file of a load into the file OUT. A fault is one line on standard error, as
-//! `bw: 404 unknown column at byte 7`, and the status tells its kind: 0 done, 2 a command line that can't be used, 3 a
-//! fault of an input, 4 of a certificate or of a condition without a plan, 5 of a device, 6 out of memory. At a
-//! terminal, or after `--explain`, `bw_explain` adds lines that say what is wrong there. What a command line may be is in
-//! `bw_cli`.
+//! `run` opens the files that the command line names and makes one call of `bw_shell` on them.
+//! Results go to standard output, and the table file of a load to the file OUT. An error is one
+//! line on standard error, as `bw: 404 unknown column at byte 7`.
+//!
+//! The exit status is 0 for success, 2 for an invalid command line, 3 for an error in an input, 4
+//! for one of a certificate or for a condition without a plan, 5 for one of an I/O device, and 6
+//! for out of memory. At a terminal, or after `--explain`, `bw_explain` adds lines that explain the
+//! error. `bw_cli` has the command line.
 #![tactic(auto)]
 
 mod calls;

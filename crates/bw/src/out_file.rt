@@ -1,4 +1,4 @@
-//! A file that is created at the first write.
+//! A file that is created by the first write.
 ghost use Rattle.std.specs.Prelude.{◌≡◌, None};
 
 use bw_file::{Failed, Sink};
@@ -6,8 +6,8 @@ use std::fs::{self, File};
 use std::io::{self, Write};
 use std::os::unix::fs::MetadataExt;
 
-/// A file to write to. It's created, or emptied, at the first write, so that a call that writes nothing leaves it as it
-/// was. That it can't be is a failed write.
+/// A file to write to. It's created, or emptied, by the first write, so a call that writes nothing
+/// leaves it as it was. If it can't be created, that write fails.
 #[derive(Drop)]
 pub struct OutFile<'a> {
     rt: &'a HostRuntime,
@@ -30,14 +30,14 @@ impl<'a> OutFile<'a> {
         }
     }
 
-    /// Why the system failed to create the file or to write to it, if it did.
+    /// Returns why the system failed to create the file or to write to it, if it did.
     pub fn error(&self) -> Option<io::Error> {
         self.error
     }
 }
 
-/// Whether two names are of one regular file, by its device and its number there. So links of both kinds are seen
-/// through.
+/// Returns whether two names are of one regular file, by its device and its number there, so links
+/// of both kinds are followed.
 pub fn is_same_file(rt: &HostRuntime, one: &str, other: &str) -> bool {
     match (fs::metadata(rt, one), fs::metadata(rt, other)) {
         (Ok(one), Ok(other)) => {

@@ -1,7 +1,7 @@
-//! Standard output, which keeps why a write failed.
+//! Standard output, with the reason of a failed write.
 use std::io::{self, Write};
 
-/// A writer that keeps the last error of its writes.
+/// A writer that stores the last error of its writes.
 #[derive(Drop)]
 pub struct OutStream<W> {
     inner: W,
@@ -9,12 +9,12 @@ pub struct OutStream<W> {
 }
 
 impl<W> OutStream<W> {
-    /// A writer of which no write has failed.
+    /// Returns a writer of which no write has failed.
     pub fn new(inner: W) -> Self {
         OutStream { inner, error: None }
     }
 
-    /// Why the last write failed, if one did.
+    /// Returns why the last write failed, if one did.
     pub fn error(&self) -> Option<io::Error> {
         self.error
     }

@@ -1,4 +1,4 @@
-//! Runs the command that the command line asks for, and gives the exit status.
+//! Runs the command of the command line, and returns the exit status.
 ghost use Rattle.std.specs.Prelude.{◌≡◌, IfOk};
 ghost use Rattle.bw_io.specs.ReadAhead.{read_failures};
 ghost use Rattle.bw_memory.specs.MemoryTable.{schema_of};
@@ -9,7 +9,7 @@ use crate::in_file::InFile;
 use crate::out_file::{OutFile, is_same_file};
 use crate::out_stream::OutStream;
 use crate::session::Teller;
-use bw_cli::{CommandArgs, Invocation, USAGE, asked_by, words_given};
+use bw_cli::{CommandArgs, Invocation, USAGE, parse_invocation, process_args};
 use bw_explain::{CommandFailure, Reads, explain, explain_rows};
 use bw_file::{FromRead, Layout, Source, ToWrite};
 use bw_io::ReadAhead;
@@ -22,25 +22,25 @@ use std::fs::File;
 use std::io::{self, IsTerminal, Stdin};
 use std::rt::{Env, Files};
 
-/// How many bytes of a table file are asked for at once.
+/// The number of bytes of a table file in one read: 128 KiB.
 const PIECE: usize = 128 * 1024;
 
 /// Runs the command of the process's command line.
 pub fn run(rt: &HostRuntime) -> u8 {
-    match words_given(rt) {
-        Ok(words) => run_given(rt, &words),
+    match process_args(rt) {
+        Ok(words) => run_args(rt, &words),
         Err(status) => status,
     }
 }
 
-fn run_given(rt: &HostRuntime, words: &[String]) -> u8 {
-    match asked_by(rt, words) {
-        Ok(asked) => run_asked(rt, asked),
+fn run_args(rt: &HostRuntime, words: &[String]) -> u8 {
+    match parse_invocation(rt, words) {
+        Ok(asked) => run_invocation(rt, asked),
         Err(status) => status,
     }
 }
 
-fn run_asked(rt: &HostRuntime, asked: Invocation<'_>) -> u8 {
+fn run_invocation(rt: &HostRuntime, asked: Invocation<'_>) -> u8 {
     let Invocation {
         words,
         programs,
@@ -51,19 +51,19 @@ fn run_asked(rt: &HostRuntime, asked: Invocation<'_>) -> u8 {
         return USAGE;
     }
     let told = is_explained || rt.stderr().is_terminal();
-    match run_words(rt, words, &programs, told) {
+    match run_command(rt, words, &programs, told) {
         Ok(status) => status,
-        Err(ended) if told && !is_explained && ended.is_closed_pipe() => status_alone(&ended.fault),
-        Err(ended) => tell_fault(rt, &words, &ended, told),
+        Err(ended) if told && !is_explained && ended.is_closed_pipe() => quiet_status(&ended.fault),
+        Err(ended) => print_fault(rt, &words, &ended, told),
     }
 }
 
-/// The status of a fault of which a person needn't read.
-fn status_alone(fault: &Fault) -> u8 {
+/// Returns the status of an error that isn't printed.
+fn quiet_status(fault: &Fault) -> u8 {
     report(fault, &mut ToWrite::new(io::sink()))
 }
 
-/// The input of a command that is the same file as what it is to write, by any name.
+/// Returns the input of a command that is the same file as its output, by any name.
 fn input_as_output<'a>(rt: &HostRuntime, words: &CommandArgs<'a>) -> Option<&'a str> {
     let out = words.out()?;
     let inputs = [words.schema(), words.csv()];
@@ -73,9 +73,9 @@ fn input_as_output<'a>(rt: &HostRuntime, words: &CommandArgs<'a>) -> Option<&'a 
         .find(|input| is_same_file(rt, input, out))
 }
 
-/// Writes the line of what ended a command, and what is to be said of it where that is to be reported, and gives the
+/// Writes the line of the error that ended a command, and explains it if `told`. Returns the exit
 /// status.
-fn tell_fault(
+fn print_fault(
     rt: &HostRuntime,
     words: &CommandArgs<'_>,
     ended: &CommandFailure<'_>,
@@ -88,8 +88,8 @@ fn tell_fault(
     status
 }
 
-/// Runs a command, reports how it was done where that is wanted, and gives the status.
-fn run_words<'a>(
+/// Runs a command, and explains the row-by-row fallback if `told`. Returns the exit status.
+fn run_command<'a>(
     rt: &HostRuntime,
     words: CommandArgs<'a>,
     programs: &[&'a str],
@@ -126,7 +126,7 @@ fn run_words<'a>(
     Ok(0)
 }
 
-/// Runs `bw direct`: both files are opened before either is read.
+/// Runs `bw direct`. Both files are opened before either is read.
 fn run_direct<'a>(
     rt: &HostRuntime,
     schema_path: &'a str,
@@ -145,7 +145,7 @@ fn run_direct<'a>(
         &mut ToWrite::new(&mut out),
     );
     let files = [(schema_path, schema.reads()), (csv_path, csv.reads())];
-    or_unwritten(done, &files, out.error())
+    or_write_failure(done, &files, out.error())
 }
 
 /// Runs `bw infer`.
@@ -159,10 +159,11 @@ fn run_infer<'a>(
     let mut out = OutStream::new(rt.stdout());
     let name = name.unwrap_or("t");
     let done = infer(rt.alloc(), name, &mut source, &mut ToWrite::new(&mut out));
-    or_unwritten(done, &[(csv_path, csv.reads())], out.error())
+    or_write_failure(done, &[(csv_path, csv.reads())], out.error())
 }
 
-/// Runs `bw load`: both files are opened before either is read, and the third is created at the first write.
+/// Runs `bw load`. Both files are opened before either is read, and the third is created by the
+/// first write.
 fn run_load<'a>(
     rt: &HostRuntime,
     layout: Layout,
@@ -182,11 +183,11 @@ fn run_load<'a>(
         &mut out,
     );
     let files = [(schema_path, schema.reads()), (csv_path, csv.reads())];
-    or_unwritten(done, &files, out.error())
+    or_write_failure(done, &files, out.error())
 }
 
-/// Runs `bw query`: the files are opened before any is read, and the program file is read first. Tells how the query
-/// was served.
+/// Runs `bw query`. The files are opened before any is read, and the program file is read first.
+/// Writes the scan statistics, if `stats`.
 fn run_query<'a>(
     rt: &HostRuntime,
     program: Option<&'a str>,
@@ -198,14 +199,14 @@ fn run_query<'a>(
     let program = program_given(rt, program)?;
     let served = answer_from(rt, table_path, table, sql, program.as_deref())?;
     if stats {
-        or_ended(stats_line(&served, &mut ToWrite::new(rt.stderr())), &[])?;
+        or_failure(stats_line(&served, &mut ToWrite::new(rt.stderr())), &[])?;
     }
     Ok(served)
 }
 
 /// Runs `bw session`: opens the table file, reads the program files and then the table file, and
-/// answers the statements of standard input on standard output. Returns the status of the first
-/// statement that was rejected.
+/// runs the statements of standard input. Returns the status of the first statement that was
+/// rejected.
 fn run_session<'a>(
     rt: &HostRuntime,
     paths: &[&'a str],
@@ -220,7 +221,7 @@ fn run_session<'a>(
     answer_input(rt, &table, &mut programs, stats, told)
 }
 
-/// Answers the statements of standard input over a table in memory. Returns the status of the first
+/// Runs the statements of standard input over a table in memory. Returns the status of the first
 /// one that was rejected.
 fn answer_input(
     rt: &HostRuntime,
@@ -242,8 +243,8 @@ fn answer_input(
         &mut ToWrite::new(&mut out),
         &mut teller,
     );
-    let first = or_unwritten(done, &[], out.error())?;
-    Ok(first.map_or(0, |fault| status_alone(&fault)))
+    let first = or_write_failure(done, &[], out.error())?;
+    Ok(first.map_or(0, |fault| quiet_status(&fault)))
 }
 
 /// Returns the bytes of each program file of a session.
@@ -279,19 +280,19 @@ fn programs_for<'a>(
     }
 }
 
-/// The table of a file, read into memory.
+/// Returns the table of a file, read into memory.
 fn table_of<'a>(
     rt: &HostRuntime,
     path: &'a str,
     mut file: InFile,
 ) -> Result<MemoryTable, CommandFailure<'a>> {
-    let mut source = ahead(rt, &mut file)?;
+    let mut source = read_ahead(rt, &mut file)?;
     let done = read_table(rt.alloc(), &mut source);
     drop(source);
-    or_ended(done, &[(path, file.reads())])
+    or_failure(done, &[(path, file.reads())])
 }
 
-/// Standard input, of which the system is asked for as much as there is, up to a limit.
+/// Returns standard input, read in pieces of up to 128 KiB.
 fn input_ahead(rt: &HostRuntime) -> Result<ReadAhead<Stdin>, CommandFailure<'static>>
     ensures { IfOk result (λ source. read_failures source ≡ 0) }
 {
@@ -301,7 +302,7 @@ fn input_ahead(rt: &HostRuntime) -> Result<ReadAhead<Stdin>, CommandFailure<'sta
     }
 }
 
-/// The bytes of the program file that the command line names, if it names one.
+/// Returns the bytes of the program file that the command line names, if it names one.
 fn program_given<'a>(
     rt: &HostRuntime,
     program: Option<&'a str>,
@@ -312,7 +313,7 @@ fn program_given<'a>(
     }
 }
 
-/// Run a statement over a table file, on standard output.
+/// Runs a statement over a table file, and writes the result to standard output.
 fn answer_from<'a>(
     rt: &HostRuntime,
     path: &'a str,
@@ -320,16 +321,16 @@ fn answer_from<'a>(
     sql: &str,
     program: Option<&[u8]>,
 ) -> Result<Served, CommandFailure<'a>> {
-    let mut source = ahead(rt, &mut table)?;
+    let mut source = read_ahead(rt, &mut table)?;
     let mut out = OutStream::new(rt.stdout());
     let mut sink = ToWrite::new(&mut out);
     let done = answer(rt.alloc(), &mut source, sql, program, &mut sink);
     drop(sink);
     drop(source);
-    or_unwritten(done, &[(path, table.reads())], out.error())
+    or_write_failure(done, &[(path, table.reads())], out.error())
 }
 
-/// The bytes of a program file, whole.
+/// Returns all bytes of a program file.
 fn read_program<'a>(
     rt: &HostRuntime,
     path: &'a str,
@@ -354,27 +355,27 @@ fn run_plan<'a>(
     let schema = read_schema(rt, schema_path, schema)?;
     let mut out = OutStream::new(rt.stdout());
     let done = plan(rt.alloc(), &schema, sql, &mut ToWrite::new(&mut out));
-    or_unwritten(done, &[], out.error())
+    or_write_failure(done, &[], out.error())
 }
 
 /// Runs `bw info`.
 fn run_info<'a>(rt: &HostRuntime, table_path: &'a str) -> Result<(), CommandFailure<'a>> {
     let mut table = open(rt, table_path)?;
-    let mut source = ahead(rt, &mut table)?;
+    let mut source = read_ahead(rt, &mut table)?;
     let mut out = OutStream::new(rt.stdout());
     let done = info(rt.alloc(), &mut source, &mut ToWrite::new(&mut out));
     drop(source);
-    or_unwritten(done, &[(table_path, table.reads())], out.error())
+    or_write_failure(done, &[(table_path, table.reads())], out.error())
 }
 
 /// Runs `bw dump`.
 fn run_dump<'a>(rt: &HostRuntime, table_path: &'a str) -> Result<(), CommandFailure<'a>> {
     let mut table = open(rt, table_path)?;
-    let mut source = ahead(rt, &mut table)?;
+    let mut source = read_ahead(rt, &mut table)?;
     let mut out = OutStream::new(rt.stdout());
     let done = dump(rt.alloc(), &mut source, &mut ToWrite::new(&mut out));
     drop(source);
-    or_unwritten(done, &[(table_path, table.reads())], out.error())
+    or_write_failure(done, &[(table_path, table.reads())], out.error())
 }
 
 /// Runs `bw check`: both files are opened before either is read, and read in this order.
@@ -387,13 +388,13 @@ fn run_check<'a>(
     let (schema, file) = open_both(rt, schema_path, file_path)?;
     let schema = read_schema(rt, schema_path, schema)?;
     let file = read_program(rt, file_path, file)?;
-    let accepted = or_ended(check(rt.alloc(), &schema, sql, &file), &[])?;
+    let accepted = or_failure(check(rt.alloc(), &schema, sql, &file), &[])?;
     let mut out = OutStream::new(rt.stdout());
     let told = accepted_line(&accepted, &mut ToWrite::new(&mut out));
-    or_unwritten(told, &[], out.error())
+    or_write_failure(told, &[], out.error())
 }
 
-/// The text of a schema, whole.
+/// Returns all bytes of a schema file.
 fn read_schema<'a>(
     rt: &HostRuntime,
     path: &'a str,
@@ -405,7 +406,7 @@ fn read_schema<'a>(
     }
 }
 
-/// The bytes of a file of this name, if they are no more than a limit.
+/// Returns the bytes of a file, if there are no more than a limit.
 fn read_text<'a>(
     rt: &HostRuntime,
     path: &'a str,
@@ -414,12 +415,12 @@ fn read_text<'a>(
 ) -> Result<Input, CommandFailure<'a>> {
     let mut source = FromRead::new(&mut file);
     let done = read_limited(rt.alloc(), &mut source, u64::from(limit));
-    or_ended(done, &[(path, file.reads())])
+    or_failure(done, &[(path, file.reads())])
 }
 
-/// What a call gave, or what ended the command: the call's fault, and the files that it read, each with how its reads
-/// went.
-fn or_ended<'a, T>(
+/// Returns the result of a call, or the failure of the command: the call's error, and the files
+/// that it read, each with whether its reads failed.
+fn or_failure<'a, T>(
     done: Result<T, Fault>,
     files: &[(&'a str, Reads)],
 ) -> Result<T, CommandFailure<'a>> {
@@ -429,8 +430,8 @@ fn or_ended<'a, T>(
     }
 }
 
-/// The same of a call that writes, with the reason that a write failed for.
-fn or_unwritten<'a, T>(
+/// Returns the same for a call that writes, with the reason of a failed write.
+fn or_write_failure<'a, T>(
     done: Result<T, Fault>,
     files: &[(&'a str, Reads)],
     error: Option<io::Error>,
@@ -459,9 +460,9 @@ fn open<'a>(rt: &HostRuntime, path: &'a str) -> Result<InFile, CommandFailure<'a
     }
 }
 
-/// A table file, which the system is asked for in large pieces, or at once where it's smaller: memory that isn't needed
-/// needn't be cleared.
-fn ahead<'f>(
+/// Returns a table file that is read in large pieces, or in one if it's smaller, since unneeded
+/// memory would have to be cleared.
+fn read_ahead<'f>(
     rt: &HostRuntime,
     file: &'f mut InFile,
 ) -> Result<ReadAhead<&'f mut InFile>, CommandFailure<'static>>

@@ -1,14 +1,14 @@
-//! `bw session`: what a person or a script is told beside the answers.
+//! The prompts and reports of `bw session`, beside its results.
 use bw_explain::explain_statement;
 use bw_file::ToWrite;
 use bw_model::{Fault, Schema};
 use bw_shell::{Listener, Served, report, stats_line};
 use std::io::IsTerminal;
 
-/// What is shown at a terminal where a statement is waited for.
+/// The prompt at a terminal, while a statement is awaited.
 const PROMPT: &str = "bw> ";
 
-/// Tells on standard error what a session does.
+/// Writes the prompts, scan statistics and errors of a session to standard error.
 #[derive(Drop)]
 pub struct Teller<'a> {
     rt: &'a HostRuntime,
@@ -19,7 +19,8 @@ pub struct Teller<'a> {
 }
 
 impl<'a> Teller<'a> {
-    /// Tells of each answer how it was served, or not; and of each fault what is wrong, or not.
+    /// Returns a reporter that writes the scan statistics of each result if `stats`, and explains
+    /// each error if `explains`. It prompts if input and standard error are a terminal.
     pub fn new(rt: &'a HostRuntime, schema: &'a Schema, stats: bool, explains: bool) -> Self {
         let prompts = rt.stdin().is_terminal() && rt.stderr().is_terminal();
         Teller {

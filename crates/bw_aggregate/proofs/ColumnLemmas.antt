@@ -1,5 +1,7 @@
--- The values of a column in picked rows, by its codes and its nulls.
-use Rattle.std.proofs.Common.{◌≡◌, ◌∙◌, refl, sym, ap, ap₂, ℕ, suc, ℤ, pos, ◌-◌, ◌<◌, Bool, true, false, not, cond, ◌&&◌, List, [], ◌∷◌, ◌++◌, map, count_by, length, replicate, Some, None, unwrap_or, arith}
+-- The values of a column in selected rows, by its codes and its nulls.
+use Rattle.std.proofs.Common.{◌≡◌, ◌∙◌, refl, sym, ap, ap₂, ℕ, suc, ℤ, pos, ◌-◌, ◌<◌, Bool, true}
+use Rattle.std.proofs.Common.{false, not, cond, ◌&&◌, List, [], ◌∷◌, ◌++◌, map, count_by, length}
+use Rattle.std.proofs.Common.{replicate, Some, None, unwrap_or, arith}
 use Rattle.std.proofs.lemmas.List.{length-map}
 use Rattle.std.specs.List.{list_all, cons_option}
 use Rattle.std.proofs.lemmas.List.Sums.{sum_by-cons}
@@ -11,18 +13,18 @@ use Rattle.bw_model.specs.Code.{value_at}
 use Rattle.bw_model.specs.Column.{admits_values}
 use Rattle.bw_model.specs.Groups.{group_size}
 use Rattle.bw_model.specs.Selection.{selected_items}
-use Rattle.bw_model.specs.Stored.{stored_at}
+use Rattle.bw_model.specs.StoredCodes.{stored_at}
 use Rattle.bw_model.specs.Total.{present}
 use Rattle.bw_model.specs.Truth.{is_null}
 use Rattle.bw_model.proofs.BitsLemmas.{both}
 use Rattle.bw_segment.specs.Packing.{value_held}
 use Rattle.bw_segment.specs.Meaning.{Meaning, IsGroup, null_bits, stored_codes}
 use Rattle.bw_segment.proofs.ValueLemmas.{held_admitted}
-use Rattle.bw_segment.specs.Picked.{codes_in}
-use Rattle.bw_segment.proofs.PickedCodes.{codes_counted}
-use Rattle.bw_aggregate.specs.Picked.{IsWithin, present_lanes, values_in, picked_rows}
+use Rattle.bw_segment.specs.Selected.{codes_in}
+use Rattle.bw_segment.proofs.SelectedCodes.{codes_counted}
+use Rattle.bw_aggregate.specs.Selected.{IsWithin, present_lanes, values_in, selected_rows}
 
--- nothing is picked past the rows
+-- nothing is selected past the rows
 none_past : (lanes nulls : List Bool) (codes : List ℕ) → IsWithin 0 lanes → selected_items (zip2 (λ a b. a && b) lanes nulls) codes ≡ []
 none_past [] nulls codes within = refl
 none_past (lane ∷ lanes) [] codes within = refl
@@ -51,9 +53,9 @@ values_of_rows columns col n (row ∷ rows) (true ∷ lanes) all lt within =
 values_of_rows columns col n (row ∷ rows) (false ∷ lanes) all lt within =
     values_of_rows columns col n rows lanes (both (admits_values columns row) (list_all (admits_values columns) rows) all).1 lt (λ at le. within (suc at) (omega arith))
 
--- the values of picked rows are those of the codes where the column isn't null
+-- the values of selected rows are those of the codes, if the column isn't null
 pub values_are_codes : (meaning : Meaning) (col : ℕ) (lanes : List Bool) → IsGroup meaning → col < length meaning.columns → IsWithin (length meaning.rows) lanes
-    → present col (picked_rows meaning lanes) ≡ values_in meaning col (present_lanes meaning col lanes)
+    → present col (selected_rows meaning lanes) ≡ values_in meaning col (present_lanes meaning col lanes)
 unfolding present_lanes null_bits codes_in stored_codes
 values_are_codes meaning col lanes group lt within = values_of_rows meaning.columns col (group_size - length meaning.rows) meaning.rows lanes group.admitted lt within
 
@@ -65,16 +67,16 @@ none_counted (true ∷ lanes) within = absurd (true_is_not_false (within 0 (omeg
     true_is_not_false e = cc
 none_counted (false ∷ lanes) within = sum_by-cons (λ b. cond b 1 0) false lanes ∙ omega (arith, none_counted lanes (λ row le. within (suc row) (omega arith)))
 
--- the lanes that are 1 are as many as the picked rows
+-- the lanes that are 1 are as many as the selected rows
 pub rows_counted : (rows : List (List Value)) (lanes : List Bool) → IsWithin (length rows) lanes → count_by (λ lane. lane) lanes ≡ length (selected_items lanes rows)
 rows_counted rows [] within = refl
 rows_counted [] (lane ∷ lanes) within = none_counted (lane ∷ lanes) within
 rows_counted (row ∷ rows) (true ∷ lanes) within = sum_by-cons (λ b. cond b 1 0) true lanes ∙ omega (arith, rows_counted rows lanes (λ at le. within (suc at) (omega arith)))
 rows_counted (row ∷ rows) (false ∷ lanes) within = sum_by-cons (λ b. cond b 1 0) false lanes ∙ omega (arith, rows_counted rows lanes (λ at le. within (suc at) (omega arith)))
 
--- the lanes in which a column is there are as many as its values in the picked rows
+-- the lanes in which a column is there are as many as its values in the selected rows
 pub values_counted : (meaning : Meaning) (col : ℕ) (lanes : List Bool) (words : List ℕ) → IsGroup meaning → col < length meaning.columns → IsWithin (length meaning.rows) lanes → length words ≡ 8
-    → lanes_of_words words ≡ present_lanes meaning col lanes → count_by (λ lane. lane) (lanes_of_words words) ≡ length (present col (picked_rows meaning lanes))
+    → lanes_of_words words ≡ present_lanes meaning col lanes → count_by (λ lane. lane) (lanes_of_words words) ≡ length (present col (selected_rows meaning lanes))
 values_counted meaning col lanes words group lt within eight is =
     codes_counted meaning col words group eight ∙ ap (λ l. length (codes_in meaning col l)) is ∙ sym (length-map (codes_in meaning col (present_lanes meaning col lanes)) (value_at meaning.columns col))
     ∙ ap length (sym (values_are_codes meaning col lanes group lt within))

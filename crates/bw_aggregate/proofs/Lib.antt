@@ -1,3 +1,3 @@
 pub mod ColumnLemmas
-pub mod PickedLemmas
+pub mod SelectedLemmas
 pub mod ValueLemmas

@@ -1,5 +1,7 @@
 -- Totals of values that codes stand for, of some rows and others, and how large they are.
-use Rattle.std.proofs.Common.{◌≡◌, ◌∙◌, refl, sym, ap, ℕ, ℤ, suc, pos, ◌+◌, ◌<◌, ◌≤◌, ◌+ℤ◌, ◌*ℤ◌, Bool, true, false, ltb, ltb-false, ◌||◌, min, max, List, [], ◌∷◌, map, length, Some, None, sum, arith}
+use Rattle.std.proofs.Common.{◌≡◌, ◌∙◌, refl, sym, ap, ℕ, ℤ, suc, pos, ◌+◌, ◌<◌, ◌≤◌, ◌+ℤ◌, ◌*ℤ◌}
+use Rattle.std.proofs.Common.{Bool, true, false, ltb, ltb-false, ◌||◌, min, max, List, [], ◌∷◌, map}
+use Rattle.std.proofs.Common.{length, Some, None, sum, arith}
 use Rattle.std.specs.Option.{option_map}
 use Rattle.std.specs.List.{fold, list_any, reduce}
 use Rattle.std.specs.Int.{int_min, int_max}
@@ -7,7 +9,7 @@ use Rattle.std.proofs.lemmas.List.Sums.{sum_by-cons}
 use Rattle.std.proofs.lemmas.Int.{ints, clamps}
 use Rattle.bw_model.specs.Total.{combine_totals}
 use Rattle.bw_model.specs.declared.query.Item.TheVariants.{Max, Min}
-use Rattle.bw_segment.specs.Picked.{is_beyond}
+use Rattle.bw_segment.specs.Selected.{is_beyond}
 use lib.IntN.{suc_ℤ-*ℤ, zero-*ℤ, *ℤ_comm}
 
 -- a choice among values is that of the chosen code

@@ -1,2 +1,2 @@
-pub mod Picked
+pub mod Selected
 pub mod Totals

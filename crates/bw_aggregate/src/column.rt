@@ -1,20 +1,21 @@
 //! The aggregates of a column over the selected rows of one segment.
-ghost use Rattle.std.specs.Prelude.{◌≡◌, ◌^◌, ◌<◌, ◌≤◌, ◌+ℤ◌, ◌*ℤ◌, ℕ, ℤ, pos, true, false, IfSome, Some, length};
+ghost use Rattle.std.specs.Prelude.{◌≡◌, ◌^◌, ◌<◌, ◌≤◌, ◌+ℤ◌, ◌*ℤ◌, ℕ, ℤ, pos, true, false, IfSome};
+ghost use Rattle.std.specs.Prelude.{Some, length};
 ghost use Rattle.std.specs.List.{list_any, reduce};
 ghost use Rattle.std.specs.Int.{int_min, int_max};
 ghost use Rattle.bw_lanes.specs.Lanes.{lanes_of_words};
 ghost use Rattle.bw_model.specs.Code.{value_at};
 ghost use Rattle.bw_model.specs.Total.{combine_totals};
 ghost use Rattle.bw_model.specs.declared.query.Item.TheVariants.{Max, Min};
-ghost use Rattle.bw_segment.specs.Picked.{codes_in, is_beyond};
+ghost use Rattle.bw_segment.specs.Selected.{codes_in, is_beyond};
 ghost use Rattle.bw_rowwise.specs.Accumulator.{IsTotalOfRows};
-ghost use Rattle.bw_aggregate.specs.Picked.{present_lanes, values_in};
+ghost use Rattle.bw_aggregate.specs.Selected.{present_lanes, values_in};
 
 use bw_lanes::{Selection, and, count, not};
 use bw_segment::Segment;
 
 /// Returns the selected rows in which a column isn't null.
-#[tactic(auto, unfolding(crate::specs::Picked::present_lanes))]
+#[tactic(auto, unfolding(crate::specs::Selected::present_lanes))]
 pub(crate) fn present<S: Segment>(segment: &S, col: usize, rows: &Selection) -> Selection
     requires { col < length (S.meaning segment.now).columns }
     ensures { lanes_of_words result

@@ -1,7 +1,7 @@
 //! A law of selected rows, for the crates that select them.
 ghost use Rattle.std.specs.Prelude.{◌≡◌, ◌++◌, ◌&&◌, ℕ, Bool, true, false, List, replicate};
 ghost use Rattle.std.specs.Simd.Lanes.{zip2};
-ghost use Rattle.bw_aggregate.specs.Picked.{IsWithin};
+ghost use Rattle.bw_aggregate.specs.Selected.{IsWithin};
 
 /// A law: the lanes of the first rows have no 1 past those rows, and nor have lanes that are 1 only
 /// in such lanes.

@@ -1,9 +1,9 @@
 //! Totals of the selected rows of a table, segment by segment, without reading rows one by one.
 //!
-//! The contract that the crates above use: [`add_selected`] adds the selected rows of a segment to an
-//! `Accumulator` of `bw_rowwise`. COUNT counts the selection's ones. SUM, MIN and MAX ask the
+//! The contract that the crates above use: [`add_selected`] adds the selected rows of a segment to
+//! an `Accumulator` of `bw_rowwise`. COUNT counts the selection's ones. SUM, MIN and MAX ask the
 //! segment for the sum, the minimum and the maximum of a column's codes in the selected rows that
-//! aren't null, which each layout computes in its own way. Read `picked.rt` first, then
+//! aren't null, which each layout computes in its own way. Read `selected.rt` first, then
 //! `column.rt`.
 //!
 //! [`Totals`] is the library's call for one aggregate over a caller's own segments:
@@ -19,9 +19,9 @@
 
 mod column;
 mod laws;
-mod picked;
+mod selected;
 mod totals;
 
 pub use laws::first_rows_are_within;
-pub use picked::add_selected;
+pub use selected::add_selected;
 pub use totals::Totals;

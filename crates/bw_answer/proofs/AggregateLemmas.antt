@@ -1,5 +1,7 @@
 -- Aggregates, each once.
-use Rattle.std.proofs.Common.{◌≡◌, ◌≢◌, ◌∙◌, refl, sym, ap, ℕ, zero, suc, ◌+◌, ◌==◌, ◌<◌, ◌≤◌, ◌||◌, Bool, true, false, not, List, [], ◌∷◌, ◌++◌, map, filter, length, get_or, drop, cond, append-nil, None, true≢false}
+use Rattle.std.proofs.Common.{◌≡◌, ◌≢◌, ◌∙◌, refl, sym, ap, ℕ, zero, suc, ◌+◌, ◌==◌, ◌<◌, ◌≤◌, ◌||◌}
+use Rattle.std.proofs.Common.{Bool, true, false, not, List, [], ◌∷◌, ◌++◌, map, filter, length}
+use Rattle.std.proofs.Common.{get_or, drop, cond, append-nil, None, true≢false}
 use Rattle.std.specs.List.{list_all, list_any}
 use Rattle.std.proofs.lemmas.Bool.{eqb-true, eq-eqb}
 use Rattle.std.proofs.lemmas.List.{drop_all, drop_more}
@@ -10,7 +12,8 @@ use Rattle.bw_model.specs.declared.query.Item.TheVariants.{Plain, CountAll, Coun
 use Rattle.bw_model.specs.Row.{Value}
 use Rattle.bw_model.specs.Total.{is_aggregate, item_within, total}
 use Rattle.bw_rowwise.specs.Accumulator.{Tally, tally_of}
-use Rattle.bw_answer.specs.Aggregates.{aggregates_of, answer_for, column_in, each_once, function_of, is_same}
+use Rattle.bw_answer.specs.Aggregates.{aggregates_of, answer_for, column_in, each_once, function_of}
+use Rattle.bw_answer.specs.Aggregates.{is_same}
 use Rattle.bw_answer.specs.Answer.{value_text}
 use Rattle.bw_answer.specs.Totals.{is_of}
 use Rattle.bw_answer.proofs.TotalsLemmas.{and_true, both}

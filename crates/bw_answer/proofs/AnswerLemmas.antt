@@ -1,5 +1,6 @@
 -- The text of an answer.
-use Rattle.std.proofs.Common.{◌≡◌, ◌∙◌, ℕ, Bool, true, false, List, [], ◌∷◌, ◌++◌, refl, sym, ap, map, filter}
+use Rattle.std.proofs.Common.{◌≡◌, ◌∙◌, ℕ, Bool, true, false, List, [], ◌∷◌, ◌++◌, refl, sym, ap}
+use Rattle.std.proofs.Common.{map, filter}
 use Rattle.std.proofs.lemmas.List.{append-nil}
 use Rattle.std.specs.List.{list_all}
 use Rattle.bw_model.specs.declared.query.Item.{Item}
@@ -10,9 +11,10 @@ use Rattle.bw_model.specs.Total.{is_aggregate}
 use Rattle.bw_rowwise.specs.Accumulator.{Tally, tally_of}
 use Rattle.bw_sql.specs.Items.{AreOfOneKind}
 use Rattle.bw_model.specs.Selection.{matching_rows}
-use Rattle.bw_answer.specs.Answer.{csv_text, heading_of, row_records, lists_rows, meaning, record_text, value_text, totals_record}
+use Rattle.bw_answer.specs.Answer.{csv_text, heading_of, row_records, lists_rows, meaning}
+use Rattle.bw_answer.specs.Answer.{record_text, value_text, totals_record}
 use Rattle.bw_answer.specs.Aggregates.{aggregates_of, answer_for, each_once}
-use Rattle.bw_answer.specs.AreOver.{text_over}
+use Rattle.bw_answer.specs.TextAndTotals.{text_over}
 use Rattle.bw_answer.proofs.AggregateLemmas.{answers_for}
 use Rattle.bw_answer.proofs.Rows.{listed_more}
 use Rattle.bw_answer.proofs.TotalsLemmas.{both}

@@ -1,5 +1,7 @@
 -- The columns that items name, and a row's fields in them.
-use Rattle.std.proofs.Common.{◌≡◌, ◌≢◌, ◌∙◌, ℕ, zero, suc, ◌+◌, ◌<◌, ◌≤◌, Bool, true, false, List, [], ◌∷◌, ◌++◌, refl, sym, ap, map, length, take, get_or, subst, arith, All, true≢false}
+use Rattle.std.proofs.Common.{◌≡◌, ◌≢◌, ◌∙◌, ℕ, zero, suc, ◌+◌, ◌<◌, ◌≤◌, Bool, true, false, List}
+use Rattle.std.proofs.Common.{[], ◌∷◌, ◌++◌, refl, sym, ap, map, length, take, get_or, subst, arith}
+use Rattle.std.proofs.Common.{All, true≢false}
 use Rattle.std.specs.List.{filter_map, list_all}
 use Rattle.std.proofs.lemmas.Bool.{ltb-true}
 use Rattle.std.proofs.lemmas.List.{take_more, append-nil}
@@ -11,7 +13,7 @@ use Rattle.bw_model.specs.Selection.{selected_items, positions_from, positions_o
 use Rattle.bw_model.specs.Total.{item_within}
 use Rattle.bw_answer.specs.Answer.{field_of, lists_rows, value_text}
 use Rattle.bw_answer.specs.Columns.{column_of, columns_of, fields_of}
-use Rattle.bw_answer.specs.Fetched.{HasPicked, fields_in_lane, value_in_lane}
+use Rattle.bw_answer.specs.LaneFields.{HasSelected, fields_in_lane, value_in_lane}
 use Rattle.bw_answer.specs.declared.lanes.ColumnValues.{ColumnValues}
 use Rattle.bw_answer.proofs.TotalsLemmas.{both}
 
@@ -36,7 +38,7 @@ pub no_column_named : (items : List Item) (i : ℕ) → i < length items → ((c
 no_column_named items i within other =
     sym (columns_more items i within ∙ ap (λ (l : List ℕ). columns_of (take i items) ++ l) (no_column (get_or items i (Plain 0)) other) ∙ append-nil (columns_of (take i items)))
 
--- each is one of the first so many, where the items name none but these
+-- each is among the first of this number, if the items name none but these
 one_more : (width column : ℕ) (columns : List ℕ) → column < width → All (λ column. column < width) columns → All (λ column. column < width) (column ∷ columns)
 one_more width column columns here rest zero d h = here
 one_more width column columns here rest (suc k) d h = rest k d (omega arith)
@@ -72,7 +74,7 @@ fields_listed (Sum column ∷ items) row = fields_listed items row
 fields_listed (Min column ∷ items) row = fields_listed items row
 fields_listed (Max column ∷ items) row = fields_listed items row
 
--- fields of lanes are those of rows, where the values are
+-- fields of lanes are those of rows, if the values are
 map_same : {X : Type 0} (f g : ℕ → X) (xs : List ℕ) → ((i : ℕ) → i < length xs → f (get_or xs i 0) ≡ g (get_or xs i 0)) → map f xs ≡ map g xs
 map_same f g [] e = refl
 map_same f g (x ∷ xs) e = λ i. e 0 (omega arith) i ∷ map_same f g xs (λ k h. e (suc k) (omega arith)) i
@@ -83,9 +85,9 @@ fields_same columns lanes number row e =
     map_same (λ column. value_text (value_in_lane lanes number column)) (λ column. value_text (value_in row column)) columns (λ i h. ap value_text (e i h))
 
 -- what is made of the positions of bits that are 1, and of the rows there
-nothing_picked : (bits : List Bool) → selected_items {A = List Value} bits [] ≡ []
-nothing_picked [] = refl
-nothing_picked (bit ∷ bits) = refl
+nothing_selected : (bits : List Bool) → selected_items {A = List Value} bits [] ≡ []
+nothing_selected [] = refl
+nothing_selected (bit ∷ bits) = refl
 
 at_positions : {X : Type 0} (f : ℕ → X) (g : List Value → X) (n : ℕ) (bits : List Bool) (rows : List (List Value))
     → ((k : ℕ) → k < length rows → get_or bits k false ≡ true → f (n + k) ≡ g (get_or rows k [])) → ((k : ℕ) → length rows ≤ k → get_or bits k false ≡ false)
@@ -93,7 +95,7 @@ at_positions : {X : Type 0} (f : ℕ → X) (g : List Value → X) (n : ℕ) (bi
 at_positions f g n [] rows here none = refl
 at_positions f g n (true ∷ bits) [] here none = absurd (true≢false (none 0 (omega arith)))
 at_positions f g n (false ∷ bits) [] here none =
-    at_positions f g (suc n) bits [] (λ k h _. absurd (omega arith)) (λ k h. none (suc k) (omega arith)) ∙ ap (map g) (nothing_picked bits)
+    at_positions f g (suc n) bits [] (λ k h _. absurd (omega arith)) (λ k h. none (suc k) (omega arith)) ∙ ap (map g) (nothing_selected bits)
 at_positions f g n (true ∷ bits) (row ∷ rows) here none =
     let first : n + 0 ≡ n = omega arith in
     let one : f n ≡ g row = subst (λ m. f m ≡ g row) first (here 0 (omega arith) refl) in
@@ -104,7 +106,7 @@ at_positions f g n (false ∷ bits) (row ∷ rows) here none =
     (λ k h bit. let next : n + suc k ≡ suc n + k = omega arith in subst (λ m. f m ≡ g (get_or rows k [])) next (here (suc k) (omega arith) bit)) (λ k h. none (suc k) (omega arith))
 
 pub records_same : (columns : List ℕ) (lanes : List ColumnValues) (bits : List Bool) (rows : List (List Value))
-    → HasPicked rows bits columns lanes → ((k : ℕ) → length rows ≤ k → get_or bits k false ≡ false)
+    → HasSelected rows bits columns lanes → ((k : ℕ) → length rows ≤ k → get_or bits k false ≡ false)
     → map (fields_in_lane lanes columns) (positions_of bits) ≡ map (fields_of columns) (selected_items bits rows)
 records_same columns lanes bits rows fetched none =
     at_positions (fields_in_lane lanes columns) (fields_of columns) 0 bits rows (λ k h bit. let same : 0 + k ≡ k = omega arith in

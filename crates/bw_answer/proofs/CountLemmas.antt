@@ -1,5 +1,6 @@
 -- Rows that are counted alone.
-use Rattle.std.proofs.Common.{◌≡◌, ℕ, ◌+◌, ◌≤◌, List, [], ◌∷◌, true, false, map, length, refl, ap, arith, nat_le}
+use Rattle.std.proofs.Common.{◌≡◌, ℕ, ◌+◌, ◌≤◌, List, [], ◌∷◌, true, false, map, length, refl, ap}
+use Rattle.std.proofs.Common.{arith, nat_le}
 use Rattle.std.specs.List.{list_all}
 use Rattle.std.proofs.lemmas.Bool.{leb-true, le-leb}
 use Rattle.bw_model.specs.declared.cond.Cond.{Cond}
@@ -14,7 +15,7 @@ use Rattle.bw_answer.specs.Answer.{is_count_all, lists_rows}
 use Rattle.bw_answer.specs.Totals.{is_of}
 use Rattle.bw_answer.proofs.TotalsLemmas.{and_true, both}
 
--- where a condition keeps every row, all are kept
+-- if a condition matches every row, all match
 pub every_kept : (cond : Cond) (rows : List (List Value)) → ((row : List Value) → is_match cond row ≡ true) → matching_rows cond rows ≡ rows
 every_kept cond [] every = refl
 every_kept cond (row ∷ rows) every = rw (every row) (ap (λ (l : List (List Value)). row ∷ l) (every_kept cond rows every))
@@ -29,7 +30,7 @@ counts_list_nothing (Sum column ∷ items) some e = refl
 counts_list_nothing (Min column ∷ items) some e = refl
 counts_list_nothing (Max column ∷ items) some e = refl
 
--- counts of rows, and so many more
+-- counts of rows, and this many more
 one_counted : (rows more : List (List Value)) (n : ℕ) → length more ≡ length rows + n → count_rows (tally_of CountAll rows) n ≡ tally_of CountAll more
 one_counted rows more n e = rw e refl
 
@@ -43,7 +44,7 @@ all_counted (Sum column ∷ items) rows more n e all = absurd (cc all)
 all_counted (Min column ∷ items) rows more n e all = absurd (cc all)
 all_counted (Max column ∷ items) rows more n e all = absurd (cc all)
 
--- totals of so many rows and more
+-- totals of this many rows and more
 pub is_of-counted : (width rows n : ℕ) (tallies : List Tally) → list_all (is_of width rows) tallies ≡ true
     → list_all (is_of width (rows + n)) (map (λ (tally : Tally). count_rows tally n) tallies) ≡ true
 is_of-counted width rows n [] e = refl

@@ -1,8 +1,9 @@
 -- The values of columns in the lanes of a segment.
-use Rattle.std.proofs.Common.{◌≡◌, ◌≢◌, ℕ, zero, suc, ◌∷◌, ◌+◌, ◌<◌, List, [], refl, sym, ap, length, get_or, set, subst, arith, below_more, inl, inr, None, ◌∙◌}
+use Rattle.std.proofs.Common.{◌≡◌, ◌≢◌, ℕ, zero, suc, ◌∷◌, ◌+◌, ◌<◌, List, [], refl, sym, ap}
+use Rattle.std.proofs.Common.{length, get_or, set, subst, arith, below_more, inl, inr, None, ◌∙◌}
 use Rattle.std.proofs.lemmas.Bool.{cases_eq}
 use Rattle.bw_model.specs.Row.{Value}
-use Rattle.bw_answer.specs.Fetched.{value_in_lane, values_in}
+use Rattle.bw_answer.specs.LaneFields.{value_in_lane, values_in}
 use Rattle.bw_answer.specs.declared.lanes.ColumnValues.{ColumnValues}
 
 -- the values of the column that is fetched, and of the others
@@ -33,7 +34,7 @@ column_more P columns lanes i kept lt before here =
     now : P (get_or columns i 0) (values_in (set lanes (get_or columns i 0) kept) (get_or columns i 0))
     now = subst (P (get_or columns i 0)) (sym (values_put lanes (get_or columns i 0) kept lt)) here
 
--- where one lane of a column is put, the others stay
+-- if one lane of a column is put, the others stay
 values_at : (lanes : List ColumnValues) (column : ℕ) (d : ColumnValues) → column < length lanes → (get_or lanes column d).values ≡ values_in lanes column
 values_at [] column d lt = absurd (omega arith)
 values_at (lane ∷ lanes) zero d lt = refl

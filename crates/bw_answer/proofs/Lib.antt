@@ -3,7 +3,7 @@ pub mod AnswerLemmas
 pub mod ColumnLemmas
 pub mod CountLemmas
 pub mod FetchLemmas
-pub mod PickedLemmas
+pub mod SelectedLemmas
 pub mod PlainFields
 pub mod PlainNames
 pub mod PositionLemmas

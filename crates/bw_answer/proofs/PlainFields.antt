@@ -1,12 +1,15 @@
 -- Fields that need no quotes, and records of them.
-use Rattle.std.proofs.Common.{◌≡◌, ◌≢◌, ◌∙◌, ◌==◌, ℕ, suc, ◌+◌, ◌-◌, ◌^◌, Bool, true, false, List, [], ◌∷◌, ◌++◌, Some, refl, sym, ap, subst, cond, map, not, length, min, append_assoc, arith}
+use Rattle.std.proofs.Common.{◌≡◌, ◌≢◌, ◌∙◌, ◌==◌, ℕ, suc, ◌+◌, ◌-◌, ◌^◌, Bool, true, false, List}
+use Rattle.std.proofs.Common.{[], ◌∷◌, ◌++◌, Some, refl, sym, ap, subst, cond, map, not, length}
+use Rattle.std.proofs.Common.{min, append_assoc, arith}
 use Rattle.std.specs.declared.alloc.Global.{Global}
 use Rattle.std.specs.Prelude.{Vec, if◌then◌else◌, zero, ◌<◌, ◌≤◌, ◌/◌, ◌%◌, nat_lt, ℤ, pos, negsuc}
 use Rattle.std.specs.Fmt.{decimal, digit_glyph, digits, digits_onto, signed_decimal}
 use Rattle.std.specs.List.{join_with_byte, list_any}
 use Rattle.std.specs.Io.KnownBytes.{Appends}
 use Rattle.std.proofs.lemmas.Bool.{ne_eqb}
-use Rattle.csv.specs.Writing.{field_text, fields_written, has_written, needs_byte, needs_quotes, next_sep, quoted, text_written, writer_setup}
+use Rattle.csv.specs.Writing.{field_text, fields_written, has_written, needs_byte, needs_quotes}
+use Rattle.csv.specs.Writing.{next_sep, quoted, text_written, writer_setup}
 use Rattle.csv.specs.declared.writer.QuoteStyle.TheVariants as style
 use Rattle.csv.specs.declared.writer.Writer.{Writer}
 use Rattle.csv.specs.declared.writer.WriterBuilder.{WriterBuilder}

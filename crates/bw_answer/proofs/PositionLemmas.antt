@@ -1,5 +1,7 @@
 -- The positions of bits that are 1, and the records at them.
-use Rattle.std.proofs.Common.{◌≡◌, ◌∙◌, ℕ, zero, suc, ◌+◌, ◌-◌, ◌*◌, ◌≤◌, Bool, true, false, List, [], ◌∷◌, ◌++◌, refl, sym, ap, map, take, drop, length, get_or, take-take, arith, append_assoc, subst}
+use Rattle.std.proofs.Common.{◌≡◌, ◌∙◌, ℕ, zero, suc, ◌+◌, ◌-◌, ◌*◌, ◌≤◌, Bool, true, false, List}
+use Rattle.std.proofs.Common.{[], ◌∷◌, ◌++◌, refl, sym, ap, map, take, drop, length, get_or}
+use Rattle.std.proofs.Common.{take-take, arith, append_assoc, subst}
 use Rattle.std.proofs.lemmas.List.{get_or-take, take_all, map-append}
 use Rattle.std.proofs.lemmas.Grind.{flat_map-append}
 use Rattle.std.proofs.lemmas.Nat.{mul-le}
@@ -8,7 +10,7 @@ use Rattle.bw_lanes.specs.Last.{AreClear, IsLast}
 use Rattle.bw_lanes.proofs.WordLemmas.{length-lanes_of_words}
 use Rattle.bw_model.specs.Selection.{positions_from, positions_of}
 use Rattle.bw_answer.specs.Answer.{csv_text, record_text}
-use Rattle.bw_answer.specs.Fetched.{positions_between}
+use Rattle.bw_answer.specs.LaneFields.{positions_between}
 
 -- no position, one, and one that isn't there
 pub positions_none : (number : ℕ) (bits : List Bool) → positions_between number number bits ≡ []
@@ -46,7 +48,7 @@ positions_passed here number past bits from to clear =
     let all : here + (number - here) ≡ number = omega (arith, from) in
     clear_by (number - here) here past bits (omega (arith, from, to)) (subst (AreClear bits here) (sym all) clear) ∙ ap (λ n. positions_between n past bits) all
 
--- the record of the last lane that is picked of some, in front of those of the lanes after these
+-- the record of the last lane that is selected of some, in front of those of the lanes after these
 pub record_last : (fields : ℕ → List (List ℕ)) (first number past last : ℕ) (bits : List Bool) (text later : List ℕ) → number ≤ past → IsLast bits first number last
     → later ≡ csv_text (map fields (positions_between number past bits)) → text ≡ record_text (fields last) ++ later
     → text ≡ csv_text (map fields (positions_between last past bits))

@@ -1,5 +1,6 @@
 -- Records, written from their last byte to their first.
-use Rattle.std.proofs.Common.{◌≡◌, ◌∙◌, ℕ, ◌+◌, ◌-◌, ◌<◌, List, [], ◌∷◌, ◌++◌, sym, ap, map, length, drop, get_or, append_assoc, arith}
+use Rattle.std.proofs.Common.{◌≡◌, ◌∙◌, ℕ, ◌+◌, ◌-◌, ◌<◌, List, [], ◌∷◌, ◌++◌, sym, ap, map, length}
+use Rattle.std.proofs.Common.{drop, get_or, append_assoc, arith}
 use Rattle.std.proofs.lemmas.List.{drop_more, length-map, length-drop}
 use Rattle.bw_answer.specs.Answer.{record_text}
 

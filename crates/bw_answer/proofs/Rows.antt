@@ -1,5 +1,6 @@
 -- The records of the rows that are kept.
-use Rattle.std.proofs.Common.{◌≡◌, ◌∙◌, ℕ, true, false, List, [], ◌∷◌, ◌++◌, refl, sym, ap, map, append_assoc}
+use Rattle.std.proofs.Common.{◌≡◌, ◌∙◌, ℕ, true, false, List, [], ◌∷◌, ◌++◌, refl, sym, ap, map}
+use Rattle.std.proofs.Common.{append_assoc}
 use Rattle.std.specs.List.{filter_map}
 use Rattle.std.proofs.lemmas.List.{append-nil}
 use Rattle.std.proofs.lemmas.List.{map-append}
@@ -11,7 +12,7 @@ use Rattle.bw_model.specs.Row.{Value}
 use Rattle.bw_model.specs.Selection.{matching_rows}
 use Rattle.bw_answer.specs.Answer.{csv_text, field_of, row_records, record_text}
 
--- the text of one row: its record where it is kept, and else nothing
+-- the text of one row: its record if it matches, and else nothing
 one_record : (record_ : List (List ℕ)) → csv_text (record_ ∷ []) ≡ record_text record_
 unfolding csv_text
 one_record record_ = append-nil (record_text record_)

@@ -1,5 +1,7 @@
 -- Totals that rows are added to, all at once.
-use Rattle.std.proofs.Common.{◌≡◌, ℕ, zero, suc, ◌+◌, ◌<◌, ◌^◌, ◌≤◌, List, [], ◌∷◌, map, Bool, true, false, ◌&&◌, refl, sym, ap, ◌∙◌, arith, length, get_or, take, drop, ◌++◌, All, subst, nat_le, nat_lt}
+use Rattle.std.proofs.Common.{◌≡◌, ℕ, zero, suc, ◌+◌, ◌<◌, ◌^◌, ◌≤◌, List, [], ◌∷◌, map, Bool, true}
+use Rattle.std.proofs.Common.{false, ◌&&◌, refl, sym, ap, ◌∙◌, arith, length, get_or, take, drop}
+use Rattle.std.proofs.Common.{◌++◌, All, subst, nat_le, nat_lt}
 use Rattle.std.specs.List.{list_all}
 use Rattle.bw_model.specs.declared.query.Item.{Item}
 use Rattle.bw_model.specs.Row.{Value}
@@ -13,7 +15,7 @@ use Rattle.std.proofs.lemmas.List.{append-nil, drop_all, get_or_default, take_al
 use Rattle.std.proofs.lemmas.List.Elements.{filter-append}
 use Rattle.std.proofs.lemmas.Bool.{leb-true, ltb-true, le-leb, lt-ltb}
 
--- where the total is that of some rows, one more row makes it the total of those and that row
+-- if the total is that of some rows, one more row makes it the total of those and that row
 abbrev pub AddsRow : List Value → Tally → Type 0
 AddsRow row tally = (rows : List (List Value)) → tally ≡ tally_of tally.item rows → tally_with tally row ≡ tally_of tally.item (rows ++ row ∷ [])
 
@@ -97,7 +99,7 @@ kept_one query row e = rw e refl
 pub kept_none : (query : Query) (row : List Value) → is_match query.cond row ≡ false → matching_rows query.cond (row ∷ []) ≡ []
 kept_none query row e = rw e refl
 
--- what is kept of rows and one more, where the condition is the same
+-- what is kept of rows and one more, if the condition is the same
 pub kept_more : (here query : Query) (before : List (List Value)) (row : List Value) → here ≡ query → matching_rows query.cond before ++ matching_rows here.cond (row ∷ []) ≡ matching_rows query.cond (before ++ row ∷ [])
 kept_more here query before row same = rw same (sym (filter-append (is_match query.cond) before (row ∷ [])))
 

@@ -1,5 +1,6 @@
 -- What a query means over a table's rows, after SQL-92, and its CSV text.
-use Rattle.std.specs.Prelude.{ℕ, Bool, true, false, List, [], ◌∷◌, ◌++◌, map, Option, Some, None, codes, slice_index_or, if◌then◌else◌}
+use Rattle.std.specs.Prelude.{ℕ, Bool, true, false, List, [], ◌∷◌, ◌++◌, map, Option, Some, None}
+use Rattle.std.specs.Prelude.{codes, slice_index_or, if◌then◌else◌}
 use Rattle.std.specs.List.{filter_map, flat_map, join_with_byte}
 use Rattle.std.specs.Fmt.{signed_decimal}
 use Rattle.bw_model.specs.declared.query.Item.{Item}

@@ -1,10 +1,10 @@
 pub mod Aggregates
 pub mod Answer
-pub mod AreOver
+pub mod TextAndTotals
 pub mod Columns
 pub mod Draft
-pub mod Fetched
+pub mod LaneFields
 pub mod Field
 pub mod Listing
-pub mod Over
+pub mod Progress
 pub mod Totals

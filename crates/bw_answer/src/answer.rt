@@ -1,5 +1,7 @@
 //! The result of a query over rows that come one at a time, as CSV text.
-ghost use Rattle.std.specs.Prelude.{◌≡◌, ◌==◌, ◌<◌, ◌≤◌, ◌+◌, ◌-◌, ◌++◌, ◌∷◌, List, [], ℕ, true, false, All, IsTrue, IfOk, IfErr, OnOk, length, replicate, vec_len};
+ghost use Rattle.std.specs.Prelude.{◌≡◌, ◌==◌, ◌<◌, ◌≤◌, ◌+◌, ◌-◌, ◌++◌, ◌∷◌, List, [], ℕ, true};
+ghost use Rattle.std.specs.Prelude.{false, All, IsTrue, IfOk, IfErr, OnOk, length, replicate};
+ghost use Rattle.std.specs.Prelude.{vec_len};
 ghost use Rattle.std.specs.List.{list_all};
 ghost use Rattle.bw_model.specs.Column.{admits_values, names_of};
 ghost use Rattle.bw_model.specs.Fault.{no_memory};
@@ -13,20 +15,20 @@ ghost use Rattle.bw_model.specs.declared.query.Item.{Item};
 ghost use Rattle.bw_rowwise.specs.Prepared.{IsPreparedFrom};
 ghost use Rattle.bw_sql.specs.Items.{AreOfOneKind};
 ghost use Rattle.bw_answer.specs.Answer.{csv_text, is_count_all, lists_rows, meaning};
-ghost use Rattle.bw_answer.specs.AreOver.{AreOver, CountsRows};
+ghost use Rattle.bw_answer.specs.TextAndTotals.{AreOver, CountsRows};
 ghost use Rattle.bw_answer.specs.Listing.{IsListing};
 ghost use Rattle.bw_answer.specs.Totals.{is_of, has_room};
 
 use crate::heading::heading_text;
-use crate::kept::is_match;
 use crate::listing::Listing;
-use crate::picked::total_picked;
+use crate::matching::is_match;
+use crate::selected::total_selected;
 use crate::totals::{add_count, add_kept, totals_of, with_totals};
 use bw_lanes::Selection;
 use bw_model::{
-    Fault, Item, Query, Row, RowTaker, Schema, admitted_rows_have_each_value, totals_join,
+    Fault, Item, Query, Row, RowConsumer, Schema, admitted_rows_have_each_value, totals_join,
 };
-use bw_rowwise::{Accumulator, Filter, Prepared, keeps_all};
+use bw_rowwise::{Accumulator, Filter, Prepared, matches_all};
 use bw_segment::Segment;
 use std::alloc::Global;
 
@@ -57,7 +59,7 @@ pub struct Answer<'a> {
 }
 
 impl<'a> Answer<'a> {
-    ghost use Rattle.bw_answer.specs.Over.{IsOver, GoesOver, asked_by};
+    ghost use Rattle.bw_answer.specs.Progress.{IsOver, GoesOver, query_in};
     ghost use Rattle.bw_answer.specs.declared.answer.Answer.{Answer};
 
     /// Returns the result over no rows. The query must have an item, its items must be all columns
@@ -94,7 +96,7 @@ impl<'a> Answer<'a> {
 
     /// Returns the query.
     pub fn query(&self) -> &Query
-        ensures { result.now ≡ asked_by self.now }
+        ensures { result.now ≡ query_in self.now }
     {
         self.query
     }
@@ -108,7 +110,7 @@ impl<'a> Answer<'a> {
         ensures rows { self.new.rows ≡ self.old.rows }
         ensures only_oom { IfErr result (λ fault. fault ≡ no_memory) }
     {
-        if self.lists && keeps_all(&self.query.cond) {
+        if self.lists && matches_all(&self.query.cond) {
             self.records.reserve(&mut self.text, count)?;
         }
         Ok(())
@@ -116,15 +118,15 @@ impl<'a> Answer<'a> {
 
     /// Returns whether every row matches and the query only counts them. No row need be read then.
     pub fn counts_rows(&self) -> bool
-        ensures { result ≡ true → CountsRows (asked_by self.now) }
+        ensures { result ≡ true → CountsRows (query_in self.now) }
     {
-        keeps_all(&self.query.cond) && count_all_alone(&self.query.items)
+        matches_all(&self.query.cond) && count_all_alone(&self.query.items)
     }
 
     /// Consumes `count` rows, whatever their values. The query must only count rows, and have space
     /// for them.
     pub fn take_count(&mut self, count: u32)
-        requires counts { CountsRows (asked_by self.old) }
+        requires counts { CountsRows (query_in self.old) }
         requires capacity { self.old.rows + count ≤ most_rows }
         ensures covers { (start : Answer) (before rows : List (List Value)) → length rows ≡ count
             → GoesOver start before self.old → GoesOver start (before ++ rows) self.new }
@@ -138,26 +140,26 @@ impl<'a> Answer<'a> {
     /// Consumes the rows of a segment; `selection` selects those that match the query. Only the
     /// columns that the query names are fetched. The segment must be of the query's table, and
     /// there must be space for its rows. Errors: 801 if memory is refused.
-    pub fn take_picked<S: Segment>(
+    pub fn take_selected<S: Segment>(
         &mut self,
         segment: &S,
         selection: &Selection,
     ) -> Result<(), Fault>
         requires picks { lanes_of_words selection.now
-            ≡ selected_by (asked_by self.old).cond (S.meaning segment.now).rows
+            ≡ selected_by (query_in self.old).cond (S.meaning segment.now).rows
             ++ replicate (group_size - length (S.meaning segment.now).rows) false }
         requires same_width { length (S.meaning segment.now).columns ≡ self.old.width }
         requires capacity { self.old.rows + length (S.meaning segment.now).rows ≤ most_rows }
         ensures covers { OnOk result ((start : Answer) (before : List (List Value))
             → GoesOver start before self.old
             → GoesOver start (before ++ (S.meaning segment.now).rows) self.new) }
-        ensures asked { OnOk result (asked_by self.new ≡ asked_by self.old) }
+        ensures asked { OnOk result (query_in self.new ≡ query_in self.old) }
         ensures width { OnOk result (self.new.width ≡ self.old.width) }
         ensures rows { OnOk result (self.new.rows
             ≡ self.old.rows + length (S.meaning segment.now).rows) }
         ensures only_oom { IfErr result (λ fault. fault ≡ no_memory) }
     {
-        put_picked(
+        put_selected(
             &mut self.text,
             &mut self.totals,
             &mut self.records,
@@ -179,14 +181,14 @@ impl<'a> Answer<'a> {
         ensures covers { OnOk result ((start : Answer) (before : List (List Value))
             → GoesOver start before self.old
             → GoesOver start (before ++ (S.meaning segment.now).rows) self.new) }
-        ensures asked { OnOk result (asked_by self.new ≡ asked_by self.old) }
+        ensures asked { OnOk result (query_in self.new ≡ query_in self.old) }
         ensures width { OnOk result (self.new.width ≡ self.old.width) }
         ensures rows { OnOk result (self.new.rows
             ≡ self.old.rows + length (S.meaning segment.now).rows) }
         ensures only_oom { IfErr result (λ fault. fault ≡ no_memory) }
     {
-        let kept = self.filter.rows_kept(segment);
-        self.take_picked(segment, &kept)
+        let kept = self.filter.matching_lanes(segment);
+        self.take_selected(segment, &kept)
     }
 
     /// Consumes a row. There must be space for it, and it must have a value for each of the table's
@@ -241,12 +243,12 @@ impl<'a> Answer<'a> {
     }
 }
 
-impl RowTaker for Answer<'_> {
+impl RowConsumer for Answer<'_> {
     ghost takes = { λ answer row. length row == answer.width };
 
     ghost rows = { λ answer. answer.rows };
 
-    ghost use Rattle.bw_answer.specs.Over.{GoesOver};
+    ghost use Rattle.bw_answer.specs.Progress.{GoesOver};
 
     ghost led = { GoesOver };
 
@@ -294,7 +296,7 @@ fn put_row(
 }
 
 /// Adds the matching rows of a segment, which the selection selects, to the text or to the totals.
-fn put_picked<S: Segment>(
+fn put_selected<S: Segment>(
     text: &mut Vec<u8>,
     totals: &mut [Accumulator],
     records: &mut Listing,
@@ -328,9 +330,9 @@ fn put_picked<S: Segment>(
 {
     totals_join();
     if lists {
-        records.push_picked(text, segment, selection)?;
+        records.push_selected(text, segment, selection)?;
     } else {
-        total_picked(totals, segment, selection);
+        total_selected(totals, segment, selection);
     }
     Ok(())
 }

@@ -1,9 +1,10 @@
 //! The values of columns in the lanes of a segment, fetched for the rows that a selection selects.
-ghost use Rattle.std.specs.Prelude.{◌≡◌, ◌≢◌, ◌<◌, ℕ, [], None, All, IfErr, IfOk, length, slice_index_or, vec_len};
+ghost use Rattle.std.specs.Prelude.{◌≡◌, ◌≢◌, ◌<◌, ℕ, [], None, All, IfErr, IfOk, length};
+ghost use Rattle.std.specs.Prelude.{slice_index_or, vec_len};
 ghost use Rattle.bw_lanes.specs.Lanes.{lanes_of_words};
 ghost use Rattle.bw_model.specs.Fault.{no_memory};
 ghost use Rattle.bw_model.specs.Row.{value_in, values_of};
-ghost use Rattle.bw_answer.specs.Fetched.{HasPicked, HasRow, value_in_lane};
+ghost use Rattle.bw_answer.specs.LaneFields.{HasSelected, HasRow, value_in_lane};
 
 use bw_lanes::{LANES, Selection, count, last_between};
 use bw_model::{Fault, Row, Value};
@@ -85,7 +86,7 @@ pub(crate) fn put_row(lanes: &mut [ColumnValues], columns: &[usize], row: &Row)
 
 /// Fetches the values of these columns in the selected rows of a segment: all of a column at once
 /// if they are many, else row by row.
-pub(crate) fn fetch_picked<S: Segment>(
+pub(crate) fn fetch_selected<S: Segment>(
     lanes: &mut [ColumnValues],
     columns: &[usize],
     segment: &S,
@@ -93,7 +94,7 @@ pub(crate) fn fetch_picked<S: Segment>(
 )
     requires lanes { length lanes.old ≡ length (S.meaning segment.now).columns }
     requires columns { All (λ column. column < length lanes.old) columns.now }
-    ensures { HasPicked (S.meaning segment.now).rows (lanes_of_words selection.now) columns.now
+    ensures { HasSelected (S.meaning segment.now).rows (lanes_of_words selection.now) columns.now
         lanes.new }
 {
     if count(selection) >= MANY {
@@ -126,7 +127,7 @@ fn fetch_rows<S: Segment>(
 )
     requires lanes { length lanes.old ≡ length (S.meaning segment.now).columns }
     requires columns { All (λ column. column < length lanes.old) columns.now }
-    ensures { HasPicked (S.meaning segment.now).rows (lanes_of_words selection.now) columns.now
+    ensures { HasSelected (S.meaning segment.now).rows (lanes_of_words selection.now) columns.now
         lanes.new }
 {
     let mut number = segment.rows_in() as usize;

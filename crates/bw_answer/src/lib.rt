@@ -11,12 +11,12 @@
 mod answer;
 mod csv_text;
 mod heading;
-mod kept;
 mod lanes;
 mod listing;
-mod picked;
+mod matching;
 mod record;
 mod records;
+mod selected;
 mod totals;
 
 pub use answer::Answer;

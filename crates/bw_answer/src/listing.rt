@@ -1,7 +1,8 @@
 //! The rows that a query lists, as records of its columns.
-ghost use Rattle.std.specs.Prelude.{◌≡◌, ◌+◌, ◌*◌, ◌<◌, ◌≤◌, ◌++◌, All, IsTrue, IfErr, IfOk, OnOk, length, map, vec_len};
+ghost use Rattle.std.specs.Prelude.{◌≡◌, ◌+◌, ◌*◌, ◌<◌, ◌≤◌, ◌++◌, All, IsTrue, IfErr, IfOk, OnOk};
+ghost use Rattle.std.specs.Prelude.{length, map, vec_len};
 ghost use Rattle.std.specs.List.{list_all};
-ghost use Rattle.bw_aggregate.specs.Picked.{IsWithin, picked_rows};
+ghost use Rattle.bw_aggregate.specs.Selected.{IsWithin, selected_rows};
 ghost use Rattle.bw_lanes.specs.Lanes.{lanes_of_words};
 ghost use Rattle.bw_model.specs.Fault.{no_memory};
 ghost use Rattle.bw_model.specs.Row.{values_of};
@@ -9,7 +10,7 @@ ghost use Rattle.bw_model.specs.Total.{item_within};
 ghost use Rattle.bw_answer.specs.Answer.{csv_text, record_text};
 ghost use Rattle.bw_answer.specs.Columns.{columns_of, fields_of};
 
-use crate::lanes::{ColumnValues, fetch_picked, no_values, put_row};
+use crate::lanes::{ColumnValues, fetch_selected, no_values, put_row};
 use crate::record::{FIELD, push_record};
 use crate::records::push_records;
 use bw_lanes::{LANES, Selection, is_zero};
@@ -90,7 +91,7 @@ impl Listing {
 
     /// Adds the records of the selected rows of a segment to a text. If none is selected, no row is
     /// read.
-    pub(crate) fn push_picked<S: Segment>(
+    pub(crate) fn push_selected<S: Segment>(
         &mut self,
         text: &mut Vec<u8>,
         segment: &S,
@@ -102,7 +103,7 @@ impl Listing {
             (lanes_of_words selection.now) }
         ensures records { OnOk result (text.new.items ≡ text.old.items
             ++ csv_text (map (fields_of self.old.columns.items)
-            (picked_rows (S.meaning segment.now) (lanes_of_words selection.now)))) }
+            (selected_rows (S.meaning segment.now) (lanes_of_words selection.now)))) }
         ensures columns { self.new.columns.items ≡ self.old.columns.items }
         ensures lanes { vec_len self.new.lanes ≡ vec_len self.old.lanes }
         ensures only_oom { IfErr result (λ fault. fault ≡ no_memory) }
@@ -110,7 +111,7 @@ impl Listing {
         if is_zero(selection) {
             return Ok(());
         }
-        fetch_picked(&mut self.lanes, &self.columns, segment, selection);
+        fetch_selected(&mut self.lanes, &self.columns, segment, selection);
         push_records(
             text,
             &mut self.draft,

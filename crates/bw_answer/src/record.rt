@@ -1,9 +1,10 @@
 //! A record of values, written from its last byte to its first, since digits come in that order.
-ghost use Rattle.std.specs.Prelude.{◌≡◌, ◌+◌, ◌*◌, ◌<◌, ◌≤◌, ◌++◌, ◌∷◌, All, IfErr, OnOk, drop, length, map};
+ghost use Rattle.std.specs.Prelude.{◌≡◌, ◌+◌, ◌*◌, ◌<◌, ◌≤◌, ◌++◌, ◌∷◌, All, IfErr, OnOk, drop};
+ghost use Rattle.std.specs.Prelude.{length, map};
 ghost use Rattle.std.specs.Fmt.{signed_decimal};
 ghost use Rattle.bw_model.specs.Fault.{no_memory};
 ghost use Rattle.bw_answer.specs.Answer.{record_text, value_text};
-ghost use Rattle.bw_answer.specs.Fetched.{fields_in_lane, value_in_lane};
+ghost use Rattle.bw_answer.specs.LaneFields.{fields_in_lane, value_in_lane};
 
 use crate::lanes::ColumnValues;
 use bw_model::{Fault, Value};

@@ -1,10 +1,11 @@
 //! The records of selected rows.
-ghost use Rattle.std.specs.Prelude.{◌≡◌, ◌-◌, ◌*◌, ◌<◌, ◌≤◌, ◌++◌, All, IfErr, OnOk, drop, length, map};
+ghost use Rattle.std.specs.Prelude.{◌≡◌, ◌-◌, ◌*◌, ◌<◌, ◌≤◌, ◌++◌, All, IfErr, OnOk, drop, length};
+ghost use Rattle.std.specs.Prelude.{map};
 ghost use Rattle.bw_lanes.specs.Lanes.{lanes_of_words};
 ghost use Rattle.bw_model.specs.Fault.{no_memory};
 ghost use Rattle.bw_model.specs.Selection.{positions_of};
 ghost use Rattle.bw_answer.specs.Answer.{csv_text};
-ghost use Rattle.bw_answer.specs.Fetched.{fields_in_lane, positions_between};
+ghost use Rattle.bw_answer.specs.LaneFields.{fields_in_lane, positions_between};
 
 use crate::lanes::ColumnValues;
 use crate::record::put_record;

@@ -1,5 +1,6 @@
 //! The totals of a query.
-ghost use Rattle.std.specs.Prelude.{◌≡◌, ◌≤◌, ◌+◌, ◌++◌, ◌∷◌, ℕ, List, [], IsTrue, IfOk, IfErr, OnOk, length, map, All};
+ghost use Rattle.std.specs.Prelude.{◌≡◌, ◌≤◌, ◌+◌, ◌++◌, ◌∷◌, ℕ, List, [], IsTrue, IfOk, IfErr};
+ghost use Rattle.std.specs.Prelude.{OnOk, length, map, All};
 ghost use Rattle.std.specs.List.{list_all, list_any};
 ghost use Rattle.bw_model.specs.declared.query.Item.{Item};
 ghost use Rattle.bw_model.specs.Fault.{no_memory};
@@ -8,13 +9,14 @@ ghost use Rattle.bw_model.specs.Row.{Value, values_of};
 ghost use Rattle.bw_model.specs.Selection.{matching_rows};
 ghost use Rattle.bw_rowwise.specs.Accumulator.{count_rows, tally_of};
 ghost use Rattle.bw_rowwise.specs.Prepared.{IsPreparedFrom};
-ghost use Rattle.bw_answer.specs.Aggregates.{aggregates_of, answer_for, column_in, function_of, is_same};
+ghost use Rattle.bw_answer.specs.Aggregates.{aggregates_of, answer_for, column_in, function_of};
+ghost use Rattle.bw_answer.specs.Aggregates.{is_same};
 ghost use Rattle.bw_answer.specs.Answer.{record_text, value_text};
 ghost use Rattle.bw_answer.specs.Draft.{Holds};
 ghost use Rattle.bw_answer.specs.Totals.{is_of, has_room};
 
 use crate::csv_text::CsvText;
-use crate::kept::is_match;
+use crate::matching::is_match;
 use bw_model::{Fault, Item, Query, Row};
 use bw_rowwise::{Accumulator, Prepared};
 use std::alloc::Global;

@@ -1,6 +1,8 @@
--- Where the lines of instructions and joins are refused, and that a first fault is what they are
--- refused with.
-use Rattle.std.proofs.Common.{◌≡◌, ◌∙◌, refl, sym, ap, ap₂, subst, ◌⊎◌, inl, inr, ℕ, suc, ◌<◌, Bool, true, false, not, ◌&&◌, List, [], ◌∷◌, ◌++◌, map, length, Option, Some, None, Result, Ok, Err, arith}
+-- Where the lines of instructions and joins are rejected, and that a first error is what they are
+-- rejected with.
+use Rattle.std.proofs.Common.{◌≡◌, ◌∙◌, refl, sym, ap, ap₂, subst, ◌⊎◌, inl, inr, ℕ, suc, ◌<◌, Bool}
+use Rattle.std.proofs.Common.{true, false, not, ◌&&◌, List, [], ◌∷◌, ◌++◌, map, length, Option}
+use Rattle.std.proofs.Common.{Some, None, Result, Ok, Err, arith}
 use Rattle.std.proofs.Math.Bool.{and-true}
 use Rattle.bw_model.proofs.BitsLemmas.{both}
 use Rattle.bw_model.specs.declared.fault.Fault.{Fault}
@@ -9,7 +11,7 @@ use Rattle.bw_diagram.specs.declared.chain.ChainKind.{ChainKind}
 use Rattle.bw_diagram.specs.declared.chain.ChainKind.TheVariants.{Less, Equal}
 use Rattle.bw_diagram.specs.declared.product.Connective.{Connective}
 use Rattle.bw_diagram.specs.declared.product.Connective.TheVariants as connective
-use Rattle.bw_diagram.specs.Cited.{product_node, variable_node}
+use Rattle.bw_diagram.specs.References.{product_node, variable_node}
 use Rattle.bw_diagram.specs.Facts.{Facts}
 use Rattle.bw_program.specs.declared.instr.Instr.{Instr}
 use Rattle.bw_program.specs.declared.instr.Instr.TheVariants as does
@@ -21,10 +23,14 @@ use Rattle.bw_cert_text.specs.declared.lines.InstructionEntry.{InstructionEntry}
 use Rattle.bw_cert_text.specs.declared.lines.Keep.{Keep}
 use Rattle.bw_cert_rules.specs.declared.edge.Edge.{Edge}
 use Rattle.bw_cert_rules.specs.Accepted.{KeepLine, keep_line, are_kept}
-use Rattle.bw_cert_rules.specs.Instruction.{check_instruction_line, put, is_fill, is_skip_line, loaded_node, operation_row, byte_chain, byte_node, terminal, plane_on, read_on, joined_on, opposite_on, byte_on}
+use Rattle.bw_cert_rules.specs.Instruction.{check_instruction_line, put, is_fill, is_skip_line}
+use Rattle.bw_cert_rules.specs.Instruction.{loaded_node, operation_row, byte_chain, byte_node}
+use Rattle.bw_cert_rules.specs.Instruction.{terminal, plane_on, read_on, joined_on, opposite_on}
+use Rattle.bw_cert_rules.specs.Instruction.{byte_on}
 use Rattle.bw_cert_rules.specs.Join.{is_valid_keep}
 use Rattle.bw_cert_rules.specs.Known.{Known, node_of, nothing_known, with_node}
-use Rattle.bw_cert_rules.specs.Walk.{WalkState, keep_in, by_keep, keeps_taken, join_taken, is_join, instruction_on, instruction_taken, apply_join}
+use Rattle.bw_cert_rules.specs.Walk.{WalkState, keep_in, by_keep, keeps_taken, join_taken, is_join}
+use Rattle.bw_cert_rules.specs.Walk.{instruction_on, instruction_taken, apply_join}
 use Rattle.bw_cert_rules.proofs.JoinLemmas.{keep_on, keep_refused}
 use Rattle.bw_cert.specs.FirstFault.{NoKeep, WrongLine, WrongKeep, WrongJoin}
 use Rattle.bw_cert.proofs.ValidLemmas.{bind_ok, not_refused}
@@ -35,7 +41,7 @@ ok_same is = cc
 pub err_same : (A : Type 0) (x y : Fault) → ◌≡◌ {A = Result A Fault} (Err x) (Err y) → x ≡ y
 err_same A x y is = cc
 
--- what was refused along a chain was refused at its first step, or after it
+-- what was rejected along a chain was rejected at its first step, or after it
 pub bind_err : {A B : Type 0} (r : Result A Fault) (f : A → Result B Fault) (fault : Fault) → (r >>= f) ≡ Err fault → (r ≡ Err fault) ⊎ ((x : A) × (r ≡ Ok x) × (f x ≡ Err fault))
 bind_err (Ok x) f fault is = inr (x, refl, is)
 bind_err {A = A} {B = B} (Err first) f fault is = inl (ap (λ (fault : Fault). Err fault) (err_same B first fault is))
@@ -159,14 +165,14 @@ module _ (facts : Facts) (end place : ℕ) (through : Known) where
       ∙ wrong_keep facts through (edge ∷ edges) 0 nothing_known keep.keeps keep.wrong keep.others keep.kept keep.broken
       ∙ ap (λ (fault : Fault). Err fault) (sym keep.stands)
 
-  -- where a join was taken, no further line KEEP follows it
+  -- if a join was taken, no further line KEEP follows it
   pub join_stops : (edges : List Edge) (lines : List BodyLine) (taken : WalkState) → 0 < length edges → apply_join facts end place edges (taken_of lines through) ≡ Ok taken → NoKeep taken.rest
   join_stops [] lines taken some is = absurd (omega (arith, some))
   join_stops (edge ∷ edges) lines taken some is =
       let check_instruction_line = bind_ok (join_taken end place lines) (after_join (edge ∷ edges)) taken is in
       keeps_stop facts through (edge ∷ edges) 0 nothing_known check_instruction_line.0 taken check_instruction_line.2
 
--- where there is a fault, it stands on this line
+-- if there is an error, it is on this line
 record OnLine (A : Type 0) (line : ℕ) (r : Result A Fault) : Type 0 where
   told : (fault : Fault) → r ≡ Err fault → fault ≡ at_line fault.code line
 
@@ -226,7 +232,7 @@ after_stands facts known line (does.ByteEq r column slice k) given = put_stands 
 after_stands facts known line (does.Skip x target) given =
     refused_stands Known (not (is_skip_line given)) 607 line _ (then_stands ℕ Known line (read_on known line x) _ (found_stands ℕ 609 line (node_of known x)) (λ node. ok_stands Known line known))
 
--- a line that is refused where an instruction's is wanted is so on that line
+-- a line that is rejected in place of an instruction's is so on that line
 pub line_stands : (facts : Facts) (known : Known) (instr : Instr) (line : BodyLine) (entry : Entry) (fault : Fault) → instruction_on facts known instr line entry ≡ Err fault → fault ≡ at_line fault.code line.line
 line_stands facts known instr line (line_of.Instruction given) fault is = (after_stands facts known line.line instr given).told fault is
 line_stands facts known instr line (line_of.Condition given) fault is = (err_stands Known 607 line.line).told fault is

@@ -1,5 +1,8 @@
--- Lines that are refused have a first fault, and are refused with it.
-use Rattle.std.proofs.Common.{◌≡◌, ◌∙◌, refl, sym, ap, ap₂, subst, ◌⊎◌, inl, inr, ℕ, suc, ◌+◌, ◌<◌, true, not, List, [], ◌∷◌, ◌++◌, add-zero, append_assoc, drop, map, length, length-append, length-drop, Option, Some, None, Result, Ok, Err, slice_get, arith}
+-- Lines that are rejected have a first error, and are rejected with it.
+use Rattle.std.proofs.Common.{◌≡◌, ◌∙◌, refl, sym, ap, ap₂, subst, ◌⊎◌, inl, inr, ℕ, suc, ◌+◌, ◌<◌}
+use Rattle.std.proofs.Common.{true, not, List, [], ◌∷◌, ◌++◌, add-zero, append_assoc, drop, map}
+use Rattle.std.proofs.Common.{length, length-append, length-drop, Option, Some, None, Result, Ok}
+use Rattle.std.proofs.Common.{Err, slice_get, arith}
 use Rattle.std.proofs.lemmas.Bool.{eq-eqb}
 use Rattle.std.proofs.lemmas.Option.{slice_get_within}
 use Rattle.bw_model.proofs.BitsLemmas.{both}
@@ -10,21 +13,28 @@ use Rattle.bw_program.specs.declared.instr.Instr.{Instr}
 use Rattle.bw_cert_text.specs.declared.lines.BodyLine.{BodyLine}
 use Rattle.bw_cert_text.specs.declared.lines.Entry.TheVariants as line_of
 use Rattle.bw_cert_rules.specs.declared.edge.Edge.{Edge}
-use Rattle.bw_cert_rules.specs.Accepted.{KeepLine, JoinLines, Part, keep_line, join_lines, lines_of, known_before, edges_before, edge_at, known_on_fallthrough, known_after_join, known_past, kept_by, are_kept, is_valid_join, Obeys}
+use Rattle.bw_cert_rules.specs.Accepted.{KeepLine, JoinLines, Part, keep_line, join_lines, lines_of}
+use Rattle.bw_cert_rules.specs.Accepted.{known_before, edges_before, edge_at, known_on_fallthrough}
+use Rattle.bw_cert_rules.specs.Accepted.{known_after_join, known_past, kept_by, are_kept}
+use Rattle.bw_cert_rules.specs.Accepted.{is_valid_join, AreValidParts}
 use Rattle.bw_cert_rules.specs.Instruction.{check_instruction_line}
 use Rattle.bw_cert_rules.specs.Join.{edge_of, with_edge, edges_into}
 use Rattle.bw_cert_rules.specs.Known.{Known, nothing_known, with_node}
-use Rattle.bw_cert_rules.specs.Walk.{WalkState, by_keep, keeps_taken, instruction_taken, apply_join, check_lines_from, check_lines}
+use Rattle.bw_cert_rules.specs.Walk.{WalkState, by_keep, keeps_taken, instruction_taken, apply_join}
+use Rattle.bw_cert_rules.specs.Walk.{check_lines_from, check_lines}
 use Rattle.bw_cert_rules.proofs.AcceptLemmas.{Line, Joined, line_read, join_read, drop_stands}
 use Rattle.bw_cert_rules.proofs.JoinLemmas.{keep_on}
-use Rattle.bw_cert.specs.FirstFault.{NoKeep, KeepsAreAll, WrongLine, WrongJoin, WrongPlace, known_after, edges_after, FirstFault, StandsOn}
-use Rattle.bw_cert.proofs.PartsLemmas.{with_one, stands_last, edges_here, known_here, obeys_more, lines_more}
-use Rattle.bw_cert.proofs.FaultLemmas.{bind_err, taken_of, line_wrong, wrong_line, next_keep, after_join, join_wrong, wrong_join, join_stops, line_stands}
+use Rattle.bw_cert.specs.FirstFault.{NoKeep, KeepsAreAll, WrongLine, WrongJoin, WrongPlace}
+use Rattle.bw_cert.specs.FirstFault.{known_after, edges_after, FirstFault, StandsOn}
+use Rattle.bw_cert.proofs.PartsLemmas.{with_one, stands_last, edges_here, known_here, obeys_more}
+use Rattle.bw_cert.proofs.PartsLemmas.{lines_more}
+use Rattle.bw_cert.proofs.FaultLemmas.{bind_err, taken_of, line_wrong, wrong_line, next_keep}
+use Rattle.bw_cert.proofs.FaultLemmas.{after_join, join_wrong, wrong_join, join_stops, line_stands}
 
 -- how far a walk has come: after some first instructions, whose lines are those of parts that obey
 record Come (facts : Facts) (lines : List BodyLine) (first : List Instr) (edges : List Edge) (taken : WalkState) : Type 0 where
   parts : List Part
-  obeys : Obeys facts first parts
+  valid_parts : AreValidParts facts first parts
   spelled : lines ≡ lines_of 0 parts ++ taken.rest
   whole : KeepsAreAll parts taken.rest
   known : taken.known ≡ known_after facts first parts
@@ -33,11 +43,11 @@ record Come (facts : Facts) (lines : List BodyLine) (first : List Instr) (edges 
 some_same : {A : Type 0} {x y : A} → Some x ≡ Some y → x ≡ y
 some_same is = cc
 
--- a join that obeys stands where skips come
+-- a valid join is at the target of skips
 joins_some : (facts : Facts) (through : Known) (edges : List Edge) (join : Option JoinLines) (lines : JoinLines) → join ≡ Some lines → is_valid_join facts through edges join ≡ true → 0 < length edges
-joins_some facts through [] None lines some obeys = cc
-joins_some facts through [] (Some join) lines some obeys = cc
-joins_some facts through (edge ∷ edges) join lines some obeys = omega arith
+joins_some facts through [] None lines some valid_parts = cc
+joins_some facts through [] (Some join) lines some valid_parts = cc
+joins_some facts through (edge ∷ edges) join lines some valid_parts = omega arith
 
 -- past one more instruction
 come_further : (facts : Facts) (end : ℕ) (lines : List BodyLine) (first : List Instr) (instr : Instr) (edges : List Edge) (taken through gone : WalkState) → Come facts lines first edges taken →
@@ -45,17 +55,17 @@ come_further : (facts : Facts) (end : ℕ) (lines : List BodyLine) (first : List
     Come facts lines (with_one first instr) (with_edge edges (edge_of taken.known instr)) gone
 come_further facts end lines first instr edges taken through gone come line took = record {
   parts = with_one come.parts part;
-  obeys = obeys_more facts first instr come.parts part come.obeys.counted through.known come.obeys says
-      (ap (λ (edges : List Edge). is_valid_join facts through.known (edges_into (suc (length first)) edges) join.join) (sym edges_same) ∙ join.obeys);
+  valid_parts = obeys_more facts first instr come.parts part come.valid_parts.part_count through.known come.valid_parts says
+      (ap (λ (edges : List Edge). is_valid_join facts through.known (edges_into (suc (length first)) edges) join.join) (sym edges_same) ∙ join.valid_parts);
   spelled = come.spelled
       ∙ ap (λ rest. lines_of 0 come.parts ++ rest) (line.spelled ∙ ap (λ (lines : List BodyLine). own ∷ lines) join.spelled)
       ∙ sym (append_assoc (lines_of 0 come.parts) (own ∷ join_lines (suc (length first)) join.join) gone.rest)
       ∙ ap (λ n. (lines_of 0 come.parts ++ own ∷ join_lines (suc n) join.join) ++ gone.rest) from_start
       ∙ ap (λ lines. lines ++ gone.rest) (sym (lines_more 0 come.parts part));
   whole = whole;
-  known = join.known ∙ sym (known_here facts first instr come.parts part come.obeys.counted through.known says)
+  known = join.known ∙ sym (known_here facts first instr come.parts part come.valid_parts.part_count through.known says)
       ∙ ap (known_before facts (with_one first instr) (with_one come.parts part)) one_more;
-  edges_are = edges_same ∙ sym (edges_here facts first instr come.parts part come.obeys.counted)
+  edges_are = edges_same ∙ sym (edges_here facts first instr come.parts part come.valid_parts.part_count)
       ∙ ap (edges_before facts (with_one first instr) (with_one come.parts part)) one_more;
 }
   where
@@ -72,7 +82,7 @@ come_further facts end lines first instr edges taken through gone come line took
     own = record { line = line.line; entry = line_of.Instruction line.entry }
 
     from_start : length first ≡ 0 + length come.parts
-    from_start = omega (arith, come.obeys.counted)
+    from_start = omega (arith, come.valid_parts.part_count)
 
     one_more : suc (length first) ≡ length (with_one first instr)
     one_more = omega (arith, length-append first (instr ∷ []))
@@ -88,9 +98,9 @@ come_further facts end lines first instr edges taken through gone come line took
         let at_last : place ≡ length come.parts = omega (arith, last, length-append come.parts (part ∷ [])) in
         let same : part ≡ given = some_same (sym (stands_last come.parts part) ∙ ap (slice_get (with_one come.parts part)) (sym at_last) ∙ there) in
         let joins : join.join ≡ Some lines = ap (λ (part : Part). part.join) same ∙ some in
-        join_stops facts end (suc (length first)) through.known into through.rest gone (joins_some facts through.known into join.join lines joins join.obeys) took
+        join_stops facts end (suc (length first)) through.known into through.rest gone (joins_some facts through.known into join.join lines joins join.valid_parts) took
 
--- lines that are refused from there on have a first fault
+-- lines that are rejected from there on have a first error
 stands_from : (facts : Facts) (end : ℕ) (lines : List BodyLine) (fault : Fault) (instrs others first : List Instr) (edges : List Edge) (taken : WalkState) → instrs ≡ first ++ others → Come facts lines first edges taken →
     check_lines_from facts end (length first) edges others taken ≡ Err fault → FirstFault facts instrs end lines fault
 unfolding check_lines_from
@@ -120,7 +130,7 @@ stands_from facts end lines fault instrs (instr ∷ others) first edges taken pr
       others = others;
       instructions = program;
       parts = come.parts;
-      obeys = come.obeys;
+      valid_parts = come.valid_parts;
       rest = taken.rest;
       spelled = come.spelled;
       whole = come.whole;
@@ -165,7 +175,7 @@ first_fault_stands facts instrs end lines fault is =
     stands_from facts end lines fault instrs instrs [] [] (taken_of lines nothing_known) refl
     (record {
       parts = [];
-      obeys = record { counted = refl; instruction = λ k i p there given. absurd (none k p given); join = λ k i p there given. absurd (none k p given) };
+      valid_parts = record { part_count = refl; instruction = λ k i p there given. absurd (none k p given); join = λ k i p there given. absurd (none k p given) };
       spelled = refl;
       whole = λ place part join last given some. absurd (none place part given);
       known = refl;
@@ -190,16 +200,16 @@ keeps_over facts through edges least kept (k ∷ keeps) lines none are =
     keep_on facts through edges least kept _ (map keep_line keeps ++ lines) (keep_line k) k.keep refl refl now.0
     ∙ keeps_over facts through edges (suc k.keep.register) (with_node kept k.keep.register k.keep.node) keeps lines none now.1
 
--- a join that obeys, and then other lines
+-- a valid join, and then other lines
 join_over : (facts : Facts) (end place : ℕ) (edges : List Edge) (through : Known) (join : Option JoinLines) (lines : List BodyLine) → ((given : JoinLines) → join ≡ Some given → NoKeep lines) →
     is_valid_join facts through edges join ≡ true → apply_join facts end place edges (taken_of (join_lines place join ++ lines) through) ≡ Ok (taken_of lines (known_after_join through join))
-join_over facts end place [] through None lines none obeys = refl
-join_over facts end place [] through (Some join) lines none obeys = cc
-join_over facts end place (edge ∷ edges) through None lines none obeys = cc
-join_over facts end place (edge ∷ edges) through (Some join) lines none obeys =
+join_over facts end place [] through None lines none valid_parts = refl
+join_over facts end place [] through (Some join) lines none valid_parts = cc
+join_over facts end place (edge ∷ edges) through None lines none valid_parts = cc
+join_over facts end place (edge ∷ edges) through (Some join) lines none valid_parts =
     let further : List BodyLine = map keep_line join.keeps ++ lines in
     ap (λ b. refused_if (not b) (at_line 608 join.line) (Ok further) >>= after_join facts end place through (edge ∷ edges)) (eq-eqb place place refl)
-    ∙ keeps_over facts through (edge ∷ edges) 0 nothing_known join.keeps lines (none join refl) obeys
+    ∙ keeps_over facts through (edge ∷ edges) 0 nothing_known join.keeps lines (none join refl) valid_parts
 
 -- after a part come the lines of the next one, which begin with no line KEEP, or the others
 no_keep_after : (place : ℕ) (parts : List Part) (rest : List BodyLine) → (length parts ≡ 0 → NoKeep rest) → NoKeep (lines_of place parts ++ rest)
@@ -207,17 +217,17 @@ unfolding lines_of
 no_keep_after place [] rest none = none refl
 no_keep_after place (part ∷ parts) rest none = refl
 
--- the walk over the lines of parts that obey, from a place on, goes on after them
-walk_over : (facts : Facts) (all : List Instr) (every : List Part) (end place : ℕ) (instrs : List Instr) (parts : List Part) (others : List Instr) (rest : List BodyLine) → Obeys facts all every → KeepsAreAll every rest →
+-- the walk over the lines of parts that obey, from a place on, continues after them
+walk_over : (facts : Facts) (all : List Instr) (every : List Part) (end place : ℕ) (instrs : List Instr) (parts : List Part) (others : List Instr) (rest : List BodyLine) → AreValidParts facts all every → KeepsAreAll every rest →
     drop place all ≡ instrs → drop place every ≡ parts → length parts ≡ length instrs →
     check_lines_from facts end place (edges_before facts all every place) (instrs ++ others) (taken_of (lines_of place parts ++ rest) (known_before facts all every place))
     ≡ check_lines_from facts end (place + length instrs) (edges_before facts all every (place + length instrs)) others (taken_of rest (known_before facts all every (place + length instrs)))
 unfolding check_lines_from lines_of known_before edges_before
-walk_over facts all every end place [] [] others rest obeys whole instrs_are parts_are count =
+walk_over facts all every end place [] [] others rest valid_parts whole instrs_are parts_are count =
     ap (λ n. check_lines_from facts end n (edges_before facts all every n) others (taken_of rest (known_before facts all every n))) (sym (add-zero place))
-walk_over facts all every end place [] (part ∷ parts) others rest obeys whole instrs_are parts_are count = absurd (omega (arith, count))
-walk_over facts all every end place (instr ∷ instrs) [] others rest obeys whole instrs_are parts_are count = absurd (omega (arith, count))
-walk_over facts all every end place (instr ∷ instrs) (part ∷ parts) others rest obeys whole instrs_are parts_are count =
+walk_over facts all every end place [] (part ∷ parts) others rest valid_parts whole instrs_are parts_are count = absurd (omega (arith, count))
+walk_over facts all every end place (instr ∷ instrs) [] others rest valid_parts whole instrs_are parts_are count = absurd (omega (arith, count))
+walk_over facts all every end place (instr ∷ instrs) (part ∷ parts) others rest valid_parts whole instrs_are parts_are count =
     let instr_there = drop_stands all instrs place instr instrs_are in
     let part_there = drop_stands every parts place part parts_are in
     let known : Known = known_before facts all every place in
@@ -232,25 +242,25 @@ walk_over facts all every end place (instr ∷ instrs) (part ∷ parts) others r
     let none : (given : JoinLines) → part.join ≡ Some given → NoKeep more = λ given some. no_keep_after (suc place) parts rest
     (λ empty. whole place part given (omega (arith, empty, left, length-drop (suc place) every, inside)) part_there.0 some) in
     let says : instruction_taken facts end known instr (lines_of place (part ∷ parts) ++ rest) ≡ Ok (taken_of own through) =
-    ap (λ r. r >>= λ k. Ok (taken_of own k)) (obeys.instruction place instr part instr_there.0 part_there.0) in
+    ap (λ r. r >>= λ k. Ok (taken_of own k)) (valid_parts.instruction place instr part instr_there.0 part_there.0) in
     let joins : apply_join facts end (suc place) (edges_into (suc place) edges) (taken_of own through) ≡ Ok (taken_of more (known_before facts all every (suc place))) =
     ap₂ (λ (es : List Edge) (lines : List BodyLine). apply_join facts end (suc place) (edges_into (suc place) es) (taken_of lines through)) edges_are (append_assoc (join_lines (suc place) part.join) (lines_of (suc place) parts) rest)
-    ∙ join_over facts end (suc place) _ through part.join more none (obeys.join place instr part instr_there.0 part_there.0)
+    ∙ join_over facts end (suc place) _ through part.join more none (valid_parts.join place instr part instr_there.0 part_there.0)
     ∙ ap (λ (k : Known). Ok (taken_of more k)) (sym next) in
     let same : suc place + length instrs ≡ place + suc (length instrs) = omega arith in
     ap (λ t. t >>= λ through. apply_join facts end (suc place) (edges_into (suc place) edges) through >>= λ taken. check_lines_from facts end (suc place) edges (instrs ++ others) taken) says
     ∙ ap (λ t. t >>= λ taken. check_lines_from facts end (suc place) edges (instrs ++ others) taken) joins
     ∙ ap (λ (es : List Edge). check_lines_from facts end (suc place) es (instrs ++ others) (taken_of more (known_before facts all every (suc place)))) edges_are
-    ∙ walk_over facts all every end (suc place) instrs parts others rest obeys whole instr_there.1 part_there.1 (omega (arith, count))
+    ∙ walk_over facts all every end (suc place) instrs parts others rest valid_parts whole instr_there.1 part_there.1 (omega (arith, count))
     ∙ ap (λ n. check_lines_from facts end n (edges_before facts all every n) others (taken_of rest (known_before facts all every n))) same
 
--- lines with a first fault are refused with it
+-- lines with a first error are rejected with it
 pub refused_with_first : (facts : Facts) (instrs : List Instr) (end : ℕ) (lines : List BodyLine) (fault : Fault) → FirstFault facts instrs end lines fault → check_lines facts instrs end lines ≡ Err fault
 unfolding check_lines_from known_before edges_before
 refused_with_first facts instrs end lines fault f =
     let from_start : 0 + length f.first ≡ length f.first = omega arith in
     ap₂ (λ (instrs : List Instr) (lines : List BodyLine). check_lines facts instrs end lines) f.instructions f.spelled
-    ∙ walk_over facts f.first f.parts end 0 f.first f.parts (f.instr ∷ f.others) f.rest f.obeys f.whole refl refl f.obeys.counted
+    ∙ walk_over facts f.first f.parts end 0 f.first f.parts (f.instr ∷ f.others) f.rest f.valid_parts f.whole refl refl f.valid_parts.part_count
     ∙ ap (λ n. check_lines_from facts end n (edges_before facts f.first f.parts n) (f.instr ∷ f.others) (taken_of f.rest (known_before facts f.first f.parts n))) from_start
     ∙ at f.wrong
   where
@@ -277,7 +287,7 @@ refused_with_first facts instrs end lines fault f =
         ∙ ap (λ (r : Result Known Fault). (r >>= λ through. Ok (taken_of place.rest through)) >>= past_line) place.says
         ∙ ap (λ t. t >>= past_join) (wrong_join facts end (suc (length f.first)) place.through (edges_after facts f.first f.parts f.instr) place.rest fault place.skips place.wrong)
 
--- and the fault is the same whatever lines come after the one on which it stands
+-- and the error is the same whatever lines come after the one on which it stands
 at_end : (code end : ℕ) (fault : Fault) → fault ≡ at_line code end → fault ≡ at_line fault.code end
 at_end code end fault is = is ∙ ap (λ (fault : Fault). at_line fault.code end) (sym is)
 
@@ -293,7 +303,7 @@ lines_after facts instrs end lines fault f = at f.wrong
     front : List BodyLine
     front = lines_of 0 f.parts
 
-    -- other lines with that fault
+    -- other lines with that error
     refused : (rest : List BodyLine) → KeepsAreAll f.parts rest → WrongLine facts end known f.instr rest fault ⊎ WrongPlace facts end (suc (length f.first)) known edges f.instr rest fault →
         check_lines facts instrs end (front ++ rest) ≡ Err fault
     refused rest whole wrong = refused_with_first facts instrs end (front ++ rest) fault (record {
@@ -302,7 +312,7 @@ lines_after facts instrs end lines fault f = at f.wrong
       others = f.others;
       instructions = f.instructions;
       parts = f.parts;
-      obeys = f.obeys;
+      valid_parts = f.valid_parts;
       rest = rest;
       spelled = refl;
       whole = whole;

@@ -1,4 +1,4 @@
--- A certificate that is refused has a first line that breaks a rule.
+-- A certificate that is rejected has a first line that breaks a rule.
 use Rattle.std.proofs.Common.{◌≡◌, ◌∙◌, refl, ap, ◌⊎◌, inl, inr, List, [], ◌∷◌, Result, Ok, Err}
 use Rattle.bw_model.specs.declared.column.Column.{Column}
 use Rattle.bw_model.specs.declared.cond.Cond.{Cond}
@@ -16,7 +16,8 @@ use Rattle.bw_cert_rules.specs.Pair.{pair_of}
 use Rattle.bw_cert_rules.specs.Walk.{WalkState, check_lines}
 use Rattle.bw_cert_rules.proofs.AcceptLemmas.{judged_accepts}
 use Rattle.bw_cert.specs.FirstWrong.{WrongStated, WrongFact, WrongProgram, WrongBody, FirstWrong}
-use Rattle.bw_cert.specs.Stated.{facts_stated, with_lines, with_node_line, with_chain_line, with_product_line}
+use Rattle.bw_cert.specs.StatedFacts.{facts_stated, with_lines, with_node_line, with_chain_line}
+use Rattle.bw_cert.specs.StatedFacts.{with_product_line}
 use Rattle.bw_cert.specs.Valid.{check_certificate, end_on}
 use Rattle.bw_cert.proofs.FaultLemmas.{bind_err}
 use Rattle.bw_cert.proofs.FirstFaultLemmas.{first_fault_stands}

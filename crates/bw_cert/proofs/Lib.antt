@@ -5,7 +5,7 @@ pub mod PartsLemmas
 pub mod SameLemmas
 pub mod SelectionLemmas
 pub mod SplitLemmas
-pub mod StatedLemmas
+pub mod StatedFactLemmas
 pub mod TextLemmas
 pub mod ValidLemmas
 pub mod VerdictLemmas

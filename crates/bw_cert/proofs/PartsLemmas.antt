@@ -1,12 +1,16 @@
 -- One more instruction and its part, after some that obey.
-use Rattle.std.proofs.Common.{◌≡◌, ◌∙◌, refl, sym, ap, ap₂, subst, ℕ, zero, suc, ◌+◌, ◌<◌, ◌≤◌, IsTrue, List, [], ◌∷◌, ◌++◌, add-zero, append-nil, append_assoc, length, length-append, Option, Some, Ok, slice_get, arith}
+use Rattle.std.proofs.Common.{◌≡◌, ◌∙◌, refl, sym, ap, ap₂, subst, ℕ, zero, suc, ◌+◌, ◌<◌, ◌≤◌}
+use Rattle.std.proofs.Common.{IsTrue, List, [], ◌∷◌, ◌++◌, add-zero, append-nil, append_assoc}
+use Rattle.std.proofs.Common.{length, length-append, Option, Some, Ok, slice_get, arith}
 use Rattle.std.proofs.lemmas.Option.{slice_get_within}
 use Rattle.bw_diagram.specs.Facts.{Facts}
 use Rattle.bw_program.specs.declared.instr.Instr.{Instr}
 use Rattle.bw_cert_text.specs.declared.lines.BodyLine.{BodyLine}
 use Rattle.bw_cert_text.specs.declared.lines.Entry.TheVariants as line_of
 use Rattle.bw_cert_rules.specs.declared.edge.Edge.{Edge}
-use Rattle.bw_cert_rules.specs.Accepted.{Part, join_lines, lines_of, known_before, edges_before, edge_at, known_on_fallthrough, known_or_nothing, known_after_join, known_past, is_valid_join, Obeys}
+use Rattle.bw_cert_rules.specs.Accepted.{Part, join_lines, lines_of, known_before, edges_before}
+use Rattle.bw_cert_rules.specs.Accepted.{edge_at, known_on_fallthrough, known_or_nothing}
+use Rattle.bw_cert_rules.specs.Accepted.{known_after_join, known_past, is_valid_join, AreValidParts}
 use Rattle.bw_cert_rules.specs.Instruction.{check_instruction_line}
 use Rattle.bw_cert_rules.specs.Join.{edge_of, with_edge, edges_into}
 use Rattle.bw_cert_rules.specs.Known.{Known}
@@ -74,21 +78,21 @@ module _ (facts : Facts) (first : List Instr) (instr : Instr) (parts : List Part
       ∙ ap (λ (known : Known). known_after_join (known_on_fallthrough facts known instr part) part.join) (known_more (length first) (omega arith))
       ∙ ap (λ (known : Known). known_after_join known part.join) (ap known_or_nothing says)
 
-  -- where it obeys, they all do
-  pub obeys_more : (through : Known) → Obeys facts first parts → check_instruction_line facts (known_before facts first parts (length first)) part.line instr part.entry ≡ Ok through →
+  -- if it is valid, they all are
+  pub obeys_more : (through : Known) → AreValidParts facts first parts → check_instruction_line facts (known_before facts first parts (length first)) part.line instr part.entry ≡ Ok through →
       IsTrue (is_valid_join facts through (edges_into (suc (length first)) (with_edge (edges_before facts first parts (length first)) (edge_of (known_before facts first parts (length first)) instr))) part.join) →
-      Obeys facts (with_one first instr) (with_one parts part)
-  obeys_more through obeys says joins = record {
-    counted = omega (arith, count, length-append parts (part ∷ []), length-append first (instr ∷ []));
+      AreValidParts facts (with_one first instr) (with_one parts part)
+  obeys_more through valid_parts says joins = record {
+    part_count = omega (arith, count, length-append parts (part ∷ []), length-append first (instr ∷ []));
     instruction = each_more (λ (place : ℕ) (i : Instr) (p : Part). check_instruction_line facts (known_before facts (with_one first instr) (with_one parts part) place) p.line i p.entry ≡ Ok (known_on_fallthrough facts (known_before facts (with_one first instr) (with_one parts part) place) i p))
         first instr parts part count
-        (λ place i p there given. subst (λ (known : Known). check_instruction_line facts known p.line i p.entry ≡ Ok (known_on_fallthrough facts known i p)) (sym (known_more place (omega (arith, slice_get_within first place i there)))) (obeys.instruction place i p there given))
+        (λ place i p there given. subst (λ (known : Known). check_instruction_line facts known p.line i p.entry ≡ Ok (known_on_fallthrough facts known i p)) (sym (known_more place (omega (arith, slice_get_within first place i there)))) (valid_parts.instruction place i p there given))
         (subst (λ (known : Known). check_instruction_line facts known part.line instr part.entry ≡ Ok (known_on_fallthrough facts known instr part)) (sym (known_more (length first) (omega arith))) (says ∙ ap Ok (sym (ap known_or_nothing says))));
     join = each_more (λ (place : ℕ) (i : Instr) (p : Part). IsTrue (is_valid_join facts (known_on_fallthrough facts (known_before facts (with_one first instr) (with_one parts part) place) i p)
         (edges_into (suc place) (edges_before facts (with_one first instr) (with_one parts part) (suc place))) p.join))
         first instr parts part count
         (λ place i p there given. ap₂ (λ (known : Known) (edges : List Edge). is_valid_join facts (known_on_fallthrough facts known i p) (edges_into (suc place) edges) p.join)
-        (known_more place (omega (arith, slice_get_within first place i there))) (edges_more (suc place) (omega (arith, slice_get_within first place i there))) ∙ obeys.join place i p there given)
+        (known_more place (omega (arith, slice_get_within first place i there))) (edges_more (suc place) (omega (arith, slice_get_within first place i there))) ∙ valid_parts.join place i p there given)
         (ap₂ (λ (known : Known) (edges : List Edge). is_valid_join facts known (edges_into (suc (length first)) edges) part.join)
         (ap (λ (known : Known). known_on_fallthrough facts known instr part) (known_more (length first) (omega arith)) ∙ ap known_or_nothing says) edges_here ∙ joins);
   }

@@ -1,5 +1,6 @@
--- A certificate is judged by what its lines say, wherever their parts lie in memory.
-use Rattle.std.proofs.Common.{◌≡◌, ◌∙◌, refl, sym, ap, ℕ, List, [], ◌∷◌, map, Option, Result, Ok, Err}
+-- A certificate is checked by what its lines say, wherever their parts lie in memory.
+use Rattle.std.proofs.Common.{◌≡◌, ◌∙◌, refl, sym, ap, ℕ, List, [], ◌∷◌, map, Option, Result, Ok}
+use Rattle.std.proofs.Common.{Err}
 use Rattle.bw_model.specs.declared.column.Column.{Column}
 use Rattle.bw_model.specs.declared.fault.Fault.{Fault}
 use Rattle.bw_model.specs.Fault.{at_line, ◌>>=◌}
@@ -10,24 +11,27 @@ use Rattle.bw_diagram.specs.Chain.{chain_named, one_named, two_named}
 use Rattle.bw_diagram.specs.Facts.{Facts, no_facts, with_chain}
 use Rattle.bw_cert_text.specs.declared.lines.BodyLine.{BodyLine}
 use Rattle.bw_cert_text.specs.declared.lines.ChainLine.{ChainLine}
-use Rattle.bw_cert_text.specs.CertificateFields.{CertificateFields, ChainFields, ColumnFields, BodyFields, One, Two, chain_fields, column_fields, body_fields, certificate_fields}
+use Rattle.bw_cert_text.specs.CertificateFields.{CertificateFields, ChainFields, ColumnFields}
+use Rattle.bw_cert_text.specs.CertificateFields.{BodyFields, One, Two, chain_fields, column_fields}
+use Rattle.bw_cert_text.specs.CertificateFields.{body_fields, certificate_fields}
 use Rattle.bw_cert_text.specs.CertificateShape.{CertificateShape}
 use Rattle.bw_cert_rules.specs.declared.nodes.TruthPair.{TruthPair}
 use Rattle.bw_cert_rules.specs.Pair as pairs
 use Rattle.bw_cert_rules.specs.Known.{Known}
 use Rattle.bw_cert_rules.specs.Walk.{WalkState}
 use Rattle.bw_cert_rules.specs.Walk as walk
-use Rattle.bw_cert.specs.Stated.{on_line, with_lines, with_node_line, with_chain_line, with_product_line, facts_stated}
+use Rattle.bw_cert.specs.StatedFacts.{on_line, with_lines, with_node_line, with_chain_line}
+use Rattle.bw_cert.specs.StatedFacts.{with_product_line, facts_stated}
 use Rattle.bw_cert.specs.Valid.{last_on}
 
 abbrev pub SayTheSame : List BodyLine → List BodyLine → Type 0
 SayTheSame lines others = map body_fields lines ≡ map body_fields others
 
-pub then-same : {A B : Type 0} (r : Result A Fault) (f g : A → Result B Fault) → ((x : A) → f x ≡ g x) → (r >>= f) ≡ (r >>= g)
-then-same (Ok x) f g each = each x
-then-same (Err fault) f g each = refl
+pub bind-same : {A B : Type 0} (r : Result A Fault) (f g : A → Result B Fault) → ((x : A) → f x ≡ g x) → (r >>= f) ≡ (r >>= g)
+bind-same (Ok x) f g each = each x
+bind-same (Err fault) f g each = refl
 
--- a CHAIN line is judged by its fields
+-- a CHAIN line is checked by its fields
 abbrev chain_said : List Column → ColumnFields → Option Chain
 chain_said columns (One kind column start len bound node prev) = one_named columns kind column start len bound node prev
 chain_said columns (Two kind left right len node prev) = two_named columns kind left right len node prev
@@ -39,12 +43,12 @@ chain-said columns (words.Two kind left right len node prev) = refl
 abbrev with_chain_said : Facts → ChainFields → Result Facts Fault
 with_chain_said facts chain = on_line chain.line (with_chain facts chain.n (chain_said facts.columns chain.columns))
 
-chains-said : (facts : Facts) (lines : List ChainLine) → with_lines with_chain_line facts lines ≡ with_lines with_chain_said facts (map chain_fields lines)
+with_lines-chain_fields : (facts : Facts) (lines : List ChainLine) → with_lines with_chain_line facts lines ≡ with_lines with_chain_said facts (map chain_fields lines)
 unfolding with_lines
-chains-said facts [] = refl
-chains-said facts (line ∷ lines) =
+with_lines-chain_fields facts [] = refl
+with_lines-chain_fields facts (line ∷ lines) =
     ap (λ (named : Option Chain). on_line line.line (with_chain facts line.n named) >>= λ more. with_lines with_chain_line more lines) (chain-said facts.columns line.columns)
-    ∙ then-same (with_chain_said facts (chain_fields line)) (λ more. with_lines with_chain_line more lines) (λ more. with_lines with_chain_said more (map chain_fields lines)) (λ more. chains-said more lines)
+    ∙ bind-same (with_chain_said facts (chain_fields line)) (λ more. with_lines with_chain_line more lines) (λ more. with_lines with_chain_said more (map chain_fields lines)) (λ more. with_lines-chain_fields more lines)
 
 abbrev stated_said : List Column → CertificateFields → Result Facts Fault
 stated_said columns said =
@@ -54,11 +58,11 @@ stated_said columns said =
 
 stated-said : (columns : List Column) (certificate : CertificateShape) → facts_stated columns certificate ≡ stated_said columns (certificate_fields certificate)
 stated-said columns certificate =
-    then-same (with_lines with_node_line (no_facts columns) certificate.nodes) _ _
-    (λ facts. ap (λ r. r >>= λ facts. with_lines with_product_line facts certificate.products) (chains-said facts certificate.chains))
+    bind-same (with_lines with_node_line (no_facts columns) certificate.nodes) _ _
+    (λ facts. ap (λ r. r >>= λ facts. with_lines with_product_line facts certificate.products) (with_lines-chain_fields facts certificate.chains))
 
-pub stated-same : (columns : List Column) (certificate other : CertificateShape) → certificate_fields certificate ≡ certificate_fields other → facts_stated columns certificate ≡ facts_stated columns other
-stated-same columns certificate other same = stated-said columns certificate ∙ ap (stated_said columns) same ∙ sym (stated-said columns other)
+pub facts_stated-same : (columns : List Column) (certificate other : CertificateShape) → certificate_fields certificate ≡ certificate_fields other → facts_stated columns certificate ≡ facts_stated columns other
+facts_stated-same columns certificate other same = stated-said columns certificate ∙ ap (stated_said columns) same ∙ sym (stated-said columns other)
 
 -- what follows a condition's lines, and a program's
 pub after_pair : (read other : pairs.Reading) (f g : TruthPair × List BodyLine → Result Facts Fault) → pairs.line_fields read ≡ pairs.line_fields other →

@@ -1,5 +1,7 @@
 -- From lanes to rows.
-use Rattle.std.proofs.Common.{◌≡◌, ◌∙◌, refl, sym, ap, ap₂, ℕ, zero, suc, ◌-◌, Bool, true, false, ◌&&◌, IsTrue, List, [], ◌∷◌, ◌++◌, map, length, replicate, take, arith}
+use Rattle.std.proofs.Common.{◌≡◌, ◌∙◌, refl, sym, ap, ap₂, ℕ, zero, suc, ◌-◌, Bool, true, false}
+use Rattle.std.proofs.Common.{◌&&◌, IsTrue, List, [], ◌∷◌, ◌++◌, map, length, replicate, take}
+use Rattle.std.proofs.Common.{arith}
 use Rattle.std.specs.List.{list_all, flat_map}
 use Rattle.std.specs.Simd.Lanes.{zip2}
 use Rattle.std.proofs.Math.Bool.{and-true}
@@ -12,7 +14,7 @@ use Rattle.bw_model.specs.Column.{admits_values}
 use Rattle.bw_model.specs.Cond.{truth_of, is_match}
 use Rattle.bw_model.specs.Groups.{group_size, lanes_of, together}
 use Rattle.bw_model.specs.Row.{Value}
-use Rattle.bw_model.specs.Stored.{no_bits}
+use Rattle.bw_model.specs.StoredCodes.{no_bits}
 use Rattle.bw_model.specs.Truth.{is_truth}
 use Rattle.bw_model.specs.Variable.{Assignment, assignment_of, bits_of, row_of}
 use Rattle.bw_program.specs.Machine.{end_state}

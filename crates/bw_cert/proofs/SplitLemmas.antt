@@ -1,5 +1,7 @@
 -- How far a program file was cut, one line after another.
-use Rattle.std.proofs.Common.{◌≡◌, ◌∙◌, ℕ, ◌+◌, ◌-◌, ◌<◌, ◌≤◌, Bool, true, false, not, ◌&&◌, ◌⊎◌, List, [], ◌∷◌, ◌++◌, length, take, cond, refl, sym, ap, inl, inr, arith}
+use Rattle.std.proofs.Common.{◌≡◌, ◌∙◌, ℕ, ◌+◌, ◌-◌, ◌<◌, ◌≤◌, Bool, true, false, not, ◌&&◌, ◌⊎◌}
+use Rattle.std.proofs.Common.{List, [], ◌∷◌, ◌++◌, length, take, cond, refl, sym, ap, inl, inr}
+use Rattle.std.proofs.Common.{arith}
 use Rattle.std.specs.List.{list_all}
 use Rattle.std.proofs.lemmas.List.{append_assoc, append-nil, length-append}
 use Rattle.std.proofs.Math.Seq.{take-append_seam}
@@ -31,7 +33,7 @@ unfolding cut_lines
 no_lines [] e = refl
 no_lines (c ∷ cs) e = absurd (no_lines-by (is_line_feed c) c (cut_lines cs) e)
 
--- so many bytes were read, all of lines that don't divide, and the rest begins with the line of
+-- this many bytes were read, all of lines that don't divide, and the rest begins with the line of
 -- this number
 pub record CutSoFar (file : List ℕ) (read : ℕ) (rest : List ℕ) (next : ℕ) : Type 0 where
   pub front : List ℕ
@@ -157,7 +159,7 @@ cut_there file read text number line rest s cut divider =
       number = sym (s.number ∙ ap (number_after number) cut ∙ there);
     }
 
--- at the end, where no line did
+-- at the end, if no line did
 pub cut_nowhere : (file : List ℕ) (read : ℕ) (text : List ℕ) (number : ℕ) → CutSoFar file read text number → cut_lines text ≡ [] → IsCut file file [] number
 unfolding before_divider after_divider number_after
 cut_nowhere file read text number s cut =

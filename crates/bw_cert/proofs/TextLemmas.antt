@@ -11,12 +11,12 @@ use Rattle.bw_model.specs.Fault.{MatchesUnlessOom}
 use Rattle.bw_model.specs.SchemaText.{SchemaShape, schema_shape, IsSchemaText}
 use Rattle.bw_program.specs.Program.{ProgramShape}
 use Rattle.bw_cert_text.specs.CertificateShape.{CertificateShape}
-use Rattle.bw_sql.specs.Asked.{QueryShape, query_shape}
+use Rattle.bw_sql.specs.QueryShape.{QueryShape, query_shape}
 use Rattle.bw_sql.specs.Statement.{Spells}
 use Rattle.bw_report.specs.declared.accepted.Accepted.{Accepted}
 use Rattle.bw_cert.specs.declared.certified_file.CertifiedFile.{CertifiedFile}
 use Rattle.bw_cert.specs.CheckText.{IsAccepted}
-use Rattle.bw_cert.specs.Judged.{Certifies, counts_of, program_and_counts, told_of}
+use Rattle.bw_cert.specs.FileVerdict.{Certifies, counts_of, program_and_counts, told_of}
 
 -- of schemas of one shape, and of queries of one text
 pub record Laws : Type 0 where

@@ -1,5 +1,7 @@
 -- Sections one after another, and what a valid certificate's lines state.
-use Rattle.std.proofs.Common.{◌≡◌, ◌∙◌, refl, sym, ap, ap₂, subst, ℕ, zero, suc, Bool, true, false, not, ◌&&◌, List, [], ◌∷◌, map, length, Option, Some, None, Result, Ok, Err, slice_get, arith}
+use Rattle.std.proofs.Common.{◌≡◌, ◌∙◌, refl, sym, ap, ap₂, subst, ℕ, zero, suc, Bool, true, false}
+use Rattle.std.proofs.Common.{not, ◌&&◌, List, [], ◌∷◌, map, length, Option, Some, None, Result, Ok}
+use Rattle.std.proofs.Common.{Err, slice_get, arith}
 use Rattle.std.specs.List.{list_all}
 use Rattle.bw_model.specs.declared.column.Column.{Column}
 use Rattle.bw_model.specs.declared.fault.Fault.{Fault}
@@ -11,7 +13,7 @@ use Rattle.std.proofs.lemmas.Bool.{eqb-true}
 use Rattle.bw_model.specs.Variable.{Assignment}
 use Rattle.bw_diagram.specs.Node.{node_value}
 use Rattle.bw_diagram.specs.Product.{apply_connective}
-use Rattle.bw_diagram.specs.Cited.{AreWorth, product_node}
+use Rattle.bw_diagram.specs.References.{AreWorth, product_node}
 use Rattle.bw_diagram.specs.Facts.{Facts, AreTrue, no_facts, with_node, with_chain, with_product}
 use Rattle.bw_program.specs.declared.instr.Instr.{Instr}
 use Rattle.bw_program.specs.declared.instr.Instr.TheVariants as instr
@@ -24,11 +26,13 @@ use Rattle.bw_program.specs.ProgramText.{found_on}
 use Rattle.bw_cert_text.specs.declared.lines.BodyLine.{BodyLine}
 use Rattle.bw_cert_text.specs.declared.lines.InstructionEntry.{InstructionEntry}
 use Rattle.bw_cert_text.specs.CertificateShape.{CertificateShape}
-use Rattle.bw_cert_rules.specs.Instruction.{check_instruction_line, loaded_node, byte_chain, plane_on, byte_on}
+use Rattle.bw_cert_rules.specs.Instruction.{check_instruction_line, loaded_node, byte_chain}
+use Rattle.bw_cert_rules.specs.Instruction.{plane_on, byte_on}
 use Rattle.bw_cert_rules.specs.Join.{is_zero}
 use Rattle.bw_cert_rules.specs.Known.{Known, node_of}
 use Rattle.bw_cert_rules.specs.Walk.{WalkState}
-use Rattle.bw_cert.specs.Stated.{on_line, with_lines, with_node_line, with_chain_line, with_product_line, facts_stated}
+use Rattle.bw_cert.specs.StatedFacts.{on_line, with_lines, with_node_line, with_chain_line}
+use Rattle.bw_cert.specs.StatedFacts.{with_product_line, facts_stated}
 use Rattle.bw_cert.specs.Valid.{last_on, end_on}
 
 pub bind_ok : {A B : Type 0} (r : Result A Fault) (f : A → Result B Fault) (y : B) → (r >>= f) ≡ Ok y → (x : A) × (r ≡ Ok x) × (f x ≡ Ok y)
@@ -51,7 +55,7 @@ on_line_ok : (line : ℕ) (r : Result Facts Fault) (facts : Facts) → on_line l
 on_line_ok line (Ok x) facts is = is
 on_line_ok line (Err fault) facts is = cc
 
--- the end, where it is right
+-- the end, if it is right
 pub record Ended (facts : Facts) (taken : WalkState) (result first row : ℕ) : Type 0 where
   pub none : taken.rest ≡ []
   pub node : ℕ

@@ -1,5 +1,6 @@
--- A file is certified or refused, and in one way.
-use Rattle.std.proofs.Common.{◌≡◌, ◌∙◌, refl, sym, ap, ap₂, ℕ, ◌+◌, ◌≤◌, false, List, [], length, count_by, Result, Ok, Err, IfOk, IfErr, arith}
+-- A file is certified or rejected, and in one way.
+use Rattle.std.proofs.Common.{◌≡◌, ◌∙◌, refl, sym, ap, ap₂, ℕ, ◌+◌, ◌≤◌, false, List, [], length}
+use Rattle.std.proofs.Common.{count_by, Result, Ok, Err, IfOk, IfErr, arith}
 use Rattle.std.proofs.lemmas.List.{length-map}
 use Rattle.bw_model.specs.declared.column.Column.{Column}
 use Rattle.bw_model.specs.declared.cond.Cond.{Cond}
@@ -9,13 +10,16 @@ use Rattle.bw_model.specs.Fault.{MatchesUnlessOom, is_memory}
 use Rattle.bw_text.specs.Lines.{numbered_from}
 use Rattle.bw_program.specs.Program.{ProgramShape, is_skip}
 use Rattle.bw_program.specs.ProgramText.{program_on, program_of, IsProgramText}
-use Rattle.bw_cert_text.specs.CertificateFields.{CertificateFields, chain_fields, certificate_fields}
+use Rattle.bw_cert_text.specs.CertificateFields.{CertificateFields, chain_fields}
+use Rattle.bw_cert_text.specs.CertificateFields.{certificate_fields}
 use Rattle.bw_cert_text.specs.CertificateShape.{CertificateShape}
 use Rattle.bw_cert_text.specs.CertificateText.{certificate_from, certificate_of, IsCertificateText}
 use Rattle.bw_cert.specs.Valid.{Valid, check_certificate}
 use Rattle.bw_report.specs.declared.accepted.Accepted.{Accepted}
 use Rattle.bw_cert.specs.declared.certified_file.CertifiedFile.{CertifiedFile}
-use Rattle.bw_cert.specs.Judged.{Certifies, IsFileFault, too_long, program_refused, certificate_refused, line_refused, counts_of, program_and_counts, told_of}
+use Rattle.bw_cert.specs.FileVerdict.{Certifies, IsFileFault, too_long, program_refused}
+use Rattle.bw_cert.specs.FileVerdict.{certificate_refused, line_refused, counts_of}
+use Rattle.bw_cert.specs.FileVerdict.{program_and_counts, told_of}
 use Rattle.bw_cert.specs.ProgramFile.{IsCut, longest_program_file}
 
 not_both : {A : Type 0} {x : A} {fault : Fault} → ◌≡◌ {A = Result A Fault} (Ok x) (Err fault) → ⊥
@@ -33,7 +37,7 @@ certificates_same : (file text other stated another : List ℕ) (first second : 
 certificates_same file text other stated another first second a b =
     ap₂ (λ n lines. certificate_from 0 (numbered_from n lines) (n + length lines)) (a.number ∙ sym b.number) (a.after ∙ sym b.after)
 
--- what is read of program texts and of certificate texts, and that certificates are judged by what
+-- what is read of program texts and of certificate texts, and that certificates are checked by what
 -- they say
 pub record Laws : Type 0 where
   pub program : (columns : List Column) (text : List ℕ) (program : ProgramShape) → IsProgramText columns text program → program_of columns text ≡ Ok program
@@ -79,7 +83,7 @@ module _ (laws : Laws) (columns : List Column) (file : List ℕ) where
       not_both (sym (laws.valid columns cond program certificate is.valid) ∙ laws.judged columns cond same program certificate other trees fields
       ∙ ap (λ (p : ProgramShape). check_certificate columns same p other) programs ∙ refused)
 
-  -- the same fault of a program text, of a certificate text, and of a line
+  -- the same error of a program text, of a certificate text, and of a line
   program_fault : (cond : Cond) (text stated : List ℕ) (first : ℕ) (fault other : Fault) → length file ≤ longest_program_file → IsCut file text stated first → program_of columns text ≡ Err fault →
       IsFileFault columns cond file other → fault ≡ other
   program_fault cond text stated first fault _ short cut refused (too_long long) = absurd (omega arith)
@@ -143,7 +147,7 @@ counted-said program certificate =
       rows = length certificate.products;
     }) (sym (length-map certificate.chains chain_fields))
 
--- so a call that says why it refuses, and what it accepts, is exact
+-- so a call that says why it rejects, and what it accepts, is exact
 pub accepted_from : (columns : List Column) (file : List ℕ) (cond same : Cond) (program : ProgramShape) (certificate : CertificateShape) →
     ((next : ProgramShape) (other : CertificateShape) → Certifies columns cond file next other → (program ≡ next) × (certificate_fields certificate ≡ certificate_fields other)) →
     ((fault : Fault) → IsFileFault columns cond file fault → ⊥) → (result : Result CertifiedFile Fault) →

@@ -1,7 +1,8 @@
 -- The first error in the lines of a program's instructions and joins, by the lines before it: those
 -- of parts that satisfy their rules. `FirstFault` doesn't mention any walk over the lines;
 -- `StandsOn` states that the walk looks no further.
-use Rattle.std.specs.Prelude.{◌≡◌, ◌<◌, ◌⊎◌, ℕ, suc, false, IsTrue, List, [], ◌∷◌, ◌++◌, length, map, Some, None, Ok, Err, slice_get, ⊤}
+use Rattle.std.specs.Prelude.{◌≡◌, ◌<◌, ◌⊎◌, ℕ, suc, false, IsTrue, List, [], ◌∷◌, ◌++◌, length}
+use Rattle.std.specs.Prelude.{map, Some, None, Ok, Err, slice_get, ⊤}
 use Rattle.bw_model.specs.FaultTable.{INSTRUCTION_LINE, JOIN}
 use Rattle.bw_model.specs.declared.fault.Fault.{Fault}
 use Rattle.bw_model.specs.Fault.{at_line}
@@ -11,7 +12,8 @@ use Rattle.bw_cert_text.specs.declared.lines.BodyLine.{BodyLine}
 use Rattle.bw_cert_text.specs.declared.lines.Entry.TheVariants as line_of
 use Rattle.bw_cert_text.specs.declared.lines.InstructionEntry.{InstructionEntry}
 use Rattle.bw_cert_rules.specs.declared.edge.Edge.{Edge}
-use Rattle.bw_cert_rules.specs.Accepted.{KeepLine, JoinLines, Part, Obeys, keep_line, lines_of, known_before, edges_before, are_kept}
+use Rattle.bw_cert_rules.specs.Accepted.{KeepLine, JoinLines, Part, AreValidParts, keep_line}
+use Rattle.bw_cert_rules.specs.Accepted.{lines_of, known_before, edges_before, are_kept}
 use Rattle.bw_cert_rules.specs.Instruction.{check_instruction_line}
 use Rattle.bw_cert_rules.specs.Join.{edge_of, with_edge, edges_into}
 use Rattle.bw_cert_rules.specs.Known.{Known}
@@ -91,7 +93,7 @@ pub record FirstFault (facts : Facts) (instrs : List Instr) (end : ℕ) (lines :
   pub instructions : instrs ≡ first ++ instr ∷ others
   -- the lines begin with those of parts that satisfy the rules of the first instructions
   pub parts : List Part
-  pub obeys : Obeys facts first parts
+  pub valid_parts : AreValidParts facts first parts
   pub rest : List BodyLine
   pub spelled : lines ≡ lines_of 0 parts ++ rest
   pub whole : KeepsAreAll parts rest

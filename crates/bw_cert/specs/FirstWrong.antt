@@ -16,7 +16,8 @@ use Rattle.bw_cert_rules.specs.Pair.{pair_of}
 use Rattle.bw_cert_rules.specs.Accepted.{Accepts}
 use Rattle.bw_cert_rules.specs.Walk.{WalkState}
 use Rattle.bw_cert.specs.FirstFault.{FirstFault}
-use Rattle.bw_cert.specs.Stated.{facts_stated, with_lines, with_node_line, with_chain_line, with_product_line}
+use Rattle.bw_cert.specs.StatedFacts.{facts_stated, with_lines, with_node_line, with_chain_line}
+use Rattle.bw_cert.specs.StatedFacts.{with_product_line}
 use Rattle.bw_cert.specs.Valid.{end_on}
 
 -- Of lines that state something, one after the other, this is the first that breaks its rule: those

@@ -1,8 +1,8 @@
 pub mod CheckText
 pub mod FirstFault
 pub mod FirstWrong
-pub mod Judged
+pub mod FileVerdict
 pub mod ProgramFile
 pub mod Selects
-pub mod Stated
+pub mod StatedFacts
 pub mod Valid

@@ -1,5 +1,6 @@
 -- Program files: a program text, a dividing line, and a certificate text.
-use Rattle.std.specs.Prelude.{◌≡◌, ℕ, ◌+◌, Bool, false, List, [], ◌∷◌, codes, Option, Some, None, if◌then◌else◌}
+use Rattle.std.specs.Prelude.{◌≡◌, ℕ, ◌+◌, Bool, false, List, [], ◌∷◌, codes, Option, Some, None}
+use Rattle.std.specs.Prelude.{if◌then◌else◌}
 use Rattle.bw_text.specs.Lines.{cut_lines, only_of, words_of}
 use Rattle.bw_text.specs.Text.{same_text}
 

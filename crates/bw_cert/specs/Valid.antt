@@ -1,13 +1,14 @@
 -- When a certificate shows that a scan program selects the rows on which a condition is TRUE, and
 -- which line is the first that breaks a rule.
-use Rattle.std.specs.Prelude.{◌≡◌, ℕ, List, [], ◌∷◌, length, false, Some, Result, Ok, Err, not, IsTrue, Bool, ◌&&◌, ◌||◌, nat_le}
+use Rattle.std.specs.Prelude.{◌≡◌, ℕ, List, [], ◌∷◌, length, false, Some, Result, Ok, Err, not}
+use Rattle.std.specs.Prelude.{IsTrue, Bool, ◌&&◌, ◌||◌, nat_le}
 use Rattle.bw_model.specs.FaultTable.{CONDITION_LINE, REGISTER_UNKNOWN, END}
 use Rattle.bw_model.specs.declared.column.Column.{Column}
 use Rattle.bw_model.specs.declared.cond.Cond.{Cond}
 use Rattle.bw_model.specs.declared.fault.Fault.{Fault}
 use Rattle.bw_model.specs.Fault.{at_line, is_memory, ◌>>=◌, refused_if}
 use Rattle.bw_diagram.specs.declared.product.Connective.TheVariants.{Xor}
-use Rattle.bw_diagram.specs.Cited.{product_node}
+use Rattle.bw_diagram.specs.References.{product_node}
 use Rattle.bw_diagram.specs.Facts.{Facts, is_diagram_fault}
 use Rattle.bw_program.specs.Program.{ProgramShape}
 use Rattle.bw_program.specs.ProgramText.{found_on}
@@ -15,11 +16,11 @@ use Rattle.bw_cert_text.specs.declared.lines.BodyLine.{BodyLine}
 use Rattle.bw_cert_text.specs.CertificateShape.{CertificateShape}
 use Rattle.bw_cert_rules.specs.declared.nodes.TruthPair.{TruthPair}
 use Rattle.bw_cert_rules.specs.Pair.{pair_of}
-use Rattle.bw_cert_rules.specs.Accepted.{Part, Obeys, known_before, lines_of}
+use Rattle.bw_cert_rules.specs.Accepted.{Part, AreValidParts, known_before, lines_of}
 use Rattle.bw_cert_rules.specs.Join.{is_zero}
 use Rattle.bw_cert_rules.specs.Known.{Known, node_of}
 use Rattle.bw_cert_rules.specs.Walk.{WalkState, check_lines}
-use Rattle.bw_cert.specs.Stated.{facts_stated}
+use Rattle.bw_cert.specs.StatedFacts.{facts_stated}
 
 -- A certificate is valid for a condition and a program under these columns.
 pub record Valid (columns : List Column) (cond : Cond) (program : ProgramShape)
@@ -36,7 +37,7 @@ pub record Valid (columns : List Column) (cond : Cond) (program : ProgramShape)
   -- the other lines are those of the program's instructions and joins; they satisfy theirs, and
   -- none is left over
   pub parts : List Part
-  pub obeys : Obeys facts program.instrs parts
+  pub valid_parts : AreValidParts facts program.instrs parts
   pub spelled : rest ≡ lines_of 0 parts
   -- at the end the result register's node is known, and END references a product row by which its
   -- XOR with the first node of the pair is 0

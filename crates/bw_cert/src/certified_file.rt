@@ -5,7 +5,8 @@ ghost use Rattle.bw_model.specs.CondTree.{tree_of};
 ghost use Rattle.bw_model.specs.Fault.{MatchesUnlessOom, is_memory};
 ghost use Rattle.bw_program.specs.Program.{ProgramShape};
 ghost use Rattle.bw_cert_text.specs.CertificateShape.{CertificateShape};
-ghost use Rattle.bw_cert.specs.Judged.{Certifies, IsFileFault, counts_of, is_file_fault, program_and_counts, told_of};
+ghost use Rattle.bw_cert.specs.FileVerdict.{Certifies, IsFileFault, counts_of, is_file_fault};
+ghost use Rattle.bw_cert.specs.FileVerdict.{program_and_counts, told_of};
 
 use crate::certified::Certified;
 use crate::checker::check;
@@ -59,13 +60,13 @@ pub fn certify(
         tree_of found.certified.condition ≡ tree_of condition.now) }
 {
     one_verdict();
-    judge_file(alloc, schema, condition, file)
+    check_file(alloc, schema, condition, file)
 }
 
 /// Certifies a program file as [`certify`] does, without the law that what can be certified is
 /// never rejected.
-#[tactic(auto, using(crate::specs::Judged::too_long, crate::specs::Judged::program_refused, crate::specs::Judged::certificate_refused, crate::specs::Judged::line_refused))]
-fn judge_file(
+#[tactic(auto, using(crate::specs::FileVerdict::too_long, crate::specs::FileVerdict::program_refused, crate::specs::FileVerdict::certificate_refused, crate::specs::FileVerdict::line_refused))]
+fn check_file(
     alloc: Global,
     schema: &Schema,
     condition: &Cond,

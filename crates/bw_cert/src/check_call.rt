@@ -7,7 +7,7 @@ ghost use Rattle.bw_program.specs.Program.{ProgramShape};
 ghost use Rattle.bw_cert_text.specs.CertificateShape.{CertificateShape};
 ghost use Rattle.bw_cert.specs.CheckText.{IsAccepted, IsCheckFault};
 ghost use Rattle.bw_report.specs.declared.accepted.Accepted.{Accepted as Numbers};
-ghost use Rattle.bw_cert.specs.Judged.{Certifies, IsFileFault, counts_of};
+ghost use Rattle.bw_cert.specs.FileVerdict.{Certifies, IsFileFault, counts_of};
 
 use crate::certified_file::certify;
 use bw_model::{Cond, Fault, Schema};

@@ -9,7 +9,7 @@ ghost use Rattle.bw_cert.specs.Valid.{Valid, Checks, check_certificate, end_on, 
 
 use crate::certified::Certified;
 use crate::laws::{valid_exactly_where_checked, valid_programs_select};
-use crate::stated::diagram_of;
+use crate::stated_facts::diagram_of;
 use bw_cert_rules::{AtEnd, known_at_end, pair};
 use bw_cert_text::{Certificate, EndLine};
 use bw_diagram::{Connective, Diagram};
@@ -51,7 +51,7 @@ pub fn check(
     ensures handed_back { IfErr result (λ refused. refused.0 ≡ program) }
     ensures code { IfErr result (λ refused. IsTrue (is_check_fault refused.1)) }
 {
-    if let Err(fault) = judge(alloc, schema, condition, &program, certificate) {
+    if let Err(fault) = check_sections(alloc, schema, condition, &program, certificate) {
         return Err((program, fault));
     }
     valid_exactly_where_checked();
@@ -61,7 +61,7 @@ pub fn check(
 }
 
 /// Checks the lines of a certificate, section by section.
-fn judge(
+fn check_sections(
     alloc: Global,
     schema: &Schema,
     condition: &Cond,

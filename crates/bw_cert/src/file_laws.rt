@@ -7,9 +7,9 @@ ghost use Rattle.bw_model.specs.CondTree.{tree_of};
 ghost use Rattle.bw_program.specs.Program.{ProgramShape};
 ghost use Rattle.bw_cert_text.specs.CertificateFields.{certificate_fields};
 ghost use Rattle.bw_cert_text.specs.CertificateShape.{CertificateShape};
-ghost use Rattle.bw_cert.specs.Judged.{Certifies, IsFileFault};
+ghost use Rattle.bw_cert.specs.FileVerdict.{Certifies, IsFileFault};
 
-use crate::laws::{certificates_are_judged_by_what_they_say, valid_exactly_where_checked};
+use crate::laws::{certificates_are_checked_by_their_fields, valid_exactly_where_checked};
 use bw_cert_text::certificates_are_read_as_spelled;
 use bw_program::programs_are_read_as_spelled;
 
@@ -33,6 +33,6 @@ pub fn one_verdict()
 {
     programs_are_read_as_spelled();
     certificates_are_read_as_spelled();
-    certificates_are_judged_by_what_they_say();
+    certificates_are_checked_by_their_fields();
     valid_exactly_where_checked();
 }

@@ -24,8 +24,8 @@ ghost use Rattle.bw_cert.specs.Selects.{Selects};
 ghost use Rattle.bw_cert.specs.Valid.{Valid, check_certificate};
 
 use bw_cert_rules::{
-    judged_lines_obey, lines_are_judged_by_what_they_say, obeying_lines_are_judged,
-    pairs_are_of_trees, pairs_tell_truths, skip_soundness,
+    accepted_lines_are_valid, lines_are_checked_by_their_fields, pairs_are_of_trees,
+    pairs_tell_truths, skip_soundness, valid_lines_are_accepted,
 };
 use bw_diagram::{accepted_lines_are_true, cited_nodes_are_worth};
 use bw_run::runs_come_to_the_end;
@@ -41,8 +41,8 @@ pub fn valid_exactly_where_checked()
         → (valid : Valid columns cond program certificate)
         → check_certificate columns cond program certificate ≡ Ok valid.facts }
 {
-    judged_lines_obey();
-    obeying_lines_are_judged();
+    accepted_lines_are_valid();
+    valid_lines_are_accepted();
 }
 
 /// A law, skip soundness and exact selection. If a certificate is valid, the schema has all columns
@@ -80,7 +80,7 @@ pub fn valid_programs_select()
 
 /// A law: certificates of the same content are checked alike, for conditions of the same tree.
 /// Either no line breaks a rule in both, or both have the same first error.
-pub fn certificates_are_judged_by_what_they_say()
+pub fn certificates_are_checked_by_their_fields()
     ensures { (columns : List Column) (cond same : Cond) (program : ProgramShape)
         (certificate other : CertificateShape)
         → tree_of cond ≡ tree_of same → certificate_fields certificate ≡ certificate_fields other
@@ -88,7 +88,7 @@ pub fn certificates_are_judged_by_what_they_say()
         ≡ check_certificate columns same program other }
 {
     pairs_are_of_trees();
-    lines_are_judged_by_what_they_say();
+    lines_are_checked_by_their_fields();
 }
 
 /// A law: if the lines of a program's instructions and joins are rejected, the error is their first

@@ -12,7 +12,7 @@
 //! what was accepted.
 //!
 //! Read `specs/Valid.antt` first, then `checker.rt`. For program files, read
-//! `specs/ProgramFile.antt` and `specs/Judged.antt`, then `certified_file.rt`.
+//! `specs/ProgramFile.antt` and `specs/FileVerdict.antt`, then `certified_file.rt`.
 #![tactic(auto)]
 
 mod certified;
@@ -22,7 +22,7 @@ mod checker;
 mod file_laws;
 mod laws;
 mod program_file;
-mod stated;
+mod stated_facts;
 
 pub use bw_cert_text::Certificate;
 pub use certified::Certified;
@@ -31,7 +31,7 @@ pub use check_call::check_text;
 pub use checker::check;
 pub use file_laws::one_verdict;
 pub use laws::{
-    certificates_are_judged_by_what_they_say, refused_certificates_have_a_first_fault,
+    certificates_are_checked_by_their_fields, refused_certificates_have_a_first_fault,
     refused_lines_have_a_first_fault, valid_exactly_where_checked, valid_programs_select,
 };
 pub use program_file::{MAX_PROGRAM_FILE_LEN, ProgramFile, split_file};

@@ -1,5 +1,8 @@
--- Lines that are judged to be right are those of parts that obey.
-use Rattle.std.proofs.Common.{◌≡◌, ◌∙◌, refl, sym, ap, ap₂, subst, ◌⊎◌, inl, inr, ℕ, zero, suc, ◌+◌, ◌<◌, ◌≤◌, Bool, true, false, not, ◌&&◌, List, [], ◌∷◌, ◌++◌, add-zero, append-nil, append_assoc, drop, map, length, length-append, Option, Some, None, Result, Ok, Err, slice_get, arith}
+-- Lines that are checked to be right are those of parts that obey.
+use Rattle.std.proofs.Common.{◌≡◌, ◌∙◌, refl, sym, ap, ap₂, subst, ◌⊎◌, inl, inr, ℕ, zero, suc, ◌+◌}
+use Rattle.std.proofs.Common.{◌<◌, ◌≤◌, Bool, true, false, not, ◌&&◌, List, [], ◌∷◌, ◌++◌, add-zero}
+use Rattle.std.proofs.Common.{append-nil, append_assoc, drop, map, length, length-append, Option}
+use Rattle.std.proofs.Common.{Some, None, Result, Ok, Err, slice_get, arith}
 use Rattle.std.proofs.lemmas.Bool.{eqb-true}
 use Rattle.bw_model.specs.declared.fault.Fault.{Fault}
 use Rattle.bw_model.specs.Fault.{at_line, refused_if}
@@ -11,14 +14,19 @@ use Rattle.bw_cert_text.specs.declared.lines.Entry.TheVariants as line_of
 use Rattle.bw_cert_text.specs.declared.lines.InstructionEntry.{InstructionEntry}
 use Rattle.bw_cert_text.specs.declared.lines.Keep.{Keep}
 use Rattle.bw_cert_rules.specs.declared.edge.Edge.{Edge}
-use Rattle.bw_cert_rules.specs.Accepted.{KeepLine, JoinLines, Part, keep_line, join_lines, lines_of, known_before, edges_before, edge_at, known_on_fallthrough, known_or_nothing, known_after_join, known_past, kept_by, are_kept, is_valid_join, Accepts}
+use Rattle.bw_cert_rules.specs.Accepted.{KeepLine, JoinLines, Part, keep_line, join_lines, lines_of}
+use Rattle.bw_cert_rules.specs.Accepted.{known_before, edges_before, edge_at, known_on_fallthrough}
+use Rattle.bw_cert_rules.specs.Accepted.{known_or_nothing, known_after_join, known_past, kept_by}
+use Rattle.bw_cert_rules.specs.Accepted.{are_kept, is_valid_join, Accepts}
 use Rattle.bw_cert_rules.specs.Instruction.{check_instruction_line}
 use Rattle.bw_cert_rules.specs.Join.{edge_of, with_edge, edges_into, is_valid_keep}
 use Rattle.bw_cert_rules.specs.Known.{Known, nothing_known, with_node}
-use Rattle.bw_cert_rules.specs.Walk.{WalkState, keep_in, by_keep, keeps_taken, join_taken, is_join, instruction_on, instruction_taken, apply_join, check_lines_from, check_lines}
+use Rattle.bw_cert_rules.specs.Walk.{WalkState, keep_in, by_keep, keeps_taken, join_taken, is_join}
+use Rattle.bw_cert_rules.specs.Walk.{instruction_on, instruction_taken, apply_join}
+use Rattle.bw_cert_rules.specs.Walk.{check_lines_from, check_lines}
 use Rattle.bw_cert_rules.proofs.HoldLemmas.{bind_ok, not_refused}
 
--- what is the same where it was answered, and what can't be
+-- what is the same if it was returned, and what can't be
 ok_is : {A : Type 0} {x y : A} → ◌≡◌ {A = Result A Fault} (Ok x) (Ok y) → x ≡ y
 ok_is is = cc
 
@@ -107,13 +115,13 @@ keeps_read facts through edges least kept (line ∷ lines) taken is =
 pub record Joined (facts : Facts) (place : ℕ) (edges : List Edge) (through taken : WalkState) : Type 0 where
   pub join : Option JoinLines
   pub spelled : through.rest ≡ join_lines place join ++ taken.rest
-  pub obeys : is_valid_join facts through.known edges join ≡ true
+  pub valid_parts : is_valid_join facts through.known edges join ≡ true
   pub known : taken.known ≡ known_after_join through.known join
 
 pub join_read : (facts : Facts) (end place : ℕ) (edges : List Edge) (through taken : WalkState) → apply_join facts end place edges through ≡ Ok taken → Joined facts place edges through taken
 join_read facts end place [] through taken is =
     let same : through ≡ taken = ok_is is in
-    record { join = None; spelled = ap (λ (t : WalkState). t.rest) same; obeys = refl; known = sym (ap (λ (t : WalkState). t.known) same) }
+    record { join = None; spelled = ap (λ (t : WalkState). t.rest) same; valid_parts = refl; known = sym (ap (λ (t : WalkState). t.known) same) }
 join_read facts end place (edge ∷ edges) through taken is = at through.rest refl (bind_ok (join_taken end place through.rest) _ taken is)
   where
     Answer : Type 0
@@ -136,7 +144,7 @@ join_read facts end place (edge ∷ edges) through taken is = at through.rest re
         record {
           join = Some (record { line = line.line; keeps = keeps.keeps });
           spelled = there ∙ ap₂ (λ (l : BodyLine) (ls : List BodyLine). l ∷ ls) (joins line more line.entry refl (negated _ passed.0)) (more_is ∙ keeps.spelled);
-          obeys = keeps.kept_are;
+          valid_parts = keeps.kept_are;
           known = keeps.known;
         }
 
@@ -203,7 +211,7 @@ drop_stands (a ∷ all) xs (suc place) x is = drop_stands all xs place x is
 -- the lines up to a place are right
 record Come (facts : Facts) (instrs : List Instr) (lines : List BodyLine) (place : ℕ) (edges : List Edge) (taken : WalkState) : Type 0 where
   parts : List Part
-  counted : length parts ≡ place
+  part_count : length parts ≡ place
   instruction : (k : ℕ) (instr : Instr) (part : Part) → slice_get instrs k ≡ Some instr → slice_get parts k ≡ Some part →
       check_instruction_line facts (known_before facts instrs parts k) part.line instr part.entry ≡ Ok (known_on_fallthrough facts (known_before facts instrs parts k) instr part)
   joins : (k : ℕ) (instr : Instr) (part : Part) → slice_get instrs k ≡ Some instr → slice_get parts k ≡ Some part →
@@ -219,10 +227,10 @@ come_on : (facts : Facts) (instrs : List Instr) (lines : List BodyLine) (place :
 unfolding known_before edges_before
 come_on facts instrs lines place edges taken through past_it instr there come line join = record {
   parts = all;
-  counted = length-append come.parts (part ∷ []) ∙ omega (arith, come.counted);
+  part_count = length-append come.parts (part ∷ []) ∙ omega (arith, come.part_count);
   instruction = λ k i q i_there q_there. instruction_at k i q i_there (stands_in come.parts part q k q_there);
   joins = λ k i q i_there q_there. join_at k i q i_there (stands_in come.parts part q k q_there);
-  edges_are = edges_same ∙ sym (edges_more facts instrs come.parts part (suc place) (omega (arith, come.counted)));
+  edges_are = edges_same ∙ sym (edges_more facts instrs come.parts part (suc place) (omega (arith, come.part_count)));
   known = join.known ∙ ap (λ k. known_after_join k join.join) (sym through_is) ∙ sym known_there;
   spelled = come.spelled
       ∙ ap (λ rest. lines_of 0 come.parts ++ rest) (line.spelled ∙ ap (λ (ls : List BodyLine). own ∷ ls) join.spelled)
@@ -235,7 +243,7 @@ come_on facts instrs lines place edges taken through past_it instr there come li
     part = record { line = line.line; entry = line.entry; join = join.join }
 
     from_start : place ≡ 0 + length come.parts
-    from_start = omega (arith, come.counted)
+    from_start = omega (arith, come.part_count)
 
     own : BodyLine
     own = record { line = line.line; entry = line_of.Instruction line.entry }
@@ -245,7 +253,7 @@ come_on facts instrs lines place edges taken through past_it instr there come li
 
     -- what is known, and which edges there are, before the instruction
     here : known_before facts instrs all place ≡ taken.known
-    here = before_more facts instrs come.parts part place (omega (arith, come.counted)) ∙ sym come.known
+    here = before_more facts instrs come.parts part place (omega (arith, come.part_count)) ∙ sym come.known
 
     through_is : known_on_fallthrough facts (known_before facts instrs all place) instr part ≡ through.known
     through_is = ap (λ k. known_on_fallthrough facts k instr part) here ∙ ap known_or_nothing line.says
@@ -255,7 +263,7 @@ come_on facts instrs lines place edges taken through past_it instr there come li
         ∙ ap (λ i. with_edge (edges_before facts instrs come.parts place) (edge_at (known_before facts instrs come.parts place) i)) (sym there)
 
     last_there : slice_get all place ≡ Some part
-    last_there = ap (slice_get all) (sym come.counted) ∙ stands_last come.parts part
+    last_there = ap (slice_get all) (sym come.part_count) ∙ stands_last come.parts part
 
     known_there : known_before facts instrs all (suc place) ≡ known_after_join (known_on_fallthrough facts (known_before facts instrs all place) instr part) join.join
     known_there = ap₂ (known_past facts (known_before facts instrs all place)) there last_there
@@ -264,7 +272,7 @@ come_on facts instrs lines place edges taken through past_it instr there come li
     says = ap (λ k. check_instruction_line facts k line.line instr line.entry) here ∙ line.says ∙ ap Ok (sym through_is)
 
     obeyed : is_valid_join facts (known_on_fallthrough facts (known_before facts instrs all place) instr part) (edges_into (suc place) (edges_before facts instrs all (suc place))) join.join ≡ true
-    obeyed = ap₂ (λ k es. is_valid_join facts k (edges_into (suc place) es) join.join) through_is (edges_more facts instrs come.parts part (suc place) (omega (arith, come.counted)) ∙ sym edges_same) ∙ join.obeys
+    obeyed = ap₂ (λ k es. is_valid_join facts k (edges_into (suc place) es) join.join) through_is (edges_more facts instrs come.parts part (suc place) (omega (arith, come.part_count)) ∙ sym edges_same) ∙ join.valid_parts
 
     same_instr : (k : ℕ) (i : Instr) → k ≡ place → slice_get instrs k ≡ Some i → instr ≡ i
     same_instr k i at i_there = some_is (sym there ∙ ap (slice_get instrs) (sym at) ∙ i_there)
@@ -274,7 +282,7 @@ come_on facts instrs lines place edges taken through past_it instr there come li
     instruction_at k i q i_there (inl (lt, earlier)) =
         subst (λ known. check_instruction_line facts known q.line i q.entry ≡ Ok (known_on_fallthrough facts known i q)) (sym (before_more facts instrs come.parts part k (omega (arith, lt)))) (come.instruction k i q i_there earlier)
     instruction_at k i q i_there (inr (last, same)) =
-        let at : k ≡ place = last ∙ come.counted in
+        let at : k ≡ place = last ∙ come.part_count in
         subst (λ k. check_instruction_line facts (known_before facts instrs all k) q.line i q.entry ≡ Ok (known_on_fallthrough facts (known_before facts instrs all k) i q)) (sym at)
         (subst (λ i. check_instruction_line facts (known_before facts instrs all place) q.line i q.entry ≡ Ok (known_on_fallthrough facts (known_before facts instrs all place) i q)) (same_instr k i at i_there)
         (subst (λ (q : Part). check_instruction_line facts (known_before facts instrs all place) q.line instr q.entry ≡ Ok (known_on_fallthrough facts (known_before facts instrs all place) instr q)) same says))
@@ -285,7 +293,7 @@ come_on facts instrs lines place edges taken through past_it instr there come li
         ap₂ (λ known es. is_valid_join facts (known_on_fallthrough facts known i q) (edges_into (suc k) es) q.join) (before_more facts instrs come.parts part k (omega (arith, lt))) (edges_more facts instrs come.parts part (suc k) (omega (arith, lt)))
         ∙ come.joins k i q i_there earlier
     join_at k i q i_there (inr (last, same)) =
-        let at : k ≡ place = last ∙ come.counted in
+        let at : k ≡ place = last ∙ come.part_count in
         subst (λ k. is_valid_join facts (known_on_fallthrough facts (known_before facts instrs all k) i q) (edges_into (suc k) (edges_before facts instrs all (suc k))) q.join ≡ true) (sym at)
         (subst (λ i. is_valid_join facts (known_on_fallthrough facts (known_before facts instrs all place) i q) (edges_into (suc place) (edges_before facts instrs all (suc place))) q.join ≡ true) (same_instr k i at i_there)
         (subst (λ (q : Part). is_valid_join facts (known_on_fallthrough facts (known_before facts instrs all place) instr q) (edges_into (suc place) (edges_before facts instrs all (suc place))) q.join ≡ true) same obeyed))
@@ -299,7 +307,7 @@ come_to_end facts all [] end lines place edges taken last rest count come is =
     let long : place ≡ length all = omega (arith, count) in
     subst (Accepts facts all lines) same (record {
       parts = come.parts;
-      obeys = record { counted = come.counted ∙ long; instruction = come.instruction; join = come.joins };
+      valid_parts = record { part_count = come.part_count ∙ long; instruction = come.instruction; join = come.joins };
       spelled = come.spelled;
       known = come.known ∙ ap (known_before facts all come.parts) long;
     })
@@ -314,4 +322,4 @@ pub judged_accepts : (facts : Facts) (instrs : List Instr) (end : ℕ) (lines : 
 unfolding known_before edges_before lines_of
 judged_accepts facts instrs end lines taken is =
     come_to_end facts instrs instrs end lines 0 [] (record { known = nothing_known; rest = lines }) taken refl (omega arith)
-    (record { parts = []; counted = refl; instruction = λ k i q i_there q_there. nothing_there k q q_there; joins = λ k i q i_there q_there. nothing_there k q q_there; edges_are = refl; known = refl; spelled = refl }) is
+    (record { parts = []; part_count = refl; instruction = λ k i q i_there q_there. nothing_there k q q_there; joins = λ k i q i_there q_there. nothing_there k q q_there; edges_are = refl; known = refl; spelled = refl }) is

@@ -1,5 +1,8 @@
 -- Pairs of comparisons tell the truth of them under every assignment.
-use Rattle.std.proofs.Common.{◌≡◌, ◌∙◌, refl, sym, ap, ap₂, subst, ℕ, zero, suc, ℤ, pos, ◌+◌, ◌-◌, ◌^◌, ◌+ℤ◌, ◌-ℤ◌, ◌<◌, Bool, true, false, not, cond, ◌&&◌, ◌||◌, List, [], ◌∷◌, length, max, Option, Some, None, arith, int_le, int_lt, unsigned_abs}
+use Rattle.std.proofs.Common.{◌≡◌, ◌∙◌, refl, sym, ap, ap₂, subst, ℕ, zero, suc, ℤ, pos, ◌+◌, ◌-◌}
+use Rattle.std.proofs.Common.{◌^◌, ◌+ℤ◌, ◌-ℤ◌, ◌<◌, Bool, true, false, not, cond, ◌&&◌, ◌||◌, List}
+use Rattle.std.proofs.Common.{[], ◌∷◌, length, max, Option, Some, None, arith, int_le, int_lt}
+use Rattle.std.proofs.Common.{unsigned_abs}
 use Rattle.std.specs.Ordering.{int_eq}
 use Rattle.std.proofs.Math.Dec.{eqb}
 use Rattle.std.proofs.Math.Nat.{pow-succ'}
@@ -14,28 +17,36 @@ use Rattle.bw_model.specs.declared.cond.Truth.TheVariants.{No, Unknown, Yes}
 use Rattle.bw_model.specs.Code.{width_at, value_at}
 use Rattle.bw_model.specs.Cond.{operand_value, is_within}
 use Rattle.bw_model.specs.Row.{Value, value_in}
-use Rattle.bw_model.specs.Stored.{number_spelled}
+use Rattle.bw_model.specs.StoredCodes.{number_spelled}
 use Rattle.bw_model.specs.Truth.{truth_from, is_truth, holds, compare_values, swap_operands}
-use Rattle.bw_model.specs.Variable.{Assignment, first_variable, is_nullable, spelled, row_of, null_variable, bit_variable}
+use Rattle.bw_model.specs.Variable.{Assignment, first_variable, is_nullable, spelled, row_of}
+use Rattle.bw_model.specs.Variable.{null_variable, bit_variable}
 use Rattle.bw_model.proofs.PlaceLemmas.{value_in-row_of}
 use Rattle.bw_diagram.specs.declared.chain.ChainKind.{ChainKind}
 use Rattle.bw_diagram.specs.declared.chain.ChainKind.TheVariants.{Less, Equal}
 use Rattle.bw_diagram.specs.declared.node.Node.{Node}
 use Rattle.bw_diagram.specs.declared.product.Connective.TheVariants.{And, Diff}
 use Rattle.bw_diagram.specs.Chain.{compares, padded_number, first_node}
-use Rattle.bw_diagram.specs.Cited.{AreWorth, product_node, comparison_node, two_column_node}
+use Rattle.bw_diagram.specs.References.{AreWorth, product_node, comparison_node, two_column_node}
 use Rattle.bw_diagram.specs.Facts.{Facts}
 use Rattle.bw_diagram.proofs.ChainLemmas.{padded_number-whole, number_spelled-whole}
 use Rattle.bw_cert_text.specs.declared.lines.ConditionEntry.{ConditionEntry}
-use Rattle.bw_cert_text.specs.declared.lines.ConditionEntry.TheVariants.{Compare, CompareColumns, Fixed}
+use Rattle.bw_cert_text.specs.declared.lines.ConditionEntry.TheVariants.{Compare, CompareColumns}
+use Rattle.bw_cert_text.specs.declared.lines.ConditionEntry.TheVariants.{Fixed}
 use Rattle.bw_cert_rules.specs.declared.nodes.TruthPair.{TruthPair}
 use Rattle.bw_cert_rules.specs.declared.comparison.Bound.{Bound}
 use Rattle.bw_cert_rules.specs.declared.comparison.Order.{Order}
 use Rattle.bw_cert_rules.specs.Rows.{if_both, exchange_nodes, value_node}
-use Rattle.bw_cert_rules.specs.Comparison.{lo_at, constant_pair, fixed_pair, pair_if_known, exchange_if, bound_of, terminal_of, terminal_or_cited, bound_node, with_literal, order_of, order_node, both_node, with_column, comparison}
+use Rattle.bw_cert_rules.specs.Comparison.{lo_at, constant_pair, fixed_pair, pair_if_known}
+use Rattle.bw_cert_rules.specs.Comparison.{exchange_if, bound_of, terminal_of, terminal_or_cited}
+use Rattle.bw_cert_rules.specs.Comparison.{bound_node, with_literal, order_of, order_node}
+use Rattle.bw_cert_rules.specs.Comparison.{both_node, with_column, comparison}
 use Rattle.bw_cert_rules.specs.Meaning.{Tells}
-use Rattle.bw_cert_rules.proofs.NumberLemmas.{compares_to, turned_bit, lt_low, lt_high, eq_low, eq_high, lt_within, eq_within, holds_moved, holds_turned, lt_apart, le_apart, eq_apart, equal-lo}
-use Rattle.bw_cert_rules.proofs.RowLemmas.{Worth, zero_worth, one_worth, worth_so, if_both-is, cited-worth, has_value, value_node-worth}
+use Rattle.bw_cert_rules.proofs.NumberLemmas.{compares_to, turned_bit, lt_low, lt_high, eq_low}
+use Rattle.bw_cert_rules.proofs.NumberLemmas.{eq_high, lt_within, eq_within, holds_moved}
+use Rattle.bw_cert_rules.proofs.NumberLemmas.{holds_turned, lt_apart, le_apart, eq_apart, equal-lo}
+use Rattle.bw_cert_rules.proofs.RowLemmas.{Worth, zero_worth, one_worth, worth_so, if_both-is}
+use Rattle.bw_cert_rules.proofs.RowLemmas.{product_node-worth, has_value, value_node-worth}
 
 -- a pair whose nodes are worth this tells it
 pub tells_by : (nodes : List Node) (truth : Assignment → Truth) (pair : TruthPair) → Worth nodes (λ assignment. is_truth (truth assignment) Yes) pair.yes → Worth nodes (λ assignment. is_truth (truth assignment) No) pair.no → Tells nodes truth pair
@@ -66,7 +77,7 @@ pub fixed-tells : (nodes : List Node) (truth : Truth) (pair : TruthPair) (entry 
 fixed-tells nodes truth pair Fixed is = subst (Tells nodes (λ assignment. truth)) (cc) (constant_tells nodes truth)
 fixed-tells nodes truth pair _ is = cc
 
--- so many bits spell a number below that power of 2
+-- this many bits spell a number below that power of 2
 spelled-lt : (assignment : Assignment) (first count : ℕ) → spelled assignment first count < 2 ^ count
 spelled-lt assignment first zero = omega arith
 spelled-lt assignment first (suc count) = by_bit (assignment first) (spelled-lt assignment (suc first) count)
@@ -87,7 +98,7 @@ value_at-lo [] col code lt = absurd (omega arith)
 value_at-lo (c ∷ columns) zero code lt = refl
 value_at-lo (c ∷ columns) (suc col) code lt = value_at-lo columns col code (omega arith)
 
--- a number where a column has a value, and else null
+-- a number if a column has a value, and else null
 abbrev pub value_if : Bool → ℤ → Value
 value_if there n = cond there (Some n) None
 
@@ -129,13 +140,13 @@ terminal-worth nodes x Equal limit width e below is = by_tests (int_lt limit (po
     by_tests false false low_is high_is is = cc
 
 -- other bounds are natural numbers
-within-compares : (kind : ChainKind) (limit : ℤ) (width x : ℕ) → terminal_of kind limit width ≡ None → compares kind x (unsigned_abs limit) ≡ compares_to kind (pos x) limit
-within-compares Less limit width x is = by_low (int_le limit (pos 0)) refl is
+terminal_of-compares : (kind : ChainKind) (limit : ℤ) (width x : ℕ) → terminal_of kind limit width ≡ None → compares kind x (unsigned_abs limit) ≡ compares_to kind (pos x) limit
+terminal_of-compares Less limit width x is = by_low (int_le limit (pos 0)) refl is
   where
     by_low : (low : Bool) → int_le limit (pos 0) ≡ low → cond {A = Option ℕ} low (Some 0) (cond (int_le (pos (2 ^ width)) limit) (Some 1) None) ≡ None → compares Less x (unsigned_abs limit) ≡ int_lt (pos x) limit
     by_low true low is = cc
     by_low false low is = lt_within x limit low
-within-compares Equal limit width x is = by_low (int_lt limit (pos 0)) refl is
+terminal_of-compares Equal limit width x is = by_low (int_lt limit (pos 0)) refl is
   where
     by_low : (low : Bool) → int_lt limit (pos 0) ≡ low → cond {A = Option ℕ} (low || int_le (pos (2 ^ width)) limit) (Some 0) None ≡ None → compares Equal x (unsigned_abs limit) ≡ int_eq (pos x) limit
     by_low true low is = cc
@@ -151,15 +162,15 @@ holds_ordered Eq lo c d code = eq_apart lo (code c) (code d)
 holds_ordered Ne lo c d code = ap not (eq_apart lo (code c) (code d))
 
 -- a comparison of a literal with a value, and the other way round
-compared-turned : (op : Op) (n : ℤ) (v : Value) → compare_values (swap_operands op) v (Some n) ≡ compare_values op (Some n) v
-compared-turned op n None = refl
-compared-turned op n (Some m) = ap truth_from (holds_turned op m n)
+compare_values-swap : (op : Op) (n : ℤ) (v : Value) → compare_values (swap_operands op) v (Some n) ≡ compare_values op (Some n) v
+compare_values-swap op n None = refl
+compare_values-swap op n (Some m) = ap truth_from (holds_turned op m n)
 
-compared-null : (op : Op) (v : Value) → compare_values op v None ≡ Unknown
-compared-null op None = refl
-compared-null op (Some m) = refl
+compare_values-null : (op : Op) (v : Value) → compare_values op v None ≡ Unknown
+compare_values-null op None = refl
+compare_values-null op (Some m) = refl
 
--- the pair of a comparison that has a truth where m is 1, and is TRUE there where e is 1, or where
+-- the pair of a comparison that has a truth if m is 1, and is TRUE then if e is 1, or if
 -- e is 0
 abbrev split_truth : Bool → Bool → Bool → Truth
 split_truth negated there bit = cond there (truth_from (turned_bit negated bit)) Unknown
@@ -180,10 +191,10 @@ module _ (facts : Facts) (are_worth : AreWorth facts) where
   split-tells negated (Some m) (Some e) p q pair there bit m_worth e_worth is = by_turn negated (if_both (product_node facts And m e p) (product_node facts Diff m e q)) refl is
     where
       t_worth : (made : TruthPair) → if_both (product_node facts And m e p) (product_node facts Diff m e q) ≡ Some made → Worth facts.nodes (λ assignment. there assignment && bit assignment) made.yes
-      t_worth made is = cited-worth facts are_worth And m e made.yes p there bit (m_worth m refl) (e_worth e refl) (if_both-is _ _ made is).0
+      t_worth made is = product_node-worth facts are_worth And m e made.yes p there bit (m_worth m refl) (e_worth e refl) (if_both-is _ _ made is).0
 
       f_worth : (made : TruthPair) → if_both (product_node facts And m e p) (product_node facts Diff m e q) ≡ Some made → Worth facts.nodes (λ assignment. there assignment && not (bit assignment)) made.no
-      f_worth made is = cited-worth facts are_worth Diff m e made.no q there bit (m_worth m refl) (e_worth e refl) (if_both-is _ _ made is).1
+      f_worth made is = product_node-worth facts are_worth Diff m e made.no q there bit (m_worth m refl) (e_worth e refl) (if_both-is _ _ made is).1
 
       both_yes : (there bit : Bool) → (there && bit) ≡ is_truth (split_truth false there bit) Yes
       both_yes true true = refl
@@ -238,7 +249,7 @@ module _ (facts : Facts) (are_worth : AreWorth facts) where
       by_terminal None which None is = cc
       by_terminal None which (Some number) is =
           let found = are_worth.chain bound.kind col 0 (width_at facts.columns col) (unsigned_abs bound.limit) number e is in
-          worth_so facts.nodes _ _ e (λ assignment. within-compares bound.kind bound.limit (width_at facts.columns col) (code_spelled facts.columns col assignment) which)
+          worth_so facts.nodes _ _ e (λ assignment. terminal_of-compares bound.kind bound.limit (width_at facts.columns col) (code_spelled facts.columns col assignment) which)
           (record { is_node = found.0; worth = found.1 })
 
   -- CMP
@@ -301,7 +312,7 @@ module _ (facts : Facts) (are_worth : AreWorth facts) where
 
   both_node-worth : (left right : Option ℕ) (number m : ℕ) (x y : Assignment → Bool) → ((n : ℕ) → left ≡ Some n → Worth facts.nodes x n) → ((n : ℕ) → right ≡ Some n → Worth facts.nodes y n) →
       both_node facts left right number ≡ Some m → Worth facts.nodes (λ assignment. x assignment && y assignment) m
-  both_node-worth (Some left) (Some right) number m x y x_worth y_worth is = cited-worth facts are_worth And left right m number x y (x_worth left refl) (y_worth right refl) is
+  both_node-worth (Some left) (Some right) number m x y x_worth y_worth is = product_node-worth facts are_worth And left right m number x y (x_worth left refl) (y_worth right refl) is
   both_node-worth (Some left) None number m x y x_worth y_worth is = cc
   both_node-worth None right number m x y x_worth y_worth is = cc
 
@@ -352,12 +363,12 @@ module _ (facts : Facts) (are_worth : AreWorth facts) where
   unfolding comparison
   comparison-tells op (Col c) (Lit n) entry pair x_in y_in is = with_literal-tells op c n entry pair (ltb-true c (length facts.columns) x_in) is
   comparison-tells op (Lit n) (Col c) entry pair x_in y_in is =
-      tells_so facts.nodes _ _ pair (λ assignment. compared-turned op n (value_in (row_of facts.columns assignment) c))
+      tells_so facts.nodes _ _ pair (λ assignment. compare_values-swap op n (value_in (row_of facts.columns assignment) c))
       (with_literal-tells (swap_operands op) c n entry pair (ltb-true c (length facts.columns) y_in) is)
   comparison-tells op (Col c) (Col d) entry pair x_in y_in is = with_column-tells op c d entry pair (ltb-true c (length facts.columns) x_in) (ltb-true d (length facts.columns) y_in) is
   comparison-tells op (Lit m) (Lit n) entry pair x_in y_in is = fixed-tells facts.nodes (truth_from (holds op m n)) pair entry is
   comparison-tells op (Col c) Null entry pair x_in y_in is =
-      tells_so facts.nodes _ _ pair (λ assignment. sym (compared-null op (value_in (row_of facts.columns assignment) c)))
+      tells_so facts.nodes _ _ pair (λ assignment. sym (compare_values-null op (value_in (row_of facts.columns assignment) c)))
       (fixed-tells facts.nodes Unknown pair entry is)
   comparison-tells op (Lit n) Null entry pair x_in y_in is = fixed-tells facts.nodes Unknown pair entry is
   comparison-tells op Null y entry pair x_in y_in is = by_operand y is

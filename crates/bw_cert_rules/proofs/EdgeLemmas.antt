@@ -1,5 +1,7 @@
 -- Edges by their targets, and one more.
-use Rattle.std.proofs.Common.{◌≡◌, ◌∙◌, refl, sym, ap, ℕ, zero, suc, ◌+◌, ◌<◌, Bool, true, false, cond, List, [], ◌∷◌, ◌++◌, length, append-nil, get_or, replicate, arith}
+use Rattle.std.proofs.Common.{◌≡◌, ◌∙◌, refl, sym, ap, ℕ, zero, suc, ◌+◌, ◌<◌, Bool, true, false}
+use Rattle.std.proofs.Common.{cond, List, [], ◌∷◌, ◌++◌, length, append-nil, get_or, replicate}
+use Rattle.std.proofs.Common.{arith}
 use Rattle.std.proofs.Math.Dec.{eqb}
 use Rattle.std.proofs.Math.ListN.{set, length-set}
 use Rattle.std.proofs.Math.Seq.{get_or-set_same, get_or-set_other}
@@ -43,7 +45,7 @@ holds_more by_target edges edge there holds place within = at (eqb edge.target p
         ∙ ap (λ b. edges_into place edges ++ cond b (edge ∷ []) []) (sym is)
         ∙ sym (edges_into-append place edges edge)
 
--- no edges, by so many targets
+-- no edges, by this many targets
 pub none_by_target : (count : ℕ) → Holds (replicate count []) []
 unfolding edges_into
 none_by_target zero place within = refl

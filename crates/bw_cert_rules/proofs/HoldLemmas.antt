@@ -1,5 +1,7 @@
 -- Known nodes and what registers hold.
-use Rattle.std.proofs.Common.{◌≡◌, ◌≢◌, ◌∙◌, refl, ap, ap₂, ◌⊎◌, inl, inr, ℕ, zero, suc, ◌+◌, ◌^◌, ◌<◌, Bool, true, false, cond, List, [], ◌∷◌, map, replicate, get_or, Option, Some, None, Result, Ok, Err, arith}
+use Rattle.std.proofs.Common.{◌≡◌, ◌≢◌, ◌∙◌, refl, ap, ap₂, ◌⊎◌, inl, inr, ℕ, zero, suc, ◌+◌, ◌^◌}
+use Rattle.std.proofs.Common.{◌<◌, Bool, true, false, cond, List, [], ◌∷◌, map, replicate, get_or}
+use Rattle.std.proofs.Common.{Option, Some, None, Result, Ok, Err, arith}
 use Rattle.std.proofs.Math.Dec.{eqb}
 use Rattle.std.proofs.Math.Nat.{pow-succ'}
 use Rattle.std.proofs.lemmas.Bool.{eqb-true, eq-eqb}
@@ -32,7 +34,7 @@ pub map_same : {A B : Type 0} (f g : A → B) (xs : List A) → ((x : A) → f x
 map_same f g [] same = refl
 map_same {B = B} f g (x ∷ xs) same = ap₂ (λ (y : B) (ys : List B). y ∷ ys) (same x) (map_same f g xs same)
 
--- the node of a register, where one has been given a node: its own, or what it was
+-- the node of a register, if one has been given a node: its own, or what it was
 pub looked : (known : Known) (r register node n : ℕ) → node_of (with_node known r node) register ≡ Some n → ((register ≡ r) × (node ≡ n)) ⊎ ((register ≢ r) × (node_of known register ≡ Some n))
 looked [] r register node n is = cc
 looked (k ∷ known) zero zero node n is = inl (refl, cc)
@@ -85,7 +87,7 @@ holds_kept facts lanes known registers r node holds worth register n is = at (lo
     at (inl (same, node_is)) = ap registers same ∙ worth ∙ ap value node_is
     at (inr (differs, there)) = holds register n there
 
--- so many bits spell a number below so many powers of two
+-- this many bits spell a number below this many powers of two
 pub spelled_small : (bits : Assignment) (first count : ℕ) → spelled bits first count < 2 ^ count
 spelled_small bits first zero = omega arith
 spelled_small bits first (suc count) = at (bits first) (spelled_small bits (suc first) count)

@@ -1,6 +1,7 @@
 -- The nodes that a condition's line takes from the rows that it cites are worth what the rows
 -- claim.
-use Rattle.std.proofs.Common.{◌≡◌, ◌∙◌, refl, ap, subst, ℕ, Bool, true, false, not, cond, ◌&&◌, List, Option, Some, None, slice_get, arith}
+use Rattle.std.proofs.Common.{◌≡◌, ◌∙◌, refl, ap, subst, ℕ, Bool, true, false, not, cond, ◌&&◌}
+use Rattle.std.proofs.Common.{List, Option, Some, None, slice_get, arith}
 use Rattle.std.specs.Option.{option_map}
 use Rattle.std.proofs.lemmas.Option.{option_and_then_some}
 use Rattle.bw_model.specs.declared.column.Column.{Column}
@@ -10,7 +11,7 @@ use Rattle.bw_diagram.specs.declared.node.Node.{Node}
 use Rattle.bw_diagram.specs.declared.product.Connective.{Connective}
 use Rattle.bw_diagram.specs.declared.product.Connective.TheVariants.{Diff}
 use Rattle.bw_diagram.specs.declared.product.Product.{Product}
-use Rattle.bw_diagram.specs.Cited.{AreWorth, product_node, is_variable, variable_node}
+use Rattle.bw_diagram.specs.References.{AreWorth, product_node, is_variable, variable_node}
 use Rattle.bw_diagram.specs.Node.{IsNode, node_value}
 use Rattle.bw_diagram.specs.Product.{apply_connective}
 use Rattle.bw_diagram.specs.Facts.{Facts}
@@ -40,18 +41,18 @@ if_both-is None f pair is = cc
 
 module _ (facts : Facts) (are_worth : AreWorth facts) where
   -- the node of a cited row is worth the connective of what the two nodes are worth
-  pub cited-worth : (op : Connective) (a b c number : ℕ) (x y : Assignment → Bool) → Worth facts.nodes x a → Worth facts.nodes y b → product_node facts op a b number ≡ Some c → Worth facts.nodes (λ assignment. apply_connective op (x assignment) (y assignment)) c
-  cited-worth op a b c number x y x_worth y_worth is =
+  pub product_node-worth : (op : Connective) (a b c number : ℕ) (x y : Assignment → Bool) → Worth facts.nodes x a → Worth facts.nodes y b → product_node facts op a b number ≡ Some c → Worth facts.nodes (λ assignment. apply_connective op (x assignment) (y assignment)) c
+  product_node-worth op a b c number x y x_worth y_worth is =
       let row = are_worth.row op a b number c is in
       record {
         is_node = row.0;
         worth = λ assignment. row.1 assignment ∙ ap (λ v. apply_connective op v (node_value facts.nodes assignment b)) (x_worth.worth assignment) ∙ ap (apply_connective op (x assignment)) (y_worth.worth assignment);
       }
 
-  -- a null test's nodes are 1 where the column is null, and where it isn't
-  pub null_cited-worth : (variable number : ℕ) (pair : TruthPair) → null_pair facts variable number ≡ Some pair →
+  -- a null test's nodes are 1 if the column is null, and 1 if it isn't
+  pub null_pair-worth : (variable number : ℕ) (pair : TruthPair) → null_pair facts variable number ≡ Some pair →
       Worth facts.nodes (λ assignment. assignment variable) pair.yes × Worth facts.nodes (λ assignment. not (assignment variable)) pair.no
-  null_cited-worth variable number pair is =
+  null_pair-worth variable number pair is =
       option_and_then_some (λ (row : Product). if_both (variable_node facts variable row.b) (product_node facts Diff 1 row.b number)) (slice_get facts.products number) pair is (λ row there found. by_node row.b found)
     where
       by_node : (z : ℕ) → if_both (variable_node facts variable z) (product_node facts Diff 1 z number) ≡ Some pair →
@@ -62,7 +63,7 @@ module _ (facts : Facts) (are_worth : AreWorth facts) where
           let tested = are_worth.variable variable z is_null.0 in
           let null : Worth facts.nodes (λ assignment. assignment variable) z = record { is_node = tested.0; worth = tested.1 } in (
             subst (Worth facts.nodes (λ assignment. assignment variable)) is_null.1 null,
-            cited-worth Diff 1 z pair.no number (λ assignment. true) (λ assignment. assignment variable) (one_worth facts.nodes) null made.1,
+            product_node-worth Diff 1 z pair.no number (λ assignment. true) (λ assignment. assignment variable) (one_worth facts.nodes) null made.1,
           )
 
 -- a column has a value under an assignment
@@ -82,4 +83,4 @@ value_node-worth columns facts are_worth col number m is = by_nullable (is_nulla
       where
         by_test : (found : Option TruthPair) → null_pair facts (first_variable columns col) number ≡ found → option_map (λ pair. pair.no) found ≡ Some m → Worth facts.nodes (λ assignment. not (assignment (first_variable columns col))) m
         by_test None found is = cc
-        by_test (Some pair) found is = subst (Worth facts.nodes (λ assignment. not (assignment (first_variable columns col)))) (cc) (null_cited-worth facts are_worth (first_variable columns col) number pair found).1
+        by_test (Some pair) found is = subst (Worth facts.nodes (λ assignment. not (assignment (first_variable columns col)))) (cc) (null_pair-worth facts are_worth (first_variable columns col) number pair found).1

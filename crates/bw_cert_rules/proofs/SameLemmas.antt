@@ -1,11 +1,12 @@
--- Lines are judged by what they say, wherever their parts lie in memory.
-use Rattle.std.proofs.Common.{◌≡◌, ◌∙◌, refl, sym, ap, ap₂, ℕ, suc, Bool, true, false, not, ◌&&◌, ◌==◌, List, [], ◌∷◌, map, Option, Some, None, Result, Ok, Err, nat_le}
+-- Lines are checked by what they say, wherever their parts lie in memory.
+use Rattle.std.proofs.Common.{◌≡◌, ◌∙◌, refl, sym, ap, ap₂, ℕ, suc, Bool, true, false, not, ◌&&◌}
+use Rattle.std.proofs.Common.{◌==◌, List, [], ◌∷◌, map, Option, Some, None, Result, Ok, Err, nat_le}
 use Rattle.std.specs.Option.{option_and_then, option_map}
 use Rattle.bw_model.specs.declared.fault.Fault.{Fault}
 use Rattle.bw_model.specs.Fault.{at_line, ◌>>=◌, refused_if}
 use Rattle.bw_diagram.specs.declared.product.Connective.TheVariants as connective
 use Rattle.bw_diagram.specs.Facts.{Facts}
-use Rattle.bw_diagram.specs.Cited.{product_node}
+use Rattle.bw_diagram.specs.References.{product_node}
 use Rattle.bw_program.specs.declared.instr.Instr.{Instr}
 use Rattle.bw_text.specs.Register.{is_register}
 use Rattle.bw_cert_text.specs.declared.lines.BodyLine.{BodyLine}
@@ -13,12 +14,17 @@ use Rattle.bw_cert_text.specs.declared.lines.EdgeProducts.{EdgeProducts}
 use Rattle.bw_cert_text.specs.declared.lines.Entry.{Entry}
 use Rattle.bw_cert_text.specs.declared.lines.Entry.TheVariants as entry
 use Rattle.bw_cert_text.specs.declared.lines.Keep.{Keep}
-use Rattle.bw_cert_text.specs.CertificateFields.{BodyFields, EntryFields, KeepFields, Condition, Instruction, Join, Kept, body_fields, entry_fields, keep_fields}
+use Rattle.bw_cert_text.specs.CertificateFields.{BodyFields, EntryFields, KeepFields, Condition}
+use Rattle.bw_cert_text.specs.CertificateFields.{Instruction, Join, Kept, body_fields, entry_fields}
+use Rattle.bw_cert_text.specs.CertificateFields.{keep_fields}
 use Rattle.bw_cert_rules.specs.declared.edge.Edge.{Edge}
 use Rattle.bw_cert_rules.specs.Instruction.{check_instruction_line}
-use Rattle.bw_cert_rules.specs.Join.{edge_of, with_edge, edges_into, is_zero, keeps_by_skip, keeps_by_skips, is_valid_keep}
+use Rattle.bw_cert_rules.specs.Join.{edge_of, with_edge, edges_into, is_zero, keeps_by_skip}
+use Rattle.bw_cert_rules.specs.Join.{keeps_by_skips, is_valid_keep}
 use Rattle.bw_cert_rules.specs.Known.{Known, node_of, with_node, nothing_known}
-use Rattle.bw_cert_rules.specs.Walk.{WalkState, line_fields, instruction_on, instruction_taken, is_join, keep_in, by_keep, keeps_taken, apply_join, check_lines_from}
+use Rattle.bw_cert_rules.specs.Walk.{WalkState, line_fields, instruction_on, instruction_taken}
+use Rattle.bw_cert_rules.specs.Walk.{is_join, keep_in, by_keep, keeps_taken, apply_join}
+use Rattle.bw_cert_rules.specs.Walk.{check_lines_from}
 
 -- lines that say the same
 abbrev pub SayTheSame : List BodyLine → List BodyLine → Type 0
@@ -67,7 +73,7 @@ keep-said (entry.Instruction given) = refl
 keep-said (entry.Join place) = refl
 keep-said (entry.Keep keep) = refl
 
--- a line KEEP is judged by its fields
+-- a line KEEP is checked by its fields
 skip_said : Facts → ℕ → ℕ → Edge → EdgeProducts → Bool
 skip_said facts node register edge rows =
     is_zero (option_and_then (λ differs. option_and_then (λ skipped. product_node facts connective.Diff differs skipped rows.within) (node_of edge.known edge.register))
@@ -98,21 +104,21 @@ kept-said facts through edges least keep =
     (skips-said facts keep edges keep.edges)
 
 -- one step after another
-then-same : {A : Type 0} (read : Result A Fault) (f g : A → Result WalkState Fault) → ((x : A) → line_fields (f x) ≡ line_fields (g x)) → line_fields (read >>= f) ≡ line_fields (read >>= g)
-then-same (Ok x) f g each = each x
-then-same (Err fault) f g each = refl
+bind-same : {A : Type 0} (read : Result A Fault) (f g : A → Result WalkState Fault) → ((x : A) → line_fields (f x) ≡ line_fields (g x)) → line_fields (read >>= f) ≡ line_fields (read >>= g)
+bind-same (Ok x) f g each = each x
+bind-same (Err fault) f g each = refl
 
-then-told : (read other : Result WalkState Fault) (f g : WalkState → Result WalkState Fault) → line_fields read ≡ line_fields other →
+bind-fields : (read other : Result WalkState Fault) (f g : WalkState → Result WalkState Fault) → line_fields read ≡ line_fields other →
     ((known : Known) (lines others : List BodyLine) → SayTheSame lines others → line_fields (f (taken_of known lines)) ≡ line_fields (g (taken_of known others))) →
     line_fields (read >>= f) ≡ line_fields (other >>= g)
-then-told (Ok a) (Ok b) f g same each =
+bind-fields (Ok a) (Ok b) f g same each =
     let both : (a.known, map body_fields a.rest) ≡ (b.known, map body_fields b.rest) = cc in
     let known : a.known ≡ b.known = ap (λ (said : Known × List BodyFields). said.0) both in
     let rests : SayTheSame a.rest b.rest = ap (λ (said : Known × List BodyFields). said.1) both in
     each a.known a.rest b.rest rests ∙ ap (λ known. line_fields (g (taken_of known b.rest))) known
-then-told (Ok a) (Err fault) f g same each = cc
-then-told (Err fault) (Ok b) f g same each = cc
-then-told (Err fault) (Err other) f g same each = same
+bind-fields (Ok a) (Err fault) f g same each = cc
+bind-fields (Err fault) (Ok b) f g same each = cc
+bind-fields (Err fault) (Err other) f g same each = same
 
 refused-same : (b : Bool) (fault : Fault) (read other : Result WalkState Fault) → line_fields read ≡ line_fields other → line_fields (refused_if b fault read) ≡ line_fields (refused_if b fault other)
 refused-same true fault read other same = refl
@@ -129,7 +135,7 @@ module _ (facts : Facts) (end : ℕ) where
       let next : List BodyLine → Known → Result WalkState Fault = λ (rest : List BodyLine) (through : Known). Ok (taken_of through rest) in
       ap (λ (r : Result Known Fault). line_fields (r >>= next lines)) (instruction-said facts known instr line line.entry
       ∙ ap (λ (fields : BodyFields). instruction_said facts known instr fields.line fields.entry) first ∙ sym (instruction-said facts known instr other other.entry))
-      ∙ then-same (instruction_on facts known instr other other.entry) (next lines) (next others) (λ through. ap (λ (fields : List BodyFields). Ok (through, fields)) rest)
+      ∙ bind-same (instruction_on facts known instr other other.entry) (next lines) (next others) (λ through. ap (λ (fields : List BodyFields). Ok (through, fields)) rest)
 
   abbrev kept_on : Known → List Edge → ℕ → Known → BodyLine → List BodyLine → Keep → Result WalkState Fault
   kept_on through edges least kept line lines keep =
@@ -162,13 +168,13 @@ module _ (facts : Facts) (end : ℕ) where
           ∙ ap₂ (λ b at. line_fields (refused_if (not b) (at_line 608 at) (keeps_taken facts through edges (suc k.register) (with_node kept k.register k.node) others))) judged (ap (λ (f : BodyFields). f.line) first)
           ∙ ap₂ (λ r n. line_fields (refused_if (not (is_valid_keep facts through edges least l)) (at_line 608 other.line) (keeps_taken facts through edges (suc r) (with_node kept r n) others))) register node
 
-  joined-same : (place : ℕ) (edges : List Edge) (known : Known) (lines others : List BodyLine) → SayTheSame lines others →
+  apply_join-same : (place : ℕ) (edges : List Edge) (known : Known) (lines others : List BodyLine) → SayTheSame lines others →
       line_fields (apply_join facts end place edges (taken_of known lines)) ≡ line_fields (apply_join facts end place edges (taken_of known others))
-  joined-same place [] known lines others same = ap (λ (fields : List BodyFields). Ok (known, fields)) same
-  joined-same place (edge ∷ edges) known [] [] same = refl
-  joined-same place (edge ∷ edges) known [] (other ∷ others) same = cc
-  joined-same place (edge ∷ edges) known (line ∷ lines) [] same = cc
-  joined-same place (edge ∷ edges) known (line ∷ lines) (other ∷ others) same =
+  apply_join-same place [] known lines others same = ap (λ (fields : List BodyFields). Ok (known, fields)) same
+  apply_join-same place (edge ∷ edges) known [] [] same = refl
+  apply_join-same place (edge ∷ edges) known [] (other ∷ others) same = cc
+  apply_join-same place (edge ∷ edges) known (line ∷ lines) [] same = cc
+  apply_join-same place (edge ∷ edges) known (line ∷ lines) (other ∷ others) same =
       let first : body_fields line ≡ body_fields other = cc in
       let rest : SayTheSame lines others = cc in
       by (is_join place line.entry) (is_join place other.entry) (join-said place line.entry ∙ ap (λ (fields : BodyFields). join_said place fields.entry) first ∙ sym (join-said place other.entry)) (ap (λ (f : BodyFields). f.line) first) rest
@@ -181,13 +187,13 @@ module _ (facts : Facts) (end : ℕ) where
       by false true joins at rest = cc
       by false false joins at rest = ap (λ at. Err (at_line 608 at)) at
 
-  pub walked-same : (place : ℕ) (edges : List Edge) (instrs : List Instr) (known : Known) (lines others : List BodyLine) → SayTheSame lines others →
+  pub check_lines_from-same : (place : ℕ) (edges : List Edge) (instrs : List Instr) (known : Known) (lines others : List BodyLine) → SayTheSame lines others →
       line_fields (check_lines_from facts end place edges instrs (taken_of known lines)) ≡ line_fields (check_lines_from facts end place edges instrs (taken_of known others))
   unfolding check_lines_from
-  walked-same place edges [] known lines others same = ap (λ (fields : List BodyFields). Ok (known, fields)) same
-  walked-same place edges (instr ∷ instrs) known lines others same =
+  check_lines_from-same place edges [] known lines others same = ap (λ (fields : List BodyFields). Ok (known, fields)) same
+  check_lines_from-same place edges (instr ∷ instrs) known lines others same =
       let further = with_edge edges (edge_of known instr) in
-      then-told (instruction_taken facts end known instr lines) (instruction_taken facts end known instr others) _ _ (instruction-same known instr lines others same)
-      (λ through lines others same. then-told (apply_join facts end (suc place) (edges_into (suc place) further) (taken_of through lines)) (apply_join facts end (suc place) (edges_into (suc place) further) (taken_of through others)) _ _
-      (joined-same (suc place) (edges_into (suc place) further) through lines others same)
-      (λ apply_join lines others same. walked-same (suc place) further instrs apply_join lines others same))
+      bind-fields (instruction_taken facts end known instr lines) (instruction_taken facts end known instr others) _ _ (instruction-same known instr lines others same)
+      (λ through lines others same. bind-fields (apply_join facts end (suc place) (edges_into (suc place) further) (taken_of through lines)) (apply_join facts end (suc place) (edges_into (suc place) further) (taken_of through others)) _ _
+      (apply_join-same (suc place) (edges_into (suc place) further) through lines others same)
+      (λ apply_join lines others same. check_lines_from-same (suc place) further instrs apply_join lines others same))

@@ -1,5 +1,7 @@
 -- What is known at each place holds in every run that reaches it, whichever skips the run takes.
-use Rattle.std.proofs.Common.{◌≡◌, ◌∙◌, refl, sym, ap, ap₂, subst, ◌⊎◌, inl, inr, ℕ, zero, suc, ◌+◌, ◌<◌, ◌≤◌, Bool, true, false, not, cond, IsTrue, List, [], ◌∷◌, ◌++◌, length, Option, Some, None, slice_get, add-zero, arith}
+use Rattle.std.proofs.Common.{◌≡◌, ◌∙◌, refl, sym, ap, ap₂, subst, ◌⊎◌, inl, inr, ℕ, zero, suc, ◌+◌}
+use Rattle.std.proofs.Common.{◌<◌, ◌≤◌, Bool, true, false, not, cond, IsTrue, List, [], ◌∷◌, ◌++◌}
+use Rattle.std.proofs.Common.{length, Option, Some, None, slice_get, add-zero, arith}
 use Rattle.std.proofs.Math.Dec.{eqb}
 use Rattle.std.proofs.lemmas.Bool.{eqb-true, eqb-false, eq-eqb, ltb-true, leb-true}
 use Rattle.std.specs.Option.{option_and_then}
@@ -11,16 +13,22 @@ use Rattle.bw_diagram.specs.declared.product.Connective.TheVariants as connectiv
 use Rattle.bw_diagram.specs.Facts.{Facts}
 use Rattle.bw_diagram.specs.Node.{node_value}
 use Rattle.bw_diagram.specs.Product.{apply_connective}
-use Rattle.bw_diagram.specs.Cited.{AreWorth, product_node}
+use Rattle.bw_diagram.specs.References.{AreWorth, product_node}
 use Rattle.bw_program.specs.declared.instr.Instr.{Instr}
-use Rattle.bw_program.specs.declared.instr.Instr.TheVariants.{Load, Nulls, Fill, And, Or, Xor, Not, ByteLt, ByteEq, Skip}
-use Rattle.bw_program.specs.Machine.{State, step, step_of, state_after, steps_from, after_skip, is_zero_in_all, end_state}
+use Rattle.bw_program.specs.declared.instr.Instr.TheVariants.{Load, Nulls, Fill, And, Or, Xor, Not}
+use Rattle.bw_program.specs.declared.instr.Instr.TheVariants.{ByteLt, ByteEq, Skip}
+use Rattle.bw_program.specs.Machine.{State, step, step_of, state_after, steps_from, after_skip}
+use Rattle.bw_program.specs.Machine.{is_zero_in_all, end_state}
 use Rattle.bw_program.specs.Program.{ProgramShape, is_sound, are_sound, is_program}
 use Rattle.bw_cert_text.specs.declared.lines.EdgeProducts.{EdgeProducts}
 use Rattle.bw_cert_text.specs.declared.lines.Keep.{Keep}
 use Rattle.bw_cert_rules.specs.declared.edge.Edge.{Edge}
-use Rattle.bw_cert_rules.specs.Accepted.{KeepLine, JoinLines, Part, known_before, edges_before, edge_at, known_on_fallthrough, known_after_join, known_past, kept_by, are_kept, is_valid_join, Obeys}
-use Rattle.bw_cert_rules.specs.Join.{with_edge, edges_into, is_zero, is_valid_keep, keeps_through, keeps_by_skip, keeps_by_skips}
+use Rattle.bw_cert_rules.specs.Accepted.{KeepLine, JoinLines, Part, known_before, edges_before}
+use Rattle.bw_cert_rules.specs.Accepted.{edge_at, known_on_fallthrough, known_after_join}
+use Rattle.bw_cert_rules.specs.Accepted.{known_past, kept_by, are_kept, is_valid_join}
+use Rattle.bw_cert_rules.specs.Accepted.{AreValidParts}
+use Rattle.bw_cert_rules.specs.Join.{with_edge, edges_into, is_zero, is_valid_keep, keeps_through}
+use Rattle.bw_cert_rules.specs.Join.{keeps_by_skip, keeps_by_skips}
 use Rattle.bw_cert_rules.specs.Known.{Known, node_of, nothing_known, with_node}
 use Rattle.bw_cert_rules.specs.Sound.{Hold}
 use Rattle.bw_cert_rules.proofs.HoldLemmas.{map_same, holds_nothing, holds_kept}
@@ -54,8 +62,8 @@ kept_through facts lanes through registers keep worth holds is =
     let node = chained (node_of through keep.register) (λ f. product_node facts connective.Xor f keep.node keep.through) 0 (zero_is _ is) in
     holds keep.register node.0 node.1 ∙ map_same _ _ lanes (same_worth facts node.0 keep.node keep.through worth node.2)
 
--- where a node is 0 in all lanes, and another is 1 only where it is 1, two nodes that differ only
--- where the other is 1 have the same values
+-- if a node is 0 in all lanes, and another is 1 only if it is 1, two nodes that differ only
+-- if the other is 1 have the same values
 same_where_zero : (facts : Facts) (lanes : List Assignment) (g h z q differs within : ℕ) → AreWorth facts → product_node facts connective.Xor g h differs ≡ Some z → product_node facts connective.Diff z q within ≡ Some 0 →
     is_zero_in_all (values facts lanes q) ≡ true → values facts lanes g ≡ values facts lanes h
 same_where_zero facts [] g h z q differs within worth xor diff zeros = refl
@@ -100,7 +108,7 @@ kept_parts facts through edges least keep is =
     let falls = both _ _ skips.0 in
     (falls.1, skips.1)
 
--- what a join keeps holds, where each register that it keeps does
+-- what a join keeps holds, if each register that it keeps does
 all_kept : (facts : Facts) (lanes : List Assignment) (through : Known) (registers : ℕ → List Bool) (edges : List Edge) (least : ℕ) (known : Known) (keeps : List KeepLine) →
     ((keep : Keep) → keeps_through facts through keep ≡ true → keeps_by_skips facts keep edges keep.edges ≡ true → registers keep.register ≡ values facts lanes keep.node) →
     Hold facts lanes known registers → are_kept facts through edges least keeps ≡ true → Hold facts lanes (kept_by known keeps) registers
@@ -212,69 +220,69 @@ HoldsAt : Facts → List Assignment → List Instr → List Part → State → T
 HoldsAt facts lanes instrs parts state = Hold facts lanes (known_before facts instrs parts state.place) state.registers
 
 -- an instruction after which the next one comes
-fell : (facts : Facts) (lanes : List Assignment) (instrs : List Instr) (parts : List Part) (state : State) (instr : Instr) (next : State) → AreWorth facts → Obeys facts instrs parts → slice_get instrs state.place ≡ Some instr →
+fell : (facts : Facts) (lanes : List Assignment) (instrs : List Instr) (parts : List Part) (state : State) (instr : Instr) (next : State) → AreWorth facts → AreValidParts facts instrs parts → slice_get instrs state.place ≡ Some instr →
     HoldsAt facts lanes instrs parts state → next.place ≡ suc state.place → next.registers ≡ (step facts.columns lanes instr state).registers → HoldsAt facts lanes instrs parts next
 unfolding HoldsAt
-fell facts lanes instrs parts state instr next worth obeys there holds place registers =
-    let part = part_there instrs parts state.place instr obeys.counted there in
+fell facts lanes instrs parts state instr next worth valid_parts there holds place registers =
+    let part = part_there instrs parts state.place instr valid_parts.part_count there in
     let known : Known = known_before facts instrs parts state.place in
-    let stepped = holds_after_instr facts lanes known (known_on_fallthrough facts known instr part.0) state part.0.line instr part.0.entry worth holds (obeys.instruction state.place instr part.0 there part.1) in
-    let past_join = past_through facts lanes (known_on_fallthrough facts known instr part.0) (step facts.columns lanes instr state).registers _ part.0.join worth stepped (obeys.join state.place instr part.0 there part.1) in
+    let stepped = holds_after_instr facts lanes known (known_on_fallthrough facts known instr part.0) state part.0.line instr part.0.entry worth holds (valid_parts.instruction state.place instr part.0 there part.1) in
+    let past_join = past_through facts lanes (known_on_fallthrough facts known instr part.0) (step facts.columns lanes instr state).registers _ part.0.join worth stepped (valid_parts.join state.place instr part.0 there part.1) in
     let here = past_is facts instrs parts state.place instr part.0 there part.1 in
     subst (λ p. Hold facts lanes (known_before facts instrs parts p) next.registers) (sym place)
     (subst (λ rs. Hold facts lanes (known_before facts instrs parts (suc state.place)) rs) (sym registers) (subst (λ k. Hold facts lanes k (step facts.columns lanes instr state).registers) (sym here) past_join))
 
 -- a skip that is taken
-skipped : (facts : Facts) (lanes : List Assignment) (instrs : List Instr) (parts : List Part) (state : State) (x target : ℕ) → AreWorth facts → Obeys facts instrs parts → Forward instrs → slice_get instrs state.place ≡ Some (Skip x target) →
+skipped : (facts : Facts) (lanes : List Assignment) (instrs : List Instr) (parts : List Part) (state : State) (x target : ℕ) → AreWorth facts → AreValidParts facts instrs parts → Forward instrs → slice_get instrs state.place ≡ Some (Skip x target) →
     is_zero_in_all (state.registers x) ≡ true → HoldsAt facts lanes instrs parts state → Hold facts lanes (known_before facts instrs parts target) state.registers
 unfolding HoldsAt
-skipped facts lanes instrs parts state x zero worth obeys forward there zeros holds = absurd (omega (arith, (forward state.place x 0 there).0))
-skipped facts lanes instrs parts state x (suc place) worth obeys forward there zeros holds =
+skipped facts lanes instrs parts state x zero worth valid_parts forward there zeros holds = absurd (omega (arith, (forward state.place x 0 there).0))
+skipped facts lanes instrs parts state x (suc place) worth valid_parts forward there zeros holds =
     let ahead = forward state.place x (suc place) there in
     let instr = instr_there instrs place (omega (arith, ahead.1)) in
-    let part = part_there instrs parts place instr.0 obeys.counted instr.1 in
+    let part = part_there instrs parts place instr.0 valid_parts.part_count instr.1 in
     let edge : Edge = record { target = suc place; register = x; known = known_before facts instrs parts state.place } in
     let among = in_into edge (edges_before facts instrs parts (suc place)) (suc place) refl (skip_before facts instrs parts state.place x (suc place) (suc place) there ahead.0) in
     subst (λ k. Hold facts lanes k state.registers) (sym (past_is facts instrs parts place instr.0 part.0 instr.1 part.1))
-    (past_skip facts lanes (known_on_fallthrough facts (known_before facts instrs parts place) instr.0 part.0) state.registers edge _ part.0.join worth among holds zeros (obeys.join place instr.0 part.0 instr.1 part.1))
+    (past_skip facts lanes (known_on_fallthrough facts (known_before facts instrs parts place) instr.0 part.0) state.registers edge _ part.0.join worth among holds zeros (valid_parts.join place instr.0 part.0 instr.1 part.1))
 
 -- one step more
-stepped : (facts : Facts) (lanes : List Assignment) (instrs : List Instr) (parts : List Part) (state : State) (instr : Instr) → AreWorth facts → Obeys facts instrs parts → Forward instrs → slice_get instrs state.place ≡ Some instr →
+stepped : (facts : Facts) (lanes : List Assignment) (instrs : List Instr) (parts : List Part) (state : State) (instr : Instr) → AreWorth facts → AreValidParts facts instrs parts → Forward instrs → slice_get instrs state.place ≡ Some instr →
     HoldsAt facts lanes instrs parts state → HoldsAt facts lanes instrs parts (step facts.columns lanes instr state)
 unfolding HoldsAt
-stepped facts lanes instrs parts state (Load r column bit) worth obeys forward there holds = fell facts lanes instrs parts state (Load r column bit) (step facts.columns lanes (Load r column bit) state) worth obeys there holds (omega arith) refl
-stepped facts lanes instrs parts state (Nulls r column) worth obeys forward there holds = fell facts lanes instrs parts state (Nulls r column) (step facts.columns lanes (Nulls r column) state) worth obeys there holds (omega arith) refl
-stepped facts lanes instrs parts state (Fill r bit) worth obeys forward there holds = fell facts lanes instrs parts state (Fill r bit) (step facts.columns lanes (Fill r bit) state) worth obeys there holds (omega arith) refl
-stepped facts lanes instrs parts state (And r x y) worth obeys forward there holds = fell facts lanes instrs parts state (And r x y) (step facts.columns lanes (And r x y) state) worth obeys there holds (omega arith) refl
-stepped facts lanes instrs parts state (Or r x y) worth obeys forward there holds = fell facts lanes instrs parts state (Or r x y) (step facts.columns lanes (Or r x y) state) worth obeys there holds (omega arith) refl
-stepped facts lanes instrs parts state (Xor r x y) worth obeys forward there holds = fell facts lanes instrs parts state (Xor r x y) (step facts.columns lanes (Xor r x y) state) worth obeys there holds (omega arith) refl
-stepped facts lanes instrs parts state (Not r x) worth obeys forward there holds = fell facts lanes instrs parts state (Not r x) (step facts.columns lanes (Not r x) state) worth obeys there holds (omega arith) refl
-stepped facts lanes instrs parts state (ByteLt r column slice k) worth obeys forward there holds = fell facts lanes instrs parts state (ByteLt r column slice k) (step facts.columns lanes (ByteLt r column slice k) state) worth obeys there holds (omega arith) refl
-stepped facts lanes instrs parts state (ByteEq r column slice k) worth obeys forward there holds = fell facts lanes instrs parts state (ByteEq r column slice k) (step facts.columns lanes (ByteEq r column slice k) state) worth obeys there holds (omega arith) refl
-stepped facts lanes instrs parts state (Skip x target) worth obeys forward there holds = at (is_zero_in_all (state.registers x)) refl
+stepped facts lanes instrs parts state (Load r column bit) worth valid_parts forward there holds = fell facts lanes instrs parts state (Load r column bit) (step facts.columns lanes (Load r column bit) state) worth valid_parts there holds (omega arith) refl
+stepped facts lanes instrs parts state (Nulls r column) worth valid_parts forward there holds = fell facts lanes instrs parts state (Nulls r column) (step facts.columns lanes (Nulls r column) state) worth valid_parts there holds (omega arith) refl
+stepped facts lanes instrs parts state (Fill r bit) worth valid_parts forward there holds = fell facts lanes instrs parts state (Fill r bit) (step facts.columns lanes (Fill r bit) state) worth valid_parts there holds (omega arith) refl
+stepped facts lanes instrs parts state (And r x y) worth valid_parts forward there holds = fell facts lanes instrs parts state (And r x y) (step facts.columns lanes (And r x y) state) worth valid_parts there holds (omega arith) refl
+stepped facts lanes instrs parts state (Or r x y) worth valid_parts forward there holds = fell facts lanes instrs parts state (Or r x y) (step facts.columns lanes (Or r x y) state) worth valid_parts there holds (omega arith) refl
+stepped facts lanes instrs parts state (Xor r x y) worth valid_parts forward there holds = fell facts lanes instrs parts state (Xor r x y) (step facts.columns lanes (Xor r x y) state) worth valid_parts there holds (omega arith) refl
+stepped facts lanes instrs parts state (Not r x) worth valid_parts forward there holds = fell facts lanes instrs parts state (Not r x) (step facts.columns lanes (Not r x) state) worth valid_parts there holds (omega arith) refl
+stepped facts lanes instrs parts state (ByteLt r column slice k) worth valid_parts forward there holds = fell facts lanes instrs parts state (ByteLt r column slice k) (step facts.columns lanes (ByteLt r column slice k) state) worth valid_parts there holds (omega arith) refl
+stepped facts lanes instrs parts state (ByteEq r column slice k) worth valid_parts forward there holds = fell facts lanes instrs parts state (ByteEq r column slice k) (step facts.columns lanes (ByteEq r column slice k) state) worth valid_parts there holds (omega arith) refl
+stepped facts lanes instrs parts state (Skip x target) worth valid_parts forward there holds = at (is_zero_in_all (state.registers x)) refl
   where
     same : (taken : Bool) → (after_skip state taken target).registers ≡ state.registers
     same true = refl
     same false = refl
 
     at : (taken : Bool) → is_zero_in_all (state.registers x) ≡ taken → HoldsAt facts lanes instrs parts (after_skip state taken target)
-    at true is = skipped facts lanes instrs parts state x target worth obeys forward there is holds
-    at false is = fell facts lanes instrs parts state (Skip x target) (after_skip state false target) worth obeys there holds (omega arith) (sym (same (is_zero_in_all (state.registers x))))
+    at true is = skipped facts lanes instrs parts state x target worth valid_parts forward there is holds
+    at false is = fell facts lanes instrs parts state (Skip x target) (after_skip state false target) worth valid_parts there holds (omega arith) (sym (same (is_zero_in_all (state.registers x))))
 
 -- after any number of steps
-pub holds_after : (facts : Facts) (lanes : List Assignment) (program : ProgramShape) (parts : List Part) (steps : ℕ) → AreWorth facts → Obeys facts program.instrs parts → Forward program.instrs →
+pub holds_after : (facts : Facts) (lanes : List Assignment) (program : ProgramShape) (parts : List Part) (steps : ℕ) → AreWorth facts → AreValidParts facts program.instrs parts → Forward program.instrs →
     let state : State = state_after facts.columns lanes program steps in Hold facts lanes (known_before facts program.instrs parts state.place) state.registers
 unfolding HoldsAt steps_from known_before
-holds_after facts lanes program parts zero worth obeys forward = holds_nothing facts lanes _
-holds_after facts lanes program parts (suc steps) worth obeys forward =
-    at (slice_get program.instrs (state_after facts.columns lanes program steps).place) refl (holds_after facts lanes program parts steps worth obeys forward)
+holds_after facts lanes program parts zero worth valid_parts forward = holds_nothing facts lanes _
+holds_after facts lanes program parts (suc steps) worth valid_parts forward =
+    at (slice_get program.instrs (state_after facts.columns lanes program steps).place) refl (holds_after facts lanes program parts steps worth valid_parts forward)
   where
     last : State
     last = state_after facts.columns lanes program steps
 
     at : (instr : Option Instr) → slice_get program.instrs last.place ≡ instr → HoldsAt facts lanes program.instrs parts last → HoldsAt facts lanes program.instrs parts (step_of facts.columns lanes instr last)
     at None there holds = holds
-    at (Some instr) there holds = stepped facts lanes program.instrs parts last instr worth obeys forward there holds
+    at (Some instr) there holds = stepped facts lanes program.instrs parts last instr worth valid_parts forward there holds
 
 -- an instruction of a program is sound
 sound_at : (end number : ℕ) (instrs : List Instr) (k : ℕ) (instr : Instr) → are_sound end number instrs ≡ true → slice_get instrs k ≡ Some instr → is_sound end (number + k) instr ≡ true
@@ -295,7 +303,7 @@ forward program sound k x target there =
     let starts = both _ _ ends.0 in
     (ltb-true k target starts.1, leb-true target (length program.instrs) ends.1)
 
--- a step goes on, and not past the end
+-- a step continues, and not past the end
 goes_on : (columns : List Column) (lanes : List Assignment) (instrs : List Instr) (state : State) (instr : Instr) → Forward instrs → slice_get instrs state.place ≡ Some instr →
     (state.place < (step columns lanes instr state).place) × ((step columns lanes instr state).place ≤ length instrs)
 goes_on columns lanes instrs state (Load r column bit) forward there = (omega arith, omega (arith, slice_get_within instrs state.place _ there))
@@ -313,7 +321,7 @@ goes_on columns lanes instrs state (Skip x target) forward there = at (is_zero_i
     at true = forward state.place x target there
     at false = (omega arith, omega (arith, slice_get_within instrs state.place _ there))
 
--- after so many steps a run has come so far, or to the end
+-- after this many steps a run has come so far, or to the end
 come_far : (columns : List Column) (lanes : List Assignment) (program : ProgramShape) (steps : ℕ) → Forward program.instrs → let state : State = state_after columns lanes program steps in
     (state.place ≤ length program.instrs) × ((steps ≤ state.place) ⊎ (state.place ≡ length program.instrs))
 unfolding steps_from
@@ -337,11 +345,11 @@ come_far columns lanes program (suc steps) forward = at (slice_get program.instr
     at (Some instr) there (within, inr end) = absurd (omega (arith, slice_get_within program.instrs last.place instr there, end))
 
 -- at the end, what is known there holds
-pub holds_at_end : (facts : Facts) (lanes : List Assignment) (program : ProgramShape) (parts : List Part) → AreWorth facts → Obeys facts program.instrs parts → Forward program.instrs →
+pub holds_at_end : (facts : Facts) (lanes : List Assignment) (program : ProgramShape) (parts : List Part) → AreWorth facts → AreValidParts facts program.instrs parts → Forward program.instrs →
     Hold facts lanes (known_before facts program.instrs parts (length program.instrs)) (end_state facts.columns lanes program).registers
-holds_at_end facts lanes program parts worth obeys forward =
+holds_at_end facts lanes program parts worth valid_parts forward =
     subst (λ p. Hold facts lanes (known_before facts program.instrs parts p) (end_state facts.columns lanes program).registers) (there (come_far facts.columns lanes program (length program.instrs) forward))
-    (holds_after facts lanes program parts (length program.instrs) worth obeys forward)
+    (holds_after facts lanes program parts (length program.instrs) worth valid_parts forward)
   where
     there : ((end_state facts.columns lanes program).place ≤ length program.instrs) × ((length program.instrs ≤ (end_state facts.columns lanes program).place) ⊎ ((end_state facts.columns lanes program).place ≡ length program.instrs)) →
         (end_state facts.columns lanes program).place ≡ length program.instrs

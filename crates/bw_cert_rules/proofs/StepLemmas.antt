@@ -1,10 +1,12 @@
 -- What is known after an instruction holds after its step.
-use Rattle.std.proofs.Common.{◌≡◌, ◌∙◌, refl, sym, ap, ap₂, subst, ℕ, suc, ◌+◌, ◌-◌, ◌*◌, ◌^◌, ◌<◌, Bool, true, false, not, ◌&&◌, ◌||◌, cond, List, map, Option, Some, None, Result, Ok, nat_le, arith}
+use Rattle.std.proofs.Common.{◌≡◌, ◌∙◌, refl, sym, ap, ap₂, subst, ℕ, suc, ◌+◌, ◌-◌, ◌*◌, ◌^◌, ◌<◌}
+use Rattle.std.proofs.Common.{Bool, true, false, not, ◌&&◌, ◌||◌, cond, List, map, Option, Some}
+use Rattle.std.proofs.Common.{None, Result, Ok, nat_le, arith}
 use Rattle.std.proofs.lemmas.Bool.{lt-ltb, leb-true, ne_eqb}
 use Rattle.std.proofs.lemmas.Simd.{zip2-map, map-map}
 use Rattle.std.specs.Simd.Lanes.{zip2}
 use Rattle.bw_model.specs.declared.fault.Fault.{Fault}
-use Rattle.bw_model.specs.Stored.{byte_spelled, bits_in_slice}
+use Rattle.bw_model.specs.StoredCodes.{byte_spelled, bits_in_slice}
 use Rattle.bw_model.specs.Variable.{Assignment, first_variable, bit_variable}
 use Rattle.bw_diagram.specs.declared.chain.ChainKind.{ChainKind}
 use Rattle.bw_diagram.specs.declared.chain.ChainKind.TheVariants.{Less, Equal}
@@ -14,17 +16,22 @@ use Rattle.bw_diagram.specs.Chain.{compares}
 use Rattle.bw_diagram.specs.Facts.{Facts}
 use Rattle.bw_diagram.specs.Node.{node_value}
 use Rattle.bw_diagram.specs.Product.{apply_connective}
-use Rattle.bw_diagram.specs.Cited.{AreWorth, comparison_node, is_variable, variable_node}
+use Rattle.bw_diagram.specs.References.{AreWorth, comparison_node, is_variable, variable_node}
 use Rattle.bw_program.specs.declared.instr.Instr.{Instr}
-use Rattle.bw_program.specs.declared.instr.Instr.TheVariants.{Load, Nulls, Fill, And, Or, Xor, Not, ByteLt, ByteEq, Skip}
+use Rattle.bw_program.specs.declared.instr.Instr.TheVariants.{Load, Nulls, Fill, And, Or, Xor, Not}
+use Rattle.bw_program.specs.declared.instr.Instr.TheVariants.{ByteLt, ByteEq, Skip}
 use Rattle.bw_program.specs.Machine.{State, in_lanes, differ, step, after_skip, is_zero_in_all}
 use Rattle.bw_program.specs.Program.{instr_fits}
 use Rattle.bw_program.specs.ProgramText.{found_on}
 use Rattle.bw_cert_text.specs.declared.lines.InstructionEntry.{InstructionEntry}
-use Rattle.bw_cert_rules.specs.Instruction.{loaded_node, operation_row, byte_chain, is_fill, is_skip_line, terminal, plane_on, operation_on, read_on, joined_on, opposite_on, past_node, byte_node, byte_on, check_instruction_line}
+use Rattle.bw_cert_rules.specs.Instruction.{loaded_node, operation_row, byte_chain, is_fill}
+use Rattle.bw_cert_rules.specs.Instruction.{is_skip_line, terminal, plane_on, operation_on, read_on}
+use Rattle.bw_cert_rules.specs.Instruction.{joined_on, opposite_on, past_node, byte_node, byte_on}
+use Rattle.bw_cert_rules.specs.Instruction.{check_instruction_line}
 use Rattle.bw_cert_rules.specs.Known.{Known}
 use Rattle.bw_cert_rules.specs.Sound.{Hold}
-use Rattle.bw_cert_rules.proofs.HoldLemmas.{bind_ok, not_refused, found_ok, map_same, holds_written, spelled_small}
+use Rattle.bw_cert_rules.proofs.HoldLemmas.{bind_ok, not_refused, found_ok, map_same, holds_written}
+use Rattle.bw_cert_rules.proofs.HoldLemmas.{spelled_small}
 
 some_same : {A : Type 0} {x y : A} → Some x ≡ Some y → x ≡ y
 some_same is = cc
@@ -87,7 +94,7 @@ fill_worth : (facts : Facts) (lanes : List Assignment) (bit : Bool) → AreWorth
 fill_worth facts lanes true worth = map_same _ _ lanes (λ assignment. sym (worth.one assignment))
 fill_worth facts lanes false worth = map_same _ _ lanes (λ assignment. sym (worth.zero assignment))
 
--- a comparison with a number past all of so many bits
+-- a comparison with a number past all of this many bits
 past_worth : (facts : Facts) (assignment : Assignment) (kind : ChainKind) (n k : ℕ) → AreWorth facts → n < k → compares kind n k ≡ node_value facts.nodes assignment (past_node kind)
 past_worth facts assignment Less n k worth small = lt-ltb n k small ∙ sym (worth.one assignment)
 past_worth facts assignment Equal n k worth small = ne_eqb n k (λ same. absurd (omega (arith, small, same))) ∙ sym (worth.zero assignment)
@@ -122,7 +129,7 @@ differ_joins true false = refl
 differ_joins false true = refl
 differ_joins false false = refl
 
--- What is known after an instruction by its line holds after its step, where what was known held
+-- What is known after an instruction by its line holds after its step, if what was known held
 -- before it.
 pub holds_after_instr : (facts : Facts) (lanes : List Assignment) (known past : Known) (state : State) (line : ℕ) (instr : Instr) (given : InstructionEntry) → AreWorth facts → Hold facts lanes known state.registers →
     check_instruction_line facts known line instr given ≡ Ok past → Hold facts lanes past (step facts.columns lanes instr state).registers

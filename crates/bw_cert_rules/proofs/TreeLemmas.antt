@@ -1,6 +1,7 @@
 -- A condition's lines are read by its tree, and by what the lines say, wherever their parts lie in
 -- memory.
-use Rattle.std.proofs.Common.{◌≡◌, ◌∙◌, refl, sym, ap, ap₂, ℕ, List, [], ◌∷◌, map, Option, Some, None, Ok, Err}
+use Rattle.std.proofs.Common.{◌≡◌, ◌∙◌, refl, sym, ap, ap₂, ℕ, List, [], ◌∷◌, map, Option, Some}
+use Rattle.std.proofs.Common.{None, Ok, Err}
 use Rattle.std.specs.Option.{option_and_then}
 use Rattle.bw_model.specs.declared.column.Column.{Column}
 use Rattle.bw_model.specs.declared.cond.Truth.TheVariants.{Yes}
@@ -17,12 +18,16 @@ use Rattle.bw_cert_text.specs.declared.lines.BodyLine.{BodyLine}
 use Rattle.bw_cert_text.specs.declared.lines.ConditionEntry.{ConditionEntry}
 use Rattle.bw_cert_text.specs.declared.lines.Entry.{Entry}
 use Rattle.bw_cert_text.specs.declared.lines.Entry.TheVariants as entry
-use Rattle.bw_cert_text.specs.CertificateFields.{BodyFields, EntryFields, Condition, Instruction, Join, Kept, body_fields, entry_fields}
+use Rattle.bw_cert_text.specs.CertificateFields.{BodyFields, EntryFields, Condition, Instruction}
+use Rattle.bw_cert_text.specs.CertificateFields.{Join, Kept, body_fields, entry_fields}
 use Rattle.bw_cert_rules.specs.declared.nodes.TruthPair.{TruthPair}
 use Rattle.bw_cert_rules.specs.declared.steps.Junction.{Junction}
 use Rattle.bw_cert_rules.specs.declared.steps.Junction.TheVariants.{All, Any}
 use Rattle.bw_cert_rules.specs.Comparison.{fixed_pair, comparison}
-use Rattle.bw_cert_rules.specs.Pair.{Reading, line_fields, condition_entry, next_entry, expect_line, by_line, is_null_test, joined_pair, negated_pair, tested_pair, one_more, more_parts, joined_parts, equations, pair_step, pair_of}
+use Rattle.bw_cert_rules.specs.Pair.{Reading, line_fields, condition_entry, next_entry, expect_line}
+use Rattle.bw_cert_rules.specs.Pair.{by_line, is_null_test, joined_pair, negated_pair, tested_pair}
+use Rattle.bw_cert_rules.specs.Pair.{one_more, more_parts, joined_parts, equations, pair_step}
+use Rattle.bw_cert_rules.specs.Pair.{pair_of}
 
 -- lines that say the same
 abbrev pub SayTheSame : List BodyLine → List BodyLine → Type 0
@@ -49,17 +54,17 @@ said (entry.Instruction given) = refl
 said (entry.Join place) = refl
 said (entry.Keep keep) = refl
 
-taken-steady : (end : ℕ) (made : Option TruthPair) → Steady (expect_line end made)
-taken-steady end None [] [] same = refl
-taken-steady end None [] (other ∷ others) same = cc
-taken-steady end None (line ∷ lines) [] same = cc
-taken-steady end None (line ∷ lines) (other ∷ others) same =
+expect_line-steady : (end : ℕ) (made : Option TruthPair) → Steady (expect_line end made)
+expect_line-steady end None [] [] same = refl
+expect_line-steady end None [] (other ∷ others) same = cc
+expect_line-steady end None (line ∷ lines) [] same = cc
+expect_line-steady end None (line ∷ lines) (other ∷ others) same =
     let first : body_fields line ≡ body_fields other = cc in
     ap (λ (fields : BodyFields). Err (at_line 606 fields.line)) first
-taken-steady end (Some pair) [] [] same = refl
-taken-steady end (Some pair) [] (other ∷ others) same = cc
-taken-steady end (Some pair) (line ∷ lines) [] same = cc
-taken-steady end (Some pair) (line ∷ lines) (other ∷ others) same =
+expect_line-steady end (Some pair) [] [] same = refl
+expect_line-steady end (Some pair) [] (other ∷ others) same = cc
+expect_line-steady end (Some pair) (line ∷ lines) [] same = cc
+expect_line-steady end (Some pair) (line ∷ lines) (other ∷ others) same =
     let rest : SayTheSame lines others = cc in
     ap (λ (fields : List BodyFields). Ok (pair, fields)) rest
 
@@ -74,35 +79,35 @@ next-same (line ∷ lines) (other ∷ others) same =
 by_line-steady : (end : ℕ) (rule : ConditionEntry → Option TruthPair) → Steady (by_line end rule)
 unfolding by_line
 by_line-steady end rule lines others same =
-    taken-steady end (option_and_then rule (next_entry lines)) lines others same
+    expect_line-steady end (option_and_then rule (next_entry lines)) lines others same
     ∙ ap (λ entry. line_fields (expect_line end (option_and_then rule entry) others)) (next-same lines others same)
 
 -- one reader after another
-then-steady : (read other : Reading) (f g : TruthPair × List BodyLine → Reading) → line_fields read ≡ line_fields other →
+bind-steady : (read other : Reading) (f g : TruthPair × List BodyLine → Reading) → line_fields read ≡ line_fields other →
     ((pair : TruthPair) (lines others : List BodyLine) → SayTheSame lines others → line_fields (f (pair, lines)) ≡ line_fields (g (pair, others))) →
     line_fields (read >>= f) ≡ line_fields (other >>= g)
-then-steady (Ok a) (Ok b) f g same each =
+bind-steady (Ok a) (Ok b) f g same each =
     let both : (a.0, map body_fields a.1) ≡ (b.0, map body_fields b.1) = cc in
     let pairs : a.0 ≡ b.0 = ap (λ (said : TruthPair × List BodyFields). said.0) both in
     let rests : SayTheSame a.1 b.1 = ap (λ (said : TruthPair × List BodyFields). said.1) both in
     each a.0 a.1 b.1 rests ∙ ap (λ pair. line_fields (g (pair, b.1))) pairs
-then-steady (Ok a) (Err fault) f g same each = cc
-then-steady (Err fault) (Ok b) f g same each = cc
-then-steady (Err fault) (Err other) f g same each = same
+bind-steady (Ok a) (Err fault) f g same each = cc
+bind-steady (Err fault) (Ok b) f g same each = cc
+bind-steady (Err fault) (Err other) f g same each = same
 
 module _ (columns : List Column) (facts : Facts) (end : ℕ) where
   more-steady : (junction : Junction) (parts : List (List BodyLine → Reading)) → AllSteady parts → (pair : TruthPair) (lines others : List BodyLine) → SayTheSame lines others →
       line_fields (more_parts columns facts end junction parts (pair, lines)) ≡ line_fields (more_parts columns facts end junction parts (pair, others))
   more-steady junction [] all pair lines others same = ap (λ (fields : List BodyFields). Ok (pair, fields)) same
   more-steady junction (part ∷ parts) all pair lines others same =
-      then-steady (one_more columns facts end junction part (pair, lines)) (one_more columns facts end junction part (pair, others)) _ _
-      (then-steady (part lines) (part others) _ _ (all.0 lines others same) (λ next lines others same. by_line-steady end (joined_pair facts junction pair next) lines others same))
+      bind-steady (one_more columns facts end junction part (pair, lines)) (one_more columns facts end junction part (pair, others)) _ _
+      (bind-steady (part lines) (part others) _ _ (all.0 lines others same) (λ next lines others same. by_line-steady end (joined_pair facts junction pair next) lines others same))
       (λ next lines others same. more-steady junction parts all.1 next lines others same)
 
   joined-steady : (junction : Junction) (parts : List (List BodyLine → Reading)) → AllSteady parts → Steady (joined_parts columns facts end junction parts)
-  joined-steady junction [] all lines others same = taken-steady end None lines others same
+  joined-steady junction [] all lines others same = expect_line-steady end None lines others same
   joined-steady junction (part ∷ parts) all lines others same =
-      then-steady (part lines) (part others) _ _ (all.0 lines others same) (λ first lines others same. more-steady junction parts all.1 first lines others same)
+      bind-steady (part lines) (part others) _ _ (all.0 lines others same) (λ first lines others same. more-steady junction parts all.1 first lines others same)
 
   equations-steady : (x : Operand) (items : List Operand) → AllSteady (equations columns facts end x items)
   equations-steady x [] = tt
@@ -114,7 +119,7 @@ module _ (columns : List Column) (facts : Facts) (end : ℕ) where
 
   after-steady : (reader : List BodyLine → Reading) (rule : TruthPair → ConditionEntry → Option TruthPair) → Steady reader → Steady (after_part reader rule)
   after-steady reader rule steady lines others same =
-      then-steady (reader lines) (reader others) _ _ (steady lines others same) (λ pair lines others same. by_line-steady end (rule pair) lines others same)
+      bind-steady (reader lines) (reader others) _ _ (steady lines others same) (λ pair lines others same. by_line-steady end (rule pair) lines others same)
 
   -- what a condition's lines are read as, by its tree
   abbrev mutual

@@ -1,5 +1,6 @@
 -- The pair of a condition tells its truth under every assignment.
-use Rattle.std.proofs.Common.{◌≡◌, ◌∙◌, refl, sym, ap, subst, ℕ, Bool, true, ◌&&◌, List, [], ◌∷◌, map, length, Ok}
+use Rattle.std.proofs.Common.{◌≡◌, ◌∙◌, refl, sym, ap, subst, ℕ, Bool, true, ◌&&◌, List, [], ◌∷◌}
+use Rattle.std.proofs.Common.{map, length, Ok}
 use Rattle.std.specs.List.{list_all}
 use Rattle.std.proofs.lemmas.List.Folds.{list_all-map}
 use Rattle.std.proofs.lemmas.Simd.{map-map}
@@ -10,12 +11,13 @@ use Rattle.bw_model.specs.declared.cond.Truth.{Truth}
 use Rattle.bw_model.specs.declared.cond.Truth.TheVariants.{Yes}
 use Rattle.bw_model.specs.declared.cond.Cond.{Cond, Cond-F, fold-roll-Cond, roll-Cond, ind-Cond}
 use Rattle.bw_model.specs.declared.cond.Cond.TheFolds.{map-Cond}
-use Rattle.bw_model.specs.Cond.{operand_value, is_within, truth_of, truth_step, names_within, within_step}
+use Rattle.bw_model.specs.Cond.{operand_value, is_within, truth_of, truth_step, names_within}
+use Rattle.bw_model.specs.Cond.{within_step}
 use Rattle.bw_model.specs.Row.{Value}
 use Rattle.bw_model.specs.Truth.{compare_values, least, in_list, any_of}
 use Rattle.bw_model.specs.Variable.{Assignment, row_of}
 use Rattle.bw_model.proofs.BitsLemmas.{both}
-use Rattle.bw_diagram.specs.Cited.{AreWorth}
+use Rattle.bw_diagram.specs.References.{AreWorth}
 use Rattle.bw_diagram.specs.Facts.{Facts}
 use Rattle.bw_cert_text.specs.declared.lines.BodyLine.{BodyLine}
 use Rattle.bw_cert_rules.specs.declared.nodes.TruthPair.{TruthPair}
@@ -23,9 +25,13 @@ use Rattle.bw_cert_rules.specs.declared.steps.Junction.{Junction}
 use Rattle.bw_cert_rules.specs.declared.steps.Junction.TheVariants.{All, Any}
 use Rattle.bw_cert_rules.specs.Comparison.{fixed_pair, comparison}
 use Rattle.bw_cert_rules.specs.Meaning.{Tells}
-use Rattle.bw_cert_rules.specs.Pair.{Reading, by_line, is_null_test, negated_pair, tested_pair, joined_parts, equations, pair_step, pair_of}
+use Rattle.bw_cert_rules.specs.Pair.{Reading, by_line, is_null_test, negated_pair, tested_pair}
+use Rattle.bw_cert_rules.specs.Pair.{joined_parts, equations, pair_step, pair_of}
 use Rattle.bw_cert_rules.proofs.ComparisonLemmas.{tells_so, fixed-tells, comparison-tells}
-use Rattle.bw_cert_rules.proofs.TruthStepLemmas.{IsSound, truth_of_all, by_line-sound, after_part-sound, joined_parts-sound, negated_pair-tells, tested_pair-tells, is_null_test-tells}
+use Rattle.bw_cert_rules.proofs.TruthStepLemmas.{IsSound, truth_of_all, by_line-sound}
+use Rattle.bw_cert_rules.proofs.TruthStepLemmas.{after_part-sound, joined_parts-sound}
+use Rattle.bw_cert_rules.proofs.TruthStepLemmas.{negated_pair-tells, tested_pair-tells}
+use Rattle.bw_cert_rules.proofs.TruthStepLemmas.{is_null_test-tells}
 
 least-yes : (a b : Truth) → least a (least b Yes) ≡ least a b
 least-yes a b = ap (least a) (by_truth b)
@@ -43,8 +49,8 @@ module _ (facts : Facts) (are_worth : AreWorth facts) (end : ℕ) where
   within = is_within (length facts.columns)
 
   -- a comparison's line
-  compared-sound : (op : Op) (x y : Operand) → within x ≡ true → within y ≡ true → IsSound facts are_worth (by_line end (comparison facts.columns facts op x y)) (λ assignment. compare_values op (operand_value (row assignment) x) (operand_value (row assignment) y))
-  compared-sound op x y x_in y_in = by_line-sound facts are_worth end (comparison facts.columns facts op x y) _ (λ entry pair is. comparison-tells facts are_worth op x y entry pair x_in y_in is)
+  comparison-sound : (op : Op) (x y : Operand) → within x ≡ true → within y ≡ true → IsSound facts are_worth (by_line end (comparison facts.columns facts op x y)) (λ assignment. compare_values op (operand_value (row assignment) x) (operand_value (row assignment) y))
+  comparison-sound op x y x_in y_in = by_line-sound facts are_worth end (comparison facts.columns facts op x y) _ (λ entry pair is. comparison-tells facts are_worth op x y entry pair x_in y_in is)
 
   abbrev reader : Cond → List BodyLine → Reading
   reader = pair_of facts.columns facts end
@@ -84,7 +90,7 @@ module _ (facts : Facts) (are_worth : AreWorth facts) (end : ℕ) where
       tells_so facts.nodes _ _ pair (λ assignment. least-yes _ _)
       (joined_parts-sound facts are_worth facts.columns end All (λ (e : Op × Operand). by_line end (comparison facts.columns facts e.0 x e.1))
       (λ (e : Op × Operand) assignment. compare_values e.0 (operand_value (row assignment) x) (operand_value (row assignment) e.1)) (λ (e : Op × Operand). within e.1)
-      (λ e pass. compared-sound e.0 x e.1 lower.0 pass) ends inside lines rest pair is)
+      (λ e pass. comparison-sound e.0 x e.1 lower.0 pass) ends inside lines rest pair is)
 
   -- IN
   among-sound : (x : Operand) (items : List Operand) → (within x && list_all within items) ≡ true →
@@ -93,13 +99,13 @@ module _ (facts : Facts) (are_worth : AreWorth facts) (end : ℕ) where
       let inside = both _ _ pass in
       tells_so facts.nodes _ _ pair (λ assignment. ap any_of (sym (map-map (compare_values Eq (operand_value (row assignment) x)) (operand_value (row assignment)) items)))
       (joined_parts-sound facts are_worth facts.columns end Any (λ item. by_line end (comparison facts.columns facts Eq x item)) (λ item assignment. compare_values Eq (operand_value (row assignment) x) (operand_value (row assignment) item)) within
-      (λ item pass. compared-sound Eq x item inside.0 pass) items inside.1 lines rest pair is)
+      (λ item pass. comparison-sound Eq x item inside.0 pass) items inside.1 lines rest pair is)
 
   -- a condition, from its parts
   layer-sound : (layer : Cond-F Known) → within_step (length facts.columns) (map-Cond Cond Bool names (bare layer)) ≡ true →
       IsSound facts are_worth (pair_step facts.columns facts end (map-Cond Cond (List BodyLine → Reading) reader (bare layer))) (λ assignment. truth_step (row assignment) (map-Cond Cond Truth (truth_of (row assignment)) (bare layer)))
   layer-sound Cond-F.Always pass = by_line-sound facts are_worth end (fixed_pair Yes) _ (λ entry pair is. fixed-tells facts.nodes Yes pair entry is)
-  layer-sound (Cond-F.Cmp op x y) pass = let inside = both _ _ pass in compared-sound op x y inside.0 inside.1
+  layer-sound (Cond-F.Cmp op x y) pass = let inside = both _ _ pass in comparison-sound op x y inside.0 inside.1
   layer-sound (Cond-F.Between x y z) pass = between-sound x y z pass
   layer-sound (Cond-F.Among x items) pass = among-sound x items.items pass
   layer-sound (Cond-F.IsNull x) pass = by_line-sound facts are_worth end (is_null_test facts.columns facts x) _ (λ entry pair is. is_null_test-tells facts are_worth x entry pair pass is)

@@ -1,5 +1,7 @@
--- The pairs of a condition's steps tell its truth, where those of its parts do.
-use Rattle.std.proofs.Common.{◌≡◌, ◌∙◌, refl, sym, ap, subst, ℕ, ℤ, ◌<◌, cond, Bool, true, false, not, ◌&&◌, ◌||◌, List, [], ◌∷◌, map, length, Option, Some, None, Result, Ok, Err}
+-- The pairs of a condition's steps tell its truth, if those of its parts do.
+use Rattle.std.proofs.Common.{◌≡◌, ◌∙◌, refl, sym, ap, subst, ℕ, ℤ, ◌<◌, cond, Bool, true, false}
+use Rattle.std.proofs.Common.{not, ◌&&◌, ◌||◌, List, [], ◌∷◌, map, length, Option, Some, None}
+use Rattle.std.proofs.Common.{Result, Ok, Err}
 use Rattle.std.specs.List.{list_all}
 use Rattle.std.specs.Option.{option_and_then}
 use Rattle.std.proofs.lemmas.Bool.{ltb-true}
@@ -13,41 +15,47 @@ use Rattle.bw_model.specs.declared.fault.Fault.{Fault}
 use Rattle.bw_model.specs.Cond.{operand_value, is_within}
 use Rattle.bw_model.specs.Fault.{◌>>=◌}
 use Rattle.bw_model.specs.Row.{value_in}
-use Rattle.bw_model.specs.Truth.{truth_from, is_truth, is_null, least, greatest, all_of, any_of, negation}
+use Rattle.bw_model.specs.Truth.{truth_from, is_truth, is_null, least, greatest, all_of, any_of}
+use Rattle.bw_model.specs.Truth.{negation}
 use Rattle.bw_model.specs.Variable.{Assignment, first_variable, is_nullable, null_variable, row_of}
 use Rattle.bw_model.proofs.BitsLemmas.{both}
 use Rattle.bw_diagram.specs.declared.product.Connective.TheVariants as connective
-use Rattle.bw_diagram.specs.Cited.{AreWorth, product_node}
+use Rattle.bw_diagram.specs.References.{AreWorth, product_node}
 use Rattle.bw_diagram.specs.Facts.{Facts}
 use Rattle.bw_cert_text.specs.declared.lines.BodyLine.{BodyLine}
 use Rattle.bw_cert_text.specs.declared.lines.ConditionEntry.{ConditionEntry}
-use Rattle.bw_cert_text.specs.declared.lines.ConditionEntry.TheVariants.{NullTest, And, Or, Not, Is, IsUnknown}
+use Rattle.bw_cert_text.specs.declared.lines.ConditionEntry.TheVariants.{NullTest, And, Or, Not, Is}
+use Rattle.bw_cert_text.specs.declared.lines.ConditionEntry.TheVariants.{IsUnknown}
 use Rattle.bw_cert_rules.specs.declared.nodes.TruthPair.{TruthPair}
 use Rattle.bw_cert_rules.specs.declared.steps.Junction.{Junction}
 use Rattle.bw_cert_rules.specs.declared.steps.Junction.TheVariants.{All, Any}
 use Rattle.bw_cert_rules.specs.Rows.{exchange_nodes}
 use Rattle.bw_cert_rules.specs.Meaning.{Tells}
-use Rattle.bw_cert_rules.specs.Pair.{Reading, next_entry, expect_line, by_line, null_test, is_null_test, joined_pair, negated_pair, with_opposite, unknown_pair, tested_pair, one_more, more_parts, joined_parts}
-use Rattle.bw_cert_rules.proofs.ComparisonLemmas.{tells_by, tells_yes, tells_no, tells_so, fixed-tells, value_if, value_in-assigned}
-use Rattle.bw_cert_rules.proofs.RowLemmas.{Worth, worth_so, one_worth, if_both-is, cited-worth, null_cited-worth}
+use Rattle.bw_cert_rules.specs.Pair.{Reading, next_entry, expect_line, by_line, null_test}
+use Rattle.bw_cert_rules.specs.Pair.{is_null_test, joined_pair, negated_pair, with_opposite}
+use Rattle.bw_cert_rules.specs.Pair.{unknown_pair, tested_pair, one_more, more_parts, joined_parts}
+use Rattle.bw_cert_rules.proofs.ComparisonLemmas.{tells_by, tells_yes, tells_no, tells_so}
+use Rattle.bw_cert_rules.proofs.ComparisonLemmas.{fixed-tells, value_if, value_in-assigned}
+use Rattle.bw_cert_rules.proofs.RowLemmas.{Worth, worth_so, one_worth, if_both-is}
+use Rattle.bw_cert_rules.proofs.RowLemmas.{product_node-worth, null_pair-worth}
 
 -- a step that was taken has a line that makes its pair
-taken-is : {G : Type 0} (end : ℕ) (made : Option TruthPair) (lines rest : List BodyLine) (pair : TruthPair) → expect_line end made lines ≡ Ok (pair, rest) → (made ≡ Some pair → G) → G
-taken-is end (Some made) (line ∷ lines) rest pair is f =
+expect_line-is : {G : Type 0} (end : ℕ) (made : Option TruthPair) (lines rest : List BodyLine) (pair : TruthPair) → expect_line end made lines ≡ Ok (pair, rest) → (made ≡ Some pair → G) → G
+expect_line-is end (Some made) (line ∷ lines) rest pair is f =
     let same : (made, lines) ≡ (pair, rest) = cc in f (ap (λ (read : TruthPair × List BodyLine). Some read.0) same)
-taken-is end (Some made) [] rest pair is f = cc
-taken-is end None lines rest other is f = cc
+expect_line-is end (Some made) [] rest pair is f = cc
+expect_line-is end None lines rest other is f = cc
 
 by_line-is : {G : Type 0} (end : ℕ) (rule : ConditionEntry → Option TruthPair) (lines rest : List BodyLine) (pair : TruthPair) → by_line end rule lines ≡ Ok (pair, rest) → ((entry : ConditionEntry) → rule entry ≡ Some pair → G) → G
 unfolding by_line
 by_line-is end rule lines rest pair is f =
-    taken-is end (option_and_then rule (next_entry lines)) lines rest pair is (λ made.
+    expect_line-is end (option_and_then rule (next_entry lines)) lines rest pair is (λ made.
     option_and_then_some rule (next_entry lines) pair made (λ entry there found. f entry found))
 
 -- an answer that was followed by another one
-then-is : {A B : Type 0} (first : Result A Fault) (f : A → Result B Fault) (y : B) → (first >>= f) ≡ Ok y → (x : A) × (first ≡ Ok x) × (f x ≡ Ok y)
-then-is (Ok x) f y is = (x, refl, is)
-then-is (Err fault) f y is = cc
+bind-is : {A B : Type 0} (first : Result A Fault) (f : A → Result B Fault) (y : B) → (first >>= f) ≡ Ok y → (x : A) × (first ≡ Ok x) × (f x ≡ Ok y)
+bind-is (Ok x) f y is = (x, refl, is)
+bind-is (Err fault) f y is = cc
 
 -- the truth of parts that are joined
 abbrev pub joined_truth : Junction → Truth → Truth → Truth
@@ -86,7 +94,7 @@ joined-more : (junction : Junction) (t : Truth) (ts : List Truth) → joined_tru
 joined-more All t ts = refl
 joined-more Any t ts = refl
 
--- AND is TRUE where both are, and FALSE where one is; OR the other way round
+-- AND is TRUE if both are, and FALSE if one is; OR the other way round
 all-yes : (a b : Truth) → (is_truth a Yes && is_truth b Yes) ≡ is_truth (least a b) Yes
 all-yes No b = refl
 all-yes Unknown No = refl
@@ -152,13 +160,13 @@ module _ (facts : Facts) (are_worth : AreWorth facts) where
   joined_pair-tells All a b pair t u (And i j) t_told u_told is =
       let made = if_both-is _ _ pair is in
       tells_by facts.nodes _ pair
-      (worth_so facts.nodes _ _ pair.yes (λ assignment. all-yes (t assignment) (u assignment)) (cited-worth facts are_worth connective.And a.yes b.yes pair.yes i _ _ (tells_yes facts.nodes t a t_told) (tells_yes facts.nodes u b u_told) made.0))
-      (worth_so facts.nodes _ _ pair.no (λ assignment. all-no (t assignment) (u assignment)) (cited-worth facts are_worth connective.Or a.no b.no pair.no j _ _ (tells_no facts.nodes t a t_told) (tells_no facts.nodes u b u_told) made.1))
+      (worth_so facts.nodes _ _ pair.yes (λ assignment. all-yes (t assignment) (u assignment)) (product_node-worth facts are_worth connective.And a.yes b.yes pair.yes i _ _ (tells_yes facts.nodes t a t_told) (tells_yes facts.nodes u b u_told) made.0))
+      (worth_so facts.nodes _ _ pair.no (λ assignment. all-no (t assignment) (u assignment)) (product_node-worth facts are_worth connective.Or a.no b.no pair.no j _ _ (tells_no facts.nodes t a t_told) (tells_no facts.nodes u b u_told) made.1))
   joined_pair-tells Any a b pair t u (Or i j) t_told u_told is =
       let made = if_both-is _ _ pair is in
       tells_by facts.nodes _ pair
-      (worth_so facts.nodes _ _ pair.yes (λ assignment. any-yes (t assignment) (u assignment)) (cited-worth facts are_worth connective.Or a.yes b.yes pair.yes i _ _ (tells_yes facts.nodes t a t_told) (tells_yes facts.nodes u b u_told) made.0))
-      (worth_so facts.nodes _ _ pair.no (λ assignment. any-no (t assignment) (u assignment)) (cited-worth facts are_worth connective.And a.no b.no pair.no j _ _ (tells_no facts.nodes t a t_told) (tells_no facts.nodes u b u_told) made.1))
+      (worth_so facts.nodes _ _ pair.yes (λ assignment. any-yes (t assignment) (u assignment)) (product_node-worth facts are_worth connective.Or a.yes b.yes pair.yes i _ _ (tells_yes facts.nodes t a t_told) (tells_yes facts.nodes u b u_told) made.0))
+      (worth_so facts.nodes _ _ pair.no (λ assignment. any-no (t assignment) (u assignment)) (product_node-worth facts are_worth connective.And a.no b.no pair.no j _ _ (tells_no facts.nodes t a t_told) (tells_no facts.nodes u b u_told) made.1))
   joined_pair-tells _ a b pair t u _ t_told u_told is = cc
 
   -- NOT
@@ -172,29 +180,29 @@ module _ (facts : Facts) (are_worth : AreWorth facts) where
   negated_pair-tells a pair t _ told is = cc
 
   -- a node and its opposite tell what the node is worth
-  opposite-tells : (node number : ℕ) (pair : TruthPair) (b : Assignment → Bool) → Worth facts.nodes b node → with_opposite facts node number ≡ Some pair → Tells facts.nodes (λ assignment. truth_from (b assignment)) pair
-  opposite-tells node number pair b worth is =
+  with_opposite-tells : (node number : ℕ) (pair : TruthPair) (b : Assignment → Bool) → Worth facts.nodes b node → with_opposite facts node number ≡ Some pair → Tells facts.nodes (λ assignment. truth_from (b assignment)) pair
+  with_opposite-tells node number pair b worth is =
       let made = if_both-is (Some node) _ pair is in
       tells_by facts.nodes _ pair
       (worth_so facts.nodes _ _ pair.yes (λ assignment. truth_from-yes (b assignment)) (subst (Worth facts.nodes b) (cc) worth))
-      (worth_so facts.nodes _ _ pair.no (λ assignment. truth_from-no (b assignment)) (cited-worth facts are_worth connective.Diff 1 node pair.no number (λ assignment. true) b (one_worth facts.nodes) worth made.1))
+      (worth_so facts.nodes _ _ pair.no (λ assignment. truth_from-no (b assignment)) (product_node-worth facts are_worth connective.Diff 1 node pair.no number (λ assignment. true) b (one_worth facts.nodes) worth made.1))
 
   unknown-tells : (a pair : TruthPair) (t : Assignment → Truth) (known : Option ℕ) (i j : ℕ) → Tells facts.nodes t a → product_node facts connective.Or a.yes a.no i ≡ known → unknown_pair facts known j ≡ Some pair →
       Tells facts.nodes (λ assignment. truth_from (is_truth (t assignment) Unknown)) pair
   unknown-tells a pair t None i j told cites is = cc
   unknown-tells a pair t (Some known) i j told cites is =
       let made = if_both-is _ (Some known) pair is in
-      let worth = cited-worth facts are_worth connective.Or a.yes a.no known i _ _ (tells_yes facts.nodes t a told) (tells_no facts.nodes t a told) cites in
+      let worth = product_node-worth facts are_worth connective.Or a.yes a.no known i _ _ (tells_yes facts.nodes t a told) (tells_no facts.nodes t a told) cites in
       tells_by facts.nodes _ pair
-      (worth_so facts.nodes _ _ pair.yes (λ assignment. unknown-yes (t assignment)) (cited-worth facts are_worth connective.Diff 1 known pair.yes j (λ assignment. true) _ (one_worth facts.nodes) worth made.0))
+      (worth_so facts.nodes _ _ pair.yes (λ assignment. unknown-yes (t assignment)) (product_node-worth facts are_worth connective.Diff 1 known pair.yes j (λ assignment. true) _ (one_worth facts.nodes) worth made.0))
       (worth_so facts.nodes _ _ pair.no (λ assignment. unknown-no (t assignment)) (subst (Worth facts.nodes (λ assignment. is_truth (t assignment) Yes || is_truth (t assignment) No)) (cc) worth))
 
   -- IS TRUE, IS FALSE and IS UNKNOWN
   pub tested_pair-tells : (wanted : Truth) (a pair : TruthPair) (t : Assignment → Truth) (entry : ConditionEntry) → Tells facts.nodes t a → tested_pair facts wanted a entry ≡ Some pair →
       Tells facts.nodes (λ assignment. truth_from (is_truth (t assignment) wanted)) pair
   unfolding tested_pair
-  tested_pair-tells Yes a pair t (Is i) told is = opposite-tells a.yes i pair (λ assignment. is_truth (t assignment) Yes) (tells_yes facts.nodes t a told) is
-  tested_pair-tells No a pair t (Is i) told is = opposite-tells a.no i pair (λ assignment. is_truth (t assignment) No) (tells_no facts.nodes t a told) is
+  tested_pair-tells Yes a pair t (Is i) told is = with_opposite-tells a.yes i pair (λ assignment. is_truth (t assignment) Yes) (tells_yes facts.nodes t a told) is
+  tested_pair-tells No a pair t (Is i) told is = with_opposite-tells a.no i pair (λ assignment. is_truth (t assignment) No) (tells_no facts.nodes t a told) is
   tested_pair-tells Unknown a pair t (IsUnknown i j) told is = unknown-tells a pair t (product_node facts connective.Or a.yes a.no i) i j told refl is
   tested_pair-tells _ a pair t _ told is = cc
 
@@ -216,7 +224,7 @@ module _ (facts : Facts) (are_worth : AreWorth facts) where
         where
           by_entry : (entry : ConditionEntry) → null_test facts (Some (first_variable facts.columns col)) entry ≡ Some pair → Tells facts.nodes (λ assignment. truth_from (assignment (first_variable facts.columns col))) pair
           by_entry (NullTest number) is =
-              let worth = null_cited-worth facts are_worth (first_variable facts.columns col) number pair is in
+              let worth = null_pair-worth facts are_worth (first_variable facts.columns col) number pair is in
               tells_by facts.nodes _ pair
               (worth_so facts.nodes _ _ pair.yes (λ assignment. truth_from-yes (assignment (first_variable facts.columns col))) worth.0)
               (worth_so facts.nodes _ _ pair.no (λ assignment. truth_from-no (assignment (first_variable facts.columns col))) worth.1)
@@ -242,7 +250,7 @@ module _ (facts : Facts) (are_worth : AreWorth facts) where
       ((made : TruthPair) (entry : ConditionEntry) (pair : TruthPair) → Tells facts.nodes t made → rule made entry ≡ Some pair → Tells facts.nodes u pair) →
       IsSound (λ lines. reader lines >>= λ read. by_line end (rule read.0) read.1) u
   after_part-sound end reader t u rule sound tells lines rest pair is =
-      let read = then-is (reader lines) (λ read. by_line end (rule read.0) read.1) (pair, rest) is in
+      let read = bind-is (reader lines) (λ read. by_line end (rule read.0) read.1) (pair, rest) is in
       let told = sound lines read.0.1 read.0.0 read.1 in
       by_line-is end (rule read.0.0) read.0.1 rest pair read.2 (λ entry found. tells read.0.0 entry pair told found)
 
@@ -258,8 +266,8 @@ module _ (facts : Facts) (are_worth : AreWorth facts) where
         tells_so facts.nodes _ _ pair (λ assignment. joined-none junction (t assignment)) (subst (λ (read : TruthPair × List BodyLine). Tells facts.nodes t read.0) same told)
     more_parts-tells (part ∷ parts) t before rest pair pass told is =
         let passes = both _ _ pass in
-        let one = then-is (one_more columns facts end junction (reader part) before) (λ next. more_parts columns facts end junction (map reader parts) next) (pair, rest) is in
-        let read = then-is (reader part before.1) (λ next. by_line end (joined_pair facts junction before.0 next.0) next.1) one.0 one.1 in
+        let one = bind-is (one_more columns facts end junction (reader part) before) (λ next. more_parts columns facts end junction (map reader parts) next) (pair, rest) is in
+        let read = bind-is (reader part before.1) (λ next. by_line end (joined_pair facts junction before.0 next.0) next.1) one.0 one.1 in
         let part_told = sound part passes.0 before.1 read.0.1 read.0.0 read.1 in
         let joined_told = by_line-is end (joined_pair facts junction before.0 read.0.0) read.0.1 one.0.1 one.0.0 read.2
         (λ entry found. joined_pair-tells junction before.0 read.0.0 one.0.0 t (truth part) entry told part_told found) in
@@ -271,6 +279,6 @@ module _ (facts : Facts) (are_worth : AreWorth facts) where
     joined_parts-sound [] pass lines rest pair is = cc
     joined_parts-sound (part ∷ parts) pass lines rest pair is =
         let passes = both _ _ pass in
-        let first = then-is (reader part lines) (λ first. more_parts columns facts end junction (map reader parts) first) (pair, rest) is in
+        let first = bind-is (reader part lines) (λ first. more_parts columns facts end junction (map reader parts) first) (pair, rest) is in
         tells_so facts.nodes _ _ pair (λ assignment. joined-more junction (truth part assignment) (map (λ x. truth x assignment) parts))
         (more_parts-tells parts (truth part) first.0 rest pair passes.1 (sound part passes.0 lines first.0.1 first.0.0 first.1) first.2)

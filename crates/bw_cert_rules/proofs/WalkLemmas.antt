@@ -1,5 +1,6 @@
 -- The walk over a program's lines, one instruction after another.
-use Rattle.std.proofs.Common.{◌≡◌, ◌∙◌, sym, ap, ℕ, zero, suc, List, [], ◌∷◌, drop, Some, Ok, Err, slice_get, ◌≤◌, length, arith}
+use Rattle.std.proofs.Common.{◌≡◌, ◌∙◌, sym, ap, ℕ, zero, suc, List, [], ◌∷◌, drop, Some, Ok, Err}
+use Rattle.std.proofs.Common.{slice_get, ◌≤◌, length, arith}
 use Rattle.std.proofs.Math.Seq.{drop-nil}
 use Rattle.bw_model.specs.declared.fault.Fault.{Fault}
 use Rattle.bw_model.specs.Fault.{◌>>=◌}
@@ -9,7 +10,8 @@ use Rattle.bw_cert_text.specs.declared.lines.BodyLine.{BodyLine}
 use Rattle.bw_cert_rules.specs.declared.edge.Edge.{Edge}
 use Rattle.bw_cert_rules.specs.Edges.{Holds}
 use Rattle.bw_cert_rules.specs.Join.{edge_of, with_edge, edges_into}
-use Rattle.bw_cert_rules.specs.Walk.{WalkState, instruction_taken, apply_join, check_lines_from, check_lines}
+use Rattle.bw_cert_rules.specs.Walk.{WalkState, instruction_taken, apply_join, check_lines_from}
+use Rattle.bw_cert_rules.specs.Walk.{check_lines}
 
 -- the walk has come to an instruction: what the lines say is what those that are left say, after
 -- what is known there
@@ -38,7 +40,7 @@ walked_on facts end number place edges into instrs instr taken through past ther
     ∙ ap (λ t. t >>= λ past. check_lines_from facts end (suc number) after rest past) joins
     ∙ ap (λ n. check_lines_from facts end n after (drop n instrs) past) (sym next)
 
--- at an instruction whose line is refused
+-- at an instruction whose line is rejected
 pub walked_refused : (facts : Facts) (end number : ℕ) (edges : List Edge) (instrs : List Instr) (instr : Instr) (taken : WalkState) (fault : Fault) → slice_get instrs number ≡ Some instr →
     instruction_taken facts end taken.known instr taken.rest ≡ Err fault → check_lines_from facts end number edges (drop number instrs) taken ≡ Err fault
 unfolding check_lines_from
@@ -47,7 +49,7 @@ walked_refused facts end number edges instrs instr taken fault there line =
     ap (λ is. check_lines_from facts end number edges is taken) (drop_at instrs number instr there)
     ∙ ap (λ t. t >>= λ through. apply_join facts end (suc number) (edges_into (suc number) after) through >>= λ past. check_lines_from facts end (suc number) after (drop (suc number) instrs) past) line
 
--- after one whose join is refused
+-- after one whose join is rejected
 pub join_refused : (facts : Facts) (end number place : ℕ) (edges into : List Edge) (instrs : List Instr) (instr : Instr) (taken through : WalkState) (fault : Fault) → slice_get instrs number ≡ Some instr →
     instruction_taken facts end taken.known instr taken.rest ≡ Ok through → place ≡ suc number → into ≡ edges_into place (with_edge edges (edge_of taken.known instr)) → apply_join facts end place into through ≡ Err fault →
     check_lines_from facts end number edges (drop number instrs) taken ≡ Err fault

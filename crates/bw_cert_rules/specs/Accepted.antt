@@ -1,6 +1,7 @@
 -- When lines state what is known of a program's registers, place by place. It doesn't mention how
 -- lines are checked.
-use Rattle.std.specs.Prelude.{◌≡◌, ℕ, zero, suc, Bool, true, false, ◌&&◌, IsTrue, List, [], ◌∷◌, ◌++◌, length, map, Option, Some, None, Result, Ok, Err, slice_get}
+use Rattle.std.specs.Prelude.{◌≡◌, ℕ, zero, suc, Bool, true, false, ◌&&◌, IsTrue, List, [], ◌∷◌}
+use Rattle.std.specs.Prelude.{◌++◌, length, map, Option, Some, None, Result, Ok, Err, slice_get}
 use Rattle.bw_model.specs.declared.fault.Fault.{Fault}
 use Rattle.bw_diagram.specs.Facts.{Facts}
 use Rattle.bw_program.specs.declared.instr.Instr.{Instr}
@@ -110,8 +111,8 @@ is_valid_join facts through (edge ∷ edges) (Some join) = are_kept facts throug
 
 -- Parts, one for each instruction, satisfy their rules: each instruction's line its own, and each
 -- place's join its own.
-pub record Obeys (facts : Facts) (instrs : List Instr) (parts : List Part) : Type 0 where
-  pub counted : length parts ≡ length instrs
+pub record AreValidParts (facts : Facts) (instrs : List Instr) (parts : List Part) : Type 0 where
+  pub part_count : length parts ≡ length instrs
   pub instruction : (place : ℕ) (instr : Instr) (part : Part) → slice_get instrs place ≡ Some instr
       → slice_get parts place ≡ Some part
       → check_instruction_line facts (known_before facts instrs parts place) part.line instr
@@ -129,6 +130,6 @@ pub record Obeys (facts : Facts) (instrs : List Instr) (parts : List Part) : Typ
 pub record Accepts (facts : Facts) (instrs : List Instr) (lines : List BodyLine)
     (taken : WalkState) : Type 0 where
   pub parts : List Part
-  pub obeys : Obeys facts instrs parts
+  pub valid_parts : AreValidParts facts instrs parts
   pub spelled : lines ≡ lines_of 0 parts ++ taken.rest
   pub known : taken.known ≡ known_before facts instrs parts (length instrs)

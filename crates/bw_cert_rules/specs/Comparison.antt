@@ -1,6 +1,8 @@
 -- Comparisons in a certificate: of a column with a literal, of two columns, and those with the same
 -- truth on every row.
-use Rattle.std.specs.Prelude.{ℕ, ℤ, pos, ◌+ℤ◌, ◌-ℤ◌, ◌^◌, Bool, true, false, List, map, max, Option, Some, None, slice_index_or, if◌then◌else◌, ◌||◌, ◌==◌, int_le, int_lt, unsigned_abs}
+use Rattle.std.specs.Prelude.{ℕ, ℤ, pos, ◌+ℤ◌, ◌-ℤ◌, ◌^◌, Bool, true, false, List, map, max, Option}
+use Rattle.std.specs.Prelude.{Some, None, slice_index_or, if◌then◌else◌, ◌||◌, ◌==◌, int_le, int_lt}
+use Rattle.std.specs.Prelude.{unsigned_abs}
 use Rattle.std.specs.Ordering.{int_eq}
 use Rattle.std.specs.Option.{option_map}
 use Rattle.bw_model.specs.declared.column.Column.{Column}
@@ -17,10 +19,11 @@ use Rattle.bw_diagram.specs.declared.chain.ChainKind.{ChainKind}
 use Rattle.bw_diagram.specs.declared.chain.ChainKind.TheVariants.{Less, Equal}
 use Rattle.bw_diagram.specs.declared.product.Connective.TheVariants.{And, Diff}
 use Rattle.bw_diagram.specs.Chain.{first_node}
-use Rattle.bw_diagram.specs.Cited.{product_node, comparison_node, two_column_node}
+use Rattle.bw_diagram.specs.References.{product_node, comparison_node, two_column_node}
 use Rattle.bw_diagram.specs.Facts.{Facts}
 use Rattle.bw_cert_text.specs.declared.lines.ConditionEntry.{ConditionEntry}
-use Rattle.bw_cert_text.specs.declared.lines.ConditionEntry.TheVariants.{Compare, CompareColumns, Fixed}
+use Rattle.bw_cert_text.specs.declared.lines.ConditionEntry.TheVariants.{Compare, CompareColumns}
+use Rattle.bw_cert_text.specs.declared.lines.ConditionEntry.TheVariants.{Fixed}
 use Rattle.bw_cert_rules.specs.declared.nodes.TruthPair.{TruthPair}
 use Rattle.bw_cert_rules.specs.declared.comparison.Bound.{Bound}
 use Rattle.bw_cert_rules.specs.declared.comparison.Order.{Order}

@@ -1,19 +1,21 @@
 -- The rules of instructions' lines: what is known of the registers after an instruction, by its
 -- line.
-use Rattle.std.specs.Prelude.{ℕ, ◌*◌, ◌^◌, Bool, true, false, not, Option, Some, None, Result, Ok, if◌then◌else◌, nat_le}
+use Rattle.std.specs.Prelude.{ℕ, ◌*◌, ◌^◌, Bool, true, false, not, Option, Some, None, Result, Ok}
+use Rattle.std.specs.Prelude.{if◌then◌else◌, nat_le}
 use Rattle.bw_model.specs.FaultTable.{INSTRUCTION_LINE, REGISTER_UNKNOWN}
 use Rattle.bw_model.specs.declared.fault.Fault.{Fault}
 use Rattle.bw_model.specs.Fault.{at_line, ◌>>=◌, refused_if}
-use Rattle.bw_model.specs.Stored.{bits_in_slice}
+use Rattle.bw_model.specs.StoredCodes.{bits_in_slice}
 use Rattle.bw_model.specs.Variable.{first_variable, bit_variable}
 use Rattle.bw_diagram.specs.declared.chain.ChainKind.{ChainKind}
 use Rattle.bw_diagram.specs.declared.chain.ChainKind.TheVariants.{Less, Equal}
 use Rattle.bw_diagram.specs.declared.product.Connective.{Connective}
 use Rattle.bw_diagram.specs.declared.product.Connective.TheVariants as connective
 use Rattle.bw_diagram.specs.Facts.{Facts}
-use Rattle.bw_diagram.specs.Cited.{product_node, comparison_node, variable_node}
+use Rattle.bw_diagram.specs.References.{product_node, comparison_node, variable_node}
 use Rattle.bw_program.specs.declared.instr.Instr.{Instr}
-use Rattle.bw_program.specs.declared.instr.Instr.TheVariants.{Load, Nulls, Fill, And, Or, Xor, Not, ByteLt, ByteEq, Skip}
+use Rattle.bw_program.specs.declared.instr.Instr.TheVariants.{Load, Nulls, Fill, And, Or, Xor, Not}
+use Rattle.bw_program.specs.declared.instr.Instr.TheVariants.{ByteLt, ByteEq, Skip}
 use Rattle.bw_program.specs.Program.{instr_fits}
 use Rattle.bw_program.specs.ProgramText.{found_on}
 use Rattle.bw_cert_text.specs.declared.lines.InstructionEntry.{InstructionEntry}

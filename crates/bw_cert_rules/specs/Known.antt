@@ -1,6 +1,7 @@
 -- What is known of a program's registers at a place: for each of the 64 the node whose value it has
 -- in every lane, or none.
-use Rattle.std.specs.Prelude.{ℕ, Bool, ◌&&◌, ◌||◌, List, replicate, Option, Some, None, nat_le, slice_index_or, slice_set}
+use Rattle.std.specs.Prelude.{ℕ, Bool, ◌&&◌, ◌||◌, List, replicate, Option, Some, None, nat_le}
+use Rattle.std.specs.Prelude.{slice_index_or, slice_set}
 use Rattle.bw_model.specs.FaultTable.{INSTRUCTION_LINE, REGISTER_UNKNOWN}
 use Rattle.bw_model.specs.declared.fault.Fault.{Fault}
 use Rattle.bw_model.specs.Fault.{is_memory}

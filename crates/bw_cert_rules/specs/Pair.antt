@@ -15,7 +15,7 @@ use Rattle.bw_model.specs.declared.fault.Fault.{Fault}
 use Rattle.bw_model.specs.Fault.{at_line, ◌>>=◌}
 use Rattle.bw_model.specs.Variable.{null_variable}
 use Rattle.bw_diagram.specs.declared.product.Connective.TheVariants as connective
-use Rattle.bw_diagram.specs.Cited.{product_node}
+use Rattle.bw_diagram.specs.References.{product_node}
 use Rattle.bw_diagram.specs.Facts.{Facts}
 use Rattle.bw_cert_text.specs.declared.body.BodyLines.{BodyLines}
 use Rattle.bw_cert_text.specs.declared.lines.BodyLine.{BodyLine}
@@ -24,7 +24,8 @@ use Rattle.bw_cert_text.specs.declared.lines.Entry.TheVariants.{Condition}
 use Rattle.bw_cert_text.specs.declared.lines.ConditionEntry.{ConditionEntry}
 use Rattle.bw_cert_text.specs.BodyLines.{body_lines}
 use Rattle.bw_cert_text.specs.CertificateFields.{BodyFields, body_fields}
-use Rattle.bw_cert_text.specs.declared.lines.ConditionEntry.TheVariants.{NullTest, And, Or, Not, Is, IsUnknown}
+use Rattle.bw_cert_text.specs.declared.lines.ConditionEntry.TheVariants.{NullTest, And, Or, Not, Is}
+use Rattle.bw_cert_text.specs.declared.lines.ConditionEntry.TheVariants.{IsUnknown}
 use Rattle.bw_cert_rules.specs.declared.nodes.TruthPair.{TruthPair}
 use Rattle.bw_cert_rules.specs.declared.steps.Junction.{Junction}
 use Rattle.bw_cert_rules.specs.declared.steps.Junction.TheVariants.{All, Any}

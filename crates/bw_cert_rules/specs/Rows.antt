@@ -3,7 +3,7 @@
 use Rattle.std.specs.Prelude.{ℕ, Option, Some, None, slice_get}
 use Rattle.std.specs.Option.{option_and_then, option_map}
 use Rattle.bw_diagram.specs.declared.product.Connective.TheVariants.{Diff}
-use Rattle.bw_diagram.specs.Cited.{product_node, variable_node}
+use Rattle.bw_diagram.specs.References.{product_node, variable_node}
 use Rattle.bw_diagram.specs.Facts.{Facts}
 use Rattle.bw_cert_rules.specs.declared.nodes.TruthPair.{TruthPair}
 

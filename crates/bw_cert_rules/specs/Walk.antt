@@ -1,6 +1,7 @@
 -- The lines of a program's instructions and joins, checked one after another: what is known at the
 -- end, or the first error.
-use Rattle.std.specs.Prelude.{ℕ, suc, Bool, false, not, ◌==◌, List, [], ◌∷◌, map, Option, Some, None, Result, Ok, Err}
+use Rattle.std.specs.Prelude.{ℕ, suc, Bool, false, not, ◌==◌, List, [], ◌∷◌, map, Option, Some}
+use Rattle.std.specs.Prelude.{None, Result, Ok, Err}
 use Rattle.bw_model.specs.FaultTable.{INSTRUCTION_LINE, JOIN}
 use Rattle.bw_model.specs.declared.fault.Fault.{Fault}
 use Rattle.bw_model.specs.Fault.{at_line, ◌>>=◌, refused_if}

@@ -1,11 +1,15 @@
 //! The truth pair of a comparison: of a column with a literal, of two columns, or with the same
 //! truth on every row.
-ghost use Rattle.std.specs.Prelude.{◌≡◌, ◌==◌, ◌-ℤ◌, ◌<ℤ◌, ◌^◌, pos, ◌≤◌, ◌<◌, Some, None, IsTrue, length, if◌then◌else◌};
+ghost use Rattle.std.specs.Prelude.{◌≡◌, ◌==◌, ◌-ℤ◌, ◌<ℤ◌, ◌^◌, pos, ◌≤◌, ◌<◌, Some, None, IsTrue};
+ghost use Rattle.std.specs.Prelude.{length, if◌then◌else◌};
 ghost use Rattle.bw_model.specs.Cond.{is_within};
 ghost use Rattle.bw_model.specs.Code.{width_at};
 ghost use Rattle.bw_model.specs.Variable.{null_variable};
 ghost use Rattle.bw_diagram.specs.Chain.{first_node};
-ghost use Rattle.bw_cert_rules.specs.Comparison.{lo_at, fixed_pair, pair_if_known, exchange_if, bound_of, terminal_of, bound_node, with_literal, order_of, order_node, both_node, with_column, comparison};
+ghost use Rattle.bw_cert_rules.specs.Comparison.{lo_at, fixed_pair, pair_if_known, exchange_if};
+ghost use Rattle.bw_cert_rules.specs.Comparison.{bound_of, terminal_of, bound_node, with_literal};
+ghost use Rattle.bw_cert_rules.specs.Comparison.{order_of, order_node, both_node, with_column};
+ghost use Rattle.bw_cert_rules.specs.Comparison.{comparison};
 
 use crate::nodes::{TruthPair, value_node};
 use bw_cert_text::ConditionEntry;

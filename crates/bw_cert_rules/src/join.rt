@@ -1,13 +1,14 @@
 //! The lines of joins, each checked by its rule.
 ghost use Rattle.std.specs.Prelude.{◌≡◌, ◌<◌, true, IsTrue, IfOk, IfErr, Ok, Err};
 ghost use Rattle.bw_cert_text.specs.BodyLines.{body_lines};
-ghost use Rattle.bw_cert_rules.specs.Join.{is_zero, is_valid_keep, keeps_through, keeps_by_skip, keeps_by_skips};
+ghost use Rattle.bw_cert_rules.specs.Join.{is_zero, is_valid_keep, keeps_through, keeps_by_skip};
+ghost use Rattle.bw_cert_rules.specs.Join.{keeps_by_skips};
 ghost use Rattle.bw_cert_rules.specs.Known.{is_known_fault, nothing_known};
 ghost use Rattle.bw_cert_rules.specs.Walk.{is_join, apply_join, keeps_taken};
 
 use crate::edge::Edge;
-use crate::judge::LineChecker;
 use crate::known::Known;
+use crate::line_checker::LineChecker;
 use bw_cert_text::{BodyLines, EdgeProducts, Entry, Keep};
 use bw_diagram::Connective;
 use bw_model::{Fault, code};

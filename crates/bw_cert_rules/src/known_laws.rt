@@ -7,7 +7,8 @@ ghost use Rattle.bw_program.specs.Program.{ProgramShape, is_program};
 ghost use Rattle.bw_program.specs.declared.instr.Instr.{Instr};
 ghost use Rattle.bw_cert_text.specs.CertificateFields.{body_fields};
 ghost use Rattle.bw_cert_text.specs.declared.lines.BodyLine.{BodyLine};
-ghost use Rattle.bw_cert_rules.specs.Accepted.{Part, Obeys, Accepts, known_before, lines_of};
+ghost use Rattle.bw_cert_rules.specs.Accepted.{Part, AreValidParts, Accepts, known_before};
+ghost use Rattle.bw_cert_rules.specs.Accepted.{lines_of};
 ghost use Rattle.bw_cert_rules.specs.Sound.{Hold};
 ghost use Rattle.bw_cert_rules.specs.Walk.{WalkState, check_lines, line_fields};
 
@@ -20,13 +21,13 @@ use bw_diagram::cited_nodes_are_worth;
 pub fn skip_soundness()
     ensures reached { (facts : Facts) (program : ProgramShape) (parts : List Part)
         → AreTrue facts → IsTrue (is_program program)
-        → Obeys facts program.instrs parts
+        → AreValidParts facts program.instrs parts
         → (lanes : List Assignment) (place : ℕ) (state : State)
         → Reaches facts.columns lanes program place state
         → Hold facts lanes (known_before facts program.instrs parts place) state.registers }
     ensures end { (facts : Facts) (program : ProgramShape) (parts : List Part) → AreTrue facts
         → IsTrue (is_program program)
-        → Obeys facts program.instrs parts → (lanes : List Assignment)
+        → AreValidParts facts program.instrs parts → (lanes : List Assignment)
         → Hold facts lanes (known_before facts program.instrs parts (length program.instrs))
         (end_state facts.columns lanes program).registers }
 {
@@ -34,23 +35,23 @@ pub fn skip_soundness()
 }
 
 /// A law: lines that are accepted are those of parts that satisfy their rules.
-pub fn judged_lines_obey()
+pub fn accepted_lines_are_valid()
     ensures { (facts : Facts) (instrs : List Instr) (end : ℕ) (lines : List BodyLine)
         (taken : WalkState)
         → check_lines facts instrs end lines ≡ Ok taken → Accepts facts instrs lines taken }
 {}
 
 /// A law: the lines of parts that satisfy their rules are accepted, with what is known at the end.
-pub fn obeying_lines_are_judged()
+pub fn valid_lines_are_accepted()
     ensures { (facts : Facts) (instrs : List Instr) (parts : List Part) (end : ℕ)
-        → Obeys facts instrs parts
+        → AreValidParts facts instrs parts
         → check_lines facts instrs end (lines_of 0 parts)
         ≡ Ok (record { known = known_before facts instrs parts (length instrs); rest = [] }) }
 {}
 
 /// A law: lines of the same content are checked alike. The result is the same knowledge at the end,
 /// followed by lines of the same content, or the same error.
-pub fn lines_are_judged_by_what_they_say()
+pub fn lines_are_checked_by_their_fields()
     ensures { (facts : Facts) (instrs : List Instr) (end : ℕ) (lines others : List BodyLine)
         → map body_fields lines ≡ map body_fields others
         → line_fields (check_lines facts instrs end lines)

@@ -21,9 +21,9 @@
 mod comparison;
 mod edge;
 mod join;
-mod judge;
 mod known;
 mod known_laws;
+mod line_checker;
 mod nodes;
 mod pair_laws;
 mod steps;
@@ -32,7 +32,8 @@ mod walk;
 pub use edge::Edge;
 pub use known::Known;
 pub use known_laws::{
-    judged_lines_obey, lines_are_judged_by_what_they_say, obeying_lines_are_judged, skip_soundness,
+    accepted_lines_are_valid, lines_are_checked_by_their_fields, skip_soundness,
+    valid_lines_are_accepted,
 };
 pub use nodes::TruthPair;
 pub use pair_laws::{pairs_are_of_trees, pairs_tell_truths};

@@ -1,7 +1,8 @@
 //! Truth pairs, and the nodes that a line takes from the product rows that it references.
 ghost use Rattle.std.specs.Prelude.{◌≡◌};
 ghost use Rattle.bw_cert_rules.specs.Comparison.{constant_pair};
-ghost use Rattle.bw_cert_rules.specs.Rows.{pair_of_nodes, if_both, exchange_nodes, null_pair, value_node};
+ghost use Rattle.bw_cert_rules.specs.Rows.{pair_of_nodes, if_both, exchange_nodes, null_pair};
+ghost use Rattle.bw_cert_rules.specs.Rows.{value_node};
 
 use bw_diagram::{Connective, Diagram};
 use bw_model::Truth;

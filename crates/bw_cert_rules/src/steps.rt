@@ -8,7 +8,10 @@ ghost use Rattle.bw_model.specs.Fault.{at_line};
 ghost use Rattle.bw_cert_rules.specs.declared.steps.Junction.TheVariants.{All, Any};
 ghost use Rattle.bw_cert_text.specs.BodyLines.{body_lines};
 ghost use Rattle.bw_cert_rules.specs.Comparison.{fixed_pair, comparison};
-ghost use Rattle.bw_cert_rules.specs.Pair.{Answers, next_entry, next_number, expect_line, by_line, null_test, is_null_test, joined_pair, negated_pair, with_opposite, tested_pair, joined_parts, one_more, equations, pair_of};
+ghost use Rattle.bw_cert_rules.specs.Pair.{Answers, next_entry, next_number, expect_line, by_line};
+ghost use Rattle.bw_cert_rules.specs.Pair.{null_test, is_null_test, joined_pair, negated_pair};
+ghost use Rattle.bw_cert_rules.specs.Pair.{with_opposite, tested_pair, joined_parts, one_more};
+ghost use Rattle.bw_cert_rules.specs.Pair.{equations, pair_of};
 
 use crate::comparison::{comparison, fixed_pair};
 use crate::nodes::{TruthPair, null_pair};
@@ -50,7 +53,7 @@ pub fn pair<'a>(
         Cond::Cmp(op, x, y) => read_comparison(schema, diagram, *op, *x, *y, lines, end),
         Cond::Between(x, y, z) => between(schema, diagram, *x, *y, *z, lines, end),
         Cond::Among(x, items) => read_list(schema, diagram, *x, items, lines, end),
-        Cond::IsNull(x) => null_tested(schema, diagram, *x, lines, end),
+        Cond::IsNull(x) => read_null_test(schema, diagram, *x, lines, end),
         Cond::And(parts) => combine_parts(schema, diagram, Junction::All, parts, lines, end),
         Cond::Or(parts) => combine_parts(schema, diagram, Junction::Any, parts, lines, end),
         Cond::Not(part) => {
@@ -204,7 +207,7 @@ fn constant<'a>(truth: Truth, lines: BodyLines<'a>, end: u64) -> Read<'a>
 
 /// Returns the truth pair of `IS NULL`, by the next line.
 #[tactic(auto, unfolding(crate::specs::Pair::by_line))]
-fn null_tested<'a>(
+fn read_null_test<'a>(
     schema: &Schema,
     diagram: &Diagram<'_>,
     x: Operand,

@@ -8,8 +8,8 @@ ghost use Rattle.bw_cert_rules.specs.Walk.{check_lines, instruction_taken};
 ghost use Rattle.bw_cert_rules.specs.Known.{is_known_fault};
 
 use crate::edge::Edges;
-use crate::judge::LineChecker;
 use crate::known::Known;
+use crate::line_checker::LineChecker;
 use bw_cert_text::{BodyLines, Entry};
 use bw_diagram::Diagram;
 use bw_model::{Fault, Schema, code};

@@ -4,7 +4,7 @@ pub mod LineSpelled
 pub mod PrintLemmas
 pub mod PrintedText
 pub mod SpelledNumbers
-pub mod StoredLemmas
+pub mod StoredLineLemmas
 pub mod TextLemmas
 pub mod TextSpelling
 pub mod WordSpelling

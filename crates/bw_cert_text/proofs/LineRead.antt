@@ -1,5 +1,6 @@
 -- What is read of a line is spelled by its words.
-use Rattle.std.proofs.Common.{◌≡◌, refl, ℕ, Bool, true, false, cond, List, [], ◌∷◌, Option, Some, None, codes}
+use Rattle.std.proofs.Common.{◌≡◌, refl, ℕ, Bool, true, false, cond, List, [], ◌∷◌, Option, Some}
+use Rattle.std.proofs.Common.{None, codes}
 use Rattle.bw_diagram.specs.declared.chain.ChainKind.{ChainKind}
 use Rattle.bw_diagram.specs.declared.chain.ChainKind.TheVariants as compared
 use Rattle.bw_diagram.specs.declared.product.Reason.{Reason}
@@ -17,15 +18,26 @@ use Rattle.bw_text.specs.declared.form.Form.TheVariants as form
 use Rattle.bw_cert_text.specs.declared.lines.NodeLine.{NodeLine}
 use Rattle.bw_cert_text.specs.declared.lines.ProductLine.{ProductLine}
 use Rattle.bw_cert_text.specs.declared.lines.ConditionEntry.{ConditionEntry}
-use Rattle.bw_cert_text.specs.declared.lines.ConditionEntry.TheVariants.{Compare, CompareColumns, Fixed, NullTest, And, Or, Not, Is, IsUnknown}
+use Rattle.bw_cert_text.specs.declared.lines.ConditionEntry.TheVariants.{Compare, CompareColumns}
+use Rattle.bw_cert_text.specs.declared.lines.ConditionEntry.TheVariants.{Fixed, NullTest, And, Or}
+use Rattle.bw_cert_text.specs.declared.lines.ConditionEntry.TheVariants.{Not, Is, IsUnknown}
 use Rattle.bw_cert_text.specs.declared.lines.InstructionEntry.{InstructionEntry}
-use Rattle.bw_cert_text.specs.declared.lines.InstructionEntry.TheVariants.{Load, Fill, Op, Byte, Skip}
+use Rattle.bw_cert_text.specs.declared.lines.InstructionEntry.TheVariants.{Load, Fill, Op, Byte}
+use Rattle.bw_cert_text.specs.declared.lines.InstructionEntry.TheVariants.{Skip}
 use Rattle.bw_cert_text.specs.declared.lines.EdgeProducts.{EdgeProducts}
-use Rattle.bw_cert_text.specs.CertificateFields.{ColumnFields, One, Two, ChainFields, KeepFields, Condition, Instruction, Join, Kept}
-use Rattle.bw_cert_text.specs.LineText.{Node, Chain, Row, Body, ParsedLine, Before, End, node_in, one_column_in, two_columns_in, columns_after, chain_in, reason_in, row_in, compare_in, compare_columns_in, is_in, condition_in, instruction_in, edges_in, keep_in, parse_line_after, parse_line_by}
+use Rattle.bw_cert_text.specs.CertificateFields.{ColumnFields, One, Two, ChainFields, KeepFields}
+use Rattle.bw_cert_text.specs.CertificateFields.{Condition, Instruction, Join, Kept}
+use Rattle.bw_cert_text.specs.LineText.{Node, Chain, Row, Body, ParsedLine, Before, End, node_in}
+use Rattle.bw_cert_text.specs.LineText.{one_column_in, two_columns_in, columns_after, chain_in}
+use Rattle.bw_cert_text.specs.LineText.{reason_in, row_in, compare_in, compare_columns_in, is_in}
+use Rattle.bw_cert_text.specs.LineText.{condition_in, instruction_in, edges_in, keep_in}
+use Rattle.bw_cert_text.specs.LineText.{parse_line_after, parse_line_by}
 use Rattle.bw_cert_text.specs.Operand.{◌>?◌, optional_of, nothing_in, number_in, two_in}
 use Rattle.bw_text.specs.Register.{register_of}
-use Rattle.bw_cert_text.specs.Token.{Number, IsSpelled, AreSpelled, one_key, two_key, none, next, column_tokens, reason_tokens, condition_tokens, instruction_tokens, edge_tokens, keep_tokens, end_tokens, part_tokens, part_line}
+use Rattle.bw_cert_text.specs.Token.{Number, IsSpelled, AreSpelled, one_key, two_key, none, next}
+use Rattle.bw_cert_text.specs.Token.{column_tokens, reason_tokens, condition_tokens}
+use Rattle.bw_cert_text.specs.Token.{instruction_tokens, edge_tokens, keep_tokens, end_tokens}
+use Rattle.bw_cert_text.specs.Token.{part_tokens, part_line}
 use Rattle.bw_text.specs.LineKind.{kind_spelling, kind_of}
 use Rattle.bw_text.specs.Form.{form_of}
 use Rattle.bw_cert_text.specs.Connective.{connective_of}

@@ -12,13 +12,20 @@ use Rattle.bw_text.specs.declared.form.Form.TheVariants as form
 use Rattle.bw_cert_text.specs.declared.lines.NodeLine.{NodeLine}
 use Rattle.bw_cert_text.specs.declared.lines.ProductLine.{ProductLine}
 use Rattle.bw_cert_text.specs.declared.lines.ConditionEntry.{ConditionEntry}
-use Rattle.bw_cert_text.specs.declared.lines.ConditionEntry.TheVariants.{Compare, CompareColumns, Fixed, NullTest, And, Or, Not, Is, IsUnknown}
+use Rattle.bw_cert_text.specs.declared.lines.ConditionEntry.TheVariants.{Compare, CompareColumns}
+use Rattle.bw_cert_text.specs.declared.lines.ConditionEntry.TheVariants.{Fixed, NullTest, And, Or}
+use Rattle.bw_cert_text.specs.declared.lines.ConditionEntry.TheVariants.{Not, Is, IsUnknown}
 use Rattle.bw_cert_text.specs.declared.lines.InstructionEntry.{InstructionEntry}
-use Rattle.bw_cert_text.specs.declared.lines.InstructionEntry.TheVariants.{Load, Fill, Op, Byte, Skip}
+use Rattle.bw_cert_text.specs.declared.lines.InstructionEntry.TheVariants.{Load, Fill, Op, Byte}
+use Rattle.bw_cert_text.specs.declared.lines.InstructionEntry.TheVariants.{Skip}
 use Rattle.bw_cert_text.specs.declared.lines.EdgeProducts.{EdgeProducts}
-use Rattle.bw_cert_text.specs.CertificateFields.{ColumnFields, One, Two, ChainFields, EntryFields, Condition, Instruction, Join, Kept}
-use Rattle.bw_cert_text.specs.LineText.{Node, Chain, Row, Body, ParsedLine, Before, End, columns_after, reason_in, edges_in, parse_line_by}
-use Rattle.bw_cert_text.specs.Token.{AreSpelled, none, next, node_tokens, column_tokens, chain_tokens, reason_tokens, row_tokens, condition_tokens, instruction_tokens, edge_tokens, end_tokens, entry_tokens}
+use Rattle.bw_cert_text.specs.CertificateFields.{ColumnFields, One, Two, ChainFields, EntryFields}
+use Rattle.bw_cert_text.specs.CertificateFields.{Condition, Instruction, Join, Kept}
+use Rattle.bw_cert_text.specs.LineText.{Node, Chain, Row, Body, ParsedLine, Before, End}
+use Rattle.bw_cert_text.specs.LineText.{columns_after, reason_in, edges_in, parse_line_by}
+use Rattle.bw_cert_text.specs.Token.{AreSpelled, none, next, node_tokens, column_tokens}
+use Rattle.bw_cert_text.specs.Token.{chain_tokens, reason_tokens, row_tokens, condition_tokens}
+use Rattle.bw_cert_text.specs.Token.{instruction_tokens, edge_tokens, end_tokens, entry_tokens}
 use Rattle.bw_text.specs.LineKind.{kind_of}
 use Rattle.bw_text.specs.Form.{form_of}
 use Rattle.bw_cert_text.proofs.WordSpelling.{is_connective, read_optional}

@@ -1,17 +1,22 @@
 -- Canonical texts, one line and one place at a time.
-use Rattle.std.proofs.Common.{◌≡◌, ◌∙◌, refl, sym, ap, ℕ, suc, ◌+◌, ◌^◌, ◌<◌, ◌≤◌, Bool, true, false, ◌&&◌, List, [], ◌∷◌, ◌++◌, map, length, take, drop, get_or, nat_lt, add-one, append_assoc}
+use Rattle.std.proofs.Common.{◌≡◌, ◌∙◌, refl, sym, ap, ℕ, suc, ◌+◌, ◌^◌, ◌<◌, ◌≤◌, Bool, true}
+use Rattle.std.proofs.Common.{false, ◌&&◌, List, [], ◌∷◌, ◌++◌, map, length, take, drop, get_or}
+use Rattle.std.proofs.Common.{nat_lt, add-one, append_assoc}
 use Rattle.std.specs.List.{list_all}
 use Rattle.std.proofs.lemmas.List.{append-nil, drop_all, take_all}
 use Rattle.std.proofs.lemmas.List.Folds.{list_all_more, list_all-map}
 use Rattle.std.proofs.Math.Seq.{drop-cons}
 use Rattle.bw_model.specs.declared.column.Column.{Column}
 use Rattle.bw_cert_text.specs.declared.lines.EdgeProducts.{EdgeProducts}
-use Rattle.bw_cert_text.specs.CertificateFields.{chain_fields, body_fields, certificate_fields, ChainFields, BodyFields}
+use Rattle.bw_cert_text.specs.CertificateFields.{chain_fields, body_fields, certificate_fields}
+use Rattle.bw_cert_text.specs.CertificateFields.{ChainFields, BodyFields}
 use Rattle.bw_cert_text.specs.CertificateShape.{CertificateShape}
-use Rattle.bw_cert_text.specs.PrintText.{token_text, token_words, token_line, lines_text, body_tokens, respelled_chain, print_text}
-use Rattle.bw_text.specs.Printed.{spaced}
+use Rattle.bw_cert_text.specs.PrintText.{token_text, token_words, token_line, lines_text}
+use Rattle.bw_cert_text.specs.PrintText.{body_tokens, respelled_chain, print_text}
+use Rattle.bw_text.specs.Printing.{spaced}
 use Rattle.bw_cert_text.specs.Reprint.{are_small, numbers_fit}
-use Rattle.bw_cert_text.specs.Token.{Token, Number, edge_tokens, node_tokens, chain_tokens, row_tokens, end_tokens}
+use Rattle.bw_cert_text.specs.Token.{Token, Number, edge_tokens, node_tokens, chain_tokens}
+use Rattle.bw_cert_text.specs.Token.{row_tokens, end_tokens}
 
 pub lines-next : {A : Type 0} (tokens : A → List Token) (xs : List A) (i : ℕ) (d : A) → i < length xs →
     lines_text tokens (drop i xs) ≡ token_line (tokens (get_or xs i d)) ++ lines_text tokens (drop (i + 1) xs)

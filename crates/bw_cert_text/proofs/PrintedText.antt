@@ -1,5 +1,7 @@
 -- The canonical text of a certificate spells it, with its lines numbered one after another.
-use Rattle.std.proofs.Common.{◌≡◌, ◌∙◌, refl, sym, ap, subst, ℕ, zero, suc, ◌+◌, ◌^◌, ◌<◌, ◌≤◌, Bool, true, false, not, ◌&&◌, List, [], ◌∷◌, ◌++◌, length, map, Option, Some, None, nat_lt, append_assoc, arith}
+use Rattle.std.proofs.Common.{◌≡◌, ◌∙◌, refl, sym, ap, subst, ℕ, zero, suc, ◌+◌, ◌^◌, ◌<◌, ◌≤◌}
+use Rattle.std.proofs.Common.{Bool, true, false, not, ◌&&◌, List, [], ◌∷◌, ◌++◌, length, map}
+use Rattle.std.proofs.Common.{Option, Some, None, nat_lt, append_assoc, arith}
 use Rattle.std.specs.Char.{to_ascii_lowercase}
 use Rattle.std.specs.List.{list_all}
 use Rattle.std.proofs.lemmas.Bool.{ltb-true}
@@ -20,22 +22,35 @@ use Rattle.bw_cert_text.specs.declared.lines.ProductLine.{ProductLine}
 use Rattle.bw_cert_text.specs.declared.lines.EndLine.{EndLine}
 use Rattle.bw_cert_text.specs.declared.lines.EdgeProducts.{EdgeProducts}
 use Rattle.bw_cert_text.specs.declared.lines.ConditionEntry.{ConditionEntry}
-use Rattle.bw_cert_text.specs.declared.lines.ConditionEntry.TheVariants.{Compare, CompareColumns, Fixed, NullTest, And, Or, Not, Is, IsUnknown}
+use Rattle.bw_cert_text.specs.declared.lines.ConditionEntry.TheVariants.{Compare, CompareColumns}
+use Rattle.bw_cert_text.specs.declared.lines.ConditionEntry.TheVariants.{Fixed, NullTest, And, Or}
+use Rattle.bw_cert_text.specs.declared.lines.ConditionEntry.TheVariants.{Not, Is, IsUnknown}
 use Rattle.bw_cert_text.specs.declared.lines.InstructionEntry.{InstructionEntry}
-use Rattle.bw_cert_text.specs.declared.lines.InstructionEntry.TheVariants.{Load, Fill, Op, Byte, Skip}
-use Rattle.bw_cert_text.specs.CertificateFields.{ColumnFields, One, Two, ChainFields, EntryFields, Condition, Instruction, Join, Kept, BodyFields, CertificateFields}
+use Rattle.bw_cert_text.specs.declared.lines.InstructionEntry.TheVariants.{Load, Fill, Op, Byte}
+use Rattle.bw_cert_text.specs.declared.lines.InstructionEntry.TheVariants.{Skip}
+use Rattle.bw_cert_text.specs.CertificateFields.{ColumnFields, One, Two, ChainFields, EntryFields}
+use Rattle.bw_cert_text.specs.CertificateFields.{Condition, Instruction, Join, Kept, BodyFields}
+use Rattle.bw_cert_text.specs.CertificateFields.{CertificateFields}
 use Rattle.bw_cert_text.specs.Columns.{is_found, are_columns, has_columns}
-use Rattle.bw_cert_text.specs.CertificateText.{section_of, with_part, end_alone, SpellsFrom, before_end, at_end, IsCertificateText}
+use Rattle.bw_cert_text.specs.CertificateText.{section_of, with_part, end_alone, SpellsFrom}
+use Rattle.bw_cert_text.specs.CertificateText.{before_end, at_end, IsCertificateText}
 use Rattle.bw_cert_text.specs.LineText.{Part, Node, Chain, Row, Body}
-use Rattle.bw_cert_text.specs.PrintText.{token_text, token_line, lines_text, body_tokens, schema_spelling, spelling_at, respelled_columns, respelled_chain, respelled, certificate_text, print_text}
-use Rattle.bw_cert_text.specs.Reprint.{node_at, chain_at, row_at, body_at, numbered_on, renumbered, is_small, numbers_fit}
-use Rattle.bw_cert_text.specs.Token.{Token, Key, Number, Perhaps, Column, Register, IsSpelled, AreSpelled, none, next, node_tokens, column_tokens, chain_tokens, reason_tokens, row_tokens, condition_tokens, instruction_tokens, edge_tokens, entry_tokens, end_tokens, part_tokens, part_line}
+use Rattle.bw_cert_text.specs.PrintText.{token_text, token_line, lines_text, body_tokens}
+use Rattle.bw_cert_text.specs.PrintText.{schema_spelling, spelling_at, respelled_columns}
+use Rattle.bw_cert_text.specs.PrintText.{respelled_chain, respelled, certificate_text, print_text}
+use Rattle.bw_cert_text.specs.Reprint.{node_at, chain_at, row_at, body_at, numbered_on, renumbered}
+use Rattle.bw_cert_text.specs.Reprint.{is_small, numbers_fit}
+use Rattle.bw_cert_text.specs.Token.{Token, Key, Number, Perhaps, Column, Register, IsSpelled}
+use Rattle.bw_cert_text.specs.Token.{AreSpelled, none, next, node_tokens, column_tokens}
+use Rattle.bw_cert_text.specs.Token.{chain_tokens, reason_tokens, row_tokens, condition_tokens}
+use Rattle.bw_cert_text.specs.Token.{instruction_tokens, edge_tokens, entry_tokens, end_tokens}
+use Rattle.bw_cert_text.specs.Token.{part_tokens, part_line}
 use Rattle.bw_cert_text.specs.Connective.{connective_spelling}
 use Rattle.bw_model.proofs.BitsLemmas.{both}
 use Rattle.bw_text.proofs.DecimalLemmas.{natural_of-decimal, plain_number}
 use Rattle.bw_text.proofs.RegisterLemmas.{plain_register, register_of-text}
 use Rattle.bw_text.proofs.SpacedWords.{line_said}
-use Rattle.bw_text.specs.Printed.{is_plain_word}
+use Rattle.bw_text.specs.Printing.{is_plain_word}
 use Rattle.bw_model.proofs.NameLemmas.{named_column_is_there, plain_name}
 
 same_as_itself : (text : List ℕ) → same_text text text ≡ true
@@ -235,7 +250,7 @@ all_clear tokens clear (x ∷ xs) h =
     let here = both (list_all is_small (tokens x)) (list_all (λ x. list_all is_small (tokens x)) xs) h in
     and_true (list_all is_clear (tokens x)) (list_all (λ x. list_all is_clear (tokens x)) xs) (clear x here.0) (all_clear tokens clear xs here.1)
 
--- a section's lines, before a certificate that stands after them
+-- a section's lines, before a certificate that follows them
 from_lower : (s t : ℕ) (lines : List NumberedWords) (c : CertificateFields) → t ≤ s → SpellsFrom s lines c → SpellsFrom t lines c
 from_lower s t _ _ le (before_end part h says rest) = before_end part (omega (arith, le, h)) says rest
 from_lower s t _ _ le (at_end end says) = at_end end says

@@ -6,16 +6,17 @@ use Rattle.bw_text.specs.Lines.{NumberedWords}
 use Rattle.bw_cert_text.specs.declared.lines.EndLine.{EndLine}
 use Rattle.bw_cert_text.specs.CertificateFields.{CertificateFields}
 use Rattle.bw_cert_text.specs.LineText.{Part, ParsedLine, Before, End}
-use Rattle.bw_cert_text.specs.CertificateText.{section_of, with_part, end_alone, form_fault, parse_line_on, last_line, followed, certificate_from}
+use Rattle.bw_cert_text.specs.CertificateText.{section_of, with_part, end_alone, form_fault}
+use Rattle.bw_cert_text.specs.CertificateText.{parse_line_on, last_line, followed, certificate_from}
 
-pub from-end : (section : ℕ) (lines : List NumberedWords) (end : ℕ) → lines ≡ [] → certificate_from section lines end ≡ Err (form_fault end)
+pub certificate_from-end : (section : ℕ) (lines : List NumberedWords) (end : ℕ) → lines ≡ [] → certificate_from section lines end ≡ Err (form_fault end)
 unfolding certificate_from
-from-end section lines end e = rw e refl
+certificate_from-end section lines end e = rw e refl
 
-pub from-next : (section : ℕ) (lines rest : List NumberedWords) (line : NumberedWords) (end : ℕ) → lines ≡ line ∷ rest →
+pub certificate_from-next : (section : ℕ) (lines rest : List NumberedWords) (line : NumberedWords) (end : ℕ) → lines ≡ line ∷ rest →
     certificate_from section lines end ≡ (parse_line_on section line >>= λ said. followed rest (λ s. certificate_from s rest end) said)
 unfolding certificate_from
-from-next section lines rest line end e = rw e refl
+certificate_from-next section lines rest line end e = rw e refl
 
 both_steps : (r : Result CertificateFields Fault) (part : Part) (f g : CertificateFields → CertificateFields) → ((x : CertificateFields) → g x ≡ f (with_part part x)) →
     ((r >>= λ rest. Ok (with_part part rest)) >>= λ rest. Ok (f rest)) ≡ (r >>= λ rest. Ok (g rest))
@@ -23,27 +24,27 @@ both_steps (Ok x) part f g same = ap Ok (sym (same x))
 both_steps (Err fault) part f g same = refl
 
 -- the lines end
-pub told-end : (whole : Result CertificateFields Fault) (section : ℕ) (lines : List NumberedWords) (end : ℕ) (f : CertificateFields → CertificateFields) →
+pub whole-end : (whole : Result CertificateFields Fault) (section : ℕ) (lines : List NumberedWords) (end : ℕ) (f : CertificateFields → CertificateFields) →
     whole ≡ (certificate_from section lines end >>= λ c. Ok (f c)) → lines ≡ [] → whole ≡ Err (form_fault end)
-told-end whole section lines end f told e = told ∙ ap (λ (r : Result CertificateFields Fault). r >>= λ c. Ok (f c)) (from-end section lines end e)
+whole-end whole section lines end f told e = told ∙ ap (λ (r : Result CertificateFields Fault). r >>= λ c. Ok (f c)) (certificate_from-end section lines end e)
 
 module _ (whole : Result CertificateFields Fault) (section : ℕ) (lines rest : List NumberedWords) (line : NumberedWords) (end : ℕ) (f : CertificateFields → CertificateFields)
     (told : whole ≡ (certificate_from section lines end >>= λ c. Ok (f c))) where
-  -- a line is read, or refused
-  pub told-next : lines ≡ line ∷ rest → (r : Result ParsedLine Fault) → parse_line_on section line ≡ r →
+  -- a line is read, or rejected
+  pub whole-next : lines ≡ line ∷ rest → (r : Result ParsedLine Fault) → parse_line_on section line ≡ r →
       whole ≡ ((r >>= λ said. followed rest (λ s. certificate_from s rest end) said) >>= λ c. Ok (f c))
-  told-next e r is =
+  whole-next e r is =
       told ∙ ap (λ (r : Result CertificateFields Fault). r >>= λ c. Ok (f c))
-      (from-next section lines rest line end e ∙ ap (λ (r : Result ParsedLine Fault). r >>= λ said. followed rest (λ s. certificate_from s rest end) said) is)
+      (certificate_from-next section lines rest line end e ∙ ap (λ (r : Result ParsedLine Fault). r >>= λ said. followed rest (λ s. certificate_from s rest end) said) is)
 
-  pub told-before : lines ≡ line ∷ rest → (part : Part) (g : CertificateFields → CertificateFields) (next : ℕ) → parse_line_on section line ≡ Ok (Before part) → next ≡ section_of part →
+  pub whole-before : lines ≡ line ∷ rest → (part : Part) (g : CertificateFields → CertificateFields) (next : ℕ) → parse_line_on section line ≡ Ok (Before part) → next ≡ section_of part →
       ((x : CertificateFields) → g x ≡ f (with_part part x)) → whole ≡ (certificate_from next rest end >>= λ c. Ok (g c))
-  told-before e part g next is same step =
-      told-next e (Ok (Before part)) is ∙ both_steps (certificate_from (section_of part) rest end) part f g step
+  whole-before e part g next is same step =
+      whole-next e (Ok (Before part)) is ∙ both_steps (certificate_from (section_of part) rest end) part f g step
       ∙ ap (λ (s : ℕ). certificate_from s rest end >>= λ c. Ok (g c)) (sym same)
 
-  pub told-last : lines ≡ line ∷ rest → (last : EndLine) → parse_line_on section line ≡ Ok (End last) → whole ≡ last_line rest (f (end_alone last))
-  told-last e last is = told-next e (Ok (End last)) is ∙ go rest
+  pub whole-last : lines ≡ line ∷ rest → (last : EndLine) → parse_line_on section line ≡ Ok (End last) → whole ≡ last_line rest (f (end_alone last))
+  whole-last e last is = whole-next e (Ok (End last)) is ∙ go rest
     where
       go : (rest : List NumberedWords) → (last_line rest (end_alone last) >>= λ c. Ok (f c)) ≡ last_line rest (f (end_alone last))
       go [] = refl

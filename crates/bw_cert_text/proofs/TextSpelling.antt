@@ -1,5 +1,6 @@
 -- What is read of a text is spelled by it, and what is spelled is read.
-use Rattle.std.proofs.Common.{◌≡◌, ◌∙◌, refl, sym, ℕ, ◌≤◌, Bool, true, false, List, [], ◌∷◌, Option, Some, None, Result, Ok, Err, nat_lt}
+use Rattle.std.proofs.Common.{◌≡◌, ◌∙◌, refl, sym, ℕ, ◌≤◌, Bool, true, false, List, [], ◌∷◌, Option}
+use Rattle.std.proofs.Common.{Some, None, Result, Ok, Err, nat_lt}
 use Rattle.std.specs.Prelude.{IfOk, IsTrue}
 use Rattle.std.proofs.lemmas.Bool.{ltb-false, le-ltb}
 use Rattle.bw_model.specs.declared.fault.Fault.{Fault}
@@ -9,7 +10,10 @@ use Rattle.bw_cert_text.specs.declared.lines.EndLine.{EndLine}
 use Rattle.bw_cert_text.specs.CertificateShape.{CertificateShape}
 use Rattle.bw_cert_text.specs.CertificateFields.{CertificateFields, certificate_fields}
 use Rattle.bw_cert_text.specs.LineText.{Part, ParsedLine, Before, End, parse_line_in}
-use Rattle.bw_cert_text.specs.CertificateText.{section_of, with_part, end_alone, SpellsFrom, before_end, at_end, IsCertificateText, form_fault, is_before, ordered, last_line, followed, certificate_from, certificate_of}
+use Rattle.bw_cert_text.specs.CertificateText.{section_of, with_part, end_alone, SpellsFrom}
+use Rattle.bw_cert_text.specs.CertificateText.{before_end, at_end, IsCertificateText, form_fault}
+use Rattle.bw_cert_text.specs.CertificateText.{is_before, ordered, last_line, followed}
+use Rattle.bw_cert_text.specs.CertificateText.{certificate_from, certificate_of}
 use Rattle.bw_cert_text.specs.Reprint.{numbers_fit}
 use Rattle.bw_cert_text.proofs.SpelledNumbers.{text_small}
 use Rattle.bw_cert_text.proofs.LineRead.{line_read}

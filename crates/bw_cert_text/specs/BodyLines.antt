@@ -2,7 +2,7 @@
 use Rattle.std.specs.Prelude.{List}
 use Rattle.bw_cert_text.specs.declared.body.BodyLines.{BodyLines}
 use Rattle.bw_cert_text.specs.declared.lines.BodyLine.{BodyLine}
-use Rattle.bw_cert_text.specs.Stored.{lines_of}
+use Rattle.bw_cert_text.specs.StoredLines.{lines_of}
 
 unfoldable pub body_lines : BodyLines → List BodyLine
 body_lines body = lines_of body.kinds.now body.numbers.now body.pairs.now

@@ -1,12 +1,14 @@
 -- Certificate texts: the certificate that a text spells, or its first error.
-use Rattle.std.specs.Prelude.{◌≤◌, ℕ, Bool, false, ◌||◌, ◌==◌, List, [], ◌∷◌, Option, Some, None, Result, Ok, Err, IsTrue, nat_lt}
+use Rattle.std.specs.Prelude.{◌≤◌, ℕ, Bool, false, ◌||◌, ◌==◌, List, [], ◌∷◌, Option, Some, None}
+use Rattle.std.specs.Prelude.{Result, Ok, Err, IsTrue, nat_lt}
 use Rattle.bw_model.specs.FaultTable.{CERTIFICATE_FORM}
 use Rattle.bw_model.specs.declared.fault.Fault.{Fault}
 use Rattle.bw_model.specs.Fault.{at_line, is_memory, ◌>>=◌, refused_if}
 use Rattle.bw_text.specs.Lines.{NumberedWords, lines_in, end_in, from_line}
 use Rattle.bw_cert_text.specs.declared.lines.EndLine.{EndLine}
 use Rattle.bw_cert_text.specs.CertificateFields.{CertificateFields}
-use Rattle.bw_cert_text.specs.LineText.{Part, Node, Chain, Row, Body, ParsedLine, Before, End, parse_line_in}
+use Rattle.bw_cert_text.specs.LineText.{Part, Node, Chain, Row, Body, ParsedLine, Before, End}
+use Rattle.bw_cert_text.specs.LineText.{parse_line_in}
 use Rattle.bw_cert_text.specs.Token.{Says, part_line, part_tokens, end_tokens}
 
 -- the sections in their order: nodes, chains, product rows, and the lines after them

@@ -9,6 +9,6 @@ pub mod Operand
 pub mod Parts
 pub mod PrintText
 pub mod Reprint
-pub mod SaidFields
-pub mod Stored
+pub mod ParsedFields
+pub mod StoredLines
 pub mod Token

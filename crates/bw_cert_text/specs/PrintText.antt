@@ -1,13 +1,16 @@
 -- The canonical text of a certificate: keywords in capitals, single blanks, names in the schema's
 -- spelling, numbers without leading zeros, and one line feed after each line.
-use Rattle.std.specs.Prelude.{ℕ, List, [], ◌∷◌, ◌++◌, map, Option, Some, None, codes, slice_index_or}
+use Rattle.std.specs.Prelude.{ℕ, List, [], ◌∷◌, ◌++◌, map, Option, Some, None, codes}
+use Rattle.std.specs.Prelude.{slice_index_or}
 use Rattle.std.specs.Fmt.{decimal}
 use Rattle.bw_model.specs.declared.column.Column as column
 use Rattle.bw_model.specs.Column.{names_of, column_named}
-use Rattle.bw_cert_text.specs.CertificateFields.{ColumnFields, One, Two, ChainFields, BodyFields, CertificateFields}
-use Rattle.bw_text.specs.Printed.{line_text}
+use Rattle.bw_cert_text.specs.CertificateFields.{ColumnFields, One, Two, ChainFields, BodyFields}
+use Rattle.bw_cert_text.specs.CertificateFields.{CertificateFields}
+use Rattle.bw_text.specs.Printing.{line_text}
 use Rattle.bw_text.specs.Register.{register_text}
-use Rattle.bw_cert_text.specs.Token.{Token, Key, Number, Perhaps, Column, Register, node_tokens, chain_tokens, row_tokens, entry_tokens, end_tokens}
+use Rattle.bw_cert_text.specs.Token.{Token, Key, Number, Perhaps, Column, Register, node_tokens}
+use Rattle.bw_cert_text.specs.Token.{chain_tokens, row_tokens, entry_tokens, end_tokens}
 
 -- the canonical spelling of one item of a line
 abbrev pub token_text : Token → List ℕ

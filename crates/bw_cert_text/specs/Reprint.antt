@@ -1,12 +1,14 @@
 -- The certificate that a canonical text spells: in the schema's spelling, its lines numbered one
 -- after another.
-use Rattle.std.specs.Prelude.{ℕ, ◌+◌, ◌^◌, Bool, true, ◌&&◌, List, [], ◌∷◌, length, Some, None, nat_lt}
+use Rattle.std.specs.Prelude.{ℕ, ◌+◌, ◌^◌, Bool, true, ◌&&◌, List, [], ◌∷◌, length, Some, None}
+use Rattle.std.specs.Prelude.{nat_lt}
 use Rattle.std.specs.List.{list_all}
 use Rattle.bw_cert_text.specs.declared.lines.NodeLine.{NodeLine}
 use Rattle.bw_cert_text.specs.declared.lines.ProductLine.{ProductLine}
 use Rattle.bw_cert_text.specs.CertificateFields.{ChainFields, BodyFields, CertificateFields}
 use Rattle.bw_cert_text.specs.PrintText.{body_tokens}
-use Rattle.bw_cert_text.specs.Token.{Token, Key, Number, Perhaps, Column, Register, node_tokens, chain_tokens, row_tokens, end_tokens}
+use Rattle.bw_cert_text.specs.Token.{Token, Key, Number, Perhaps, Column, Register, node_tokens}
+use Rattle.bw_cert_text.specs.Token.{chain_tokens, row_tokens, end_tokens}
 
 -- a line of each section, with this number
 abbrev pub node_at : ℕ → NodeLine → NodeLine

@@ -1,6 +1,8 @@
 //! The lines after the product rows, stored in little memory.
-ghost use Rattle.std.specs.Prelude.{◌≡◌, ◌++◌, ◌∷◌, [], length, MatchOption, OnOk, OnErr, is_ok, is_some, if◌then◌else◌};
-ghost use Rattle.bw_cert_text.specs.Stored.{line_of, entry_of, condition_of, pairs_of, number_if};
+ghost use Rattle.std.specs.Prelude.{◌≡◌, ◌++◌, ◌∷◌, [], length, MatchOption, OnOk, OnErr, is_ok};
+ghost use Rattle.std.specs.Prelude.{is_some, if◌then◌else◌};
+ghost use Rattle.bw_cert_text.specs.StoredLines.{line_of, entry_of, condition_of, pairs_of};
+ghost use Rattle.bw_cert_text.specs.StoredLines.{number_if};
 ghost use Rattle.bw_cert_text.specs.declared.lines.Entry.TheVariants as said;
 
 use crate::edge_pairs::EdgePairs;
@@ -26,7 +28,7 @@ pub struct Body {
 impl Model for Body {
     ghost use Rattle.std.specs.Prelude.{List, IsTrue};
     ghost use Rattle.bw_cert_text.specs.declared.lines.BodyLine.{BodyLine};
-    ghost use Rattle.bw_cert_text.specs.Stored.{lines_of, are_all};
+    ghost use Rattle.bw_cert_text.specs.StoredLines.{lines_of, are_all};
 
     ghost Value = { List BodyLine };
 
@@ -38,10 +40,10 @@ impl Model for Body {
 
 impl Body {
     ghost use Rattle.bw_cert_text.specs.BodyLines.{body_lines};
-    ghost use Rattle.bw_cert_text.specs.Stored.{size, pairs_of, line_of};
+    ghost use Rattle.bw_cert_text.specs.StoredLines.{size, pairs_of, line_of};
 
     /// Returns no lines.
-    #[tactic(auto, unfolding(crate::specs::Stored::lines_of, crate::specs::Stored::are_all))]
+    #[tactic(auto, unfolding(crate::specs::StoredLines::lines_of, crate::specs::StoredLines::are_all))]
     pub fn new(alloc: Global) -> Self
         ensures { result ≡ [] }
     {

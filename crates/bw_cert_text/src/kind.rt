@@ -39,7 +39,7 @@ pub(crate) struct KeptRegister {
 }
 
 impl Kind {
-    ghost use Rattle.bw_cert_text.specs.Stored.{size};
+    ghost use Rattle.bw_cert_text.specs.StoredLines.{size};
 
     /// Returns how many numbers such a line has, the first of which is the line's own.
     pub(crate) fn size(self) -> usize

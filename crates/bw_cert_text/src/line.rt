@@ -2,9 +2,13 @@
 ghost use Rattle.std.specs.Prelude.{◌≡◌, List, ℕ, map, option_map, IfOk};
 ghost use Rattle.bw_text.specs.Lines.{line_of};
 ghost use Rattle.bw_cert_text.specs.CertificateFields.{column_fields, chain_fields, keep_fields};
-ghost use Rattle.bw_cert_text.specs.LineText.{node_in, one_column_in, two_columns_in, columns_after, chain_in, reason_in, row_in, compare_in, compare_columns_in, is_in, condition_in, byte_in, instruction_in, edges_in, keep_in, parse_line_after, parse_line_in};
+ghost use Rattle.bw_cert_text.specs.LineText.{node_in, one_column_in, two_columns_in};
+ghost use Rattle.bw_cert_text.specs.LineText.{columns_after, chain_in, reason_in, row_in};
+ghost use Rattle.bw_cert_text.specs.LineText.{compare_in, compare_columns_in, is_in, condition_in};
+ghost use Rattle.bw_cert_text.specs.LineText.{byte_in, instruction_in, edges_in, keep_in};
+ghost use Rattle.bw_cert_text.specs.LineText.{parse_line_after, parse_line_in};
 ghost use Rattle.bw_text.specs.declared.line_kind.LineKind.TheVariants as kinds;
-ghost use Rattle.bw_cert_text.specs.SaidFields.{part_fields, parsed_fields};
+ghost use Rattle.bw_cert_text.specs.ParsedFields.{part_fields, parsed_fields};
 
 use crate::connective::connective_of;
 use crate::edge_pairs::EdgePairs;
@@ -384,12 +388,12 @@ fn parse_line_after<'a, 'b>(
         ≡ parse_line_after line kind (map (λ word. word.now) words.now)) }
 {
     match kind {
-        LineKind::Node => Ok(node_said(line, words)),
+        LineKind::Node => Ok(parse_node(line, words)),
         LineKind::Chain => Ok(chain_said(line, words)),
-        LineKind::Row => Ok(row_said(line, words)),
-        LineKind::Condition(kind) => Ok(condition_said(line, kind, words)),
-        LineKind::Instruction(kind) => Ok(instruction_said(line, kind, words)),
-        LineKind::Join => Ok(join_said(line, words)),
+        LineKind::Row => Ok(parse_row(line, words)),
+        LineKind::Condition(kind) => Ok(parse_condition(line, kind, words)),
+        LineKind::Instruction(kind) => Ok(parse_instruction(line, kind, words)),
+        LineKind::Join => Ok(parse_join(line, words)),
         LineKind::Keep => {
             let Some(keep) = keep_in(alloc, words, pairs)? else {
                 return Ok(None);
@@ -399,12 +403,12 @@ fn parse_line_after<'a, 'b>(
                 entry: Entry::Keep(keep),
             }))))
         }
-        LineKind::End => Ok(end_said(line, words)),
+        LineKind::End => Ok(parse_end(line, words)),
     }
 }
 
 /// Returns the fields in the words after `NODE`.
-fn node_said<'a, 'b>(line: u64, words: &[&'a [u8]]) -> Option<ParsedLine<'a, 'b>>
+fn parse_node<'a, 'b>(line: u64, words: &[&'a [u8]]) -> Option<ParsedLine<'a, 'b>>
     ensures { option_map parsed_fields result
         ≡ parse_line_after line kinds.Node (map (λ word. word.now) words.now) }
 {
@@ -422,7 +426,7 @@ fn chain_said<'a, 'b>(line: u64, words: &[&'a [u8]]) -> Option<ParsedLine<'a, 'b
 }
 
 /// Returns the fields in the words after `ROW`.
-fn row_said<'a, 'b>(line: u64, words: &[&'a [u8]]) -> Option<ParsedLine<'a, 'b>>
+fn parse_row<'a, 'b>(line: u64, words: &[&'a [u8]]) -> Option<ParsedLine<'a, 'b>>
     ensures { option_map parsed_fields result
         ≡ parse_line_after line kinds.Row (map (λ word. word.now) words.now) }
 {
@@ -431,7 +435,7 @@ fn row_said<'a, 'b>(line: u64, words: &[&'a [u8]]) -> Option<ParsedLine<'a, 'b>>
 }
 
 /// Returns the fields in the line of a condition's step.
-fn condition_said<'a, 'b>(
+fn parse_condition<'a, 'b>(
     line: u64,
     kind: ConditionKind,
     words: &[&'a [u8]],
@@ -447,7 +451,7 @@ fn condition_said<'a, 'b>(
 }
 
 /// Returns the fields in the line of an instruction.
-fn instruction_said<'a, 'b>(
+fn parse_instruction<'a, 'b>(
     line: u64,
     kind: InstructionKind,
     words: &[&'a [u8]],
@@ -463,7 +467,7 @@ fn instruction_said<'a, 'b>(
 }
 
 /// Returns the fields in the words after `JOIN`.
-fn join_said<'a, 'b>(line: u64, words: &[&'a [u8]]) -> Option<ParsedLine<'a, 'b>>
+fn parse_join<'a, 'b>(line: u64, words: &[&'a [u8]]) -> Option<ParsedLine<'a, 'b>>
     ensures { option_map parsed_fields result
         ≡ parse_line_after line kinds.Join (map (λ word. word.now) words.now) }
 {
@@ -475,7 +479,7 @@ fn join_said<'a, 'b>(line: u64, words: &[&'a [u8]]) -> Option<ParsedLine<'a, 'b>
 }
 
 /// Returns the fields in the words after `END`.
-fn end_said<'a, 'b>(line: u64, words: &[&'a [u8]]) -> Option<ParsedLine<'a, 'b>>
+fn parse_end<'a, 'b>(line: u64, words: &[&'a [u8]]) -> Option<ParsedLine<'a, 'b>>
     ensures { option_map parsed_fields result
         ≡ parse_line_after line kinds.End (map (λ word. word.now) words.now) }
 {

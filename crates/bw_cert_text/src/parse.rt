@@ -1,13 +1,17 @@
 //! Certificate texts, read line by line: nodes, chains and product rows, the lines after them, and
 //! `END`.
-ghost use Rattle.std.specs.Prelude.{◌≡◌, ◌≤◌, ◌^◌, ℕ, List, Ok, Err, false, option_map, IfOk, IfErr, OnOk, IsTrue};
+ghost use Rattle.std.specs.Prelude.{◌≡◌, ◌≤◌, ◌^◌, ℕ, List, Ok, Err, false, option_map, IfOk};
+ghost use Rattle.std.specs.Prelude.{IfErr, OnOk, IsTrue};
 ghost use Rattle.bw_model.specs.Fault.{MatchesUnlessOom, is_memory};
 ghost use Rattle.bw_text.specs.Lines.{lines_in, end_in, line_of};
 ghost use Rattle.bw_cert_text.specs.CertificateFields.{CertificateFields, certificate_fields};
-ghost use Rattle.bw_cert_text.specs.CertificateText.{certificate_of, certificate_from, parse_line_on, section_of, with_part, end_alone, last_line, is_before, IsCertificateText, IsCertificateFault};
+ghost use Rattle.bw_cert_text.specs.CertificateText.{certificate_of, certificate_from};
+ghost use Rattle.bw_cert_text.specs.CertificateText.{parse_line_on, section_of, with_part};
+ghost use Rattle.bw_cert_text.specs.CertificateText.{end_alone, last_line, is_before};
+ghost use Rattle.bw_cert_text.specs.CertificateText.{IsCertificateText, IsCertificateFault};
 ghost use Rattle.bw_cert_text.specs.Parts.{append_fields};
 ghost use Rattle.bw_cert_text.specs.Reprint.{numbers_fit};
-ghost use Rattle.bw_cert_text.specs.SaidFields.{part_fields, parsed_fields};
+ghost use Rattle.bw_cert_text.specs.ParsedFields.{part_fields, parsed_fields};
 
 use crate::body::Body;
 use crate::certificate::Certificate;

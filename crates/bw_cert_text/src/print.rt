@@ -1,5 +1,6 @@
 //! Certificates in their canonical form.
-ghost use Rattle.std.specs.Prelude.{ℕ, List, IsTrue, ◌≡◌, ◌++◌, ◌∷◌, [], map, IfOk, OnOk, IsOkUnless};
+ghost use Rattle.std.specs.Prelude.{ℕ, List, IsTrue, ◌≡◌, ◌++◌, ◌∷◌, [], map, IfOk, OnOk};
+ghost use Rattle.std.specs.Prelude.{IsOkUnless};
 ghost use Rattle.bw_diagram.specs.declared.chain.ChainKind.TheVariants as compared;
 ghost use Rattle.std.specs.List.{list_all};
 ghost use Rattle.bw_model.specs.declared.column.Column.{Column};
@@ -10,10 +11,17 @@ ghost use Rattle.bw_cert_text.specs.BodyLines.{body_lines};
 ghost use Rattle.bw_cert_text.specs.CertificateText.{IsCertificateText};
 ghost use Rattle.bw_cert_text.specs.Columns.{are_columns, has_columns};
 ghost use Rattle.bw_cert_text.specs.Reprint.{is_small, are_small, numbers_fit, renumbered};
-ghost use Rattle.bw_cert_text.specs.CertificateFields.{CertificateFields, certificate_fields, column_fields, chain_fields, keep_fields, entry_fields, body_fields};
-ghost use Rattle.bw_cert_text.specs.PrintText.{token_text, token_words, token_line, lines_text, body_tokens, schema_spelling, respelled_chain, respelled, print_text};
-ghost use Rattle.bw_text.specs.Printed.{piece_text, spaced};
-ghost use Rattle.bw_cert_text.specs.Token.{Key, Number, Perhaps, one_key, two_key, node_tokens, chain_tokens, row_tokens, condition_tokens, instruction_tokens, edge_tokens, keep_tokens, entry_tokens, end_tokens};
+ghost use Rattle.bw_cert_text.specs.CertificateFields.{CertificateFields, certificate_fields};
+ghost use Rattle.bw_cert_text.specs.CertificateFields.{column_fields, chain_fields, keep_fields};
+ghost use Rattle.bw_cert_text.specs.CertificateFields.{entry_fields, body_fields};
+ghost use Rattle.bw_cert_text.specs.PrintText.{token_text, token_words, token_line, lines_text};
+ghost use Rattle.bw_cert_text.specs.PrintText.{body_tokens, schema_spelling, respelled_chain};
+ghost use Rattle.bw_cert_text.specs.PrintText.{respelled, print_text};
+ghost use Rattle.bw_text.specs.Printing.{piece_text, spaced};
+ghost use Rattle.bw_cert_text.specs.Token.{Key, Number, Perhaps, one_key, two_key, node_tokens};
+ghost use Rattle.bw_cert_text.specs.Token.{chain_tokens, row_tokens, condition_tokens};
+ghost use Rattle.bw_cert_text.specs.Token.{instruction_tokens, edge_tokens, keep_tokens};
+ghost use Rattle.bw_cert_text.specs.Token.{entry_tokens, end_tokens};
 
 use crate::body::BodyLines;
 use crate::certificate::Certificate;

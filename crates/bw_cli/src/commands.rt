@@ -1,24 +1,26 @@
-//! What the command line may be: `bw direct SCHEMA CSV SQL`, `bw infer [--table NAME] CSV`,
-//! `bw load [--layout planes|slices] SCHEMA CSV OUT`, `bw query [--program FILE] [--stats] TABLE SQL`,
-//! `bw session [--program FILE]... [--stats] TABLE`, `bw plan SCHEMA SQL`, `bw check SCHEMA SQL FILE`, `bw info TABLE` or
-//! `bw dump TABLE`, each with `--explain` before the command or after it.
-use crate::words::CommandArgs;
+//! The commands, their arguments and their help: `bw direct SCHEMA CSV SQL`, `bw infer [--table
+//! NAME] CSV`, `bw load [--layout planes|slices] SCHEMA CSV OUT`, `bw query [--program FILE]
+//! [--stats] TABLE SQL`, `bw session [--program FILE]... [--stats] TABLE`, `bw plan SCHEMA SQL`,
+//! `bw check SCHEMA SQL FILE`, `bw info TABLE` and `bw dump TABLE`. Each takes `--explain`, before
+//! the command or after it.
+use crate::args::CommandArgs;
 use bw_file::Layout;
 use clap::{Arg, ArgAction, ArgMatches, Command, Error};
 use std::alloc::{AllocError, Global};
 
-/// The version of this program and, below it, the sum of the logic by which it was proved, as `rt version` prints it.
+/// The version of this program and, below it, the sum of the logic that proved it, as `rt version`
+/// prints it.
 const VERSION: &str = "0.2.0\nRattle logic dac8208d650f15bf";
 
-/// A word or an option that a command takes.
+/// An argument or an option of a command.
 #[derive(Clone, Copy)]
 enum ArgSpec {
-    /// A name of a file, and what the file is.
+    /// A file name: its name in the help, and what the file is.
     File(&'static str, &'static str),
     Statement,
-    /// An option with a value: its name, the value's, and what it is.
+    /// An option with a value: its name, its value's name, and its help.
     Valued(&'static str, &'static str, &'static str),
-    /// The same, of an option that may be there more than once.
+    /// An option with a value that may be repeated: as above.
     Repeated(&'static str, &'static str, &'static str),
     Layout,
     Stats,
@@ -51,7 +53,7 @@ const PROGRAMS: ArgSpec = ArgSpec::Repeated(
     "A program file to scan by if it's accepted for a statement; may be given again",
 );
 
-/// A command: its name, what it does, an example of it, and what it takes.
+/// A command: its name, its help, an example, and its arguments.
 #[derive(Clone, Copy)]
 struct CommandSpec {
     name: &'static str,
@@ -118,7 +120,7 @@ const COMMANDS: [CommandSpec; 9] = [
     },
 ];
 
-/// Reads the command line. Its first word is the program's name.
+/// Parses the command line, whose first argument is the program's name.
 pub(crate) fn matches_of<'a>(alloc: Global, words: &'a [String]) -> Result<ArgMatches<'a>, Error> {
     with_commands(alloc)?.try_get_matches_from(words)
 }
@@ -128,7 +130,7 @@ fn with_commands<'a>(alloc: Global) -> Result<Command<'a>, AllocError> {
     for told in &COMMANDS {
         program = with_command(program, command(alloc, told))?;
     }
-    program.arg(explained(alloc))
+    program.arg(explain_option(alloc))
 }
 
 fn with_command<'a>(
@@ -141,7 +143,7 @@ fn with_command<'a>(
     }
 }
 
-/// The program, before it has its commands.
+/// Returns the program without its commands.
 fn program<'a>(alloc: Global) -> Command<'a> {
     Command::new(alloc, "bw")
         .about("A column store for integer tables, with proved answers")
@@ -168,15 +170,27 @@ fn argument<'a>(alloc: Global, taken: ArgSpec) -> Arg<'a> {
     match taken {
         ArgSpec::File(name, help) => Arg::new(alloc, name).required(true).help(help),
         ArgSpec::Statement => statement(alloc),
-        ArgSpec::Valued(name, value, help) => valued(alloc, ArgAction::Set, name, value, help),
-        ArgSpec::Repeated(name, value, help) => valued(alloc, ArgAction::Append, name, value, help),
+        ArgSpec::Valued(name, value, help) => value_option(
+            alloc,
+            ArgAction::Set,
+            name,
+            value,
+            help,
+        ),
+        ArgSpec::Repeated(name, value, help) => value_option(
+            alloc,
+            ArgAction::Append,
+            name,
+            value,
+            help,
+        ),
         ArgSpec::Layout => layout(alloc),
         ArgSpec::Stats => stats(alloc),
     }
 }
 
-/// An option with a value.
-fn valued<'a>(
+/// Returns an option with a value.
+fn value_option<'a>(
     alloc: Global,
     action: ArgAction,
     name: &'static str,
@@ -190,7 +204,7 @@ fn valued<'a>(
         .help(help)
 }
 
-/// The program files that the command line gives a session.
+/// Returns the program files that the command line gives a session. Errors: memory is refused.
 pub(crate) fn programs_of<'a>(
     alloc: Global,
     matches: &ArgMatches<'a>,
@@ -204,13 +218,13 @@ pub(crate) fn programs_of<'a>(
     }
 }
 
-/// Whether the command line asks for explanations.
+/// Returns whether the command line has `--explain`.
 pub(crate) fn is_explained(matches: &ArgMatches<'_>) -> bool {
     matches.get_flag("explain")
 }
 
-/// The words of the command that the command line has.
-pub(crate) fn words_of<'a>(matches: &ArgMatches<'a>) -> Option<CommandArgs<'a>> {
+/// Returns the command with its arguments.
+pub(crate) fn command_args<'a>(matches: &ArgMatches<'a>) -> Option<CommandArgs<'a>> {
     let (name, found) = matches.subcommand()?;
     match name {
         "direct" => direct_words(found),
@@ -293,7 +307,7 @@ fn check_words<'a>(found: &ArgMatches<'a>) -> Option<CommandArgs<'a>> {
     })
 }
 
-/// The layout that `--layout` tells, and bit planes where it isn't there.
+/// Returns the layout that `--layout` names; bit planes, if it isn't given.
 fn layout_of(matches: &ArgMatches<'_>) -> Layout {
     match matches.get_str("layout") {
         Some("slices") => Layout::Slices,
@@ -309,8 +323,8 @@ fn layout<'a>(alloc: Global) -> Arg<'a> {
         .help("How to store segments: as bit planes (the default) or byte slices")
 }
 
-/// The option that each command takes, before its name or after it.
-fn explained<'a>(alloc: Global) -> Arg<'a> {
+/// Returns the option `--explain`, which may precede the command or follow it.
+fn explain_option<'a>(alloc: Global) -> Arg<'a> {
     Arg::new(alloc, "explain")
         .long("explain")
         .action(ArgAction::SetTrue)
@@ -325,7 +339,7 @@ fn stats<'a>(alloc: Global) -> Arg<'a> {
         .help("Print scan statistics to standard error")
 }
 
-/// The statement. It may begin with `-`, as a comment does.
+/// Returns the argument for a statement. It may begin with `-`, as a comment does.
 fn statement<'a>(alloc: Global) -> Arg<'a> {
     Arg::new(alloc, "SQL")
         .required(true)

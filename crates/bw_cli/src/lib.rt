@@ -1,13 +1,12 @@
-//! The words of the command line.
+//! The command line: the commands, their arguments and their help.
 //!
-//! What a command takes, and what is said of a command line that can't be used, is the kit's `clap`: [`asked_by`] hands
-//! the words to it, and tells which command they ask for. Nothing is promised of them but that they return; what they
-//! say is tested on the program.
+//! [`parse_invocation`] parses the arguments by the kit's `clap`, which also writes help and usage
+//! errors. Only that these calls return is proved; what they return is tested on the program.
 #![tactic(auto)]
 
+mod args;
 mod commands;
-mod given;
-mod words;
+mod invocation;
 
-pub use given::{Invocation, USAGE, asked_by, words_given};
-pub use words::CommandArgs;
+pub use args::CommandArgs;
+pub use invocation::{Invocation, USAGE, parse_invocation, process_args};

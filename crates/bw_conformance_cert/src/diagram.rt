@@ -3,7 +3,7 @@ use bw_diagram::Diagram;
 use bw_model::{Fault, Schema};
 use std::test::Fail;
 
-/// `a` has eight bits, of variables 0 to 7, and `b` five, of variables 9 to 13, after its null variable.
+/// `a` has eight bits, variables 0 to 7, and `b` five, variables 9 to 13, after its null variable.
 const TABLE: &str = "TABLE t\nCOLUMN a 0 255 NOT NULL\nCOLUMN b -10 10\n";
 
 const fn refusal(code: u16) -> Result<(), Fault> {

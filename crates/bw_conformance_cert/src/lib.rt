@@ -14,9 +14,9 @@ mod diagram;
 #[cfg(test)]
 mod files;
 #[cfg(test)]
-mod held_lines;
-#[cfg(test)]
 mod lines;
+#[cfg(test)]
+mod lines_after_others;
 #[cfg(test)]
 mod rows_in_memory;
 #[cfg(test)]

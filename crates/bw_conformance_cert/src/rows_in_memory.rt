@@ -36,7 +36,7 @@ fn rows_of(alloc: Global, table: &[[Value; 2]]) -> Result<Vec<Row>, Fail>
     Ok(rows)
 }
 
-/// The query of a statement over the table of two columns.
+/// Returns the query of a statement over the table of two columns.
 fn query(rt: &(impl Abort + AllocGlobal), sql: &str) -> Result<Query, Fail>
     ensures cond { IfOk result (λ query. IsTrue (names_within 2 query.cond)) }
     ensures items { IfOk result (λ query. IsTrue (list_all (item_within 2) query.items.items)) }

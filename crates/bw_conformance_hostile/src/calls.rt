@@ -51,7 +51,7 @@ pub struct Reads {
 }
 
 impl Reads {
-    /// Sources that give all that is asked for.
+    /// Sources that yield all that is requested.
     pub const WHOLE: Reads = Reads {
         piece: usize::MAX,
         fail_at: [0; 3],
@@ -100,7 +100,7 @@ impl Call<'_> {
         Ok(by)
     }
 
-    /// What is to serve the call's query, if that is reported.
+    /// Returns what is to serve the call's query, if that is reported.
     pub fn served_by(self) -> Option<By> {
         match self {
             Call::Answer(_, _) => Some(By::Program),
@@ -109,7 +109,7 @@ impl Call<'_> {
     }
 }
 
-/// The table's file.
+/// Returns the table's file.
 pub fn table_file(alloc: Global, layout: Layout) -> Result<Vec<u8>, Fault> {
     let mut schema = FromRead::new(SCHEMA.as_bytes());
     let mut csv = FromRead::new(CSV.as_bytes());
@@ -118,7 +118,7 @@ pub fn table_file(alloc: Global, layout: Layout) -> Result<Vec<u8>, Fault> {
     Ok(sink.into_inner())
 }
 
-/// The planner's program file for a statement's condition, which is accepted for it.
+/// Returns the planner's program file for a statement's condition, which is accepted for it.
 pub fn plan_file(alloc: Global, sql: &str) -> Result<Vec<u8>, Fault> {
     let mut sink = ToWrite::new(Vec::new(alloc));
     plan_text(alloc, SCHEMA.as_bytes(), sql.as_bytes(), &mut sink)?;

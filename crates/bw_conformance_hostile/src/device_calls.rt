@@ -67,8 +67,8 @@ fn each_write_may_fail(rt: HostRuntime) -> Result<(), Fail> {
     Ok(())
 }
 
-/// A call whose source, the one of this number, gives one byte a read: it reads its bytes and the
-/// end, and where a read fails, the call answers so and has written nothing.
+/// Checks a call whose source, the one of this number, yields one byte a read: it reads its bytes
+/// and the end, and if a read fails, the call returns that error and has written nothing.
 fn check_reads(
     rt: &(impl Abort + AllocGlobal),
     call: Call<'_>,
@@ -145,8 +145,8 @@ fn facts_need_the_header_alone(rt: HostRuntime) -> Result<(), Fail> {
     Ok(())
 }
 
-/// A statement is refused once the header was read, whatever the segments would be: its fault comes
-/// where the header's 56 bytes come, and a failed read before.
+/// A statement is rejected once the header was read, whatever the segments are: its error is
+/// returned if the header's 56 bytes arrive, and a failed read if they don't.
 #[test]
 fn a_statement_comes_before_the_segments(rt: HostRuntime) -> Result<(), Fail> {
     let file = table_file(rt.alloc(), Layout::Planes)?;
@@ -175,7 +175,7 @@ fn a_statement_comes_before_the_segments(rt: HostRuntime) -> Result<(), Fail> {
     Ok(())
 }
 
-/// These bytes, and then one without end.
+/// Returns a source of these bytes, and then one without end.
 fn endless(left: &[u8], then: u8, piece: usize) -> Endless<'_> {
     Endless {
         left,
@@ -220,7 +220,7 @@ fn an_endless_schema_is_too_long(rt: HostRuntime) {
     assert!(rt; sink.into_inner().as_slice().starts_with(b"bw: 106 "));
 }
 
-/// A call over a CSV text without end takes one byte more than a CSV text may have.
+/// A call over a CSV text without end reads one byte more than a CSV text may have.
 #[test]
 fn an_endless_csv_is_too_long(rt: HostRuntime) {
     let piece = 1 << 20;
@@ -274,7 +274,7 @@ enum Line {
 }
 
 impl Line {
-    /// Writes the line, and tells whether the call says that a write failed, which a report never
+    /// Writes the line, and returns whether the call reports a failed write, which `report` never
     /// does.
     fn write(self, rt: &impl Abort, sink: &mut Taker) -> bool
         requires { sink.old.calls.failures ≡ 0 }

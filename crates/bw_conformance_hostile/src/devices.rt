@@ -1,4 +1,4 @@
-//! Sources and sinks that give or take little at a time, fail at a given call, or never end.
+//! Sources and sinks that move few bytes at a time, fail at a given call, or never end.
 ghost use Rattle.std.specs.Prelude.{◌≡◌, None, []};
 
 use bw_io::{Failed, SharedBytes, Sink, Source};
@@ -26,7 +26,7 @@ impl Calls {
     }
 }
 
-/// Gives the bytes that are left, and then nothing.
+/// Yields the unread bytes, and then nothing.
 #[derive(Drop)]
 pub struct Pieces<'a> {
     pub left: &'a [u8],
@@ -63,7 +63,7 @@ impl Source for Pieces<'_> {
     }
 }
 
-/// Gives the bytes that are left, and then one byte without end, and counts what it gave.
+/// Yields the unread bytes, and then one byte without end, and counts what it yielded.
 #[derive(Drop)]
 pub struct Endless<'a> {
     pub left: &'a [u8],
@@ -102,7 +102,7 @@ impl Source for Endless<'_> {
     }
 }
 
-/// Gives a byte so many times, then a text, and then nothing.
+/// Yields a byte this many times, then a text, and then nothing.
 #[derive(Drop)]
 pub struct Repeated<'a> {
     pub byte: u8,
@@ -143,7 +143,7 @@ impl Source for Repeated<'_> {
     }
 }
 
-/// Keeps the bytes that it took.
+/// Stores the bytes that it consumed.
 #[derive(Drop)]
 pub struct Taker {
     pub taken: Vec<u8>,

@@ -8,7 +8,7 @@ use std::alloc::Global;
 use std::process::Abort;
 use std::test::Fail;
 
-/// A text, another one so many times, and an end.
+/// Returns a text, another one this many times, and an end.
 fn repeated(alloc: Global, start: &str, part: &str, count: u32, end: &str) -> Result<String, Fail> {
     let mut text = String::new(alloc);
     text.push_str(start)?;
@@ -58,8 +58,8 @@ fn long_statements_are_refused_alike(rt: HostRuntime) -> Result<(), Fail> {
     Ok(())
 }
 
-/// A statement answers the same over texts and over the files that are loaded from them; a plan of
-/// it is accepted, or there is none.
+/// Checks that a statement has the same result over texts and over the files that are loaded from
+/// them, and that a plan of it is accepted, if there is one.
 fn check_answer(
     rt: &(impl Abort + AllocGlobal),
     schema: &str,

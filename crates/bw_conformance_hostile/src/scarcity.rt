@@ -41,8 +41,9 @@ pub fn take_all(alloc: Global, left: usize) -> Result<Vec<Vec<u8>>, Fail> {
     Ok(blocks)
 }
 
-/// A call whose memory is refused says so, and has written nothing, whichever of its allocations it
-/// was. With enough memory it returns the result, by a program if that is reported.
+/// Checks that a call whose memory is refused returns that error and has written nothing, whichever
+/// of its allocations it was. With enough memory it returns the result, by a program if that is
+/// reported.
 fn check_with_all_memory_taken(
     rt: &(impl Abort + AllocGlobal),
     call: Call<'_>,

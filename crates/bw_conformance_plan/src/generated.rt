@@ -41,13 +41,13 @@ const NEAR: [i64; 16] = [
     4294967295,
 ];
 
-/// One of some texts.
+/// Returns one of some texts.
 fn one_of<'a>(numbers: &mut Numbers, texts: &[&'a str]) -> &'a str {
     let at = numbers.below(texts.len() as u64) as usize;
     texts.get(at).copied().unwrap_or("a")
 }
 
-/// A literal, or at times NULL.
+/// Returns a literal, or at times NULL.
 fn literal(alloc: Global, numbers: &mut Numbers) -> Result<String, AllocError> {
     if numbers.below(12) == 0 {
         return String::from_str(alloc, "NULL");
@@ -57,7 +57,7 @@ fn literal(alloc: Global, numbers: &mut Numbers) -> Result<String, AllocError> {
     n.to_string(alloc)
 }
 
-/// Two columns that begin at one number.
+/// Returns two columns with the same minimum.
 fn columns(numbers: &mut Numbers) -> (&'static str, &'static str) {
     if numbers.below(4) == 0 {
         return (
@@ -71,7 +71,7 @@ fn columns(numbers: &mut Numbers) -> (&'static str, &'static str) {
     )
 }
 
-/// A predicate.
+/// Returns a predicate.
 fn predicate(alloc: Global, numbers: &mut Numbers) -> Result<String, AllocError> {
     let column = one_of(numbers, &COLUMNS);
     let op = one_of(numbers, &COMPARISONS);
@@ -104,7 +104,7 @@ fn predicate(alloc: Global, numbers: &mut Numbers) -> Result<String, AllocError>
     }
 }
 
-/// A condition whose parts nest this deep.
+/// Returns a condition whose parts nest this deep.
 pub(crate) fn condition(
     alloc: Global,
     numbers: &mut Numbers,
@@ -137,7 +137,7 @@ pub(crate) fn condition(
     }
 }
 
-/// This many conditions: each has a program that selects the right rows.
+/// Checks this many conditions: each has a program that selects the right rows.
 fn pick(rt: &(impl Abort + AllocGlobal), seed: u64, count: u32) -> Result<(), Fail> {
     let alloc = rt.alloc();
     let schema = Schema::parse(alloc, COLUMNS_TABLE.as_bytes())?;

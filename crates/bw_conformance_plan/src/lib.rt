@@ -7,12 +7,12 @@
 #![tactic(auto)]
 
 #[cfg(test)]
+mod column_comparisons;
+#[cfg(test)]
 mod generated;
 #[cfg(test)]
 mod lists;
 #[cfg(test)]
 mod orders;
-#[cfg(test)]
-mod related;
 #[cfg(test)]
 mod rows;

@@ -15,8 +15,8 @@ const WIDTHS: &str = "\
     COLUMN e 0 4294967295\n\
     ";
 
-/// Scattered numbers of so many bits, of which the first and the last bytes are often all zeros or
-/// ones.
+/// Returns scattered numbers of this many bits, of which the first and the last bytes are often all
+/// zeros or ones.
 fn scattered(alloc: Global, count: u64, bits: u32) -> Result<Vec<i64>, Fail> {
     let mut numbers = Numbers::new(u64::from(bits));
     let mut made = Vec::new(alloc);
@@ -32,7 +32,7 @@ fn scattered(alloc: Global, count: u64, bits: u32) -> Result<Vec<i64>, Fail> {
     Ok(made)
 }
 
-/// The condition that a column is one of some numbers.
+/// Returns the condition that a column is one of some numbers.
 fn among(alloc: Global, column: &str, numbers: &[i64]) -> Result<String, Fail> {
     let mut text = format!(in alloc; "{column} IN (")?;
     for (at, number) in numbers.iter().enumerate() {

@@ -56,7 +56,7 @@ fn parts_in_another_order_select_the_same_rows(rt: HostRuntime) -> Result<(), Fa
         let (Ok(written), Ok(other)) = (written, other) else {
             panic!(rt; "{text}: no program");
         };
-        assert_eq!(rt; written.picked, other.picked, "{text}");
+        assert_eq!(rt; written.selected, other.selected, "{text}");
     }
     Ok(())
 }
@@ -73,7 +73,7 @@ fn a_selective_part_that_comes_first_saves_loads(rt: HostRuntime) -> Result<(), 
     let (Ok(written), Ok(other)) = (written, other) else {
         panic!(rt; "{text}: no program");
     };
-    assert_eq!(rt; other.picked, 0);
+    assert_eq!(rt; other.selected, 0);
     assert!(rt; 2 * other.loads <= written.loads, "{written:?} {other:?}");
     Ok(())
 }

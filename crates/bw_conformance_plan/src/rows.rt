@@ -25,7 +25,7 @@ impl Numbers {
         Numbers(seed | 1)
     }
 
-    /// The next number.
+    /// Returns the next number.
     pub(crate) fn next(&mut self) -> u64 {
         let mut x = self.0;
         x ^= x << 13;
@@ -35,22 +35,22 @@ impl Numbers {
         x >> 11
     }
 
-    /// A number below a limit, or 0 where that is 0.
+    /// Returns a number below a limit, or 0 if the limit is 0.
     pub(crate) fn below(&mut self, limit: u64) -> u64 {
         let next = self.next();
         if limit == 0 { 0 } else { next % limit }
     }
 }
 
-/// What a run cost.
+/// The cost of a run.
 #[derive(Clone, Copy, Debug)]
 pub(crate) struct Cost {
     pub(crate) loads: usize,
     pub(crate) skips: usize,
-    pub(crate) picked: u64,
+    pub(crate) selected: u64,
 }
 
-/// A value of a column: its least or greatest ones, one near another number, or any.
+/// Returns a value of a column: one near its minimum, its maximum or another number, or any.
 fn value(numbers: &mut Numbers, column: &Column, near: i64) -> Value {
     if column.nullable && numbers.below(6) == 0 {
         return None;
@@ -69,7 +69,7 @@ fn value(numbers: &mut Numbers, column: &Column, near: i64) -> Value {
     Some(i64::try_from(n).unwrap_or(column.lo))
 }
 
-/// So many rows of a table, with values near some numbers among them.
+/// Returns this many rows of a table, some with values near these numbers.
 pub(crate) fn rows_of(
     alloc: Global,
     numbers: &mut Numbers,
@@ -123,7 +123,7 @@ pub(crate) fn planned(
 
 /// Returns what a program selects from a group of rows in both layouts, which must be the rows on
 /// which the condition is TRUE.
-fn picked(
+fn selected(
     rt: &impl Abort,
     alloc: Global,
     schema: &Schema,
@@ -143,23 +143,23 @@ fn picked(
     assert!(rt; plane == other, "{text}");
     assert_eq!(rt; counts.loads, others.loads, "{text}");
     assert_eq!(rt; counts.skips, others.skips, "{text}");
-    let mut picked = 0u64;
+    let mut selected = 0u64;
     for (i, row) in rows.iter().enumerate() {
         assert!(rt; row.values.len() == schema.columns.len());
         let is_true = truth(cond, row) == Truth::Yes;
         assert!(rt; i < 512);
         assert!(rt; lane(&plane, i) == is_true, "{text} on {:?}", row.values);
-        picked = picked.saturating_add(u64::from(is_true));
+        selected = selected.saturating_add(u64::from(is_true));
     }
     Ok(Cost {
         loads: counts.loads,
         skips: counts.skips,
-        picked,
+        selected,
     })
 }
 
-/// What a program costs over all groups of rows.
-fn picked_in_all(
+/// Returns the cost of a program over all groups of rows.
+fn selected_in_all(
     rt: &impl Abort,
     alloc: Global,
     schema: &Schema,
@@ -174,18 +174,18 @@ fn picked_in_all(
     let mut cost = Cost {
         loads: 0,
         skips: 0,
-        picked: 0,
+        selected: 0,
     };
     for group in rows.chunks(512) {
-        let more = picked(rt, alloc, schema, certified, cond, group, text)?;
+        let more = selected(rt, alloc, schema, certified, cond, group, text)?;
         cost.loads = cost.loads.saturating_add(more.loads);
         cost.skips = cost.skips.saturating_add(more.skips);
-        cost.picked = cost.picked.saturating_add(more.picked);
+        cost.selected = cost.selected.saturating_add(more.selected);
     }
     Ok(cost)
 }
 
-/// What a condition's program costs over rows, or the fault of `propose`.
+/// Returns the cost of a condition's program over rows, or the error of `propose`.
 pub(crate) fn judged(
     rt: &impl Abort,
     alloc: Global,
@@ -211,14 +211,14 @@ pub(crate) fn judged_in_order(
     let order = parse(alloc, schema, sql.as_bytes())?.cond;
     match planned(rt, alloc, schema, &cond, &order, text) {
         Ok(certified) => {
-            let cost = picked_in_all(rt, alloc, schema, &certified, &cond, rows, text)?;
+            let cost = selected_in_all(rt, alloc, schema, &certified, &cond, rows, text)?;
             Ok(Ok(cost))
         }
         Err(fault) => Ok(Err(fault)),
     }
 }
 
-/// The cost of a condition that has a program.
+/// Returns the cost of a condition that has a program.
 pub(crate) fn cost_of(
     rt: &impl Abort,
     alloc: Global,

@@ -8,13 +8,13 @@
 #[cfg(test)]
 mod lanes;
 #[cfg(test)]
-mod picked;
-#[cfg(test)]
 mod planes;
 #[cfg(test)]
 mod runs;
 #[cfg(test)]
 mod segments;
+#[cfg(test)]
+mod selected;
 #[cfg(test)]
 mod slices;
 #[cfg(test)]

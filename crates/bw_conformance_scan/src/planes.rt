@@ -51,7 +51,7 @@ fn segment_answers(rt: HostRuntime) -> Result<(), Fail> {
     Ok(())
 }
 
-/// Where each column's block begins in the worked segment.
+/// The offset of each column's block in the worked segment.
 const STARTS: [usize; 2] = [0, 512];
 
 /// Returns the error of a column's block in which two bytes are replaced, if there is one.

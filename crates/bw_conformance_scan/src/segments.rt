@@ -20,7 +20,7 @@ pub(crate) const TABLE: [[Value; 2]; 5] = [
     [Some(8), Some(0)],
 ];
 
-/// Rows of these values.
+/// Returns rows of these values.
 pub(crate) fn rows_of(alloc: Global, table: &[[Value; 2]]) -> Result<Vec<Row>, Fail> {
     let mut rows = Vec::new(alloc);
     for [a, b] in table {
@@ -31,7 +31,7 @@ pub(crate) fn rows_of(alloc: Global, table: &[[Value; 2]]) -> Result<Vec<Row>, F
     Ok(rows)
 }
 
-/// How many rows have a 1 at a variable; none where there is no such variable.
+/// Returns the number of rows that have a 1 at a variable; 0 if there is no such variable.
 pub(crate) fn ones(segment: &impl Segment, var: u32) -> Option<u32> {
     if var < segment.schema().var_count() {
         Some(count(&segment.plane(var)))
@@ -40,7 +40,8 @@ pub(crate) fn ones(segment: &impl Segment, var: u32) -> Option<u32> {
     }
 }
 
-/// How many rows, those past the last one too, have a byte below c, and how many have c.
+/// Returns how many rows, those past the last one too, have a byte less than c, and how many have
+/// c.
 pub(crate) fn compared(
     segment: &impl Segment,
     col: usize,

@@ -1,11 +1,11 @@
 //! Aggregates and their totals.
-use crate::picked::{Picked, total};
 use crate::segments::{SCHEMA, TABLE};
+use crate::selected::{Selected, total};
 use bw_lanes::{Plane, lane, mask};
 use bw_model::{Item, Schema, Value};
 use std::test::Fail;
 
-/// The plane of these first 64 lanes.
+/// Returns the plane of these first 64 lanes.
 fn lanes(word: u64) -> Plane {
     [word, 0, 0, 0, 0, 0, 0, 0]
 }
@@ -15,8 +15,8 @@ fn common_table_is_totalled(rt: HostRuntime) -> Result<(), Fail> {
     let alloc = rt.alloc();
     let schema = Schema::parse(alloc, SCHEMA)?;
     let other = [[Some(9), Some(9)]];
-    // which rows are picked, and the totals of all five and of the one more row after them, which
-    // isn't picked
+    // which rows are selected, and the totals of all five and of the one more row after them, which
+    // isn't selected
     for (name, word, item, expected) in [
         ("all", 0b11111, Item::CountAll, Some(5)),
         ("all", 0b11111, Item::Count(0), Some(5)),
@@ -41,21 +41,21 @@ fn common_table_is_totalled(rt: HostRuntime) -> Result<(), Fail> {
         ("nothing", 0, Item::Min(0), None),
         ("nothing", 0, Item::Max(0), None),
     ] {
-        let picked = Picked {
+        let selected = Selected {
             rows: &TABLE,
             plane: lanes(word),
         };
-        let none = Picked {
+        let none = Selected {
             rows: &other,
             plane: lanes(0),
         };
         assert_eq!(rt;
-            total(&rt, alloc, &schema, &item, &picked, &none)?,
+            total(&rt, alloc, &schema, &item, &selected, &none)?,
             expected,
             "{name}, {item:?}"
         );
         assert_eq!(rt;
-            total(&rt, alloc, &schema, &item, &none, &picked)?,
+            total(&rt, alloc, &schema, &item, &none, &selected)?,
             expected,
             "{name}, {item:?}"
         );
@@ -81,11 +81,11 @@ fn whole_segments_are_totalled(rt: HostRuntime) -> Result<(), Fail> {
         (Item::Min(1), Some(-7)),
         (Item::Max(1), Some(-1)),
     ] {
-        let all = Picked {
+        let all = Selected {
             rows: &first,
             plane: mask(512),
         };
-        let others = Picked {
+        let others = Selected {
             rows: &second,
             plane: mask(512),
         };
@@ -102,7 +102,7 @@ fn whole_segments_are_totalled(rt: HostRuntime) -> Result<(), Fail> {
 fn few_rows_are_compared_with_earlier_ones(rt: HostRuntime) -> Result<(), Fail> {
     let alloc = rt.alloc();
     let schema = Schema::parse(alloc, SCHEMA)?;
-    // the value of the earlier row and of the later one, which are picked beside others: far from
+    // the value of the earlier row and of the later one, which are selected beside others: far from
     // each other, with the same highest digits, and equal
     for (earlier, later) in [
         (3, 200),
@@ -121,11 +121,11 @@ fn few_rows_are_compared_with_earlier_ones(rt: HostRuntime) -> Result<(), Fail> 
             [Some(255), None],
         ];
         let second = [[Some(later), Some(1)], [Some(255), None], [Some(0), None]];
-        let before = Picked {
+        let before = Selected {
             rows: &first,
             plane: lanes(0b010),
         };
-        let after = Picked {
+        let after = Selected {
             rows: &second,
             plane: lanes(0b001),
         };
@@ -168,11 +168,11 @@ fn widest_codes_are_totalled(rt: HostRuntime) -> Result<(), Fail> {
         (Item::Min(1), Some(-9223372036854775807)),
         (Item::Max(1), Some(-1)),
     ] {
-        let all = Picked {
+        let all = Selected {
             rows: &table,
             plane: mask(3),
         };
-        let none = Picked {
+        let none = Selected {
             rows: &other,
             plane: mask(1),
         };
@@ -222,16 +222,16 @@ fn least_and_greatest_are_found_among_ties(rt: HostRuntime) -> Result<(), Fail> 
         (0b0111_1011, Item::Max(1), Some(1)),
         (0, Item::Max(1), None),
     ] {
-        let picked = Picked {
+        let selected = Selected {
             rows: &table,
             plane: lanes(word),
         };
-        let none = Picked {
+        let none = Selected {
             rows: &other,
             plane: lanes(0),
         };
         assert_eq!(rt;
-            total(&rt, alloc, &schema, &item, &picked, &none)?,
+            total(&rt, alloc, &schema, &item, &selected, &none)?,
             expected,
             "{word:b}, {item:?}"
         );
@@ -239,7 +239,7 @@ fn least_and_greatest_are_found_among_ties(rt: HostRuntime) -> Result<(), Fail> 
     Ok(())
 }
 
-/// The next of some numbers that look alike nowhere.
+/// Returns the next pseudo-random number.
 fn drawn(state: &mut u64) -> u64 {
     *state = state
         .wrapping_mul(6364136223846793005)
@@ -247,7 +247,7 @@ fn drawn(state: &mut u64) -> u64 {
     *state >> 32
 }
 
-/// What an aggregate of a column is over the rows whose lane is 1, row by row.
+/// Returns an aggregate of a column over the rows whose lane is 1, row by row.
 fn row_by_row(item: &Item, table: &[[Value; 2]], plane: &Plane) -> Option<i128> {
     let mut sum: Option<i128> = None;
     for (row, values) in table.iter().enumerate() {
@@ -308,16 +308,16 @@ fn drawn_rows_are_totalled_as_row_by_row(rt: HostRuntime) -> Result<(), Fail> {
             Item::Min(1),
             Item::Max(1),
         ] {
-            let picked = Picked {
+            let selected = Selected {
                 rows: &table,
                 plane,
             };
-            let none = Picked {
+            let none = Selected {
                 rows: &other,
                 plane: mask(1),
             };
             assert_eq!(rt;
-                total(&rt, alloc, &schema, &item, &picked, &none)?,
+                total(&rt, alloc, &schema, &item, &selected, &none)?,
                 row_by_row(&item, &table, &plane),
                 "{item:?}, {plane:?}"
             );

@@ -51,7 +51,7 @@ fn is_a_table(rt: &impl Abort, alloc: Global, file: &[u8]) -> Result<bool, Fail>
     }
 }
 
-/// Each change of one bit is rejected, or makes the file of another table; some do.
+/// Checks that each change of one bit is rejected, or makes the file of another table; some do.
 fn check_bits(rt: &impl Abort, alloc: Global, mut file: Vec<u8>) -> Result<(), Fail> {
     let mut accepted = 0u32;
     for at in 0..file.len() {

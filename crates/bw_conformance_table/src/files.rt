@@ -52,7 +52,7 @@ pub(crate) fn put(bytes: &mut Vec<u8>, at: usize, byte: u8) {
     }
 }
 
-/// The five rows' file in planes: 952 bytes.
+/// Returns the five rows' file in planes: 952 bytes.
 pub(crate) fn planes_file(alloc: Global) -> Result<Vec<u8>, Fail> {
     let mut bytes = file(alloc, 0, 952, &[])?;
     for (i, byte) in PLANES.iter().enumerate() {
@@ -61,7 +61,7 @@ pub(crate) fn planes_file(alloc: Global) -> Result<Vec<u8>, Fail> {
     Ok(bytes)
 }
 
-/// The five rows' file in slices: 1,144 bytes.
+/// Returns the five rows' file in slices: 1,144 bytes.
 pub(crate) fn slices_file(alloc: Global) -> Result<Vec<u8>, Fail> {
     let parts = [
         (57, 0xFF),
@@ -75,7 +75,7 @@ pub(crate) fn slices_file(alloc: Global) -> Result<Vec<u8>, Fail> {
     file(alloc, 1, 1144, &parts)
 }
 
-/// The file of a nullable column of 63 bits, with its greatest value twice and a null.
+/// Returns the file of a nullable column of 63 bits, with its maximum twice and a null.
 pub(crate) fn wide_file(rt: &impl Abort, alloc: Global, layout: Layout) -> Result<Vec<u8>, Fail> {
     let schema = Schema::parse(alloc, b"TABLE g\nCOLUMN x 0 9223372036854775807\n")?;
     let mut rows = Vec::new(alloc);
@@ -87,7 +87,7 @@ pub(crate) fn wide_file(rt: &impl Abort, alloc: Global, layout: Layout) -> Resul
     Ok(file_of(rt, alloc, layout, &schema, &rows)?)
 }
 
-/// The file of a column of 11 bits, in which row i has i, of so many rows.
+/// Returns the file of a column of 11 bits, in which row i has i, of this many rows.
 pub(crate) fn long_file(
     rt: &impl Abort,
     alloc: Global,
@@ -104,7 +104,7 @@ pub(crate) fn long_file(
     Ok(file_of(rt, alloc, layout, &schema, &rows)?)
 }
 
-/// The five rows' files and the wide column's, in planes and in slices.
+/// Returns the five rows' files and the wide column's, in planes and in slices.
 pub(crate) fn worked_files(rt: &impl Abort, alloc: Global) -> Result<Vec<Vec<u8>>, Fail> {
     let files = vec![in alloc;
         planes_file(alloc)?,
@@ -115,7 +115,7 @@ pub(crate) fn worked_files(rt: &impl Abort, alloc: Global) -> Result<Vec<Vec<u8>
     Ok(files)
 }
 
-/// Rows of these values.
+/// Returns rows of these values.
 fn rows_of(alloc: Global, table: &[[Value; 2]]) -> Result<Vec<Row>, Fault>
     ensures { IfOk result (λ rows. All (λ row. length (values_of row) ≡ 2) rows.items) }
 {
@@ -138,7 +138,7 @@ fn assert_rows(rt: &impl Abort, schema: &Schema, rows: &[Row])
     }
 }
 
-/// The file of a table.
+/// Returns the file of a table.
 fn file_of(
     rt: &impl Abort,
     alloc: Global,
@@ -150,7 +150,7 @@ fn file_of(
     encode(alloc, layout, schema, rows)
 }
 
-/// The same file again of a table that was read.
+/// Returns the same file again for a table that was read.
 pub(crate) fn again(rt: &impl Abort, alloc: Global, table: &Table) -> Result<Vec<u8>, Fault> {
     file_of(rt, alloc, table.layout, &table.schema, &table.rows)
 }

@@ -66,7 +66,7 @@ fn each_front_of_a_file_is_truncated(rt: HostRuntime) -> Result<(), Fail> {
     Ok(())
 }
 
-/// The first value of each segment of a file, while all of them are held.
+/// Returns the first value of each segment of a file, while all of them are borrowed.
 fn first_values(alloc: Global, file: &[u8], piece: usize) -> Result<Vec<Value>, Fault>
     requires { 0 < piece }
 {

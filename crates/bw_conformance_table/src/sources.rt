@@ -50,8 +50,8 @@ impl Source for Drops<'_> {
     }
 }
 
-/// How many rows a file has, by a source that fails after so many reads: each is one byte's, and
-/// one is the end's.
+/// Returns how many rows a file has, read from a source that fails after this many reads: each is
+/// one byte's, and one is the end's.
 fn rows_after(alloc: Global, file: &[u8], reads: usize) -> Result<u32, Fault> {
     let mut source = Drops {
         rest: file,

@@ -1,5 +1,7 @@
--- The rows of a text where there is no schema yet, one more at a time.
-use Rattle.std.proofs.Common.{◌≡◌, ◌∙◌, ℕ, ℤ, zero, suc, ◌+◌, ◌<◌, ◌^◌, ltb, eqb, List, [], ◌∷◌, ◌++◌, length, get_or, arith, Option, Some, None, Result, Ok, Err, Bool, true, false, refl, sym, ap, subst, All}
+-- The rows of a text without a schema, one more at a time.
+use Rattle.std.proofs.Common.{◌≡◌, ◌∙◌, ℕ, ℤ, zero, suc, ◌+◌, ◌<◌, ◌^◌, ltb, eqb, List, [], ◌∷◌}
+use Rattle.std.proofs.Common.{◌++◌, length, get_or, arith, Option, Some, None, Result, Ok, Err}
+use Rattle.std.proofs.Common.{Bool, true, false, refl, sym, ap, subst, All}
 use Rattle.std.specs.Prelude.{◌&&◌, not, int_le, if◌then◌else◌}
 use Rattle.std.specs.List.{list_all}
 use Rattle.std.proofs.lemmas.Bool.{eqb-true}
@@ -12,8 +14,11 @@ use Rattle.bw_model.specs.Fault.{◌>>=◌, at_record, refused_if}
 use Rattle.bw_model.specs.Column.{admits_value, admits_values}
 use Rattle.bw_text.specs.Number.{are_digits, number_of}
 use Rattle.bw_model.specs.Row.{Value}
-use Rattle.bw_csv.specs.Bare.{bare_number, bare_row, bare_rows, bare_value, bare_values, within_64_bits}
-use Rattle.bw_csv.specs.Rows.{is_minus, is_null_text, number_value, row_of_record, rows_from, unsigned, value_of_field, values_of_fields, with_row, within_bounds, without_blanks}
+use Rattle.bw_csv.specs.Bare.{bare_number, bare_row, bare_rows, bare_value, bare_values}
+use Rattle.bw_csv.specs.Bare.{within_64_bits}
+use Rattle.bw_csv.specs.Rows.{is_minus, is_null_text, number_value, row_of_record, rows_from}
+use Rattle.bw_csv.specs.Rows.{unsigned, value_of_field, values_of_fields, with_row, within_bounds}
+use Rattle.bw_csv.specs.Rows.{without_blanks}
 use Rattle.bw_csv.proofs.FieldLemmas.{after, after-cons}
 
 -- the rows of a record and of those after it

@@ -1,8 +1,11 @@
--- A text's first record, field by field, and what it is where the text is cut after a comma.
-use Rattle.std.proofs.Common.{◌≡◌, ◌∙◌, ℕ, zero, suc, ◌+◌, ◌-◌, ◌<◌, ◌≤◌, List, [], ◌∷◌, ◌++◌, length, take, drop, get_or, Option, Some, None, Bool, true, false, refl, sym, ap, eqb, arith, inr, append_assoc, length-append}
+-- A text's first record, field by field, and what it is if the text is cut after a comma.
+use Rattle.std.proofs.Common.{◌≡◌, ◌∙◌, ℕ, zero, suc, ◌+◌, ◌-◌, ◌<◌, ◌≤◌, List, [], ◌∷◌, ◌++◌}
+use Rattle.std.proofs.Common.{length, take, drop, get_or, Option, Some, None, Bool, true, false}
+use Rattle.std.proofs.Common.{refl, sym, ap, eqb, arith, inr, append_assoc, length-append}
 use Rattle.std.specs.Prelude.{◌||◌, IfSome, if◌then◌else◌, is_some}
 use Rattle.std.proofs.lemmas.List.{append-nil, take-append-drop, take_more}
-use Rattle.csv.specs.Machine.{Read, ends_at_end, field_after, fields_after, is_end, next_record, step}
+use Rattle.csv.specs.Machine.{Read, ends_at_end, field_after, fields_after, is_end, next_record}
+use Rattle.csv.specs.Machine.{step}
 use Rattle.csv.specs.Reading.{default_config, is_bom, strip_bom}
 use Rattle.csv.specs.declared.parser.State.{State}
 use Rattle.csv.specs.declared.parser.State.TheVariants as st
@@ -13,10 +16,11 @@ use Rattle.bw_csv.specs.Fields.{HasMoreFields, IsCutAfter, IsCutRecord, IsLonger
 use Rattle.bw_csv.specs.Plain.{state_of}
 use Rattle.bw_csv.specs.Records.{records_in}
 use Rattle.bw_csv.specs.declared.heading_end.Inside.{Inside}
-use Rattle.bw_csv.specs.declared.heading_end.Inside.TheVariants.{Before, Front, Bare, Quoted, Closed}
+use Rattle.bw_csv.specs.declared.heading_end.Inside.TheVariants.{Before, Front, Bare, Quoted}
+use Rattle.bw_csv.specs.declared.heading_end.Inside.TheVariants.{Closed}
 use Rattle.bw_csv.proofs.RecordLemmas.{records_in-next, records_in-none}
 
--- within a record the machine goes on to the record's end
+-- within a record the machine continues to the record's end
 abbrev is_within : State → Bool
 is_within st.StartField = true
 is_within st.InField = true
@@ -116,11 +120,11 @@ pub record Begins (text : List ℕ) (i : ℕ) (inside : Inside) (count : ℕ) : 
   pub fields : List (List ℕ)
   pub field : List ℕ
   pub many : length fields ≡ count
-  pub few : count ≤ i
+  pub within_limit : count ≤ i
   pub reads : (rest : List ℕ) → next_record default_config st.StartRecord [] [] (take i text ++ rest) ≡ next_record default_config (state_of inside) fields field rest
 
 pub begins_nothing : (text : List ℕ) → Begins text 0 Before 0
-begins_nothing text = record { fields = []; field = []; many = refl; few = omega arith; reads = λ rest. refl }
+begins_nothing text = record { fields = []; field = []; many = refl; within_limit = omega arith; reads = λ rest. refl }
 
 step_reads : (s : State) (fields : List (List ℕ)) (field : List ℕ) (c : ℕ) (rest : List ℕ) → is_end (step default_config s c).1 ≡ false
     → next_record default_config s fields field (c ∷ rest) ≡ next_record default_config (step default_config s c).0 (fields_after (step default_config s c).1 fields field) (field_after (step default_config s c).1 c field) rest
@@ -154,7 +158,7 @@ begins_next text i inside next count b h e f s =
       fields = b.fields;
       field = field_after a (get_or text i 0) b.field;
       many = b.many;
-      few = let few = b.few in omega arith;
+      within_limit = let few = b.within_limit in omega arith;
       reads = λ rest. reads_step text i inside count b h e rest ∙ rw (s, same_fields a b.fields b.field f e) refl;
     }
 
@@ -182,7 +186,7 @@ begins_field text i inside next count b h f s =
       fields = b.fields ++ b.field ∷ [];
       field = [];
       many = length-append b.fields (b.field ∷ []) ∙ ap (λ (n : ℕ). n + 1) b.many;
-      few = let few = b.few in omega arith;
+      within_limit = let few = b.within_limit in omega arith;
       reads = λ rest. reads_step text i inside count b h (closed_ends a f) rest ∙ rw (s, is.0, is.1) refl;
     }
 
@@ -211,7 +215,7 @@ fronts Bare c = in_bare_fronts c
 fronts Quoted c = other_fronts (eqb c 34) st.AfterQuote act.Skip (st.InQuoted, act.Copy) refl (λ e. absurd (cc e))
 fronts Closed c = other_fronts (eqb c 34) st.InQuoted act.Copy _ refl (in_bare_fronts c)
 
--- after the last of so many fields the text is cut
+-- after the last of this many fields the text is cut
 at_end : (fields : List (List ℕ)) → next_record default_config st.StartField fields [] [] ≡ Some (fields ++ [] ∷ [], st.StartRecord, [])
 unfolding next_record
 at_end fields = refl

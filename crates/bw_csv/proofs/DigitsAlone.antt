@@ -1,5 +1,7 @@
 -- A field of digits, alone or after a minus sign.
-use Rattle.std.proofs.Common.{◌≡◌, ◌∙◌, ℕ, ◌-◌, ◌<◌, ◌≤◌, List, [], ◌∷◌, ℤ, Option, Some, None, Bool, true, false, length, take, get_or, refl, sym, ap, arith, leb, ltb, eqb, suc}
+use Rattle.std.proofs.Common.{◌≡◌, ◌∙◌, ℕ, ◌-◌, ◌<◌, ◌≤◌, List, [], ◌∷◌, ℤ, Option, Some, None}
+use Rattle.std.proofs.Common.{Bool, true, false, length, take, get_or, refl, sym, ap, arith, leb}
+use Rattle.std.proofs.Common.{ltb, eqb, suc}
 use Rattle.std.specs.Prelude.{◌&&◌, if◌then◌else◌}
 use Rattle.std.specs.Char.{is_ascii_digit, to_ascii_lowercase}
 use Rattle.std.specs.List.{list_all, suffix_len}
@@ -10,7 +12,9 @@ use Rattle.std.proofs.lemmas.List.Sums.{AllPass-from_list_all, suffix_len-take_n
 use Rattle.bw_model.specs.declared.column.Column.{Column}
 use Rattle.bw_text.specs.Number.{are_digits, number_of}
 use Rattle.bw_text.specs.Text.{same_text}
-use Rattle.bw_csv.specs.Rows.{after_minus, is_blank, is_minus, is_null_text, text_value, value_of_field, within_bounds, without_blanks, without_end_blanks, without_front_blanks}
+use Rattle.bw_csv.specs.Rows.{after_minus, is_blank, is_minus, is_null_text, text_value}
+use Rattle.bw_csv.specs.Rows.{value_of_field, within_bounds, without_blanks, without_end_blanks}
+use Rattle.bw_csv.specs.Rows.{without_front_blanks}
 
 pub both : (a b : Bool) → (a && b) ≡ true → (a ≡ true) × (b ≡ true)
 both true b e = (refl, e)
@@ -85,7 +89,7 @@ by_sign : (number : ℕ) (column : Column) (c : ℕ) (cs : List ℕ) (minus : Bo
 by_sign number column c cs true s e = rw (eqb-true c 45 s) (digits_after_minus number column cs e)
 by_sign number column c cs false s e = digits_alone number column (c ∷ cs) e
 
--- digits, after a minus sign where there is one
+-- digits, after a minus sign if there is one
 pub signed_digits : (number : ℕ) (column : Column) (field : List ℕ) → are_digits (after_minus field) ≡ true
     → value_of_field number column field ≡ within_bounds number column (number_of (is_minus field) (after_minus field))
 signed_digits number column [] e = absurd (cc e)

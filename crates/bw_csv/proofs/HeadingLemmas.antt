@@ -1,16 +1,18 @@
 -- Where the first record of a text ends.
-use Rattle.std.proofs.Common.{◌≡◌, ◌∙◌, ℕ, ◌+◌, ◌<◌, ◌≤◌, List, [], ◌∷◌, length, drop, get_or, Some, None, true, false, refl, sym, eqb, add-one, drop-cons, arith}
+use Rattle.std.proofs.Common.{◌≡◌, ◌∙◌, ℕ, ◌+◌, ◌<◌, ◌≤◌, List, [], ◌∷◌, length, drop, get_or, Some}
+use Rattle.std.proofs.Common.{None, true, false, refl, sym, eqb, add-one, drop-cons, arith}
 use Rattle.csv.specs.Machine.{Read, field_after, fields_after, is_end, next_record, step}
 use Rattle.csv.specs.Reading.{default_config, is_bom, strip_bom}
 use Rattle.csv.specs.declared.parser.State.TheVariants as st
 use Rattle.bw_csv.specs.Plain.{ends_line, state_of}
 use Rattle.bw_csv.specs.Records.{records_in}
 use Rattle.bw_csv.specs.declared.heading_end.Inside.{Inside}
-use Rattle.bw_csv.specs.declared.heading_end.Inside.TheVariants.{Before, Front, Bare, Quoted, Closed}
+use Rattle.bw_csv.specs.declared.heading_end.Inside.TheVariants.{Before, Front, Bare, Quoted}
+use Rattle.bw_csv.specs.declared.heading_end.Inside.TheVariants.{Closed}
 use Rattle.bw_csv.proofs.PlainRecords.{line_end_is, records-after_return, records-skip}
 use Rattle.bw_csv.proofs.RecordLemmas.{records_in-next, records_in-none}
 
--- The first record of a text goes on with this byte.
+-- The first record of a text continues with this byte.
 pub record GoesOn (text rest : List ℕ) (inside : Inside) : Type 0 where
   pub fields : List (List ℕ)
   pub field : List ℕ

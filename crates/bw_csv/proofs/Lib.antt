@@ -12,4 +12,4 @@ pub mod PlainRows
 pub mod RecordLemmas
 pub mod RestLemmas
 pub mod RowLemmas
-pub mod StandingLemmas
+pub mod FaultPlaceLemmas

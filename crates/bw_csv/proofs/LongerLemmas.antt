@@ -1,5 +1,6 @@
--- A record of more fields than its table has columns is refused for their number.
-use Rattle.std.proofs.Common.{◌≡◌, ℕ, ◌<◌, List, [], ◌∷◌, length, Err, Bool, true, false, refl, arith, eqb}
+-- A record of more fields than its table has columns is rejected for their number.
+use Rattle.std.proofs.Common.{◌≡◌, ℕ, ◌<◌, List, [], ◌∷◌, length, Err, Bool, true, false, refl}
+use Rattle.std.proofs.Common.{arith, eqb}
 use Rattle.std.specs.Prelude.{◌&&◌}
 use Rattle.std.proofs.lemmas.Bool.{eqb-true}
 use Rattle.bw_model.specs.declared.column.Column.{Column}

@@ -1,5 +1,7 @@
 -- The records that were read so far, whichever way records have rows.
-use Rattle.std.proofs.Common.{◌≡◌, ◌∙◌, ℕ, ◌+◌, List, [], ◌∷◌, ◌++◌, length, length-append, append_assoc, Result, Ok, Bool, true, false, ◌&&◌, ◌||◌, not, refl, ap, sym, arith, eqb}
+use Rattle.std.proofs.Common.{◌≡◌, ◌∙◌, ℕ, ◌+◌, List, [], ◌∷◌, ◌++◌, length, length-append}
+use Rattle.std.proofs.Common.{append_assoc, Result, Ok, Bool, true, false, ◌&&◌, ◌||◌, not, refl}
+use Rattle.std.proofs.Common.{ap, sym, arith, eqb}
 use Rattle.std.proofs.lemmas.Bool.{eqb-true}
 use Rattle.std.proofs.lemmas.List.{append-nil}
 use Rattle.bw_model.specs.declared.fault.Fault.{Fault}
@@ -7,7 +9,8 @@ use Rattle.bw_model.specs.declared.fault.Place.{Place}
 use Rattle.bw_model.specs.declared.fault.Place.TheVariants.{Nowhere, Byte, Line, Rec}
 use Rattle.bw_model.specs.Fault.{at_record}
 use Rattle.bw_model.specs.Row.{Value}
-use Rattle.bw_csv.specs.Rows.{StopsAfter, is_any_record, is_reader_fault, is_record, located_at, with_row}
+use Rattle.bw_csv.specs.Rows.{StopsAfter, is_any_record, is_reader_fault, is_record, located_at}
+use Rattle.bw_csv.specs.Rows.{with_row}
 use Rattle.bw_csv.proofs.FieldLemmas.{after, after-cons, after-nothing}
 
 abbrev pub Records : Type 0

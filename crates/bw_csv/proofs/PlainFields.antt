@@ -1,5 +1,7 @@
 -- Fields of digits are plain, and spell numbers that 64 bits hold.
-use Rattle.std.proofs.Common.{◌≡◌, ◌∙◌, ℕ, ℤ, pos, ◌-ℤ◌, ◌^◌, ◌<◌, ◌≤◌, List, [], ◌∷◌, Some, None, Ok, Bool, true, false, refl, arith, eqb, leb, ltb, SFits, w64, of_z, to_z}
+use Rattle.std.proofs.Common.{◌≡◌, ◌∙◌, ℕ, ℤ, pos, ◌-ℤ◌, ◌^◌, ◌<◌, ◌≤◌, List, [], ◌∷◌, Some, None}
+use Rattle.std.proofs.Common.{Ok, Bool, true, false, refl, arith, eqb, leb, ltb, SFits, w64, of_z}
+use Rattle.std.proofs.Common.{to_z}
 use Rattle.std.specs.Prelude.{◌&&◌, if◌then◌else◌, int_le}
 use Rattle.std.specs.Char.{is_ascii_digit}
 use Rattle.std.specs.List.{list_all}

@@ -1,5 +1,6 @@
--- How the csv crate's records are read where no quotation mark stands.
-use Rattle.std.proofs.Common.{◌≡◌, ◌∙◌, ℕ, List, [], ◌∷◌, ◌++◌, Option, Some, None, Bool, true, false, length, drop, get_or, refl, sym, ap, eqb, append_assoc}
+-- How the csv crate's records are read of a text without quotation marks.
+use Rattle.std.proofs.Common.{◌≡◌, ◌∙◌, ℕ, List, [], ◌∷◌, ◌++◌, Option, Some, None, Bool, true}
+use Rattle.std.proofs.Common.{false, length, drop, get_or, refl, sym, ap, eqb, append_assoc}
 use Rattle.std.specs.Prelude.{◌||◌, not}
 use Rattle.std.specs.List.{list_all}
 use Rattle.std.proofs.lemmas.Bool.{eqb-true}
@@ -69,7 +70,7 @@ field-return fields (c ∷ f) rest e =
     let is = both (is_plain c) (list_all is_plain f) e in
     rw ((joins c is.0).1) (run fields (c ∷ []) f (13 ∷ rest) is.1)
 
--- the records from one place are those from another, where the next one is
+-- the records from one place are those from another, if the next one is
 same_next : (s t : State) (xs ys : List ℕ) (o : Option Read) → next_record default_config t [] [] ys ≡ o
     → next_record default_config s [] [] xs ≡ o → records_in s (Some xs) ≡ records_in t (Some ys)
 same_next s t xs ys None f e = records_in-none s xs e ∙ sym (records_in-none t ys f)

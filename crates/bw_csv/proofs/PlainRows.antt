@@ -1,5 +1,6 @@
 -- The values of a record's plain fields, one more at a time.
-use Rattle.std.proofs.Common.{◌≡◌, ◌∙◌, ℕ, ◌+◌, ◌≤◌, List, [], ◌∷◌, ◌++◌, length, take, drop, Ok, Bool, true, false, refl, sym, ap, eqb, append_assoc, length-append}
+use Rattle.std.proofs.Common.{◌≡◌, ◌∙◌, ℕ, ◌+◌, ◌≤◌, List, [], ◌∷◌, ◌++◌, length, take, drop, Ok}
+use Rattle.std.proofs.Common.{Bool, true, false, refl, sym, ap, eqb, append_assoc, length-append}
 use Rattle.std.specs.Prelude.{◌||◌, ◌≤◌}
 use Rattle.std.proofs.lemmas.Bool.{eqb-true, le-ltb, eq-eqb}
 use Rattle.std.proofs.lemmas.List.{append-nil, take-append-drop}
@@ -14,8 +15,8 @@ use Rattle.bw_csv.specs.Rows.{row_of_record, value_of_field, values_of_fields}
 use Rattle.bw_csv.proofs.FieldLemmas.{after, after-nothing, values-end, values-next}
 use Rattle.bw_csv.proofs.PlainRecords.{begins, field-comma, field-end}
 
--- Of a text's first record these are the values so far, of so many fields, and this is left of the
--- text.
+-- Of a text's first record these are the values so far, of this many fields, and this is left of
+-- the text.
 pub record ReadSoFar (number : ℕ) (columns : List Column) (text rest : List ℕ) (i : ℕ) (values : List Value) : Type 0 where
   pub done : List (List ℕ)
   pub many : length done ≡ i
@@ -37,7 +38,7 @@ values_more number columns i values done field column value spelled here v more 
     ∙ spelled (field ∷ more)
     ∙ values-next number (drop i columns) (drop (i + 1) columns) (field ∷ more) more column field value values here refl v
 
--- what is left after a field begins with a comma, where the field is not the last
+-- what is left after a field begins with a comma, unless the field is the last
 comma_is : (after_field : List ℕ) → is_field_end after_field ≡ true → is_line_end after_field ≡ false → after_field ≡ 44 ∷ drop 1 after_field
 comma_is [] e f = absurd (cc f)
 comma_is (c ∷ cs) e f = by (eqb c 44) refl e f

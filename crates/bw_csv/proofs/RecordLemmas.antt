@@ -1,9 +1,13 @@
 -- Each read gives the first of the records to come, however many turns are left for the others.
-use Rattle.std.proofs.Common.{◌≡◌, ◌∙◌, ℕ, zero, suc, ◌+◌, ◌<◌, List, [], ◌∷◌, ◌++◌, length, Option, Some, None, Bool, true, false, refl, sym, ap, arith, add-one, inl, inr}
+use Rattle.std.proofs.Common.{◌≡◌, ◌∙◌, ℕ, zero, suc, ◌+◌, ◌<◌, List, [], ◌∷◌, ◌++◌, length, Option}
+use Rattle.std.proofs.Common.{Some, None, Bool, true, false, refl, sym, ap, arith, add-one, inl}
+use Rattle.std.proofs.Common.{inr}
 use Rattle.std.specs.Prelude.{IsSome, ◌⊎◌}
 use Rattle.std.specs.Borrow.{Bor}
-use Rattle.csv.specs.Machine.{Read, next_record, step, is_end, ends_at_end, fields_after, field_after}
-use Rattle.csv.specs.Reading.{records_from, records_next, default_config, source_of, ReadRecord, Reached}
+use Rattle.csv.specs.Machine.{Read, next_record, step, is_end, ends_at_end, fields_after}
+use Rattle.csv.specs.Machine.{field_after}
+use Rattle.csv.specs.Reading.{records_from, records_next, default_config, source_of, ReadRecord}
+use Rattle.csv.specs.Reading.{Reached}
 use Rattle.csv.specs.declared.parser.Config.{Config}
 use Rattle.csv.specs.declared.parser.State.{State}
 use Rattle.csv.specs.declared.parser.State.TheVariants as st
@@ -45,7 +49,7 @@ unfolding records_from next_record
 records_from-end cfg zero = refl
 records_from-end cfg (suc n) = refl
 
--- the records of a text don't depend on how many turns are left, where there are enough
+-- the records of a text don't depend on how many turns are left, if there are enough
 abbrev SameTurns : Config → ℕ → Type 0
 SameTurns cfg n = (m : ℕ) (s : State) (xs : List ℕ) → length xs < n → length xs < m → records_from cfg n s xs ≡ records_from cfg m s xs
 

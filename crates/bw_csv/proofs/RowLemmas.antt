@@ -1,5 +1,7 @@
 -- The rows of a text, one more at a time.
-use Rattle.std.proofs.Common.{◌≡◌, ◌∙◌, ℕ, ℤ, ◌+◌, ◌^◌, ◌≤◌, inl, inr, arith, ltb, lt-ltb, List, [], ◌∷◌, ◌++◌, length, Option, Some, None, Result, Ok, Err, Bool, true, false, refl, ap, eqb}
+use Rattle.std.proofs.Common.{◌≡◌, ◌∙◌, ℕ, ℤ, ◌+◌, ◌^◌, ◌≤◌, inl, inr, arith, ltb, lt-ltb, List, []}
+use Rattle.std.proofs.Common.{◌∷◌, ◌++◌, length, Option, Some, None, Result, Ok, Err, Bool, true}
+use Rattle.std.proofs.Common.{false, refl, ap, eqb}
 use Rattle.std.specs.Prelude.{◌&&◌, not, int_le, if◌then◌else◌}
 use Rattle.std.specs.Prelude.{IfOk, IsOkAnd, IsTrue}
 use Rattle.std.specs.List.{list_all}
@@ -11,7 +13,10 @@ use Rattle.bw_model.specs.Fault.{◌>>=◌, at_record, refused_if}
 use Rattle.bw_model.specs.Column.{admits_value, admits_values}
 use Rattle.bw_text.specs.Number.{are_digits, number_of}
 use Rattle.bw_model.specs.Row.{Value}
-use Rattle.bw_csv.specs.Rows.{StopsAfter, is_reader_fault, located_at, is_heading, is_minus, is_null_text, number_value, row_of_record, rows_from, rows_after, unsigned, value_of_field, values_of_fields, with_row, within_bounds, without_blanks}
+use Rattle.bw_csv.specs.Rows.{StopsAfter, is_reader_fault, located_at, is_heading, is_minus}
+use Rattle.bw_csv.specs.Rows.{is_null_text, number_value, row_of_record, rows_from, rows_after}
+use Rattle.bw_csv.specs.Rows.{unsigned, value_of_field, values_of_fields, with_row, within_bounds}
+use Rattle.bw_csv.specs.Rows.{without_blanks}
 use Rattle.bw_csv.proofs.FieldLemmas.{after}
 use Rattle.bw_csv.proofs.Passed.{Passed, passed-nothing, passed-next, passed-on, passed-stops}
 
@@ -123,7 +128,7 @@ pub led-all : {K : Type 0} (led : K → List (List Value) → K → Type 0) (sta
 unfolding LedSoFar
 led-all led start now columns first number records h e = rw (passed-on (rows_from columns) first h.0 number records h.2 ∙ ap (after h.0) e ∙ ap Ok (append-nil h.0)) h.1
 
--- where the reader has an error of its own, it's after those
+-- if the reader has an error of its own, it's after those
 pub led-stops : {K : Type 0} (led : K → List (List Value) → K → Type 0) (start now : K) (columns : List Column) (first : List (List (List ℕ))) (number : ℕ) (records : List (List (List ℕ))) (fault : Fault)
     → LedSoFar led start now columns first number records → located_at number fault ≡ true → is_reader_fault fault ≡ true → StopsAfter (rows_from columns) first fault
 unfolding LedSoFar

@@ -1,6 +1,7 @@
 -- The rows that a CSV text spells without a schema: each has as many fields as the heading, and
 -- each field is null or a number of 64 bits.
-use Rattle.std.specs.Prelude.{ℕ, ℤ, ◌+◌, Bool, List, [], ◌∷◌, not, ◌==◌, length, Option, Some, None, Result, Ok, Err, if◌then◌else◌, nat_lt}
+use Rattle.std.specs.Prelude.{ℕ, ℤ, ◌+◌, Bool, List, [], ◌∷◌, not, ◌==◌, length, Option, Some, None}
+use Rattle.std.specs.Prelude.{Result, Ok, Err, if◌then◌else◌, nat_lt}
 use Rattle.csv.specs.Reading.{records, strip_bom, default_config}
 use Rattle.bw_model.specs.FaultTable.{RECORD_LENGTH, NOT_A_NUMBER, OUT_OF_RANGE, TOO_MANY_ROWS}
 use Rattle.bw_model.specs.declared.fault.Fault.{Fault}

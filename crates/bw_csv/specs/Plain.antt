@@ -1,12 +1,14 @@
 -- Records without a quotation mark, within a text.
-use Rattle.std.specs.Prelude.{◌≡◌, ◌≤◌, ℕ, Bool, true, List, [], ◌∷◌, ◌||◌, not, ◌==◌, length, take, drop, Some, Ok}
+use Rattle.std.specs.Prelude.{◌≡◌, ◌≤◌, ℕ, Bool, true, List, [], ◌∷◌, ◌||◌, not, ◌==◌, length, take}
+use Rattle.std.specs.Prelude.{drop, Some, Ok}
 use Rattle.std.specs.List.{list_all}
 use Rattle.csv.specs.declared.parser.State.{State}
 use Rattle.csv.specs.declared.parser.State.TheVariants as st
 use Rattle.bw_model.specs.declared.column.Column.{Column}
 use Rattle.bw_model.specs.Row.{Value}
 use Rattle.bw_csv.specs.declared.heading_end.Inside.{Inside}
-use Rattle.bw_csv.specs.declared.heading_end.Inside.TheVariants.{Before, Front, Bare, Quoted, Closed}
+use Rattle.bw_csv.specs.declared.heading_end.Inside.TheVariants.{Before, Front, Bare, Quoted}
+use Rattle.bw_csv.specs.declared.heading_end.Inside.TheVariants.{Closed}
 use Rattle.bw_csv.specs.Records.{records_in}
 use Rattle.bw_csv.specs.Rows.{row_of_record}
 

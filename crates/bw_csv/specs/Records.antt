@@ -1,5 +1,6 @@
 -- The records of a text that are still unread.
-use Rattle.std.specs.Prelude.{◌≡◌, ◌+◌, ℕ, List, [], length, Option, Some, None, IsSome, false, true}
+use Rattle.std.specs.Prelude.{◌≡◌, ◌+◌, ℕ, List, [], length, Option, Some, None, IsSome, false}
+use Rattle.std.specs.Prelude.{true}
 use Rattle.std.specs.Borrow.{Bor}
 use Rattle.csv.specs.Reading.{Ready, has_failed, records_from, source_of, default_config}
 use Rattle.csv.specs.Records.{fields_of}

@@ -1,9 +1,14 @@
 -- The rows that a CSV text spells under columns, or its first error. The csv crate defines how
 -- bytes are cut into records and fields.
-use Rattle.std.specs.Prelude.{◌≡◌, ◌+◌, ◌-◌, ℕ, ℤ, Bool, true, false, List, [], ◌∷◌, ◌++◌, ◌⊎◌, ◌||◌, ◌&&◌, not, ◌==◌, length, Option, Some, None, Result, Ok, Err, IsOkAnd, IsTrue, if◌then◌else◌, codes, int_le, nat_le, nat_lt, slice_index, drop, take}
+use Rattle.std.specs.Prelude.{◌≡◌, ◌+◌, ◌-◌, ℕ, ℤ, Bool, true, false, List, [], ◌∷◌, ◌++◌, ◌⊎◌}
+use Rattle.std.specs.Prelude.{◌||◌, ◌&&◌, not, ◌==◌, length, Option, Some, None, Result, Ok, Err}
+use Rattle.std.specs.Prelude.{IsOkAnd, IsTrue, if◌then◌else◌, codes, int_le, nat_le, nat_lt}
+use Rattle.std.specs.Prelude.{slice_index, drop, take}
 use Rattle.std.specs.List.{prefix_len, suffix_len}
 use Rattle.csv.specs.Reading.{records, strip_bom, default_config}
-use Rattle.bw_model.specs.FaultTable.{NO_HEADING, HEADING, RECORD_LENGTH, NOT_A_NUMBER, OUT_OF_RANGE, NULL_NOT_ALLOWED, TOO_MANY_ROWS, CSV_TOO_LONG, CSV_FAULT}
+use Rattle.bw_model.specs.FaultTable.{NO_HEADING, HEADING, RECORD_LENGTH, NOT_A_NUMBER}
+use Rattle.bw_model.specs.FaultTable.{OUT_OF_RANGE, NULL_NOT_ALLOWED, TOO_MANY_ROWS, CSV_TOO_LONG}
+use Rattle.bw_model.specs.FaultTable.{CSV_FAULT}
 use Rattle.bw_model.specs.declared.column.Column.{Column}
 use Rattle.bw_model.specs.declared.fault.Fault.{Fault}
 use Rattle.bw_model.specs.declared.fault.Place.{Place}

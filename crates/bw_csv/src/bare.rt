@@ -1,14 +1,17 @@
 //! The rows of records without a schema.
-ghost use Rattle.std.specs.Prelude.{◌≡◌, ◌≤◌, ℕ, List, [], ◌∷◌, true, false, length, Ok, Err, OnOk, IfOk, IfErr, IsTrue};
+ghost use Rattle.std.specs.Prelude.{◌≡◌, ◌≤◌, ℕ, List, [], ◌∷◌, true, false, length, Ok, Err, OnOk};
+ghost use Rattle.std.specs.Prelude.{IfOk, IfErr, IsTrue};
 ghost use Rattle.std.specs.List.{list_all};
 ghost use Rattle.csv.specs.Records.{fields_of};
 ghost use Rattle.bw_model.specs.declared.column.Column.{Column};
 ghost use Rattle.bw_model.specs.Column.{admits_values};
 ghost use Rattle.bw_model.specs.Limits.{most_rows};
 ghost use Rattle.bw_model.specs.Row.{Value, values_of};
-ghost use Rattle.bw_csv.specs.Bare.{bare_number, bare_row, bare_rows, bare_text, bare_value, bare_values, within_64_bits};
+ghost use Rattle.bw_csv.specs.Bare.{bare_number, bare_row, bare_rows, bare_text, bare_value};
+ghost use Rattle.bw_csv.specs.Bare.{bare_values, within_64_bits};
 ghost use Rattle.bw_csv.specs.Records.{IsOpen, remaining_records};
-ghost use Rattle.bw_csv.specs.Rows.{is_exempt, rows_from, MatchesUnlessExempt, IsRowsFault, located_at};
+ghost use Rattle.bw_csv.specs.Rows.{is_exempt, rows_from, MatchesUnlessExempt, IsRowsFault};
+ghost use Rattle.bw_csv.specs.Rows.{located_at};
 
 use crate::field::{is_minus, is_null_text, unsigned, without_blanks};
 use crate::records::Records;

@@ -1,10 +1,10 @@
 //! The rows that a CSV text spells under a schema.
 //!
 //! The contract that the crates above use is that of [`read_rows`]: in one pass it delivers a
-//! text's rows to a [`RowTaker`](bw_model::RowTaker), one after another, or returns the text's
-//! first error. `specs/Rows.antt` defines the rows of a text, over the records that the `csv` crate
-//! defines for its bytes. Without a schema, [`Records`] and [`read_bare_row`] read the same rows,
-//! and the only bounds are those of 64 bits.
+//! text's rows to a [`RowConsumer`](bw_model::RowConsumer), one after another, or returns the
+//! text's first error. `specs/Rows.antt` defines the rows of a text, over the records that the
+//! `csv` crate defines for its bytes. Without a schema, [`Records`] and [`read_bare_row`] read the
+//! same rows, and the only bounds are those of 64 bits.
 //!
 //! Read `specs/Rows.antt` first, then `rows.rt`, `row.rt` and `field.rt`. `records.rt` has the
 //! `csv` crate's reader behind a few calls, and `bare.rt` rows without a schema. Records without a

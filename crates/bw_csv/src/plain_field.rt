@@ -2,7 +2,8 @@
 //!
 //! A plain field has no quotation mark, and ends at a comma, a line's end or the end of the text.
 //! Every result here is right; if a function returns None, the csv reader must read the record.
-ghost use Rattle.std.specs.Prelude.{◌≡◌, ◌^◌, ◌<◌, ◌≤◌, ◌&&◌, ℕ, List, Some, Ok, true, IfSome, int_le, length, take};
+ghost use Rattle.std.specs.Prelude.{◌≡◌, ◌^◌, ◌<◌, ◌≤◌, ◌&&◌, ℕ, List, Some, Ok, true, IfSome};
+ghost use Rattle.std.specs.Prelude.{int_le, length, take};
 ghost use Rattle.std.specs.List.{list_all};
 ghost use Rattle.bw_text.specs.Number.{are_digits, digits_value, number_of};
 ghost use Rattle.bw_csv.specs.Plain.{IsPlainField, is_plain};

@@ -1,10 +1,12 @@
 //! The records of a text, one at a time.
-ghost use Rattle.std.specs.Prelude.{◌≡◌, ◌<◌, ℕ, List, [], ◌∷◌, Some, true, false, length, slice_index_or, IfOk, IfErr, IsTrue};
+ghost use Rattle.std.specs.Prelude.{◌≡◌, ◌<◌, ℕ, List, [], ◌∷◌, Some, true, false, length};
+ghost use Rattle.std.specs.Prelude.{slice_index_or, IfOk, IfErr, IsTrue};
 ghost use Rattle.csv.specs.Reading.{records, strip_bom, default_config};
 ghost use Rattle.csv.specs.Records.{fields_of};
 ghost use Rattle.csv.specs.declared.parser.State.TheVariants as st;
 ghost use Rattle.bw_csv.specs.Fields.{IsLonger};
-ghost use Rattle.bw_csv.specs.Records.{IsOpen, IsOpenReader, remaining_records, fields_in, left_in, records_in};
+ghost use Rattle.bw_csv.specs.Records.{IsOpen, IsOpenReader, remaining_records, fields_in, left_in};
+ghost use Rattle.bw_csv.specs.Records.{records_in};
 ghost use Rattle.bw_csv.specs.Rows.{IsRowsFault, is_exempt, located_at, without_blanks};
 
 use crate::field::without_blanks;

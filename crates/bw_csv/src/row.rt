@@ -1,11 +1,13 @@
 //! The row of a record.
-ghost use Rattle.std.specs.Prelude.{◌≡◌, ◌≤◌, ℕ, List, [], ◌∷◌, true, false, length, Ok, Err, OnOk, IfOk, IfErr, IsTrue};
+ghost use Rattle.std.specs.Prelude.{◌≡◌, ◌≤◌, ℕ, List, [], ◌∷◌, true, false, length, Ok, Err, OnOk};
+ghost use Rattle.std.specs.Prelude.{IfOk, IfErr, IsTrue};
 ghost use Rattle.csv.specs.Records.{fields_of};
 ghost use Rattle.bw_model.specs.Column.{admits_values};
 ghost use Rattle.bw_model.specs.Limits.{most_rows};
 ghost use Rattle.bw_model.specs.Row.{values_of};
 ghost use Rattle.bw_csv.specs.Records.{IsOpen, remaining_records};
-ghost use Rattle.bw_csv.specs.Rows.{is_exempt, is_heading, row_of_record, rows_after, rows_from, values_of_fields, MatchesUnlessExempt, IsRowsFault, located_at};
+ghost use Rattle.bw_csv.specs.Rows.{is_exempt, is_heading, row_of_record, rows_after, rows_from};
+ghost use Rattle.bw_csv.specs.Rows.{values_of_fields, MatchesUnlessExempt, IsRowsFault, located_at};
 
 use crate::field::{value_of, without_blanks};
 use crate::records::Records;

@@ -5,7 +5,8 @@
 //! empty, or `NULL` in any case, is null; anything else must be an optional sign and at least one
 //! digit. The `csv` crate cuts the bytes into records and fields, and drops one byte order mark at
 //! the start.
-ghost use Rattle.std.specs.Prelude.{◌≡◌, ◌+◌, ◌<◌, ◌≤◌, ℕ, List, [], ◌∷◌, ◌++◌, Bool, true, OnOk, IfOk, Err, IfErr, IsTrue, length};
+ghost use Rattle.std.specs.Prelude.{◌≡◌, ◌+◌, ◌<◌, ◌≤◌, ℕ, List, [], ◌∷◌, ◌++◌, Bool, true, OnOk};
+ghost use Rattle.std.specs.Prelude.{IfOk, Err, IfErr, IsTrue, length};
 ghost use Rattle.std.specs.List.{list_all};
 ghost use Rattle.bw_model.specs.Column.{admits_values};
 ghost use Rattle.bw_model.specs.declared.column.Column.{Column};
@@ -13,15 +14,16 @@ ghost use Rattle.bw_model.specs.declared.fault.Fault.{Fault};
 ghost use Rattle.bw_model.specs.Fault.{no_memory};
 ghost use Rattle.bw_model.specs.Limits.{most_rows};
 ghost use Rattle.bw_model.specs.Row.{Value, values_of};
-ghost use Rattle.bw_model.specs.Standing.{StandsAsListed};
+ghost use Rattle.bw_model.specs.FaultPlaces.{StandsAsListed};
 ghost use Rattle.bw_csv.specs.Rest.{IsReadable, to_come};
 ghost use Rattle.bw_csv.specs.Bare.{records_of};
-ghost use Rattle.bw_csv.specs.Rows.{rows_of, rows_from, is_reader_fault, DeliversRows, IsRowsFault, StopsAfter, StopsUnder, located_at, stands_after};
+ghost use Rattle.bw_csv.specs.Rows.{rows_of, rows_from, is_reader_fault, DeliversRows, IsRowsFault};
+ghost use Rattle.bw_csv.specs.Rows.{StopsAfter, StopsUnder, located_at, stands_after};
 
 use crate::records::Records;
 use crate::rest::Rest;
 use crate::row::read_heading;
-use bw_model::{Column, Fault, Row, RowTaker, Schema, Value};
+use bw_model::{Column, Fault, Row, RowConsumer, Schema, Value};
 use std::alloc::Global;
 
 /// Delivers the rows of a CSV text to a consumer, in order. The consumer must accept each row that
@@ -37,7 +39,7 @@ use std::alloc::Global;
 /// - 209: any other error of the reader, at the record that it read
 ///
 /// 801 if memory is refused.
-pub fn read_rows<K: RowTaker>(
+pub fn read_rows<K: RowConsumer>(
     alloc: Global,
     schema: &Schema,
     text: &[u8],
@@ -67,7 +69,7 @@ pub fn read_rows<K: RowTaker>(
 /// Delivers the rows of the unread records, the first of which has number 1, to a consumer, in
 /// order.
 #[tactic(auto, using(crate::proofs::RowLemmas::so_far))]
-fn hand_rows<K: RowTaker>(
+fn hand_rows<K: RowConsumer>(
     columns: &[Column],
     rest: &mut Rest<'_>,
     row: &mut Row,
@@ -102,7 +104,7 @@ pub fn rows_are_admitted()
 {}
 
 /// A law: an error of a CSV text is where the table of errors lists it: at a record.
-#[tactic(auto, using(crate::proofs::StandingLemmas::fault_listed))]
+#[tactic(auto, using(crate::proofs::FaultPlaceLemmas::fault_listed))]
 pub fn faults_stand_as_listed()
     ensures { (columns : List Column) (text : List ℕ) (fault : Fault) → rows_of columns text
         ≡ Err fault → StandsAsListed fault }

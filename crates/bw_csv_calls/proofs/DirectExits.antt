@@ -1,4 +1,4 @@
--- Where an answer straight from a CSV text ends.
+-- Where a query straight from a CSV text ends.
 use Rattle.std.proofs.Common.{◌≡◌, ℕ, List, Bool, true, false, Result, Ok, Err, refl, ap}
 use Rattle.bw_model.specs.declared.fault.Fault.{Fault}
 use Rattle.bw_model.specs.declared.query.Query.{Query}
@@ -7,7 +7,7 @@ use Rattle.bw_model.specs.Fault.{no_memory, is_memory}
 use Rattle.bw_io.specs.Source.{Arrival, NotReached, Failed}
 use Rattle.bw_csv.specs.Input.{IsMadeOf}
 use Rattle.bw_sql.specs.Statement.{IsReadAs, Parses}
-use Rattle.bw_csv_calls.specs.Arrived.{IsSchemaFrom}
+use Rattle.bw_csv_calls.specs.ReadInputs.{IsSchemaFrom}
 use Rattle.bw_csv_calls.specs.Direct.{IsAnswer, answer_of}
 use Rattle.bw_csv_calls.proofs.Exits.{Given, Ends, IsFaultOf, memory_is, refused_exit}
 
@@ -15,7 +15,7 @@ use Rattle.bw_csv_calls.proofs.Exits.{Given, Ends, IsFaultOf, memory_is, refused
 abbrev pub AnswerTo : List ℕ → Arrival → Arrival → Given → Type 0
 AnswerTo sql schema csv given = IsAnswer schema sql csv given
 
--- the schema was refused
+-- the schema was rejected
 pub refused_schema : (sql : List ℕ) (came : Arrival) (fault : Fault) → IsSchemaFrom came (Err fault) → AnswerTo sql came NotReached (Err fault)
 refused_schema sql came fault from =
     let outcome : Result Schema Fault = Err fault in
@@ -32,7 +32,7 @@ read_statement sql came csv schema query given from read made =
     let outcome : Result Schema Fault = Ok schema in
     (outcome, from, (statement, read, made))
 
--- the statement was refused
+-- the statement was rejected
 statement_exit_by : (P Q : Arrival → Type 0) (sql : List ℕ) (came : Arrival) (schema : Schema) (fault : Fault) (memory : Bool) → is_memory fault ≡ memory → P came → P (Failed no_memory)
     → Q NotReached → IsSchemaFrom came (Ok schema) → Parses schema sql (Err fault) → Ends P Q (AnswerTo sql) (IsFaultOf fault)
 statement_exit_by P Q sql came schema fault true m p none q from read =

@@ -1,11 +1,12 @@
 -- What a call that reads a schema answered.
-use Rattle.std.proofs.Common.{◌≡◌, ℕ, List, Bool, true, false, Option, Result, Ok, Err, IfOk, refl, ap}
+use Rattle.std.proofs.Common.{◌≡◌, ℕ, List, Bool, true, false, Option, Result, Ok, Err, IfOk, refl}
+use Rattle.std.proofs.Common.{ap}
 use Rattle.bw_model.specs.declared.fault.Fault.{Fault}
 use Rattle.bw_model.specs.declared.schema.Schema.{Schema}
 use Rattle.bw_model.specs.Fault.{MatchesUnlessOom, no_memory, is_memory}
 use Rattle.bw_model.specs.SchemaText.{schema_of, schema_shape, IsSchemaText}
 use Rattle.bw_io.specs.Source.{Arrival, Whole, Failed, ReadOutcome}
-use Rattle.bw_csv_calls.specs.Arrived.{IsSchemaFrom}
+use Rattle.bw_csv_calls.specs.ReadInputs.{IsSchemaFrom}
 use Rattle.bw_csv_calls.proofs.Exits.{memory_is}
 
 -- what came of a source of which this was read
@@ -20,7 +21,7 @@ schema_refused limit old new before after bytes fault true m came gives =
     (Failed no_memory, (same, came.1), is)
 schema_refused limit old new before after bytes fault false m came gives = (Whole bytes, came, gives m)
 
--- the schema that bytes spell, or their fault
+-- the schema that bytes spell, or their error
 pub schema_answered : (limit : ℕ) (old new : Option (List ℕ)) (before after : ℕ) (bytes : List ℕ) (result : Result Schema Fault)
     → ReadOutcome limit old new before after (Whole bytes) → IfOk result (λ schema. IsSchemaText bytes (schema_shape schema)) → MatchesUnlessOom schema_shape result (schema_of bytes)
     → CameAs limit old new before after result

@@ -1,6 +1,7 @@
 -- Where a call that reads a schema and a CSV and writes a text ends: at the schema, at the CSV, at
--- what is made of it, or when the text goes out.
-use Rattle.std.proofs.Common.{◌≡◌, ℕ, List, true, false, ◌==◌, Option, Result, Ok, Err, refl, subst, ap}
+-- what is made of it, or when the text is written.
+use Rattle.std.proofs.Common.{◌≡◌, ℕ, List, true, false, ◌==◌, Option, Result, Ok, Err, refl, subst}
+use Rattle.std.proofs.Common.{ap}
 use Rattle.std.proofs.lemmas.Bool.{eqb-true}
 use Rattle.bw_model.specs.declared.fault.Fault.{Fault}
 use Rattle.bw_model.specs.declared.fault.Place.{Place}
@@ -13,9 +14,9 @@ use Rattle.bw_csv.specs.Rows.{StopsUnder, is_exempt}
 use Rattle.bw_io.specs.Sink.{is_write_fault, GoesOut, WriteOutcome}
 use Rattle.bw_io.proofs.SinkLemmas.{wrote_nothing, wrote_text}
 use Rattle.bw_io.specs.Source.{Arrival, NotReached, Whole, TooLong, Failed, ReadOutcome}
-use Rattle.bw_csv_calls.specs.Arrived.{CsvStopped, SchemaCame, IsSchemaFrom}
+use Rattle.bw_csv_calls.specs.ReadInputs.{StopsInCsv, HasReadSchema, IsSchemaFrom}
 
--- the text that goes out, or a fault
+-- the text that is written, or an error
 abbrev pub Given : Type 0
 Given = Result (List ℕ) Fault
 
@@ -23,11 +24,11 @@ Given = Result (List ℕ) Fault
 abbrev pub Ends : (Arrival → Type 0) → (Arrival → Type 0) → (Arrival → Arrival → Given → Type 0) → (Given → Type 0) → Type 0
 Ends P Q Is W = (schema csv : Arrival) × (given : Given) × P schema × Q csv × Is schema csv given × W given
 
--- a fault was answered that is the one of what was given, but for those set aside
+-- an error was answered that is the one of what was given, but for those set aside
 abbrev pub IsFaultOf : Fault → Given → Type 0
 IsFaultOf fault given = is_exempt fault ≡ false → given ≡ Err fault
 
--- out of memory is one fault
+-- out of memory is one error
 memory_at : (code : ℕ) (place : Place) → is_memory (record { code = code; place = place }) ≡ true → ◌≡◌ {A = Fault} (record { code = code; place = place }) no_memory
 memory_at code Nowhere is = ap nowhere (eqb-true code 801 (both _ _ is).0)
 memory_at code (Byte at) is = absurd (cc ((both (code == 801) false is).1))
@@ -53,7 +54,7 @@ not_reached limit old count =
     let kept : count ≡ count = refl in
     (same, kept)
 
--- the call was refused, by the fault that was to be
+-- the call was rejected, by the error that was to be
 pub refused_exit : (P Q : Arrival → Type 0) (Is : Arrival → Arrival → Given → Type 0) (came csv : Arrival) (fault : Fault) → Is came csv (Err fault) → P came → Q csv
     → Ends P Q Is (IsFaultOf fault)
 refused_exit P Q Is came csv fault is p q =
@@ -66,7 +67,7 @@ pub text_exit : (P Q : Arrival → Type 0) (Is : Arrival → Arrival → Given �
     → Is came (Whole bytes) (make bytes) → P came → Q csv → csv ≡ Whole bytes → W (make bytes) → Ends P Q Is W
 text_exit P Q Is W came csv make bytes is p q told w = (came, Whole bytes, make bytes, p, subst Q told q, is, w)
 
--- what was given went out, or a fault was, and nothing went
+-- what was given was written, or an error was, and nothing went
 pub went_on : (P Q : Arrival → Type 0) (Is : Arrival → Arrival → Given → Type 0) (old new : Option (List ℕ)) (before after : ℕ) (text : List ℕ) (result : Result (Unit {0}) Fault)
     → Ends P Q Is (λ given. given ≡ Ok text) → GoesOut old new before after text result → Ends P Q Is (λ given. WriteOutcome is_exempt old new before after given result)
 went_on P Q Is old new before after text result e goes = (e.0, e.1, e.2, e.3, e.4, e.5, wrote_text (Unit {0}) is_exempt old new before after text e.2 result e.6 goes)
@@ -75,18 +76,18 @@ pub went_nowhere : (P Q : Arrival → Type 0) (Is : Arrival → Arrival → Give
     → Ends P Q Is (IsFaultOf fault) → Ends P Q Is (λ given. WriteOutcome {T = Unit {0}} is_exempt old old count count given (Err fault))
 went_nowhere P Q Is old count fault other e = (e.0, e.1, e.2, e.3, e.4, e.5, wrote_nothing (Unit {0}) is_exempt old count fault e.2 other e.6)
 
--- a schema that was read came of a text that came whole
-pub came_of : (came : Arrival → Type 0) (schema : Schema) → ((arrived : Arrival) × came arrived × IsSchemaFrom arrived (Ok schema)) → SchemaCame came schema
+-- a schema that was read came of a text that was read completely
+pub came_of : (came : Arrival → Type 0) (schema : Schema) → ((arrived : Arrival) × came arrived × IsSchemaFrom arrived (Ok schema)) → HasReadSchema came schema
 came_of came schema told = by told.0 told.1 told.2
   where
-    by : (arrived : Arrival) → came arrived → IsSchemaFrom arrived (Ok schema) → SchemaCame came schema
+    by : (arrived : Arrival) → came arrived → IsSchemaFrom arrived (Ok schema) → HasReadSchema came schema
     by NotReached whole spelled = absurd spelled
     by (Whole text) whole spelled = record { text = text; whole = whole; spelled = spelled }
     by TooLong whole spelled = let e : ◌≡◌ {A = Result Schema Fault} (Ok schema) (Err (nowhere 106)) = spelled in absurd (cc e)
     by (Failed fault) whole spelled = let e : ◌≡◌ {A = Result Schema Fault} (Ok schema) (Err fault) = spelled in absurd (cc e)
 
--- a CSV text in which the reader stopped came whole
+-- a CSV text in which the reader stopped was read completely
 pub stopped_of : (came : Arrival → Type 0) (schema : Schema) (bytes text : List ℕ) (fault : Fault) → ((arrived : Arrival) × came arrived × (arrived ≡ Whole bytes))
-    → text ≡ bytes → StopsUnder schema.columns.items (records_of text) fault → CsvStopped came schema fault
+    → text ≡ bytes → StopsUnder schema.columns.items (records_of text) fault → StopsInCsv came schema fault
 stopped_of came schema bytes text fault told same stops =
     record { text = bytes; whole = subst came told.2 told.1; stops = subst (λ (t : List ℕ). StopsUnder schema.columns.items (records_of t) fault) same stops }

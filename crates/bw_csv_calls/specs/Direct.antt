@@ -13,7 +13,7 @@ use Rattle.bw_model.specs.Column.{names_of}
 use Rattle.bw_csv.specs.Rows.{rows_of}
 use Rattle.bw_answer.specs.Answer.{csv_text, meaning}
 use Rattle.bw_csv.specs.Input.{IsMadeAfter}
-use Rattle.bw_csv_calls.specs.Arrived.{IsSchemaFrom}
+use Rattle.bw_csv_calls.specs.ReadInputs.{IsSchemaFrom}
 
 -- the error is one of a schema text or of a statement, which is returned before the CSV is read
 abbrev pub is_before_csv : Fault → Bool

@@ -1,3 +1,3 @@
-pub mod Arrived
+pub mod ReadInputs
 pub mod Direct
 pub mod Load

@@ -8,7 +8,7 @@ use Rattle.bw_csv.specs.Rows.{rows_of}
 use Rattle.bw_file.specs.declared.layout.Layout.{Layout}
 use Rattle.bw_file.specs.FileBytes.{file_bytes}
 use Rattle.bw_csv.specs.Input.{IsMadeAfter}
-use Rattle.bw_csv_calls.specs.Arrived.{IsSchemaFrom}
+use Rattle.bw_csv_calls.specs.ReadInputs.{IsSchemaFrom}
 
 -- the table file of the rows that a CSV text spells, or the text's first error
 abbrev pub file_of : Layout → Schema → List ℕ → Result (List ℕ) Fault

@@ -1,5 +1,6 @@
 //! The result of a query straight from a CSV text.
-ghost use Rattle.std.specs.Prelude.{◌≡◌, ◌+◌, ◌-◌, ◌^◌, ◌<◌, ◌≤◌, ℕ, List, Result, Ok, false, true, length, vec_len, IfErr, IsTrue};
+ghost use Rattle.std.specs.Prelude.{◌≡◌, ◌+◌, ◌-◌, ◌^◌, ◌<◌, ◌≤◌, ℕ, List, Result, Ok, false, true};
+ghost use Rattle.std.specs.Prelude.{length, vec_len, IfErr, IsTrue};
 ghost use Rattle.std.specs.List.{list_all};
 ghost use Rattle.bw_model.specs.declared.fault.Fault.{Fault};
 ghost use Rattle.bw_model.specs.declared.query.Query.{Query};
@@ -10,9 +11,10 @@ ghost use Rattle.bw_io.specs.Source.{Arrival, ReadOutcome, TellsFailureOfEither,
 ghost use Rattle.bw_model.specs.Total.{item_within};
 ghost use Rattle.bw_sql.specs.Items.{AreOfOneKind};
 ghost use Rattle.bw_sql.specs.Statement.{IsReadAs};
-ghost use Rattle.bw_csv_calls.specs.Arrived.{CsvStopped, SchemaCame};
+ghost use Rattle.bw_csv_calls.specs.ReadInputs.{StopsInCsv, HasReadSchema};
 ghost use Rattle.bw_csv.specs.Bare.{records_of};
-ghost use Rattle.bw_csv.specs.Rows.{is_exempt, is_reader_fault, MatchesUnlessExempt, IsRowsFault, StopsUnder};
+ghost use Rattle.bw_csv.specs.Rows.{is_exempt, is_reader_fault, MatchesUnlessExempt, IsRowsFault};
+ghost use Rattle.bw_csv.specs.Rows.{StopsUnder};
 ghost use Rattle.bw_csv_calls.specs.Direct.{IsAnswer, answer_of, is_before_csv};
 
 use crate::inputs::read_schema;
@@ -59,11 +61,11 @@ pub fn direct<S: Source, C: Source, K: Sink>(
     // have rows.
     ensures reader { IfErr result (λ fault. is_reader_fault fault ≡ true → (schema : Schema)
         × (query : Query)
-        × SchemaCame (ReadOutcome longest_schema (S.to_come schema_source.old)
+        × HasReadSchema (ReadOutcome longest_schema (S.to_come schema_source.old)
         (S.to_come schema_source.new)
         (S.failures schema_source.old) (S.failures schema_source.new)) schema
         × IsReadAs schema sql.now (Ok query)
-        × CsvStopped (ReadOutcome longest_csv (C.to_come csv_source.old) (C.to_come csv_source.new)
+        × StopsInCsv (ReadOutcome longest_csv (C.to_come csv_source.old) (C.to_come csv_source.new)
         (C.failures csv_source.old) (C.failures csv_source.new)) schema fault) }
 
     // Of a source at most one byte past its limit is read. The call fails by a failed read if and
@@ -107,11 +109,11 @@ fn direct_text<S: Source, C: Source>(
     ensures fault { IfErr result (λ fault. is_write_fault fault ≡ false) }
     ensures reader { IfErr result (λ fault. is_reader_fault fault ≡ true → (schema : Schema)
         × (query : Query)
-        × SchemaCame (ReadOutcome longest_schema (S.to_come schema_source.old)
+        × HasReadSchema (ReadOutcome longest_schema (S.to_come schema_source.old)
         (S.to_come schema_source.new)
         (S.failures schema_source.old) (S.failures schema_source.new)) schema
         × IsReadAs schema sql.now (Ok query)
-        × CsvStopped (ReadOutcome longest_csv (C.to_come csv_source.old) (C.to_come csv_source.new)
+        × StopsInCsv (ReadOutcome longest_csv (C.to_come csv_source.old) (C.to_come csv_source.new)
         (C.failures csv_source.old) (C.failures csv_source.new)) schema fault) }
     ensures schema { TookAtMost (longest_schema + 1) (S.to_come schema_source.old)
         (S.to_come schema_source.new) }

@@ -4,7 +4,7 @@ ghost use Rattle.bw_csv.specs.Rows.{is_reader_fault};
 ghost use Rattle.bw_io.specs.Sink.{is_write_fault};
 ghost use Rattle.bw_model.specs.Limits.{longest_schema};
 ghost use Rattle.bw_io.specs.Source.{Arrival, ReadOutcome, SourceEffect};
-ghost use Rattle.bw_csv_calls.specs.Arrived.{IsSchemaFrom};
+ghost use Rattle.bw_csv_calls.specs.ReadInputs.{IsSchemaFrom};
 
 use bw_io::{Input, Source, read_limited};
 use bw_model::{Fault, MAX_SCHEMA_LEN, Schema, code};

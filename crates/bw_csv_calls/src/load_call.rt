@@ -1,13 +1,15 @@
 //! A table file written from a CSV text.
-ghost use Rattle.std.specs.Prelude.{◌≡◌, ◌+◌, ◌-◌, ◌^◌, ◌<◌, ℕ, List, Result, false, true, IfErr, IsTrue};
+ghost use Rattle.std.specs.Prelude.{◌≡◌, ◌+◌, ◌-◌, ◌^◌, ◌<◌, ℕ, List, Result, false, true, IfErr};
+ghost use Rattle.std.specs.Prelude.{IsTrue};
 ghost use Rattle.bw_model.specs.declared.fault.Fault.{Fault};
 ghost use Rattle.bw_model.specs.declared.schema.Schema.{Schema};
 ghost use Rattle.bw_model.specs.Limits.{longest_schema, longest_csv};
 ghost use Rattle.bw_io.specs.Sink.{WriteOutcome, is_write_fault};
 ghost use Rattle.bw_io.specs.Source.{Arrival, ReadOutcome, TellsFailureOfEither, TookAtMost};
 ghost use Rattle.bw_csv.specs.Bare.{records_of};
-ghost use Rattle.bw_csv.specs.Rows.{is_exempt, is_reader_fault, MatchesUnlessExempt, IsRowsFault, StopsUnder};
-ghost use Rattle.bw_csv_calls.specs.Arrived.{CsvStopped, SchemaCame};
+ghost use Rattle.bw_csv.specs.Rows.{is_exempt, is_reader_fault, MatchesUnlessExempt, IsRowsFault};
+ghost use Rattle.bw_csv.specs.Rows.{StopsUnder};
+ghost use Rattle.bw_csv_calls.specs.ReadInputs.{StopsInCsv, HasReadSchema};
 ghost use Rattle.bw_csv_calls.specs.Direct.{is_before_csv};
 ghost use Rattle.bw_csv_calls.specs.Load.{IsFile, file_of};
 
@@ -50,10 +52,10 @@ pub fn load<S: Source, C: Source, K: Sink>(
     // If the CSV's reader has an error of its own, the schema was accepted, the CSV was read
     // completely, and the error is at the heading, or at the record after those that have rows.
     ensures reader { IfErr result (λ fault. is_reader_fault fault ≡ true → (schema : Schema)
-        × SchemaCame (ReadOutcome longest_schema (S.to_come schema_source.old)
+        × HasReadSchema (ReadOutcome longest_schema (S.to_come schema_source.old)
         (S.to_come schema_source.new)
         (S.failures schema_source.old) (S.failures schema_source.new)) schema
-        × CsvStopped (ReadOutcome longest_csv (C.to_come csv_source.old) (C.to_come csv_source.new)
+        × StopsInCsv (ReadOutcome longest_csv (C.to_come csv_source.old) (C.to_come csv_source.new)
         (C.failures csv_source.old) (C.failures csv_source.new)) schema fault) }
 
     // Of a source at most one byte past its limit is read. The call fails by a failed read if and
@@ -95,10 +97,10 @@ fn build_table<S: Source, C: Source>(
         × MatchesUnlessExempt (λ file. file.items) result given }
     ensures fault { IfErr result (λ fault. is_write_fault fault ≡ false) }
     ensures reader { IfErr result (λ fault. is_reader_fault fault ≡ true → (schema : Schema)
-        × SchemaCame (ReadOutcome longest_schema (S.to_come schema_source.old)
+        × HasReadSchema (ReadOutcome longest_schema (S.to_come schema_source.old)
         (S.to_come schema_source.new)
         (S.failures schema_source.old) (S.failures schema_source.new)) schema
-        × CsvStopped (ReadOutcome longest_csv (C.to_come csv_source.old) (C.to_come csv_source.new)
+        × StopsInCsv (ReadOutcome longest_csv (C.to_come csv_source.old) (C.to_come csv_source.new)
         (C.failures csv_source.old) (C.failures csv_source.new)) schema fault) }
     ensures schema { TookAtMost (longest_schema + 1) (S.to_come schema_source.old)
         (S.to_come schema_source.new) }

@@ -1,18 +1,22 @@
 -- Chains are true: a chain follows from that of the bits below its top bit.
-use Rattle.std.proofs.Common.{◌≡◌, ◌∙◌, refl, sym, ap, ap₂, subst, ℕ, zero, suc, ◌+◌, ◌-◌, ◌*◌, ◌%◌, ◌^◌, ◌<◌, ◌≤◌, Bool, true, false, not, cond, min, zero-add, ◌==◌, ◌&&◌, ◌||◌, ⊎_elim, List, ◌++◌, length, length-append, ◌≢◌, Option, Some, None, slice_get, arith}
+use Rattle.std.proofs.Common.{◌≡◌, ◌∙◌, refl, sym, ap, ap₂, subst, ℕ, zero, suc, ◌+◌, ◌-◌, ◌*◌, ◌%◌}
+use Rattle.std.proofs.Common.{◌^◌, ◌<◌, ◌≤◌, Bool, true, false, not, cond, min, zero-add, ◌==◌}
+use Rattle.std.proofs.Common.{◌&&◌, ◌||◌, ⊎_elim, List, ◌++◌, length, length-append, ◌≢◌, Option}
+use Rattle.std.proofs.Common.{Some, None, slice_get, arith}
 use Rattle.std.specs.Int.{bit_at}
 use Rattle.std.specs.Option.{option_and_then, is_none}
 use Rattle.std.proofs.Math.Dec.{ltb, leb, eqb}
 use Rattle.std.proofs.Math.Nat.{pow-succ', mod-eq_of_lt, min-le_left}
 use Rattle.std.proofs.Math.Pow.{pow_mono}
-use Rattle.std.proofs.lemmas.Bool.{ltb-true, ltb-false, leb-true, lt-ltb, le-ltb, eqb-true, eq-eqb, eqb-false, ne_eqb, cases_lt}
+use Rattle.std.proofs.lemmas.Bool.{ltb-true, ltb-false, leb-true, lt-ltb, le-ltb, eqb-true, eq-eqb}
+use Rattle.std.proofs.lemmas.Bool.{eqb-false, ne_eqb, cases_lt}
 use Rattle.std.proofs.lemmas.Nat.{pow_pos, mod-pow-add}
 use Rattle.std.proofs.lemmas.Nat.Bits.{bit_at-lt}
 use Rattle.std.proofs.lemmas.Option.{option_and_then_some}
 use Rattle.bw_model.specs.declared.column.Column.{Column}
 use Rattle.bw_model.specs.Code.{width_at, has_bit}
 use Rattle.bw_model.specs.Variable.{Assignment, first_variable, bit_variable, spelled}
-use Rattle.bw_model.specs.Stored.{number_spelled}
+use Rattle.bw_model.specs.StoredCodes.{number_spelled}
 use Rattle.bw_model.proofs.BitsLemmas.{both, given}
 use Rattle.bw_model.proofs.VariableLemmas.{width_before_next}
 use Rattle.bw_diagram.specs.declared.node.Node.{Node}
@@ -21,11 +25,16 @@ use Rattle.bw_diagram.specs.declared.chain.ChainKind.TheVariants.{Less, Equal}
 use Rattle.bw_diagram.specs.declared.chain.Chain.{Chain}
 use Rattle.bw_diagram.specs.declared.chain.Chain.TheVariants.{One, Two}
 use Rattle.bw_diagram.specs.Node.{IsNode, child, AreOrdered, node_at, node_value}
-use Rattle.bw_diagram.specs.Chain.{compares, padded_number, variable_at, comparison, IsChain, outcome, first_node, same_kind, node_of_one, node_of_two, node_before, tests, is_choice, occurs, step, leads, leads_always, chooses, chooses_from, is_step, is_within, is_in_range, is_valid_chain, kind_of, length_of, node_of, prev_of}
+use Rattle.bw_diagram.specs.Chain.{compares, padded_number, variable_at, comparison, IsChain}
+use Rattle.bw_diagram.specs.Chain.{outcome, first_node, same_kind, node_of_one, node_of_two}
+use Rattle.bw_diagram.specs.Chain.{node_before, tests, is_choice, occurs, step, leads, leads_always}
+use Rattle.bw_diagram.specs.Chain.{chooses, chooses_from, is_step, is_within, is_in_range}
+use Rattle.bw_diagram.specs.Chain.{is_valid_chain, kind_of, length_of, node_of, prev_of}
 use Rattle.bw_diagram.proofs.ProductLemmas.{either}
-use Rattle.bw_diagram.proofs.NodeLemmas.{node_value-zero, node_value-one, node_value-node_at, node_value-cofactor, node_value-append}
+use Rattle.bw_diagram.proofs.NodeLemmas.{node_value-zero, node_value-one, node_value-node_at}
+use Rattle.bw_diagram.proofs.NodeLemmas.{node_value-cofactor, node_value-append}
 
--- so many bits spell a number below that power of 2
+-- this many bits spell a number below that power of 2
 spelled-lt : (assignment : Assignment) (first count : ℕ) → spelled assignment first count < 2 ^ count
 spelled-lt assignment first zero = omega arith
 spelled-lt assignment first (suc count) = by_bit (assignment first) (spelled-lt assignment (suc first) count)
@@ -248,7 +257,7 @@ implied true true c is a_is b_is = is
 implied true false c is a_is b_is = cc
 implied false b c is a_is b_is = cc
 
--- where both bits can occur, the node leads by them to the outcome
+-- if both bits can occur, the node leads by them to the outcome
 leads-is : (nodes : List Node) (kind : ChainKind) (left right : Option ℕ) (e node : ℕ) (x y : Bool) → leads nodes kind left right e node x y ≡ true → occurs left x ≡ true → occurs right y ≡ true →
     step nodes right y (step nodes left x node) ≡ outcome kind x y e
 leads-is nodes kind left right e node x y is left_occurs right_occurs =
@@ -348,10 +357,10 @@ some-claim columns nodes chains (Two kind left right len node prev) lower (Some 
     let there = both _ _ apart.0 in
     two-claim columns nodes chains kind left right len node prev lower e ordered before (ltb-true left (length columns) there.0) (ltb-true right (length columns) there.1) longer found chosen assignment
 
--- a chain that obeys its rule is true, where the chains before it are
-pub obeys_chain-chain : (columns : List Column) (nodes : List Node) (chains : List Chain) (number : ℕ) (chain : Chain) → AreOrdered nodes → AllChains columns nodes chains → is_valid_chain columns nodes chains number chain ≡ true → IsChain columns nodes chain
+-- a chain that obeys its rule is true, if the chains before it are
+pub is_valid_chain-chain : (columns : List Column) (nodes : List Node) (chains : List Chain) (number : ℕ) (chain : Chain) → AreOrdered nodes → AllChains columns nodes chains → is_valid_chain columns nodes chains number chain ≡ true → IsChain columns nodes chain
 unfolding is_valid_chain is_step
-obeys_chain-chain columns nodes chains number chain ordered before is =
+is_valid_chain-chain columns nodes chains number chain ordered before is =
     let stepped = both _ _ is in
     let range = is_in_range-is columns nodes chains chain (both _ _ stepped.0).1 in
     record { chain_node = range.chain_node; claim = λ assignment. by_length (eqb (length_of chain) 0) refl stepped.1 range.within assignment }

@@ -1,5 +1,5 @@
 pub mod ChainLemmas
-pub mod CitedLemmas
+pub mod ReferenceLemmas
 pub mod FactsLemmas
 pub mod NodeLemmas
 pub mod ProductLemmas

@@ -1,13 +1,16 @@
 -- What nodes are worth: the laws of the terminals and of a node, and that later nodes change
 -- nothing.
-use Rattle.std.proofs.Common.{◌≡◌, ◌∙◌, refl, sym, ap, subst, ℕ, zero, suc, ◌+◌, ◌-◌, ◌<◌, Bool, true, false, cond, List, [], ◌∷◌, ◌++◌, length, length-append, get_or, Option, Some, None, slice_get, arith, add-zero}
+use Rattle.std.proofs.Common.{◌≡◌, ◌∙◌, refl, sym, ap, subst, ℕ, zero, suc, ◌+◌, ◌-◌, ◌<◌, Bool}
+use Rattle.std.proofs.Common.{true, false, cond, List, [], ◌∷◌, ◌++◌, length, length-append, get_or}
+use Rattle.std.proofs.Common.{Option, Some, None, slice_get, arith, add-zero}
 use Rattle.std.proofs.Math.Dec.{ltb, eqb}
 use Rattle.std.proofs.lemmas.Bool.{ltb-false, eqb-true}
 use Rattle.std.proofs.Math.ListN.{get_or-append}
 use Rattle.std.proofs.Math.Seq.{get_or-append_seam}
 use Rattle.bw_model.specs.Variable.{Assignment}
 use Rattle.bw_diagram.specs.declared.node.Node.{Node}
-use Rattle.bw_diagram.specs.Node.{IsNode, node_at, child, child_value, values_from, node_value, child_if_tested, cofactor, AreOrdered}
+use Rattle.bw_diagram.specs.Node.{IsNode, node_at, child, child_value, values_from, node_value}
+use Rattle.bw_diagram.specs.Node.{child_if_tested, cofactor, AreOrdered}
 
 pub length-values_from : (assignment : Assignment) (before : List Bool) (nodes : List Node) → length (values_from assignment before nodes) ≡ length before + length nodes
 length-values_from assignment before [] = omega arith
@@ -25,7 +28,7 @@ pub values_from-append : (assignment : Assignment) (before : List Bool) (xs ys :
 values_from-append assignment before [] ys = refl
 values_from-append assignment before (x ∷ xs) ys = values_from-append assignment (before ++ child_value assignment before x ∷ []) xs ys
 
--- a node has its child's value, where the child comes before it
+-- a node has its child's value, if the child comes before it
 values_from-at : (assignment : Assignment) (before : List Bool) (nodes : List Node) (k : ℕ) (node : Node) → slice_get nodes k ≡ Some node → child (assignment node.v) node < length before + k →
     get_or (values_from assignment before nodes) (length before + k) false ≡ get_or (values_from assignment before nodes) (child (assignment node.v) node) false
 values_from-at assignment before [] k node is lt = cc

@@ -1,5 +1,6 @@
 -- Product rows are true: by their shortcuts, or by the rows of their cofactors.
-use Rattle.std.proofs.Common.{◌≡◌, ◌∙◌, refl, sym, ap, ap₂, ℕ, Bool, true, false, not, ◌&&◌, ◌||◌, ◌+◌, List, length, Option, Some, None, slice_get}
+use Rattle.std.proofs.Common.{◌≡◌, ◌∙◌, refl, sym, ap, ap₂, ℕ, Bool, true, false, not, ◌&&◌, ◌||◌}
+use Rattle.std.proofs.Common.{◌+◌, List, length, Option, Some, None, slice_get}
 use Rattle.std.proofs.Math.Dec.{eqb}
 use Rattle.std.proofs.lemmas.Bool.{eqb-true, ltb-true}
 use Rattle.bw_model.proofs.BitsLemmas.{both}
@@ -11,7 +12,9 @@ use Rattle.bw_diagram.specs.declared.product.Reason.TheVariants.{Shortcut, Cofac
 use Rattle.bw_diagram.specs.declared.node.Node.{Node}
 use Rattle.bw_model.specs.Variable.{Assignment}
 use Rattle.bw_diagram.specs.Node.{AreOrdered, node_value}
-use Rattle.bw_diagram.specs.Product.{apply_connective, is_shortcut, same_connective, same_product, is_product, cofactor_product, follows, is_valid_product, IsProduct}
+use Rattle.bw_diagram.specs.Product.{apply_connective, is_shortcut, same_connective, same_product}
+use Rattle.bw_diagram.specs.Product.{is_product, cofactor_product, follows, is_valid_product}
+use Rattle.bw_diagram.specs.Product.{IsProduct}
 use Rattle.bw_diagram.proofs.NodeLemmas.{node_value-zero, node_value-one, node_value-cofactor}
 
 -- what follows from each of two tests follows from either
@@ -23,7 +26,7 @@ either false b left right is = right is
 meets : {G : Type 0} (a x c y : ℕ) → (a ≡ x → c ≡ y → G) → (eqb a x && eqb c y) ≡ true → G
 meets a x c y then is = let each = both (eqb a x) (eqb c y) is in then (eqb-true a x each.0) (eqb-true c y each.1)
 
--- what a connective gives where a bit is known, or both are the same
+-- what a connective gives if a bit is known, or both are the same
 and_false : (p : Bool) → false ≡ (p && false)
 and_false true = refl
 and_false false = refl
@@ -142,11 +145,11 @@ cofactors_join nodes v row ordered low high assignment = by_side (assignment v) 
     by_side true side = from true side high
     by_side false side = from false side low
 
--- a row that obeys its rule is true, where the rows before it are
-pub obeys_product-product : (variables : ℕ) (nodes : List Node) (rows : List Product) (number : ℕ) (row : Product) (reason : Reason) → AreOrdered nodes →
+-- a row that obeys its rule is true, if the rows before it are
+pub is_valid_product-product : (variables : ℕ) (nodes : List Node) (rows : List Product) (number : ℕ) (row : Product) (reason : Reason) → AreOrdered nodes →
     ((k : ℕ) (row : Product) → slice_get rows k ≡ Some row → IsProduct nodes row) → is_valid_product variables nodes rows number row reason ≡ true → IsProduct nodes row
 unfolding is_valid_product
-obeys_product-product variables nodes rows number row reason ordered before is =
+is_valid_product-product variables nodes rows number row reason ordered before is =
     let reasoned = both _ _ is in
     let c = both _ _ reasoned.0 in
     let b = both _ _ c.0 in

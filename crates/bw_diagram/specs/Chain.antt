@@ -1,11 +1,13 @@
 -- Chains: nodes that compare the numbers that columns' bits spell, one bit after another.
-use Rattle.std.specs.Prelude.{◌≡◌, ℕ, ◌+◌, ◌-◌, ◌%◌, ◌^◌, Bool, true, false, not, max, min, List, length, Option, Some, None, is_some, is_none, slice_get, if◌then◌else◌, ◌&&◌, ◌||◌, ◌==◌, nat_lt, nat_le}
+use Rattle.std.specs.Prelude.{◌≡◌, ℕ, ◌+◌, ◌-◌, ◌%◌, ◌^◌, Bool, true, false, not, max, min, List}
+use Rattle.std.specs.Prelude.{length, Option, Some, None, is_some, is_none, slice_get}
+use Rattle.std.specs.Prelude.{if◌then◌else◌, ◌&&◌, ◌||◌, ◌==◌, nat_lt, nat_le}
 use Rattle.std.specs.Option.{option_and_then, option_map}
 use Rattle.bw_model.specs.declared.column.Column.{Column}
 use Rattle.bw_model.specs.Column.{column_named}
 use Rattle.bw_model.specs.Code.{width_at, has_bit}
 use Rattle.bw_model.specs.Variable.{Assignment, bit_variable}
-use Rattle.bw_model.specs.Stored.{number_spelled}
+use Rattle.bw_model.specs.StoredCodes.{number_spelled}
 use Rattle.bw_diagram.specs.declared.node.Node.{Node}
 use Rattle.bw_diagram.specs.declared.chain.ChainKind.{ChainKind}
 use Rattle.bw_diagram.specs.declared.chain.ChainKind.TheVariants.{Less, Equal}

@@ -1,5 +1,6 @@
 -- The facts of a diagram, what they claim of every assignment, and the facts after each line.
-use Rattle.std.specs.Prelude.{◌≡◌, ℕ, Bool, not, ◌&&◌, ◌||◌, List, [], ◌∷◌, ◌++◌, length, Option, Some, None, Result, Ok, Err, slice_get, nat_le}
+use Rattle.std.specs.Prelude.{◌≡◌, ℕ, Bool, not, ◌&&◌, ◌||◌, List, [], ◌∷◌, ◌++◌, length, Option}
+use Rattle.std.specs.Prelude.{Some, None, Result, Ok, Err, slice_get, nat_le}
 use Rattle.bw_model.specs.FaultTable.{NODE, PRODUCT_ROW, CHAIN_ROW, LIMIT}
 use Rattle.bw_model.specs.declared.column.Column.{Column}
 use Rattle.bw_model.specs.declared.fault.Fault.{Fault}
@@ -46,8 +47,8 @@ no_facts columns = record { columns = columns; nodes = []; chains = []; products
 
 -- A node that is valid as the next one, under this number. At the limit it is 604, else 601 if it
 -- breaks its rule.
-unfoldable pub judged_node : Facts → ℕ → Node → Result Node Fault
-judged_node facts number node =
+unfoldable pub accept_node : Facts → ℕ → Node → Result Node Fault
+accept_node facts number node =
     refused_if (nat_le most_nodes (length facts.nodes)) (nowhere LIMIT)
     (refused_if (not (is_valid_node (variables_of facts.columns) facts.nodes number node))
     (nowhere NODE) (Ok node))
@@ -55,31 +56,31 @@ judged_node facts number node =
 -- the facts after the line of a node
 abbrev pub with_node : Facts → ℕ → Node → Result Facts Fault
 with_node facts number node =
-    judged_node facts number node >>= λ node. Ok (record facts { nodes = facts.nodes ++ node ∷ [] })
+    accept_node facts number node >>= λ node. Ok (record facts { nodes = facts.nodes ++ node ∷ [] })
 
 -- A chain that is valid as the next one, under this number. At the limit it is 604, else 603 if a
 -- word of its line isn't a column's name, or if it breaks its rule.
-abbrev pub judged_if_named : Facts → ℕ → Option Chain → Result Chain Fault
-judged_if_named facts number None = Err (nowhere CHAIN_ROW)
-judged_if_named facts number (Some chain) =
+abbrev pub accept_if_named : Facts → ℕ → Option Chain → Result Chain Fault
+accept_if_named facts number None = Err (nowhere CHAIN_ROW)
+accept_if_named facts number (Some chain) =
     refused_if (not (is_valid_chain facts.columns facts.nodes facts.chains number chain))
     (nowhere CHAIN_ROW) (Ok chain)
 
-unfoldable pub judged_chain : Facts → ℕ → Option Chain → Result Chain Fault
-judged_chain facts number named =
+unfoldable pub accept_chain : Facts → ℕ → Option Chain → Result Chain Fault
+accept_chain facts number named =
     refused_if (nat_le most_chains (length facts.chains)) (nowhere LIMIT)
-    (judged_if_named facts number named)
+    (accept_if_named facts number named)
 
 -- the facts after the line of a chain
 abbrev pub with_chain : Facts → ℕ → Option Chain → Result Facts Fault
 with_chain facts number named =
-    judged_chain facts number named
+    accept_chain facts number named
     >>= λ chain. Ok (record facts { chains = facts.chains ++ chain ∷ [] })
 
 -- A product row that is valid as the next one, under this number. At the limit it is 604, else 602
 -- if it breaks its rule.
-unfoldable pub judged_product : Facts → ℕ → Product → Reason → Result Product Fault
-judged_product facts number row reason =
+unfoldable pub accept_product : Facts → ℕ → Product → Reason → Result Product Fault
+accept_product facts number row reason =
     refused_if (nat_le most_products (length facts.products)) (nowhere LIMIT)
     (refused_if (not (is_valid_product (variables_of facts.columns) facts.nodes facts.products
     number
@@ -89,7 +90,7 @@ judged_product facts number row reason =
 -- the facts after the line of a product row
 abbrev pub with_product : Facts → ℕ → Product → Reason → Result Facts Fault
 with_product facts number row reason =
-    judged_product facts number row reason
+    accept_product facts number row reason
     >>= λ row. Ok (record facts { products = facts.products ++ row ∷ [] })
 
 -- the error is one of 601 to 604, or out of memory

@@ -1,5 +1,5 @@
 pub mod Chain
-pub mod Cited
+pub mod References
 pub mod Diagram
 pub mod Facts
 pub mod Node

@@ -1,5 +1,6 @@
 -- Product rows: what they claim of every assignment, and the rule by which they are accepted.
-use Rattle.std.specs.Prelude.{◌≡◌, ℕ, Bool, true, false, not, List, length, Option, Some, None, slice_get, ◌&&◌, ◌||◌, ◌==◌, nat_lt}
+use Rattle.std.specs.Prelude.{◌≡◌, ℕ, Bool, true, false, not, List, length, Option, Some, None}
+use Rattle.std.specs.Prelude.{slice_get, ◌&&◌, ◌||◌, ◌==◌, nat_lt}
 use Rattle.bw_model.specs.Variable.{Assignment}
 use Rattle.bw_diagram.specs.declared.node.Node.{Node}
 use Rattle.bw_diagram.specs.declared.product.Connective.{Connective}

@@ -1,7 +1,9 @@
 //! Chains: nodes that compare numbers bit by bit.
 ghost use Rattle.std.specs.Prelude.{◌≡◌, ◌<◌};
 ghost use Rattle.bw_diagram.specs.Node.{node_at};
-ghost use Rattle.bw_diagram.specs.Chain.{outcome, first_node, node_of, prev_of, kind_of, length_of, node_of_lower, node_of_one, node_of_two, is_choice, leads_always};
+ghost use Rattle.bw_diagram.specs.Chain.{outcome, first_node, node_of, prev_of, kind_of, length_of};
+ghost use Rattle.bw_diagram.specs.Chain.{node_of_lower, node_of_one, node_of_two, is_choice};
+ghost use Rattle.bw_diagram.specs.Chain.{leads_always};
 
 use crate::node::{Node, cofactor, node_at};
 

@@ -5,7 +5,8 @@ ghost use Rattle.bw_model.specs.Variable.{Assignment};
 ghost use Rattle.bw_diagram.specs.Node.{node_at, node_value};
 ghost use Rattle.bw_diagram.specs.Chain.{IsChain, chain_named};
 ghost use Rattle.bw_diagram.specs.Product.{IsProduct};
-ghost use Rattle.bw_diagram.specs.Facts.{is_diagram_fault, no_facts, judged_node, judged_chain, judged_product, with_node, with_chain, with_product};
+ghost use Rattle.bw_diagram.specs.Facts.{is_diagram_fault, no_facts, accept_node, accept_chain};
+ghost use Rattle.bw_diagram.specs.Facts.{accept_product, with_node, with_chain, with_product};
 
 mod laws;
 mod steps;
@@ -117,9 +118,9 @@ impl<'a> Diagram<'a> {
     }
 
     /// Returns the node of these fields, if it is valid as the next one.
-    #[tactic(auto, unfolding(crate::specs::Facts::judged_node, crate::specs::Node::is_valid_node))]
+    #[tactic(auto, unfolding(crate::specs::Facts::accept_node, crate::specs::Node::is_valid_node))]
     fn accepted_node(&self, n: u64, v: u64, low: u64, high: u64) -> Result<Node, Fault>
-        ensures judged { result ≡ judged_node self.now n
+        ensures judged { result ≡ accept_node self.now n
             (record { v = v; low = low; high = high }) }
         ensures code { IfErr result (λ fault. IsTrue (is_diagram_fault fault)) }
     {
@@ -141,9 +142,9 @@ impl<'a> Diagram<'a> {
     }
 
     /// Returns the chain of a line, if it is valid as the next one.
-    #[tactic(auto, unfolding(crate::specs::Facts::judged_chain, crate::specs::Chain::is_valid_chain))]
+    #[tactic(auto, unfolding(crate::specs::Facts::accept_chain, crate::specs::Chain::is_valid_chain))]
     fn accepted_chain(&self, n: u64, columns: &ChainColumns<'_>) -> Result<Chain, Fault>
-        ensures judged { result ≡ judged_chain self.now n
+        ensures judged { result ≡ accept_chain self.now n
             (chain_named self.now.columns columns.now) }
         ensures code { IfErr result (λ fault. IsTrue (is_diagram_fault fault)) }
     {
@@ -157,7 +158,7 @@ impl<'a> Diagram<'a> {
     }
 
     /// Returns the product row of these fields, if it is valid as the next one.
-    #[tactic(auto, unfolding(crate::specs::Facts::judged_product, crate::specs::Product::is_valid_product))]
+    #[tactic(auto, unfolding(crate::specs::Facts::accept_product, crate::specs::Product::is_valid_product))]
     fn accepted_row(
         &self,
         n: u64,
@@ -167,7 +168,7 @@ impl<'a> Diagram<'a> {
         c: u64,
         reason: Reason,
     ) -> Result<Product, Fault>
-        ensures judged { result ≡ judged_product self.now n
+        ensures judged { result ≡ accept_product self.now n
             (record { op = op; a = a; b = b; c = c }) reason }
         ensures code { IfErr result (λ fault. IsTrue (is_diagram_fault fault)) }
     {

@@ -13,15 +13,15 @@
 #![tactic(auto)]
 
 mod chain;
-mod cited;
 mod diagram;
 mod node;
 mod product;
+mod references;
 
 pub use chain::{Chain, ChainColumns, ChainKind};
-pub use cited::cited_nodes_are_worth;
 pub use diagram::{
     Diagram, accepted_lines_are_true, later_nodes_change_no_value, whole_columns_are_spelled,
 };
 pub use node::Node;
 pub use product::{Connective, Product, Reason};
+pub use references::cited_nodes_are_worth;

@@ -1,6 +1,7 @@
 //! Product rows: each states that a node is a connective of two others, and why.
 ghost use Rattle.std.specs.Prelude.{◌≡◌, slice_get};
-ghost use Rattle.bw_diagram.specs.Product.{is_shortcut, is_product, same_product, cofactor_product, follows};
+ghost use Rattle.bw_diagram.specs.Product.{is_shortcut, is_product, same_product, cofactor_product};
+ghost use Rattle.bw_diagram.specs.Product.{follows};
 
 use crate::node::{Node, cofactor};
 

@@ -1,7 +1,7 @@
 //! Explains an error of a CSV text.
 use crate::heading::of_heading;
 use crate::record::of_record;
-use crate::unfit::of_columns;
+use crate::rejected_columns::of_columns;
 use bw_model::{Fault, Place, Schema, code};
 use std::alloc::{AllocError, Global};
 

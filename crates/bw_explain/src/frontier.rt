@@ -1,5 +1,5 @@
 //! Explains an error of a statement, and what the grammar expects there.
-use crate::missing::put_missing;
+use crate::missing_syntax::put_missing;
 use crate::names::put_columns;
 use crate::record::Named;
 use crate::tokens::{Token, next_token};

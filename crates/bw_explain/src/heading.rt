@@ -1,6 +1,6 @@
 //! Explains an error of the heading of a CSV text.
 use crate::record::{Found, Named, put_open_quote};
-use crate::shown::Shown;
+use crate::visible_bytes::Shown;
 use bw_csv::without_blanks;
 use bw_model::{Fault, MAX_COLUMNS, Schema, code, is_name};
 use bw_text::is_word;

@@ -6,25 +6,25 @@
 //! row. Nothing depends on these lines: what can't be read again, or doesn't fit in memory, is left
 //! out.
 //!
-//! Read `told.rt` first, which finds the text with the error. Each explanation is a text of lines,
-//! each ended by a line feed; it is empty if there is nothing to explain. `csv_text.rt` explains
-//! errors of CSV texts, with `record.rt` for records, `heading.rt` for the heading and `unfit.rt`
-//! for the columns that `bw infer` rejects; `frontier.rt` explains errors of statements, and
-//! `lines.rt` those of program files.
+//! Read `explanation.rt` first, which finds the text with the error. Each explanation is a text of
+//! lines, each ended by a line feed; it is empty if there is nothing to explain. `csv_text.rt`
+//! explains errors of CSV texts, with `record.rt` for records, `heading.rt` for the heading and
+//! `rejected_columns.rt` for the columns that `bw infer` rejects; `frontier.rt` explains errors of
+//! statements, and `lines.rt` those of program files.
 #![tactic(auto)]
 
-mod by_rows;
 mod csv_text;
+mod explanation;
+mod fallback;
 mod frontier;
 mod heading;
 mod kind;
 mod lines;
-mod missing;
+mod missing_syntax;
 mod names;
 mod record;
-mod shown;
+mod rejected_columns;
 mod tokens;
-mod told;
-mod unfit;
+mod visible_bytes;
 
-pub use told::{CommandFailure, Reads, explain, explain_rows, explain_statement};
+pub use explanation::{CommandFailure, Reads, explain, explain_rows, explain_statement};

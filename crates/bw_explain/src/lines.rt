@@ -1,5 +1,5 @@
 //! Explains a line of a program file.
-use crate::shown::Shown;
+use crate::visible_bytes::Shown;
 use bw_model::{Fault, Place, code};
 use std::alloc::{AllocError, Global};
 use std::fmt::Write;

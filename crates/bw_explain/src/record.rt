@@ -1,5 +1,5 @@
 //! Explains an error of a record of a CSV text.
-use crate::shown::Shown;
+use crate::visible_bytes::Shown;
 use bw_csv::{value_of, without_blanks};
 use bw_model::{Column, Fault, MAX_ROWS, Place, Schema, code};
 use csv::{ByteRecord, Reader, ReaderBuilder};

@@ -1,5 +1,7 @@
 -- Reading segments block by block.
-use Rattle.std.proofs.Common.{◌≡◌, true, false, ℕ, zero, suc, ◌+◌, ◌-◌, ◌*◌, ◌<◌, ◌≤◌, Bool, ◌&&◌, ◌||◌, ◌==◌, nat_le, List, [], ◌++◌, length, Option, Some, None, refl, subst, ◌∙◌, arith}
+use Rattle.std.proofs.Common.{◌≡◌, true, false, ℕ, zero, suc, ◌+◌, ◌-◌, ◌*◌, ◌<◌, ◌≤◌, Bool, ◌&&◌}
+use Rattle.std.proofs.Common.{◌||◌, ◌==◌, nat_le, List, [], ◌++◌, length, Option, Some, None, refl}
+use Rattle.std.proofs.Common.{subst, ◌∙◌, arith}
 use Rattle.std.specs.Int.{bit_at}
 use Rattle.std.specs.List.{list_any, range_with_len}
 use Rattle.bw_model.specs.declared.column.Column.{Column}
@@ -10,9 +12,12 @@ use Rattle.std.proofs.Common.{inl, inr, drop, get_or}
 use Rattle.std.proofs.lemmas.List.{drop_all, drop_more}
 use Rattle.std.proofs.lemmas.Bool.{cases_lt}
 use Rattle.bw_segment.proofs.LayoutLemmas.{block_added}
-use Rattle.bw_file.specs.Blocks.{form_of, bytes_before, block_size, block_fault, AreSound, rows_spelled}
-use Rattle.bw_file.specs.Reading.{◌>>=◌, give, field, State, Took, GoesOn, Fails, HasByteMore}
-use Rattle.bw_file.specs.TableReading.{plane_has_padding, has_padding, padding_from, fault_place, sound_at, one_block, blocks, segment}
+use Rattle.bw_file.specs.Blocks.{form_of, bytes_before, block_size, block_fault, AreSound}
+use Rattle.bw_file.specs.Blocks.{rows_spelled}
+use Rattle.bw_file.specs.Reading.{◌>>=◌, give, field, State, HasConsumed, GoesOn, Fails}
+use Rattle.bw_file.specs.Reading.{HasByteMore}
+use Rattle.bw_file.specs.TableReading.{plane_has_padding, has_padding, padding_from, fault_place}
+use Rattle.bw_file.specs.TableReading.{sound_at, one_block, blocks, segment}
 use Rattle.bw_file.proofs.ReadingLemmas.{took_nothing, needs_none, begins, passes, stops, refuses}
 
 -- a block is taken, and then judged
@@ -134,8 +139,8 @@ segment_stops layout schema rows old new fault p =
     stops (segment layout schema rows) (blocks layout schema rows 0 (length schema) []) (λ bytes. give (rows_spelled layout schema rows bytes)) old old new fault
     (begins (segment layout schema rows) old) p
 
--- a byte where the end is wanted
-pub end_refused : (old new : State) (bytes : List ℕ) → Took old new bytes → new.failures ≡ old.failures → length bytes ≡ 1 → HasByteMore old new (at_byte 309 old.offset)
+-- a byte in place of the end
+pub end_refused : (old new : State) (bytes : List ℕ) → HasConsumed old new bytes → new.failures ≡ old.failures → length bytes ≡ 1 → HasByteMore old new (at_byte 309 old.offset)
 end_refused old new bytes took same one =
     record { bytes = bytes; took = took; unfinished = λ failed. absurd (cc failed); failures = omega (arith, same); refused = λ _. (one, refl) }
 

@@ -1,8 +1,12 @@
 -- What is read after a table file's header is spelled so.
-use Rattle.std.proofs.Common.{◌≡◌, ℕ, zero, suc, min, ◌+◌, ◌-◌, ◌^◌, ◌<◌, ◌≤◌, true, false, List, [], ◌∷◌, ◌++◌, length, take, drop, Option, Some, None, Result, Ok, refl, sym, ap, subst, ◌∙◌, append_assoc, length-append, arith, inl, inr, All, lit<}
+use Rattle.std.proofs.Common.{◌≡◌, ℕ, zero, suc, min, ◌+◌, ◌-◌, ◌^◌, ◌<◌, ◌≤◌, true, false, List}
+use Rattle.std.proofs.Common.{[], ◌∷◌, ◌++◌, length, take, drop, Option, Some, None, Result, Ok}
+use Rattle.std.proofs.Common.{refl, sym, ap, subst, ◌∙◌, append_assoc, length-append, arith, inl}
+use Rattle.std.proofs.Common.{inr, All, lit<}
 use Rattle.std.specs.List.{flat_map, list_all}
 use Rattle.std.proofs.lemmas.Bool.{cases_lt}
-use Rattle.std.proofs.lemmas.List.{append-nil, get_or_default, nil_from_length, take_at, drop_at, take_all, drop_all}
+use Rattle.std.proofs.lemmas.List.{append-nil, get_or_default, nil_from_length, take_at, drop_at}
+use Rattle.std.proofs.lemmas.List.{take_all, drop_all}
 use Rattle.std.proofs.lemmas.List.Folds.{list_all-append}
 use Rattle.bw_model.specs.declared.column.Column.{Column}
 use Rattle.bw_model.specs.declared.fault.Fault.{Fault}
@@ -14,12 +18,15 @@ use Rattle.bw_model.proofs.GroupLemmas.{groups_of-nothing, groups_of-first}
 use Rattle.bw_segment.proofs.LayoutLemmas.{block_added}
 use Rattle.bw_segment.proofs.SoundLemmas.{length-rows_spelled, spelled_group, bytes_again}
 use Rattle.bw_file.specs.declared.layout.Layout.{Layout}
-use Rattle.bw_file.specs.Blocks.{form_of, block_size, block_fault, AreSound, IsSound, segment_bytes, rows_spelled}
+use Rattle.bw_file.specs.Blocks.{form_of, block_size, block_fault, AreSound, IsSound, segment_bytes}
+use Rattle.bw_file.specs.Blocks.{rows_spelled}
 use Rattle.bw_file.specs.Reading.{Tail, give, field}
-use Rattle.bw_file.specs.TableReading.{sound_at, one_block, blocks, segment, group_sizes, has_bytes, end, body}
+use Rattle.bw_file.specs.TableReading.{sound_at, one_block, blocks, segment, group_sizes, has_bytes}
+use Rattle.bw_file.specs.TableReading.{end, body}
 use Rattle.bw_file.proofs.ReaderLemmas.{group_sizes-some, group_sizes-none}
 use Rattle.bw_file.proofs.SegmentLemmas.{is_packing}
-use Rattle.bw_file.proofs.SpellingLemmas.{IsBytes, Takes, TakesBoth, bind_ok, not_refused, field_takes, takes_then, both_of}
+use Rattle.bw_file.proofs.SpellingLemmas.{IsBytes, Takes, TakesBoth, bind_ok, not_refused}
+use Rattle.bw_file.proofs.SpellingLemmas.{field_takes, takes_then, both_of}
 
 abbrev done : {A : Type 0} → A → Result A Fault
 done x = Ok x
@@ -123,7 +130,7 @@ segment_count layout schema size t x e =
     let made : List (List Value) × Tail = (rows_spelled layout schema size a.0.0, a.0.1) in
     subst (λ (y : List (List Value) × Tail). length y.0 ≡ size) (ok_is made x a.2) (length-rows_spelled (form_of layout) schema size a.0.0)
 
--- the end is where nothing stands
+-- the end is at no byte
 no_bytes : (bytes : List ℕ) → has_bytes bytes ≡ false → bytes ≡ []
 no_bytes [] e = refl
 no_bytes (byte ∷ bytes) e = absurd cc
@@ -174,14 +181,14 @@ cut_group group rest rows here there =
           rw (take_at group rest group_size whole, drop_at group rest group_size whole) refl
     ]
 
--- the first group of some rows, where those after it are as many as are left
+-- the first group of some rows, if those after it are as many as are left
 first_group : (group rest : List (List Value)) (rows : ℕ) → 0 < rows → length group ≡ min group_size rows → length rest ≡ rows - group_size
     → groups_of (group ++ rest) ≡ group ∷ groups_of rest
 first_group group rest rows some here there =
     let any : 0 < length (group ++ rest) = simp length-append (some_group group_size rows (length group) (length rest) positive_size some here) in
     groups_of-first (group ++ rest) any ∙ cut_group group rest rows here there
 
--- groups that were read of so many rows are the groups of these rows
+-- groups that were read of this many rows are the groups of these rows
 pub record GroupsFound (rows : ℕ) (before found : List (List (List Value))) : Type 0 where
   pub groups : List (List (List Value))
   pub after : found ≡ before ++ groups

@@ -1,7 +1,10 @@
 -- The bytes of a table, row by row.
-use Rattle.std.proofs.Common.{◌≡◌, ℕ, zero, suc, ◌+◌, ◌*◌, ◌<◌, ◌≤◌, ◌&&◌, true, not, List, [], ◌∷◌, ◌++◌, length, take, drop, nat_le, append_assoc, length-append, length-drop, refl, sym, ap, ap₂, ◌∙◌, arith}
+use Rattle.std.proofs.Common.{◌≡◌, ℕ, zero, suc, ◌+◌, ◌*◌, ◌<◌, ◌≤◌, ◌&&◌, true, not, List, [], ◌∷◌}
+use Rattle.std.proofs.Common.{◌++◌, length, take, drop, nat_le, append_assoc, length-append}
+use Rattle.std.proofs.Common.{length-drop, refl, sym, ap, ap₂, ◌∙◌, arith}
 use Rattle.std.proofs.lemmas.Bool.{leb-true}
-use Rattle.std.proofs.lemmas.List.{append-nil, nil_from_length, take_all, drop_all, take-append-le, drop-append-le, flat_map_more}
+use Rattle.std.proofs.lemmas.List.{append-nil, nil_from_length, take_all, drop_all, take-append-le}
+use Rattle.std.proofs.lemmas.List.{drop-append-le, flat_map_more}
 use Rattle.std.proofs.Math.Nat.{mul-suc}
 use Rattle.std.specs.Int.{w32, to_le_bytes}
 use Rattle.std.proofs.lemmas.List.Folds.{list_all-append}
@@ -16,7 +19,8 @@ use Rattle.bw_file.specs.declared.encoder.Encoder.{Encoder}
 use Rattle.bw_file.specs.Encoder.{Holds, IsAsBefore}
 use Rattle.bw_file.specs.declared.layout.Layout.{Layout}
 use Rattle.bw_file.specs.Blocks.{segment_bytes}
-use Rattle.bw_file.specs.FileBytes.{AreRows, magic, front_bytes, header_bytes, segments_bytes, bytes_of_version, file_bytes, version_for}
+use Rattle.bw_file.specs.FileBytes.{AreRows, magic, front_bytes, header_bytes, segments_bytes}
+use Rattle.bw_file.specs.FileBytes.{bytes_of_version, file_bytes, version_for}
 use Rattle.bw_model.specs.Name.{is_name}
 use Rattle.bw_text.specs.Keyword.{is_reserved}
 use Rattle.bw_text.specs.Text.{is_word}
@@ -93,7 +97,7 @@ bytes_flushed encoder rows bytes some holds added =
     ∙ segments_more encoder.layout columns holds.groups head holds.before holds.group holds.whole (omega (arith, size)) (omega (arith, size, encoder.within_limit))
     ∙ ap (λ (all : List (List Value)). head ++ segments_bytes encoder.layout columns all) (sym holds.parts)
 
--- how many rows an encoder was given, where its group is whole
+-- how many rows an encoder was given, if its group is whole
 pub whole_flushed : (encoder : Encoder) (rows : List (List Value)) → encoder.filled ≡ 512 → (holds : Holds encoder rows) → length rows ≡ group_size * suc holds.groups
 unfolding group_size
 whole_flushed encoder rows full holds =
@@ -103,7 +107,7 @@ whole_flushed encoder rows full holds =
 pub admitted_more : (columns : List Column) (rows : List (List Value)) (row : List Value) → AreRows columns rows → length rows < most_rows → admits_values columns row ≡ true
     → AreRows columns (rows ++ row ∷ [])
 admitted_more columns rows row are lt admitted = record {
-  few = omega (arith, length-append rows (row ∷ []));
+  within_limit = omega (arith, length-append rows (row ∷ []));
   admitted = list_all-append (admits_values columns) rows (row ∷ []) ∙ ap₂ ◌&&◌ are.admitted (ap (λ b. b && true) admitted);
 }
 

@@ -1,5 +1,7 @@
--- What is refused of a table file is refused by one of its own faults.
-use Rattle.std.proofs.Common.{◌≡◌, ◌∙◌, ap, refl, subst, ℕ, zero, suc, ◌+◌, ◌-◌, ◌++◌, ◌∷◌, [], Bool, true, false, not, ◌||◌, ◌&&◌, ◌==◌, List, Option, Some, None, Result, Ok, Err, if◌then◌else◌, IfErr, nat_lt, nat_le, slice_index}
+-- What is rejected of a table file is rejected by one of its own errors.
+use Rattle.std.proofs.Common.{◌≡◌, ◌∙◌, ap, refl, subst, ℕ, zero, suc, ◌+◌, ◌-◌, ◌++◌, ◌∷◌, []}
+use Rattle.std.proofs.Common.{Bool, true, false, not, ◌||◌, ◌&&◌, ◌==◌, List, Option, Some, None}
+use Rattle.std.proofs.Common.{Result, Ok, Err, if◌then◌else◌, IfErr, nat_lt, nat_le, slice_index}
 use Rattle.std.specs.Prelude.{IfSome, slice_index_or}
 use Rattle.std.proofs.Math.Bool.{or-true}
 use Rattle.bw_model.specs.declared.column.Column.{Column}
@@ -13,10 +15,14 @@ use Rattle.bw_segment.specs.BlockFault as faults
 use Rattle.bw_file.specs.declared.layout.Layout.{Layout}
 use Rattle.bw_file.specs.declared.layout.Layout.TheVariants.{Planes, Slices}
 use Rattle.bw_file.specs.Blocks.{block_fault}
-use Rattle.bw_file.specs.Reading.{Tail, tail, Reading, passed, ◌>>=◌, field, parsed_at, read_field, State, Fails, HasByteMore}
-use Rattle.bw_file.specs.TableReading.{parse_magic, parse_version, parse_layout, parse_count, rows_say, bounds_say, parse_nullable, parse_name, name, column, columns, front, header, fault_place, sound_at, one_block, blocks, segment, IsTableFault}
+use Rattle.bw_file.specs.Reading.{Tail, tail, Reading, passed, ◌>>=◌, field, parsed_at, read_field}
+use Rattle.bw_file.specs.Reading.{State, Fails, HasByteMore}
+use Rattle.bw_file.specs.TableReading.{parse_magic, parse_version, parse_layout, parse_count}
+use Rattle.bw_file.specs.TableReading.{parse_row_count, parse_bounds, parse_nullable, parse_name}
+use Rattle.bw_file.specs.TableReading.{name, column, columns, front, header, fault_place, sound_at}
+use Rattle.bw_file.specs.TableReading.{one_block, blocks, segment, IsTableFault}
 
--- a number that is one of them wherever it stands, and reading that refuses by them alone
+-- a number that is one of them wherever it is, and reading that rejects by them alone
 abbrev IsOwn : ℕ → Type 0
 IsOwn code = (at : ℕ) → IsTableFault (at_byte code at)
 
@@ -43,9 +49,9 @@ said_own : {A : Type 0} (at : ℕ) (said : Result A ℕ) → IfErr said IsOwn �
 said_own at (Ok x) own t = tt
 said_own at (Err code) own t = own at
 
-judged_own : {A : Type 0} (size : ℕ) (says : List ℕ → Result A ℕ) → ((bytes : List ℕ) → IfErr (says bytes) IsOwn) → RefusesOwn (read_field size says)
+read_field_own : {A : Type 0} (size : ℕ) (says : List ℕ → Result A ℕ) → ((bytes : List ℕ) → IfErr (says bytes) IsOwn) → RefusesOwn (read_field size says)
 unfolding read_field
-judged_own size says own t = then_own (field size) (λ bytes. parsed_at t.at (says bytes)) (field_own size) (λ bytes. said_own t.at (says bytes) (own bytes)) t
+read_field_own size says own t = then_own (field size) (λ bytes. parsed_at t.at (says bytes)) (field_own size) (λ bytes. said_own t.at (says bytes) (own bytes)) t
 
 -- one thing or another said
 if_own : {A : Type 0} (b : Bool) (first second : Result A ℕ) → IfErr first IsOwn → IfErr second IsOwn → IfErr (if b then first else second) IsOwn
@@ -69,12 +75,12 @@ count_own : (bytes : List ℕ) → IfErr (parse_count bytes) IsOwn
 unfolding parse_count
 count_own bytes = if_own _ (Err 304) (Ok _) (λ _. refl) tt
 
-rows_own : (bytes : List ℕ) → IfErr (rows_say bytes) IsOwn
-unfolding rows_say
+rows_own : (bytes : List ℕ) → IfErr (parse_row_count bytes) IsOwn
+unfolding parse_row_count
 rows_own bytes = if_own _ (Err 310) (Ok _) (λ _. refl) tt
 
-bounds_own : (version : ℕ) (bytes : List ℕ) → IfErr (bounds_say version bytes) IsOwn
-unfolding bounds_say
+bounds_own : (version : ℕ) (bytes : List ℕ) → IfErr (parse_bounds version bytes) IsOwn
+unfolding parse_bounds
 bounds_own version bytes = if_own _ (Ok _) (Err 304) tt (λ _. refl)
 
 nullable_own : (bytes : List ℕ) → IfErr (parse_nullable bytes) IsOwn
@@ -92,8 +98,8 @@ name_own before t = then_own _ _ (field_own 1) (λ size. then_own _ _ (field_own
 
 column_own : (version : ℕ) (before : List (List ℕ)) → RefusesOwn (column version before)
 unfolding column
-column_own version before = then_own _ _ (name_own before) (λ text. then_own _ _ (judged_own 16 (bounds_say version) (bounds_own version))
-    (λ bounds. then_own _ _ (judged_own 1 parse_nullable nullable_own) (λ nullable t. tt)))
+column_own version before = then_own _ _ (name_own before) (λ text. then_own _ _ (read_field_own 16 (parse_bounds version) (bounds_own version))
+    (λ bounds. then_own _ _ (read_field_own 1 parse_nullable nullable_own) (λ nullable t. tt)))
 
 columns_own : (version : ℕ) (before : List ColumnShape) (count : ℕ) → RefusesOwn (columns version before count)
 unfolding columns
@@ -102,15 +108,15 @@ columns_own version before (suc count) = then_own _ _ (column_own version (shape
 
 front_own : RefusesOwn front
 unfolding front
-front_own = then_own _ _ (judged_own 8 parse_magic magic_own) (λ _. then_own _ _ (judged_own 1 parse_version version_own)
-    (λ version. then_own _ _ (judged_own 1 parse_layout layout_own) (λ layout. then_own _ _ (judged_own 2 parse_count count_own)
-    (λ count. then_own _ _ (judged_own 4 rows_say rows_own) (λ rows t. tt)))))
+front_own = then_own _ _ (read_field_own 8 parse_magic magic_own) (λ _. then_own _ _ (read_field_own 1 parse_version version_own)
+    (λ version. then_own _ _ (read_field_own 1 parse_layout layout_own) (λ layout. then_own _ _ (read_field_own 2 parse_count count_own)
+    (λ count. then_own _ _ (read_field_own 4 parse_row_count rows_own) (λ rows t. tt)))))
 
 pub header_own : RefusesOwn header
 unfolding header
 header_own = then_own _ _ front_own (λ first. then_own _ _ (name_own []) (λ text. then_own _ _ (columns_own first.version [] first.columns) (λ found t. tt)))
 
--- the fault of a block, where it has one
+-- the error of a block, if it has one
 some_own : (b : Bool) (code : ℕ) (other : Option ℕ) → IsOwn code → IfSome other IsOwn → IfSome (if b then Some code else other) IsOwn
 some_own true code other here there = here
 some_own false code other here there = there

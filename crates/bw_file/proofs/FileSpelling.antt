@@ -1,5 +1,6 @@
 -- What is read of a table file is a table's bytes.
-use Rattle.std.proofs.Common.{◌≡◌, ℕ, Bool, true, ◌&&◌, List, [], ◌∷◌, ◌++◌, length, map, Result, Ok, Err, refl, sym, ap, subst, ◌∙◌, arith, inl, inr, ◌⊎◌}
+use Rattle.std.proofs.Common.{◌≡◌, ℕ, Bool, true, ◌&&◌, List, [], ◌∷◌, ◌++◌, length, map, Result}
+use Rattle.std.proofs.Common.{Ok, Err, refl, sym, ap, subst, ◌∙◌, arith, inl, inr, ◌⊎◌}
 use Rattle.std.specs.List.{flat_map, list_all}
 use Rattle.std.proofs.lemmas.List.{length-map}
 use Rattle.bw_model.specs.declared.column.Column.{Column}
@@ -12,11 +13,15 @@ use Rattle.bw_model.specs.Schema.{IsSchema}
 use Rattle.bw_model.specs.SchemaText.{column_shape, SchemaShape, schema_shape}
 use Rattle.bw_file.specs.declared.layout.Layout.{Layout}
 use Rattle.bw_file.specs.Blocks.{segment_bytes}
-use Rattle.bw_file.specs.FileBytes.{IsFileBytes, file_bytes, file_bytes2, bytes_of_version, front_bytes, name_bytes, header_bytes, segments_bytes, version_for, are_bounds, column_bytes}
+use Rattle.bw_file.specs.FileBytes.{IsFileBytes, file_bytes, file_bytes2, bytes_of_version}
+use Rattle.bw_file.specs.FileBytes.{front_bytes, name_bytes, header_bytes, segments_bytes}
+use Rattle.bw_file.specs.FileBytes.{version_for, are_bounds, column_bytes}
 use Rattle.bw_file.specs.Reading.{Tail, tail}
-use Rattle.bw_file.specs.TableReading.{group_sizes, body, HeaderShape, header, Found, found_in, IsReadAs, IsReadAfter}
+use Rattle.bw_file.specs.TableReading.{group_sizes, body, HeaderShape, header, Found, found_in}
+use Rattle.bw_file.specs.TableReading.{IsReadAs, IsReadAfter}
 use Rattle.bw_model.proofs.SameColumns.{columns_same}
-use Rattle.bw_file.proofs.SpellingLemmas.{IsBytes, TakesBoth, schema_bytes, fits_version, head_bytes, IsHeader, header_takes}
+use Rattle.bw_file.proofs.SpellingLemmas.{IsBytes, TakesBoth, schema_bytes, fits_version}
+use Rattle.bw_file.proofs.SpellingLemmas.{head_bytes, IsHeader, header_takes}
 use Rattle.bw_file.proofs.BodySpelling.{groups_found, body_take}
 
 shapes_spelled : (columns : List Column) → flat_map schema_bytes (map column_shape columns) ≡ flat_map (λ (c : Column). column_bytes c.name c.lo c.hi c.nullable) columns
@@ -45,7 +50,7 @@ of_version version layout schema rows bytes (inl one) narrow text =
     inl (rw same (rw one at text))
 of_version version layout schema rows bytes (inr two) narrow text = inr (rw two at text)
 
--- what was read, by the header and by what stands after it
+-- what was read, by the header and by what follows it
 abbrev pub of_groups : Layout → SchemaShape → List (List (List Value)) → Found
 of_groups layout shape groups = record { layout = layout; schema = shape; rows = together groups }
 
@@ -83,7 +88,7 @@ spelled_with bytes h t schema y head known same e =
       shape = same;
       text = record {
         under = subst IsSchema (sym same) known.schema;
-        admitted = record { few = omega (arith, count, known.few); admitted = admitted };
+        admitted = record { within_limit = omega (arith, count, known.within_limit); admitted = admitted };
         text = of_version h.version h.layout schema rows bytes known.version narrow whole;
       };
     }

@@ -1,5 +1,6 @@
 -- Reading a header field by field.
-use Rattle.std.proofs.Common.{◌≡◌, ◌+◌, ◌-◌, ◌<◌, ◌≤◌, map, ℕ, ℤ, suc, Bool, true, false, List, [], ◌∷◌, ◌++◌, slice_index, Ok, Err, refl, sym, ap, ◌∙◌, arith, ◌||◌, not}
+use Rattle.std.proofs.Common.{◌≡◌, ◌+◌, ◌-◌, ◌<◌, ◌≤◌, map, ℕ, ℤ, suc, Bool, true, false, List, []}
+use Rattle.std.proofs.Common.{◌∷◌, ◌++◌, slice_index, Ok, Err, refl, sym, ap, ◌∙◌, arith, ◌||◌, not}
 use Rattle.std.specs.List.{list_any}
 use Rattle.bw_model.specs.declared.column.Column.{Column}
 use Rattle.bw_model.specs.declared.fault.Fault.{Fault}
@@ -10,7 +11,10 @@ use Rattle.bw_model.specs.SchemaText.{ColumnShape, column_shape, shape, shape_na
 use Rattle.bw_file.specs.declared.fields.Bounds.{Bounds}
 use Rattle.bw_file.specs.declared.layout.Layout.{Layout}
 use Rattle.bw_file.specs.Reading.{◌>>=◌, give, field, parsed_at, read_field, State, GoesOn, Fails}
-use Rattle.bw_file.specs.TableReading.{name, parse_name, column, columns, parse_magic, parse_version, parse_layout, parse_count, rows_say, bounds_say, parse_nullable, FrontShape, front_of, front, header_of, header}
+use Rattle.bw_file.specs.TableReading.{name, parse_name, column, columns, parse_magic}
+use Rattle.bw_file.specs.TableReading.{parse_version, parse_layout, parse_count, parse_row_count}
+use Rattle.bw_file.specs.TableReading.{parse_bounds, parse_nullable, FrontShape, front_of, front}
+use Rattle.bw_file.specs.TableReading.{header_of, header}
 use Rattle.bw_file.proofs.ReadingLemmas.{took_nothing, needs_none, begins, passes, stops, refuses}
 
 -- a name begins with the byte for its length
@@ -55,22 +59,22 @@ apart_from false columns text e h = list_any_names columns text ∙ sym e
 
 -- a column is its name, then its bounds, and then whether it takes null
 pub column_named : (version : ℕ) (before : List (List ℕ)) (text : List ℕ) (old mid : State) → GoesOn (name before) old (give text) mid
-    → GoesOn (column version before) old (read_field 16 (bounds_say version) >>= λ bounds. read_field 1 parse_nullable >>= λ nullable. give (shape text bounds.lo bounds.hi nullable)) mid
+    → GoesOn (column version before) old (read_field 16 (parse_bounds version) >>= λ bounds. read_field 1 parse_nullable >>= λ nullable. give (shape text bounds.lo bounds.hi nullable)) mid
 unfolding column
 column_named version before text old mid p =
-    passes (column version before) (name before) (λ text. read_field 16 (bounds_say version) >>= λ bounds. read_field 1 parse_nullable >>= λ nullable. give (shape text bounds.lo bounds.hi nullable))
+    passes (column version before) (name before) (λ text. read_field 16 (parse_bounds version) >>= λ bounds. read_field 1 parse_nullable >>= λ nullable. give (shape text bounds.lo bounds.hi nullable))
     text old old mid (begins (column version before) old) p
 
 pub column_bounded : (version : ℕ) (before : List (List ℕ)) (text : List ℕ) (bounds : Bounds) (old a b : State) → GoesOn (name before) old (give text) a
-    → GoesOn (read_field 16 (bounds_say version)) a (give bounds) b
+    → GoesOn (read_field 16 (parse_bounds version)) a (give bounds) b
     → GoesOn (column version before) old (read_field 1 parse_nullable >>= λ nullable. give (shape text bounds.lo bounds.hi nullable)) b
 column_bounded version before text bounds old a b p q =
-    passes (column version before) (read_field 16 (bounds_say version)) (λ bounds. read_field 1 parse_nullable >>= λ nullable. give (shape text bounds.lo bounds.hi nullable))
+    passes (column version before) (read_field 16 (parse_bounds version)) (λ bounds. read_field 1 parse_nullable >>= λ nullable. give (shape text bounds.lo bounds.hi nullable))
     bounds old a b (column_named version before text old a p) q
 
 pub column_read : (version : ℕ) (before : List (List ℕ)) (text : List ℕ) (bounds : Bounds) (nullable : Bool) (lo hi : ℤ) (old a b new : State)
     → lo ≡ bounds.lo → hi ≡ bounds.hi → GoesOn (name before) old (give text) a
-    → GoesOn (read_field 16 (bounds_say version)) a (give bounds) b → GoesOn (read_field 1 parse_nullable) b (give nullable) new
+    → GoesOn (read_field 16 (parse_bounds version)) a (give bounds) b → GoesOn (read_field 1 parse_nullable) b (give nullable) new
     → GoesOn (column version before) old (give (shape text lo hi nullable)) new
 column_read version before text bounds nullable lo hi old a b new same_lo same_hi p q r =
     rw (same_lo, same_hi) (passes (column version before) (read_field 1 parse_nullable) (λ nullable. give (shape text bounds.lo bounds.hi nullable))
@@ -114,31 +118,31 @@ names_in slice found e = ap names_of e ∙ sym (shape_names-of found)
 
 -- the sixteen bytes of the front
 pub magic_read : (old a : State) → GoesOn (read_field 8 parse_magic) old (give tt) a
-    → GoesOn front old (read_field 1 parse_version >>= λ version. read_field 1 parse_layout >>= λ layout. read_field 2 parse_count >>= λ count. read_field 4 rows_say >>= λ rows.
+    → GoesOn front old (read_field 1 parse_version >>= λ version. read_field 1 parse_layout >>= λ layout. read_field 2 parse_count >>= λ count. read_field 4 parse_row_count >>= λ rows.
     give (front_of version layout count rows)) a
 unfolding front
 magic_read old a p =
-    passes front (read_field 8 parse_magic) (λ _. read_field 1 parse_version >>= λ version. read_field 1 parse_layout >>= λ layout. read_field 2 parse_count >>= λ count. read_field 4 rows_say >>= λ rows.
+    passes front (read_field 8 parse_magic) (λ _. read_field 1 parse_version >>= λ version. read_field 1 parse_layout >>= λ layout. read_field 2 parse_count >>= λ count. read_field 4 parse_row_count >>= λ rows.
     give (front_of version layout count rows)) tt old old a (begins front old) p
 
 pub version_read : (version : ℕ) (old a b : State) → GoesOn (read_field 8 parse_magic) old (give tt) a → GoesOn (read_field 1 parse_version) a (give version) b
-    → GoesOn front old (read_field 1 parse_layout >>= λ layout. read_field 2 parse_count >>= λ count. read_field 4 rows_say >>= λ rows. give (front_of version layout count rows)) b
+    → GoesOn front old (read_field 1 parse_layout >>= λ layout. read_field 2 parse_count >>= λ count. read_field 4 parse_row_count >>= λ rows. give (front_of version layout count rows)) b
 version_read version old a b p q = passes front (read_field 1 parse_version) _ version old a b (magic_read old a p) q
 
 pub layout_read : (version : ℕ) (layout : Layout) (old a b c : State) → GoesOn (read_field 8 parse_magic) old (give tt) a → GoesOn (read_field 1 parse_version) a (give version) b
     → GoesOn (read_field 1 parse_layout) b (give layout) c
-    → GoesOn front old (read_field 2 parse_count >>= λ count. read_field 4 rows_say >>= λ rows. give (front_of version layout count rows)) c
+    → GoesOn front old (read_field 2 parse_count >>= λ count. read_field 4 parse_row_count >>= λ rows. give (front_of version layout count rows)) c
 layout_read version layout old a b c p q r = passes front (read_field 1 parse_layout) _ layout old b c (version_read version old a b p q) r
 
 pub count_read : (version : ℕ) (layout : Layout) (count : ℕ) (old a b c d : State) → GoesOn (read_field 8 parse_magic) old (give tt) a
     → GoesOn (read_field 1 parse_version) a (give version) b → GoesOn (read_field 1 parse_layout) b (give layout) c → GoesOn (read_field 2 parse_count) c (give count) d
-    → GoesOn front old (read_field 4 rows_say >>= λ rows. give (front_of version layout count rows)) d
+    → GoesOn front old (read_field 4 parse_row_count >>= λ rows. give (front_of version layout count rows)) d
 count_read version layout count old a b c d p q r s = passes front (read_field 2 parse_count) _ count old c d (layout_read version layout old a b c p q r) s
 
 pub front_read : (version : ℕ) (layout : Layout) (count rows : ℕ) (old a b c d e : State) → GoesOn (read_field 8 parse_magic) old (give tt) a
     → GoesOn (read_field 1 parse_version) a (give version) b → GoesOn (read_field 1 parse_layout) b (give layout) c → GoesOn (read_field 2 parse_count) c (give count) d
-    → GoesOn (read_field 4 rows_say) d (give rows) e → GoesOn front old (give (front_of version layout count rows)) e
-front_read version layout count rows old a b c d e p q r s t = passes front (read_field 4 rows_say) _ rows old d e (count_read version layout count old a b c d p q r s) t
+    → GoesOn (read_field 4 parse_row_count) d (give rows) e → GoesOn front old (give (front_of version layout count rows)) e
+front_read version layout count rows old a b c d e p q r s t = passes front (read_field 4 parse_row_count) _ rows old d e (count_read version layout count old a b c d p q r s) t
 
 -- the header: its front, the table's name, and the columns
 pub header_fronted : (first : FrontShape) (old a : State) → GoesOn front old (give first) a

@@ -1,17 +1,19 @@
 -- What is answered of a file once memory has run out, or by a later read; and groups that come one
 -- after the other.
-use Rattle.std.proofs.Common.{◌≡◌, ◌∙◌, ℕ, ◌+◌, List, [], ◌∷◌, ◌++◌, true, false, inl, sym, ap, append_assoc, arith}
+use Rattle.std.proofs.Common.{◌≡◌, ◌∙◌, ℕ, ◌+◌, List, [], ◌∷◌, ◌++◌, true, false, inl, sym, ap}
+use Rattle.std.proofs.Common.{append_assoc, arith}
 use Rattle.std.proofs.lemmas.List.{append-nil}
 use Rattle.bw_model.specs.declared.fault.Fault.{Fault}
 use Rattle.bw_model.specs.Fault.{no_memory}
 use Rattle.bw_model.specs.Groups.{together}
 use Rattle.bw_model.specs.Row.{Value}
 use Rattle.bw_io.specs.Source.{is_read_fault, is_input_fault, failed_reads}
-use Rattle.bw_file.specs.Reading.{State, Took}
+use Rattle.bw_file.specs.Reading.{State, HasConsumed}
 use Rattle.bw_model.specs.declared.schema.Schema.{Schema}
 use Rattle.bw_file.specs.AnySegment.{any_meaning}
 use Rattle.bw_file.specs.declared.segments.AnySegment.{AnySegment}
-use Rattle.bw_file.specs.TableReader.{AnswersFault, FrontsEndEarly, IsSegmentOf, SameTable, schema_in}
+use Rattle.bw_file.specs.TableReader.{AnswersFault, FrontsEndEarly, IsSegmentOf, SameTable}
+use Rattle.bw_file.specs.TableReader.{schema_in}
 use Rattle.bw_file.specs.declared.table_reader.TableReader.{TableReader}
 
 -- one group more
@@ -20,7 +22,7 @@ together_more [] rows = append-nil rows
 together_more (group ∷ groups) rows = ap (λ (l : List (List Value)). group ++ l) (together_more groups rows) ∙ sym (append_assoc group (together groups) rows)
 
 -- out of memory, once bytes were taken, fewer of which end too early, and no read failed
-pub memory_answers : (start old now : State) (fault : Fault) → ((bytes : List ℕ) × Took start now bytes × FrontsEndEarly bytes) → now.failures ≡ old.failures → fault ≡ no_memory
+pub memory_answers : (start old now : State) (fault : Fault) → ((bytes : List ℕ) × HasConsumed start now bytes × FrontsEndEarly bytes) → now.failures ≡ old.failures → fault ≡ no_memory
     → AnswersFault start old now fault
 memory_answers start old now fault taken failures memory = record {
   bytes = taken.0;
@@ -34,7 +36,7 @@ memory_answers start old now fault taken failures memory = record {
     add_zero : (n : ℕ) → n + 0 ≡ n
     add_zero n = omega arith
 
--- the fault of a later read
+-- the error of a later read
 pub later_answers : (start first old now : State) (fault : Fault) → old.failures ≡ first.failures → AnswersFault start old now fault → AnswersFault start first now fault
 later_answers start first old now fault same answers = record {
   bytes = answers.bytes;

@@ -1,5 +1,6 @@
--- What a reader gives next: a segment, the end, a fault, or what was settled.
-use Rattle.std.proofs.Common.{◌≡◌, ℕ, min, ◌+◌, ◌-◌, ◌<◌, List, [], ◌++◌, length, inl, inr, Some, None, Result, Ok, Err, refl, sym, ap, subst, ◌∙◌, arith}
+-- What a reader gives next: a segment, the end, an error, or what was settled.
+use Rattle.std.proofs.Common.{◌≡◌, ℕ, min, ◌+◌, ◌-◌, ◌<◌, List, [], ◌++◌, length, inl, inr, Some}
+use Rattle.std.proofs.Common.{None, Result, Ok, Err, refl, sym, ap, subst, ◌∙◌, arith}
 use Rattle.std.specs.Io.KnownBytes.{IsAtEnd}
 use Rattle.bw_model.specs.declared.fault.Fault.{Fault}
 use Rattle.bw_model.specs.Groups.{group_size, groups_of, together}
@@ -7,14 +8,17 @@ use Rattle.bw_model.specs.Row.{Value}
 use Rattle.bw_file.specs.declared.segments.AnySegment.{AnySegment}
 use Rattle.bw_file.specs.declared.table_reader.TableReader.{TableReader}
 use Rattle.bw_file.specs.AnySegment.{any_layout, any_meaning}
-use Rattle.bw_file.specs.Reading.{tail, State, Took, GoesOn, NeedsMore, Fails, HasByteMore, give}
+use Rattle.bw_file.specs.Reading.{tail, State, HasConsumed, GoesOn, NeedsMore, Fails, HasByteMore}
+use Rattle.bw_file.specs.Reading.{give}
 use Rattle.bw_file.specs.TableReading.{segment, end, group_sizes, IsTableFault}
-use Rattle.bw_file.specs.TableReader.{final_result, ReadProgress, SameTable, GaveSegment, EndedWhole, Refused, Repeats, GivesNext, gives, ends, refuses, repeats}
+use Rattle.bw_file.specs.TableReader.{final_result, ReadProgress, SameTable, ReturnsSegment}
+use Rattle.bw_file.specs.TableReader.{EndsCompletely, FailsBy, Repeats, GivesNext, gives, ends}
+use Rattle.bw_file.specs.TableReader.{refuses, repeats}
 use Rattle.bw_file.proofs.BodySpelling.{groups_found}
 use Rattle.bw_file.proofs.FaultLemmas.{refused_by, segment_own, byte_own}
 use Rattle.bw_file.proofs.ReaderLemmas.{so_far_more, segment_refused, at_end, end_seen, end_missed}
 
--- where all rows were given, the groups so far are the groups of all rows
+-- if all rows were given, the groups so far are the groups of all rows
 pub all_groups : (start now : State) (reader : TableReader) (groups : List (List (List Value))) → reader.given ≡ reader.rows → ReadProgress start now reader groups
     → groups ≡ groups_of (together groups)
 unfolding end
@@ -31,7 +35,7 @@ module _ {S : Type 0} (source next_source : S) (old now : State) (reader next : 
   segment_given given size reading left unsettled sized counted layout name columns count read = gives unsettled (record {
     of_table = record { layout = layout; name = name; columns = columns; count = count ∙ sized };
     after = λ start groups so_far. so_far_more start old now reader next groups (any_meaning given).rows size same.version same.layout same.schema same.rows counted left sized so_far read;
-    counted = counted ∙ ap (λ (n : ℕ). reader.given + n) (sym count);
+    row_count = counted ∙ ap (λ (n : ℕ). reader.given + n) (sym count);
     bytes = read.bytes;
     took = read.took;
     failures = read.failures;
@@ -44,7 +48,7 @@ module _ {S : Type 0} (source next_source : S) (old now : State) (reader next : 
   segment_missed size fault stopped left unsettled sized fails kept = refuses unsettled (record {
     answers = λ start groups so_far. segment_refused start old now reader groups size fault left sized so_far fails;
     own = refused_by (segment reader.layout reader.placement.value.schema.columns.items size) old now fault (segment_own reader.layout reader.placement.value.schema.columns.items size) fails;
-    counted = kept;
+    row_count = kept;
     bytes = fails.bytes;
     took = fails.took;
     failures = fails.failures;
@@ -53,12 +57,12 @@ module _ {S : Type 0} (source next_source : S) (old now : State) (reader next : 
     same = same;
   })
 
-  pub end_given : final_result next ≡ Some (Ok tt) → reader.given ≡ reader.rows → final_result reader ≡ None → Took old now [] → now.failures ≡ old.failures → IsAtEnd now.known
+  pub end_given : final_result next ≡ Some (Ok tt) → reader.given ≡ reader.rows → final_result reader ≡ None → HasConsumed old now [] → now.failures ≡ old.failures → IsAtEnd now.known
       → next.given ≡ reader.given → GivesNext source next_source old now reader next (Ok None)
   end_given stopped all unsettled took failures ended kept = ends unsettled (record {
     whole = λ start groups so_far. end_seen start old now reader groups all so_far took failures ended;
     groups = λ start groups so_far. all_groups start old reader groups all so_far;
-    counted = kept;
+    row_count = kept;
     took = took;
     failures = failures;
     settles = stopped;
@@ -70,7 +74,7 @@ module _ {S : Type 0} (source next_source : S) (old now : State) (reader next : 
   byte_given fault stopped all unsettled fails kept = refuses unsettled (record {
     answers = λ start groups so_far. end_missed start old now reader groups fault all so_far fails;
     own = byte_own old now fault fails;
-    counted = kept;
+    row_count = kept;
     bytes = fails.bytes;
     took = fails.took;
     failures = fails.failures;
@@ -85,17 +89,17 @@ no_segment_again segment (Err fault) again = cc again.0
 
 module _ {S : Type 0} {source next_source : S} {old now : State} {reader next : TableReader} where
   -- a segment is given by no call but one that reads
-  pub segment_of : {segment : AnySegment} → GivesNext source next_source old now reader next (Ok (Some segment)) → GaveSegment old now reader next segment
+  pub segment_of : {segment : AnySegment} → GivesNext source next_source old now reader next (Ok (Some segment)) → ReturnsSegment old now reader next segment
   segment_of (gives unsettled gave) = gave
   segment_of {segment} (repeats again) = absurd (no_segment_again segment again.answer again.again)
 
-  -- where nothing was settled, None tells of a file that was read whole, and a fault is the first
+  -- if nothing was settled, None is of a file that was read completely, and an error is the first
   -- one
-  pub end_of : GivesNext source next_source old now reader next (Ok None) → final_result reader ≡ None → EndedWhole old now reader next
+  pub end_of : GivesNext source next_source old now reader next (Ok None) → final_result reader ≡ None → EndsCompletely old now reader next
   end_of (ends _ ended) unsettled = ended
   end_of (repeats again) unsettled = absurd (cc (again.was_settled, unsettled))
 
-  pub refusal_of : {fault : Fault} → GivesNext source next_source old now reader next (Err fault) → final_result reader ≡ None → Refused old now reader next fault
+  pub refusal_of : {fault : Fault} → GivesNext source next_source old now reader next (Err fault) → final_result reader ≡ None → FailsBy old now reader next fault
   refusal_of (refuses _ refused) unsettled = refused
   refusal_of (repeats again) unsettled = absurd (cc (again.was_settled, unsettled))
 

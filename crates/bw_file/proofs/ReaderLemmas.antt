@@ -1,5 +1,7 @@
 -- What the bytes of a file say, segment by segment.
-use Rattle.std.proofs.Common.{◌≡◌, ℕ, zero, suc, min, Bool, true, false, ◌||◌, ◌+◌, ◌-◌, ◌<◌, ◌≤◌, inl, inr, List, [], ◌∷◌, ◌++◌, length, length-append, take, Ok, Err, refl, sym, ap, ◌∙◌, append_assoc, arith}
+use Rattle.std.proofs.Common.{◌≡◌, ℕ, zero, suc, min, Bool, true, false, ◌||◌, ◌+◌, ◌-◌, ◌<◌, ◌≤◌}
+use Rattle.std.proofs.Common.{inl, inr, List, [], ◌∷◌, ◌++◌, length, length-append, take, Ok, Err}
+use Rattle.std.proofs.Common.{refl, sym, ap, ◌∙◌, append_assoc, arith}
 use Rattle.std.specs.Io.KnownBytes.{IsAtEnd}
 use Rattle.std.proofs.Math.Seq.{take-append-add}
 use Rattle.std.proofs.lemmas.Bool.{cases_lt}
@@ -13,9 +15,12 @@ use Rattle.bw_model.specs.SchemaText.{schema_shape}
 use Rattle.bw_io.specs.Source.{is_input_fault, is_read_fault}
 use Rattle.bw_file.specs.declared.layout.Layout.{Layout}
 use Rattle.bw_file.specs.declared.table_reader.TableReader.{TableReader}
-use Rattle.bw_file.specs.Reading.{tail, Reading, ◌>>=◌, give, State, Took, GoesOn, NeedsEach, NeedsMore, HasFault, Fails, HasByteMore}
-use Rattle.bw_file.specs.TableReading.{HeaderShape, header, body, segment, end, sizes_within, group_sizes, found_in, IsReadAs}
-use Rattle.bw_file.specs.TableReader.{header_stated, ReadProgress, found_so_far, ReadWhole, FrontsEndEarly, NoneToSpare, HasFirstFault, AnswersFault}
+use Rattle.bw_file.specs.Reading.{tail, Reading, ◌>>=◌, give, State, HasConsumed, GoesOn, NeedsEach}
+use Rattle.bw_file.specs.Reading.{NeedsMore, HasFault, Fails, HasByteMore}
+use Rattle.bw_file.specs.TableReading.{HeaderShape, header, body, segment, end, sizes_within}
+use Rattle.bw_file.specs.TableReading.{group_sizes, found_in, IsReadAs}
+use Rattle.bw_file.specs.TableReader.{header_stated, ReadProgress, found_so_far, ReadWhole}
+use Rattle.bw_file.specs.TableReader.{FrontsEndEarly, NoneToSpare, HasFirstFault, AnswersFault}
 use Rattle.bw_file.proofs.ReadingLemmas.{passes, stops, took_more, coming_of, is_coming}
 
 -- the sizes of groups don't hang on how many groups there may be
@@ -78,7 +83,7 @@ header_early start new fault first p n lt =
     let early : header (tail 0 (take n p.bytes)) ≡ Err (at_byte 305 n) = rw place at (short n lt) in
     rw early refl
 
--- what is refused of the header is the file's first fault
+-- what is rejected of the header is the file's first error
 pub header_refused : (start new : State) (fault : Fault) → start.offset ≡ 0 → Fails header start new fault → AnswersFault start start new fault
 header_refused start new fault first p = record {
   bytes = p.bytes;
@@ -113,7 +118,7 @@ module _ (start old : State) (reader : TableReader) (groups : List (List (List V
   header_on : (rest : List ℕ) → header (tail 0 (so_far.head.bytes ++ rest)) ≡ Ok (header_stated reader.version reader, tail so_far.after.offset rest)
   header_on rest = head_at start so_far.after (header_stated reader.version reader) rest so_far.first so_far.head
 
-  -- a file that ends within its header, or where what stands after it needs more, ends too early
+  -- a file that ends within its header, or if what follows it needs more, ends too early
   pub ends_early : (more : List ℕ) → NeedsEach whole_body so_far.after.offset more → FrontsEndEarly (so_far.head.bytes ++ more)
   ends_early more needed n lt =
       elim (cases_lt n (length so_far.head.bytes)) [
@@ -126,7 +131,7 @@ module _ (start old : State) (reader : TableReader) (groups : List (List (List V
             let more_than : n ≡ length so_far.head.bytes + m = omega (arith, same) in
             let split : take n (so_far.head.bytes ++ more) ≡ so_far.head.bytes ++ take m more =
             ap (λ (k : ℕ). take k (so_far.head.bytes ++ more)) more_than ∙ take-append-add so_far.head.bytes more m in
-            let place : so_far.after.offset + m ≡ n = omega (arith, same, so_far.first, so_far.head.took.counted) in
+            let place : so_far.after.offset + m ≡ n = omega (arith, same, so_far.first, so_far.head.took.advanced) in
             let early : whole_body (tail so_far.after.offset (take m more)) ≡ Err (at_byte 305 n) =
             rw place at (needed m (omega (arith, lt, same, length-append so_far.head.bytes more))) in
             rw (split, header_on (take m more))
@@ -135,11 +140,11 @@ module _ (start old : State) (reader : TableReader) (groups : List (List (List V
 
   after_unfinished : (more : List ℕ) → NeedsMore whole_body so_far.after.offset more → IsReadAs (so_far.head.bytes ++ more) (Err (at_byte 305 (length (so_far.head.bytes ++ more))))
   after_unfinished more p =
-      let place : so_far.after.offset + length more ≡ length (so_far.head.bytes ++ more) = omega (arith, so_far.first, so_far.head.took.counted, length-append so_far.head.bytes more) in
+      let place : so_far.after.offset + length more ≡ length (so_far.head.bytes ++ more) = omega (arith, so_far.first, so_far.head.took.advanced, length-append so_far.head.bytes more) in
       let early : whole_body (tail so_far.after.offset more) ≡ Err (at_byte 305 (length (so_far.head.bytes ++ more))) = rw place at p in
       rw (header_on more) (reader.placement.value.schema, refl, sym (ap (found_in reader.layout (schema_shape reader.placement.value.schema)) early))
 
-  -- the fault after the header is the file's
+  -- the error after the header is the file's
   after_fault : (new : State) (more : List ℕ) (fault : Fault) → HasFault whole_body so_far.after new more fault → HasFirstFault new (so_far.head.bytes ++ more) fault
   after_fault new more fault has =
       let e : header (tail 0 ((so_far.head.bytes ++ more) ++ has.rest)) ≡ Ok (header_stated reader.version reader, tail so_far.after.offset (more ++ has.rest)) =
@@ -170,7 +175,7 @@ segment_refused start old new reader groups size fault left sized so_far p =
     after_refused start old reader groups so_far new fault
     (stops (body layout columns (group_sizes reader.rows) []) (segment layout columns size) (λ group. body layout columns (group_sizes (rest - group_size)) (groups ++ group ∷ [])) so_far.after old new fault on p)
 
--- where all groups were read, the end is wanted
+-- if all groups were read, the end is next
 pub at_end : (start old : State) (reader : TableReader) (groups : List (List (List Value))) → reader.given ≡ reader.rows → (so_far : ReadProgress start old reader groups) → (rest : List ℕ)
     → body reader.layout reader.placement.value.schema.columns.items (group_sizes reader.rows) [] (tail so_far.after.offset (so_far.on.bytes ++ rest))
     ≡ (end >>= λ _. give groups) (tail old.offset rest)
@@ -180,7 +185,7 @@ at_end start old reader groups all so_far rest =
     let sizes : group_sizes (reader.rows - reader.given) ≡ [] = rw none group_sizes-none in
     rw sizes at (so_far.on.on rest)
 
--- and then, if the file ends there, it was read whole
+-- and then, if the file ends there, it was read completely
 read_so_far : (start old : State) (reader : TableReader) (groups : List (List (List Value))) → reader.given ≡ reader.rows → (so_far : ReadProgress start old reader groups)
     → IsReadAs (so_far.head.bytes ++ so_far.on.bytes) (Ok (found_so_far reader groups))
 unfolding end
@@ -190,7 +195,7 @@ read_so_far start old reader groups all so_far =
     rw (header_on start old reader groups so_far so_far.on.bytes)
     (reader.placement.value.schema, refl, sym (ap (found_in reader.layout (schema_shape reader.placement.value.schema)) read))
 
--- a byte more is a fault
+-- a byte more is an error
 byte_more : (groups : List (List (List Value))) (at : ℕ) (bytes rest : List ℕ) → length bytes ≡ 1 → (end >>= λ _. give groups) (tail at (bytes ++ rest)) ≡ Err (at_byte 309 at)
 unfolding end
 byte_more groups at [] rest one = absurd (omega (arith, one))
@@ -208,7 +213,7 @@ byte_needed start old reader groups all so_far byte one n lt =
           rw (take-append-le n front byte (omega (arith, less))) (inl (ends_early start old reader groups so_far so_far.on.bytes so_far.on.needed n less))
       | inr same ↦
           let size : length front ≡ n = omega (arith, same, lt, one, length-append so_far.head.bytes (so_far.on.bytes ++ byte), length-append so_far.on.bytes byte, long) in
-          let place : old.offset ≡ n = omega (arith, size, long, so_far.first, so_far.head.took.counted, so_far.on.took.counted) in
+          let place : old.offset ≡ n = omega (arith, size, long, so_far.first, so_far.head.took.advanced, so_far.on.took.advanced) in
           rw (take_at front byte n size) (inr (found_so_far reader groups, read_so_far start old reader groups all so_far, ap (λ (k : ℕ). at_byte 309 k) place))
     ])
 
@@ -222,7 +227,7 @@ end_needed start old reader groups fault all so_far byte true none one =
 end_needed start old reader groups fault all so_far byte false none one =
     rw ((one refl).1) (byte_needed start old reader groups all so_far byte (one refl).0)
 
--- a fault that isn't a failed read, nor out of memory
+-- an error that isn't a failed read, nor out of memory
 own_fault : (fault : Fault) → is_input_fault fault ≡ false → is_read_fault fault ≡ false
 own_fault fault own = either (is_memory fault) (is_read_fault fault) own
   where
@@ -256,7 +261,7 @@ end_missed start old new reader groups fault all so_far p = record {
 }
 
 pub end_seen : (start old new : State) (reader : TableReader) (groups : List (List (List Value))) → reader.given ≡ reader.rows → ReadProgress start old reader groups
-    → Took old new [] → new.failures ≡ old.failures → IsAtEnd new.known → ReadWhole start new (found_so_far reader groups)
+    → HasConsumed old new [] → new.failures ≡ old.failures → IsAtEnd new.known → ReadWhole start new (found_so_far reader groups)
 end_seen start old new reader groups all so_far took same ended = record {
   bytes = so_far.head.bytes ++ so_far.on.bytes;
   took = rw append-nil at (took_more start old new (so_far.head.bytes ++ so_far.on.bytes) []

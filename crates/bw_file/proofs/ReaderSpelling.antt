@@ -1,5 +1,6 @@
 -- A reader of a table's bytes.
-use Rattle.std.proofs.Common.{◌≡◌, ℕ, ◌-◌, Bool, true, false, List, [], ◌++◌, length, Option, Some, None, Ok, Err, refl, sym, ap, subst, ◌∙◌}
+use Rattle.std.proofs.Common.{◌≡◌, ℕ, ◌-◌, Bool, true, false, List, [], ◌++◌, length, Option, Some}
+use Rattle.std.proofs.Common.{None, Ok, Err, refl, sym, ap, subst, ◌∙◌}
 use Rattle.std.specs.Io.KnownBytes.{Consumes}
 use Rattle.std.proofs.lemmas.List.{append-nil}
 use Rattle.bw_model.specs.declared.column.Column.{Column}
@@ -14,7 +15,8 @@ use Rattle.bw_file.specs.FileBytes.{IsFileBytes}
 use Rattle.bw_file.specs.Reading.{tail, State}
 use Rattle.bw_io.specs.Source.{is_input_fault}
 use Rattle.bw_file.specs.TableReading.{group_sizes, body, header, Found, found_as, IsReadAfter}
-use Rattle.bw_file.specs.TableReader.{header_stated, ReadProgress, ReadWhole, AnswersFault, GaveFirst}
+use Rattle.bw_file.specs.TableReader.{header_stated, ReadProgress, ReadWhole, AnswersFault}
+use Rattle.bw_file.specs.TableReader.{ReturnsFirst}
 use Rattle.bw_file.proofs.BodySpelling.{groups_found}
 use Rattle.bw_model.proofs.SameColumns.{columns_same}
 use Rattle.bw_file.proofs.FileSpelling.{of_groups, body_found}
@@ -56,7 +58,7 @@ whole_table bytes layout schema rows file start now found known p =
     sym (done_is _ _ (bytes_read bytes layout schema rows (Ok found) file (rw all p.read)))
 
 pub gave_first : (bytes : List ℕ) (layout : Layout) (schema : Schema) (rows : List (List Value)) → IsFileBytes bytes layout schema rows → (start now : State) (reader : TableReader)
-    (groups : List (List (List Value))) → start.known ≡ Some bytes → ReadProgress start now reader groups → GaveFirst reader groups layout schema rows
+    (groups : List (List (List Value))) → start.known ≡ Some bytes → ReadProgress start now reader groups → ReturnsFirst reader groups layout schema rows
 gave_first bytes layout schema rows file start now reader groups known so_far =
     let head = so_far.head in
     let on = so_far.on in

@@ -1,5 +1,8 @@
 -- Reading bytes step by step, as calls take them of a source.
-use Rattle.std.proofs.Common.{◌≡◌, ℕ, ◌+◌, ◌-◌, ◌≤◌, ◌<◌, Bool, true, false, zero, suc, List, [], ◌∷◌, ◌++◌, length, take, lit<, Option, Some, None, Result, Ok, Err, refl, sym, ap, ◌∙◌, append_assoc, length-append, arith, inl, inr, nat_lt, ◌&&◌, ◌==◌}
+use Rattle.std.proofs.Common.{◌≡◌, ℕ, ◌+◌, ◌-◌, ◌≤◌, ◌<◌, Bool, true, false, zero, suc, List, []}
+use Rattle.std.proofs.Common.{◌∷◌, ◌++◌, length, take, lit<, Option, Some, None, Result, Ok, Err}
+use Rattle.std.proofs.Common.{refl, sym, ap, ◌∙◌, append_assoc, length-append, arith, inl, inr}
+use Rattle.std.proofs.Common.{nat_lt, ◌&&◌, ◌==◌}
 use Rattle.std.specs.Prelude.{IfSome}
 use Rattle.std.proofs.lemmas.Bool.{true≢false}
 use Rattle.std.proofs.lemmas.List.{take_at, drop_at, length-take-le, take-append-le}
@@ -11,7 +14,9 @@ use Rattle.std.proofs.KnownBytes.{Consumes-trans}
 use Rattle.bw_model.specs.declared.fault.Fault.{Fault}
 use Rattle.bw_model.specs.Fault.{at_byte, no_memory, nowhere}
 use Rattle.bw_io.specs.Source.{is_read_fault}
-use Rattle.bw_file.specs.Reading.{AreBytes, Tail, tail, Reading, passed, at_offset, ◌>>=◌, give, field, parsed_at, read_field, State, state, Took, GoesOn, NeedsEach, NeedsMore, HasFault, Fails, Reads}
+use Rattle.bw_file.specs.Reading.{AreBytes, Tail, tail, Reading, passed, at_offset, ◌>>=◌, give}
+use Rattle.bw_file.specs.Reading.{field, parsed_at, read_field, State, state, HasConsumed, GoesOn}
+use Rattle.bw_file.specs.Reading.{NeedsEach, NeedsMore, HasFault, Fails, Reads}
 
 -- the bytes of a buffer are bytes, and so are those in front, and those of several buffers
 no_bytes : AreBytes []
@@ -31,15 +36,15 @@ both_bytes [] ys p q = q
 both_bytes (x ∷ xs) ys p q = one_byte_more x (xs ++ ys) (p 0) (both_bytes xs ys (λ k. p (suc k)) q)
 
 -- nothing was taken
-pub took_nothing : (known : Option (List ℕ)) (offset failures : ℕ) → Took (state known offset failures) (state known offset failures) []
-took_nothing None offset failures = record { consumed = tt; counted = sym (omega arith); each = no_bytes }
-took_nothing (Some bytes) offset failures = record { consumed = refl; counted = omega arith; each = no_bytes }
+pub took_nothing : (known : Option (List ℕ)) (offset failures : ℕ) → HasConsumed (state known offset failures) (state known offset failures) []
+took_nothing None offset failures = record { consumed = tt; advanced = sym (omega arith); each = no_bytes }
+took_nothing (Some bytes) offset failures = record { consumed = refl; advanced = omega arith; each = no_bytes }
 
 -- bytes were taken, and then more
-pub took_more : (a b c : State) (xs ys : List ℕ) → Took a b xs → Took b c ys → Took a c (xs ++ ys)
+pub took_more : (a b c : State) (xs ys : List ℕ) → HasConsumed a b xs → HasConsumed b c ys → HasConsumed a c (xs ++ ys)
 took_more a b c xs ys p q = record {
   consumed = Consumes-trans a.known b.known c.known xs ys p.consumed q.consumed;
-  counted = omega (arith, p.counted, q.counted, length-append xs ys);
+  advanced = omega (arith, p.advanced, q.advanced, length-append xs ys);
   each = both_bytes xs ys p.each q.each;
 }
 
@@ -81,13 +86,13 @@ needs_still {A = A} {B = B} reading first next at after xs ys e on p =
 pub begins : {A : Type 0} (reading : Reading A) (old : State) → GoesOn reading old reading old
 begins reading old = record { bytes = []; took = took_nothing old.known old.offset old.failures; needed = needs_none reading old.offset; failures = refl; on = λ rest. refl }
 
--- reading goes on after one thing
+-- reading continues after one thing
 pub passes : {A B : Type 0} (reading : Reading B) (first : Reading A) (next : A → Reading B) (x : A) (old mid new : State)
     → GoesOn reading old (first >>= next) mid → GoesOn first mid (give x) new → GoesOn reading old (next x) new
 passes {A = A} reading first next x old mid new p q = record {
   bytes = p.bytes ++ q.bytes;
   took = took_more old mid new p.bytes q.bytes p.took q.took;
-  needed = needs_more reading (first >>= next) old.offset mid.offset p.bytes q.bytes p.took.counted p.needed p.on (needs_first first next mid.offset q.bytes q.needed);
+  needed = needs_more reading (first >>= next) old.offset mid.offset p.bytes q.bytes p.took.advanced p.needed p.on (needs_first first next mid.offset q.bytes q.needed);
   failures = q.failures ∙ p.failures;
   on = λ rest.
       ap (λ (bytes : List ℕ). reading (tail old.offset bytes)) (append_assoc p.bytes q.bytes rest)
@@ -95,7 +100,7 @@ passes {A = A} reading first next x old mid new p q = record {
       ∙ ap (λ (r : Result (A × Tail) Fault). passed r next) (q.on rest);
 }
 
--- bytes to come, where they are known
+-- bytes to come, if they are known
 abbrev pub coming_of : Option (List ℕ) → List ℕ
 coming_of None = []
 coming_of (Some bytes) = bytes
@@ -104,19 +109,19 @@ pub is_coming : (known : Option (List ℕ)) → IfSome known (λ bytes. bytes �
 is_coming None = tt
 is_coming (Some bytes) = refl
 
--- a fault that stands at a byte is neither a failed read nor out of memory
+-- an error that stands at a byte is neither a failed read nor out of memory
 refused_place : (b : Bool) → (b && false) ≡ false
 refused_place true = refl
 refused_place false = refl
 
--- so a call that passes on what another refused refuses by it
+-- so a call that passes on what another rejected rejects by it
 pub stops : {A B : Type 0} (reading : Reading B) (first : Reading A) (next : A → Reading B) (old mid new : State) (fault : Fault)
     → GoesOn reading old (first >>= next) mid → Fails first mid new fault → Fails reading old new fault
 stops {A = A} reading first next old mid new fault p q = record {
   bytes = p.bytes ++ q.bytes;
   took = took_more old mid new p.bytes q.bytes p.took q.took;
-  needed = needs_more reading (first >>= next) old.offset mid.offset p.bytes q.bytes p.took.counted p.needed p.on (needs_first first next mid.offset q.bytes q.needed);
-  unfinished = λ failed. needs_still reading first next old.offset mid.offset p.bytes q.bytes p.took.counted p.on (q.unfinished failed);
+  needed = needs_more reading (first >>= next) old.offset mid.offset p.bytes q.bytes p.took.advanced p.needed p.on (needs_first first next mid.offset q.bytes q.needed);
+  unfinished = λ failed. needs_still reading first next old.offset mid.offset p.bytes q.bytes p.took.advanced p.on (q.unfinished failed);
   failures = omega (arith, p.failures, q.failures);
   refused = λ own.
       let has = q.refused own in
@@ -131,7 +136,7 @@ stops {A = A} reading first next old mid new fault p q = record {
       found;
 }
 
--- out of memory refuses whatever is read
+-- out of memory rejects whatever is read
 pub stops_memory : {A : Type 0} (reading next : Reading A) (old mid : State) → GoesOn reading old next mid → Fails reading old mid no_memory
 stops_memory reading next old mid p = record {
   bytes = p.bytes;
@@ -142,8 +147,8 @@ stops_memory reading next old mid p = record {
   refused = λ own. absurd (true≢false own);
 }
 
--- a fault of bytes, whatever stands after them
-refuses_after : {A : Type 0} (reading : Reading A) (old new : State) (bytes : List ℕ) (code place : ℕ) → Took old new bytes → NeedsEach reading old.offset bytes → new.failures ≡ old.failures
+-- an error of bytes, whatever follows them
+refuses_after : {A : Type 0} (reading : Reading A) (old new : State) (bytes : List ℕ) (code place : ℕ) → HasConsumed old new bytes → NeedsEach reading old.offset bytes → new.failures ≡ old.failures
     → ((rest : List ℕ) → reading (tail old.offset (bytes ++ rest)) ≡ Err (at_byte code place)) → Fails reading old new (at_byte code place)
 refuses_after reading old new bytes code place took needed same e =
     let own : is_read_fault (at_byte code place) ≡ false = refused_place (code == 701) in
@@ -162,7 +167,7 @@ refuses_after reading old new bytes code place took needed same e =
           found;
     }
 
--- a fault where reading stands
+-- an error at the place of reading
 pub refuses : {A : Type 0} (reading next : Reading A) (old new : State) (code place : ℕ) → GoesOn reading old next new
     → ((rest : List ℕ) → next (tail new.offset rest) ≡ Err (at_byte code place))
     → Fails reading old new (at_byte code place)
@@ -178,7 +183,7 @@ field_needs size at bytes few n lt =
     rw (long, short) refl
 
 -- as many bytes as a field has
-pub field_taken : (size : ℕ) (old new : State) (bytes : List ℕ) → Took old new bytes → new.failures ≡ old.failures → length bytes ≡ size
+pub field_taken : (size : ℕ) (old new : State) (bytes : List ℕ) → HasConsumed old new bytes → new.failures ≡ old.failures → length bytes ≡ size
     → GoesOn (field size) old (give bytes) new
 unfolding field
 field_taken size old new bytes took same whole = record {
@@ -188,7 +193,7 @@ field_taken size old new bytes took same whole = record {
   failures = same;
   on = λ rest.
       let long : nat_lt (length (bytes ++ rest)) size ≡ false = le-ltb _ _ (omega (arith, length-append bytes rest)) in
-      let e : new.offset ≡ old.offset + size = omega (arith, took.counted) in
+      let e : new.offset ≡ old.offset + size = omega (arith, took.advanced) in
       rw (long, take_at bytes rest size whole, drop_at bytes rest size whole, e) refl;
 }
 
@@ -197,7 +202,7 @@ nothing_comes None ended = tt
 nothing_comes (Some bytes) ended = ended
 
 -- the source ended before a field was whole
-pub field_ended : (size : ℕ) (old : State) (known : Option (List ℕ)) (offset failures : ℕ) (bytes : List ℕ) → Took old (state known offset failures) bytes
+pub field_ended : (size : ℕ) (old : State) (known : Option (List ℕ)) (offset failures : ℕ) (bytes : List ℕ) → HasConsumed old (state known offset failures) bytes
     → failures ≡ old.failures → length bytes < size → IsAtEnd known
     → Fails (field size) old (state known offset failures) (at_byte 305 offset)
 unfolding field
@@ -209,7 +214,7 @@ field_ended size old known offset failures bytes took same short ended = record 
   failures = omega arith;
   refused = λ _.
       let few : nat_lt (length (bytes ++ [])) size ≡ true = lt-ltb _ _ (omega (arith, length-append {A = ℕ} bytes [])) in
-      let e : old.offset + length (bytes ++ []) ≡ offset = omega (arith, took.counted, length-append {A = ℕ} bytes []) in
+      let e : old.offset + length (bytes ++ []) ≡ offset = omega (arith, took.advanced, length-append {A = ℕ} bytes []) in
       let found : HasFault (field size) old (state known offset failures) bytes (at_byte 305 offset) = record {
         rest = [];
         coming = nothing_comes known ended;
@@ -219,7 +224,7 @@ field_ended size old known offset failures bytes took same short ended = record 
 }
 
 -- a read failed before a field was whole
-pub field_failed : (size : ℕ) (old new : State) (bytes : List ℕ) → Took old new bytes → new.failures ≡ old.failures + 1 → length bytes < size
+pub field_failed : (size : ℕ) (old new : State) (bytes : List ℕ) → HasConsumed old new bytes → new.failures ≡ old.failures + 1 → length bytes < size
     → Fails (field size) old new (nowhere 701)
 unfolding field
 field_failed size old new bytes took failed short = record {
@@ -241,29 +246,29 @@ front_filled filled n xs ys within few =
     ∙ ap (λ (l : List ℕ). take filled xs ++ l) (take-append-le n ys (post_of filled (length xs - filled) xs) few)
 
 -- bytes that came after others in a buffer
-pub took_into : (a b c : State) (filled n : ℕ) (xs ys : List ℕ) → filled ≤ length xs → n ≤ length ys → Took a b (take filled xs) → Took b c (take n ys)
-    → Took a c (take (filled + n) (put_mid filled (length xs - filled) xs ys))
+pub took_into : (a b c : State) (filled n : ℕ) (xs ys : List ℕ) → filled ≤ length xs → n ≤ length ys → HasConsumed a b (take filled xs) → HasConsumed b c (take n ys)
+    → HasConsumed a c (take (filled + n) (put_mid filled (length xs - filled) xs ys))
 took_into a b c filled n xs ys within few p q =
     rw (front_filled filled n xs ys within few) (took_more a b c (take filled xs) (take n ys) p q)
 
--- a field that is judged begins with its bytes, and goes on with what they say
-judged_begins : {A : Type 0} (size : ℕ) (says : List ℕ → Result A ℕ) (old : State)
+-- a field that is checked begins with its bytes, and continues with what they say
+read_field_begins : {A : Type 0} (size : ℕ) (says : List ℕ → Result A ℕ) (old : State)
     → GoesOn (read_field size says) old (field size >>= λ bytes. parsed_at old.offset (says bytes)) old
 unfolding read_field
-judged_begins size says old = record { bytes = []; took = took_nothing old.known old.offset old.failures; needed = needs_none (read_field size says) old.offset; failures = refl; on = λ rest. refl }
+read_field_begins size says old = record { bytes = []; took = took_nothing old.known old.offset old.failures; needed = needs_none (read_field size says) old.offset; failures = refl; on = λ rest. refl }
 
-pub judged_stops : {A : Type 0} (size : ℕ) (says : List ℕ → Result A ℕ) (old new : State) (fault : Fault) → Fails (field size) old new fault
+pub read_field_stops : {A : Type 0} (size : ℕ) (says : List ℕ → Result A ℕ) (old new : State) (fault : Fault) → Fails (field size) old new fault
     → Fails (read_field size says) old new fault
-judged_stops size says old new fault p =
-    stops (read_field size says) (field size) (λ bytes. parsed_at old.offset (says bytes)) old old new fault (judged_begins size says old) p
+read_field_stops size says old new fault p =
+    stops (read_field size says) (field size) (λ bytes. parsed_at old.offset (says bytes)) old old new fault (read_field_begins size says old) p
 
 said_of : {A : Type 0} (reading : Reading A) (old new : State) (at : ℕ) (said : Result A ℕ) → GoesOn reading old (parsed_at at said) new
     → Reads (λ (x : A). x) reading old new (at_offset at said)
 said_of reading old new at (Ok x) p = p
 said_of reading old new at (Err code) p = refuses reading (parsed_at at (Err code)) old new code at p (λ rest. refl)
 
-pub judged_done : {A : Type 0} (size : ℕ) (says : List ℕ → Result A ℕ) (bytes : List ℕ) (old new : State) → GoesOn (field size) old (give bytes) new
+pub read_field_done : {A : Type 0} (size : ℕ) (says : List ℕ → Result A ℕ) (bytes : List ℕ) (old new : State) → GoesOn (field size) old (give bytes) new
     → Reads (λ (x : A). x) (read_field size says) old new (at_offset old.offset (says bytes))
-judged_done size says bytes old new p =
+read_field_done size says bytes old new p =
     said_of (read_field size says) old new old.offset (says bytes)
-    (passes (read_field size says) (field size) (λ (b : List ℕ). parsed_at old.offset (says b)) bytes old old new (judged_begins size says old) p)
+    (passes (read_field size says) (field size) (λ (b : List ℕ). parsed_at old.offset (says b)) bytes old old new (read_field_begins size says old) p)

@@ -1,5 +1,6 @@
 -- The bytes of a segment that a source keeps, and those that are copied.
-use Rattle.std.proofs.Common.{◌≡◌, ◌∙◌, ℕ, ◌+◌, ◌-◌, ◌≤◌, ◌++◌, List, length, take, drop, take-take, drop-drop, take-add, sym, ap, ap₂, arith}
+use Rattle.std.proofs.Common.{◌≡◌, ◌∙◌, ℕ, ◌+◌, ◌-◌, ◌≤◌, ◌++◌, List, length, take, drop, take-take}
+use Rattle.std.proofs.Common.{drop-drop, take-add, sym, ap, ap₂, arith}
 use Rattle.std.proofs.lemmas.List.{drop-take}
 use Rattle.std.specs.Prelude.{slice_range}
 

@@ -1,5 +1,7 @@
 -- What is spelled is read: the groups after a table file's header.
-use Rattle.std.proofs.Common.{◌≡◌, ℕ, zero, suc, ◌+◌, ◌-◌, ◌<◌, ◌≤◌, true, All, List, [], ◌∷◌, ◌++◌, length, map, drop, Option, None, Result, Ok, refl, sym, ap, ap₂, subst, ◌∙◌, append_assoc, add-one, length-take, length-drop, arith}
+use Rattle.std.proofs.Common.{◌≡◌, ℕ, zero, suc, ◌+◌, ◌-◌, ◌<◌, ◌≤◌, true, All, List, [], ◌∷◌, ◌++◌}
+use Rattle.std.proofs.Common.{length, map, drop, Option, None, Result, Ok, refl, sym, ap, ap₂}
+use Rattle.std.proofs.Common.{subst, ◌∙◌, append_assoc, add-one, length-take, length-drop, arith}
 use Rattle.std.specs.List.{flat_map, list_all, range_with_len}
 use Rattle.std.proofs.lemmas.List.{append-nil}
 use Rattle.std.proofs.lemmas.List.Elements.{All-nil, All-cons, All-head, All-tail}
@@ -10,7 +12,8 @@ use Rattle.bw_model.specs.Column.{admits_values}
 use Rattle.bw_model.specs.Groups.{group_size, groups_of, together}
 use Rattle.bw_model.specs.Row.{Value}
 use Rattle.bw_model.proofs.BitsLemmas.{both}
-use Rattle.bw_model.proofs.GroupLemmas.{groups_of-nothing, groups_of-first, groups_of-sizes, groups_of-table}
+use Rattle.bw_model.proofs.GroupLemmas.{groups_of-nothing, groups_of-first, groups_of-sizes}
+use Rattle.bw_model.proofs.GroupLemmas.{groups_of-table}
 use Rattle.bw_segment.specs.Packing.{block_bytes, segment_bytes, rows_spelled}
 use Rattle.bw_segment.specs.Meaning.{Meaning, IsGroup}
 use Rattle.bw_segment.proofs.BytesLemmas.{length-block, block_is_fine, rows_of_bytes}
@@ -78,7 +81,7 @@ unfolding body end
 body_reads layout columns [] before at sized admitted = (tail at [], rw append-nil refl)
 body_reads layout columns (group ∷ groups) before at sized admitted =
     let size = All-head HasSize group groups sized in
-    let is : IsGroup (group_under columns group) = record { some = size.0; few = size.1; admitted = All-head (Admits columns) group groups admitted } in
+    let is : IsGroup (group_under columns group) = record { nonempty = size.0; within_limit = size.1; admitted = All-head (Admits columns) group groups admitted } in
     let text = segment_bytes (form_of layout) columns group in
     let others = flat_map (segment_bytes (form_of layout) columns) groups in
     let r = body_reads layout columns groups (before ++ group ∷ []) (at + length text) (All-tail HasSize group groups sized) (All-tail (Admits columns) group groups admitted) in
@@ -111,7 +114,7 @@ sizes_within (suc most) (row ∷ rows) few =
 pub sizes_of_groups : (rows : List (List Value)) → group_sizes (length rows) ≡ map length (groups_of rows)
 sizes_of_groups rows = sizes_within (length rows) rows (omega arith)
 
--- what stands after a header is read as the groups of its rows
+-- what follows a header is read as the groups of its rows
 pub groups_read : (layout : Layout) (columns : List Column) (rows : List (List Value)) (at : ℕ) → list_all (admits_values columns) rows ≡ true
     → (t : Tail) × (body layout columns (group_sizes (length rows)) [] (tail at (flat_map (segment_bytes (form_of layout) columns) (groups_of rows))) ≡ Ok (groups_of rows, t))
 groups_read layout columns rows at admitted =

@@ -1,5 +1,7 @@
 -- What is spelled is read: a table's bytes are read as that table, and so they are of one table.
-use Rattle.std.proofs.Common.{◌≡◌, ◌≤ℤ◌, ◌<ℤ◌, ◌-ℤ◌, ℕ, ℤ, pos, ◌+◌, ◌^◌, Bool, true, false, cond, int_le, int_lt, List, [], ◌∷◌, ◌++◌, length, map, Result, Ok, Err, refl, sym, ap, ◌∙◌, arith, rules, inl, inr, ◌⊎◌}
+use Rattle.std.proofs.Common.{◌≡◌, ◌≤ℤ◌, ◌<ℤ◌, ◌-ℤ◌, ℕ, ℤ, pos, ◌+◌, ◌^◌, Bool, true, false, cond}
+use Rattle.std.proofs.Common.{int_le, int_lt, List, [], ◌∷◌, ◌++◌, length, map, Result, Ok, Err}
+use Rattle.std.proofs.Common.{refl, sym, ap, ◌∙◌, arith, rules, inl, inr, ◌⊎◌}
 use Rattle.std.specs.List.{list_all}
 use Rattle.std.proofs.lemmas.List.{length-map}
 use Rattle.bw_model.specs.declared.column.Column.{Column}
@@ -11,9 +13,11 @@ use Rattle.bw_model.specs.Row.{Value}
 use Rattle.bw_model.specs.SchemaText.{column_shape, SchemaShape, schema_shape, shape_names}
 use Rattle.bw_model.proofs.GroupLemmas.{groups_of-table}
 use Rattle.bw_file.specs.declared.layout.Layout.{Layout}
-use Rattle.bw_file.specs.FileBytes.{IsFileBytes, bytes_of_version, segments_bytes, version_for, are_bounds}
+use Rattle.bw_file.specs.FileBytes.{IsFileBytes, bytes_of_version, segments_bytes, version_for}
+use Rattle.bw_file.specs.FileBytes.{are_bounds}
 use Rattle.bw_file.specs.Reading.{Tail, tail}
-use Rattle.bw_file.specs.TableReading.{group_sizes, body, HeaderShape, header, Found, found_as, found_in, IsReadAfter, IsReadAs}
+use Rattle.bw_file.specs.TableReading.{group_sizes, body, HeaderShape, header, Found, found_as}
+use Rattle.bw_file.specs.TableReading.{found_in, IsReadAfter, IsReadAs}
 use Rattle.bw_model.proofs.SameColumns.{columns_same}
 use Rattle.bw_file.proofs.FileSpelling.{head_is, shapes_fit}
 use Rattle.bw_file.proofs.SpellingLemmas.{head_bytes, IsHeader}
@@ -55,10 +59,10 @@ of_version version bytes layout schema rows one_or_two room file text =
     let columns = schema.columns.items in
     let h : HeaderShape = record { version = version; layout = layout; rows = length rows; schema = schema_shape schema } in
     let count : length (map column_shape columns) ≡ length columns = length-map columns column_shape in
-    let known : IsHeader h = record { version = one_or_two; few = file.admitted.few; bounds = shapes_fit version columns ∙ room; schema = file.under } in
+    let known : IsHeader h = record { version = one_or_two; within_limit = file.admitted.within_limit; bounds = shapes_fit version columns ∙ room; schema = file.under } in
     let is : IsWhole h = record {
       header = known;
-      some = omega (arith, count, schema.inhabited);
+      nonempty = omega (arith, count, schema.inhabited);
       limited = omega (arith, count, schema.limited);
       apart = ap are_apart (names_same columns) ∙ schema.apart;
     } in

@@ -1,5 +1,8 @@
 -- What is spelled is read: the header of a table file.
-use Rattle.std.proofs.Common.{◌≡◌, ℕ, ℤ, suc, ◌+◌, ◌^◌, ◌<◌, ◌≤◌, Bool, true, false, ◌||◌, not, All, FitsSigned, List, [], ◌∷◌, ◌++◌, length, take, drop, eqb, nat_lt, Result, Ok, refl, sym, ap, ap₂, subst, ◌∙◌, append_assoc, length-append, arith, slice_index, inl, inr, ◌⊎◌}
+use Rattle.std.proofs.Common.{◌≡◌, ℕ, ℤ, suc, ◌+◌, ◌^◌, ◌<◌, ◌≤◌, Bool, true, false, ◌||◌, not, All}
+use Rattle.std.proofs.Common.{FitsSigned, List, [], ◌∷◌, ◌++◌, length, take, drop, eqb, nat_lt}
+use Rattle.std.proofs.Common.{Result, Ok, refl, sym, ap, ap₂, subst, ◌∙◌, append_assoc}
+use Rattle.std.proofs.Common.{length-append, arith, slice_index, inl, inr, ◌⊎◌}
 use Rattle.std.proofs.Math.Facts.{Fits-lt-pow, Fits-of_z}
 use Rattle.std.specs.Int.{w16, w32, w64, to_le_bytes, cast_unsigned}
 use Rattle.std.specs.List.{flat_map, list_all, list_any}
@@ -7,7 +10,8 @@ use Rattle.std.proofs.lemmas.Bool.{le-ltb, ne_eqb}
 use Rattle.std.proofs.lemmas.Int.{to_z-of_z}
 use Rattle.std.proofs.lemmas.List.{append-nil, take_at, drop_at, take_all}
 use Rattle.std.proofs.lemmas.List.Elements.{All-head, All-tail}
-use Rattle.std.proofs.lemmas.Nat.{from_le_bytes-to_le_bytes_2, from_le_bytes-to_le_bytes_4, from_le_bytes-to_le_bytes_8}
+use Rattle.std.proofs.lemmas.Nat.{from_le_bytes-to_le_bytes_2, from_le_bytes-to_le_bytes_4}
+use Rattle.std.proofs.lemmas.Nat.{from_le_bytes-to_le_bytes_8}
 use Rattle.bw_model.specs.declared.fault.Fault.{Fault}
 use Rattle.bw_model.specs.Limits.{most_rows, most_columns}
 use Rattle.bw_model.specs.Name.{is_name, are_apart}
@@ -17,12 +21,17 @@ use Rattle.bw_text.specs.Text.{same_text}
 use Rattle.bw_model.proofs.BitsLemmas.{both}
 use Rattle.bw_file.specs.declared.layout.Layout.{Layout}
 use Rattle.bw_file.specs.declared.layout.Layout.TheVariants.{Planes, Slices}
-use Rattle.bw_file.specs.FileBytes.{magic, layout_byte, flag_byte, front_bytes, name_bytes, bound_bytes, column_bytes, are_bounds}
-use Rattle.bw_file.specs.Reading.{Tail, tail, Reading, passed, ◌>>=◌, give, field, parsed_at, read_field}
-use Rattle.bw_file.specs.TableReading.{parse_magic, parse_version, parse_layout, parse_count, rows_say, bound_in, bounds_say, parse_nullable, parse_name, name, column, columns, front_of, front, HeaderShape, header_of, header}
+use Rattle.bw_file.specs.FileBytes.{magic, layout_byte, flag_byte, front_bytes, name_bytes}
+use Rattle.bw_file.specs.FileBytes.{bound_bytes, column_bytes, are_bounds}
+use Rattle.bw_file.specs.Reading.{Tail, tail, Reading, passed, ◌>>=◌, give, field, parsed_at}
+use Rattle.bw_file.specs.Reading.{read_field}
+use Rattle.bw_file.specs.TableReading.{parse_magic, parse_version, parse_layout, parse_count}
+use Rattle.bw_file.specs.TableReading.{parse_row_count, bound_in, parse_bounds, parse_nullable}
+use Rattle.bw_file.specs.TableReading.{parse_name, name, column, columns, front_of, front}
+use Rattle.bw_file.specs.TableReading.{HeaderShape, header_of, header}
 use Rattle.bw_file.proofs.SpellingLemmas.{schema_bytes, fits_version, head_bytes, IsHeader}
 
--- reading gives this of a text, whatever stands after it
+-- reading gives this of a text, whatever follows it
 abbrev pub ReadsText : {A : Type 0} → Reading A → List ℕ → A → Type 0
 ReadsText reading text x = (at : ℕ) (rest : List ℕ) → reading (tail at (text ++ rest)) ≡ Ok (x, tail (at + length text) rest)
 
@@ -58,9 +67,9 @@ said_reads {A = A} at size says text x whole said now rest =
     ap (λ (r : Result (List ℕ × Tail) Fault). passed r (λ bytes. parsed_at at (says bytes))) (field_reads size text whole now rest)
     ∙ ap (λ (r : Result A ℕ). parsed_at at r (tail (now + length text) rest)) said
 
-pub judged_reads : {A : Type 0} (size : ℕ) (says : List ℕ → Result A ℕ) (text : List ℕ) (x : A) → length text ≡ size → says text ≡ Ok x → ReadsText (read_field size says) text x
+pub read_field_reads : {A : Type 0} (size : ℕ) (says : List ℕ → Result A ℕ) (text : List ℕ) (x : A) → length text ≡ size → says text ≡ Ok x → ReadsText (read_field size says) text x
 unfolding read_field
-judged_reads size says text x whole said at rest = said_reads at size says text x whole said at rest
+read_field_reads size says text x whole said at rest = said_reads at size says text x whole said at rest
 
 -- what the fields of a header say
 magic_read : parse_magic magic ≡ Ok tt
@@ -94,8 +103,8 @@ count_read count some few =
     let room : nat_lt most_columns count ≡ false = le-ltb _ _ few in
     rw (back, any, room) refl
 
-rows_read : (rows : ℕ) → rows ≤ most_rows → rows_say (to_le_bytes w32 rows) ≡ Ok rows
-unfolding rows_say
+rows_read : (rows : ℕ) → rows ≤ most_rows → parse_row_count (to_le_bytes w32 rows) ≡ Ok rows
+unfolding parse_row_count
 rows_read rows few =
     let back = from_le_bytes-to_le_bytes_4 rows (omega (arith, few)) in
     let room : nat_lt most_rows rows ≡ false = le-ltb _ _ few in
@@ -110,8 +119,8 @@ bound_read n fits =
     rw (from_le_bytes-to_le_bytes_8 (cast_unsigned w64 n) small) (to_z-of_z w64 n fits)
 
 bounds_read : (version : ℕ) (lo hi : ℤ) → FitsSigned w64 lo → FitsSigned w64 hi → are_bounds version lo hi ≡ true
-    → bounds_say version (bound_bytes lo ++ bound_bytes hi) ≡ Ok (record { lo = lo; hi = hi })
-unfolding bounds_say
+    → parse_bounds version (bound_bytes lo ++ bound_bytes hi) ≡ Ok (record { lo = lo; hi = hi })
+unfolding parse_bounds
 bounds_read version lo hi low high ordered =
     let first : bound_in (take 8 (bound_bytes lo ++ bound_bytes hi)) ≡ lo = ap bound_in (take_at (bound_bytes lo) (bound_bytes hi) 8 (length-bound_bytes lo)) ∙ bound_read lo low in
     let second : bound_in (take 8 (drop 8 (bound_bytes lo ++ bound_bytes hi))) ≡ hi =
@@ -136,13 +145,13 @@ column_reads version before c is room apart =
     let bounds = bound_bytes c.lo ++ bound_bytes c.hi in
     let flag : List ℕ = flag_byte c.nullable ∷ [] in
     text_as (column version before) (name_bytes c.name ++ (bounds ++ flag)) (schema_bytes c) c (sym (append_assoc (name_bytes c.name) bounds flag))
-    (text_then (name before) (λ text. read_field 16 (bounds_say version) >>= λ bounds. read_field 1 parse_nullable >>= λ nullable. give (shape text bounds.lo bounds.hi nullable))
+    (text_then (name before) (λ text. read_field 16 (parse_bounds version) >>= λ bounds. read_field 1 parse_nullable >>= λ nullable. give (shape text bounds.lo bounds.hi nullable))
     (name_bytes c.name) (bounds ++ flag) c.name c (name_reads before c.name is.name apart)
-    (text_then (read_field 16 (bounds_say version)) (λ bounds. read_field 1 parse_nullable >>= λ nullable. give (shape c.name bounds.lo bounds.hi nullable))
+    (text_then (read_field 16 (parse_bounds version)) (λ bounds. read_field 1 parse_nullable >>= λ nullable. give (shape c.name bounds.lo bounds.hi nullable))
     bounds flag (record { lo = c.lo; hi = c.hi }) c
-    (judged_reads 16 (bounds_say version) bounds (record { lo = c.lo; hi = c.hi }) refl (bounds_read version c.lo c.hi is.lo is.hi room))
+    (read_field_reads 16 (parse_bounds version) bounds (record { lo = c.lo; hi = c.hi }) refl (bounds_read version c.lo c.hi is.lo is.hi room))
     (text_gives (read_field 1 parse_nullable) (λ nullable. shape c.name c.lo c.hi nullable) flag c.nullable
-    (judged_reads 1 parse_nullable flag c.nullable refl (nullable_read c.nullable)))))
+    (read_field_reads 1 parse_nullable flag c.nullable refl (nullable_read c.nullable)))))
 
 -- a name among others that are apart is none of those before it
 not_any : (a b : Bool) → (not (a || b)) ≡ true → (a ≡ false) × (b ≡ false)
@@ -190,20 +199,20 @@ front_reads version layout count rows one_or_two some limited few =
     let found = front_of version layout count rows in
     text_as front (magic ++ (two ++ (counted ++ told))) (magic ++ two ++ counted ++ told) found
     (sym (append_assoc magic two (counted ++ told)) ∙ sym (append_assoc (magic ++ two) counted told))
-    (text_then (read_field 8 parse_magic) (λ _. read_field 1 parse_version >>= λ version. read_field 1 parse_layout >>= λ layout. read_field 2 parse_count >>= λ count. read_field 4 rows_say >>= λ rows. give (front_of version layout count rows))
-    magic (two ++ (counted ++ told)) tt found (judged_reads 8 parse_magic magic tt length-magic magic_read)
-    (text_then (read_field 1 parse_version) (λ version. read_field 1 parse_layout >>= λ layout. read_field 2 parse_count >>= λ count. read_field 4 rows_say >>= λ rows. give (front_of version layout count rows))
-    (version ∷ []) (layout_byte layout ∷ (counted ++ told)) version found (judged_reads 1 parse_version (version ∷ []) version refl (version_read version one_or_two))
-    (text_then (read_field 1 parse_layout) (λ layout. read_field 2 parse_count >>= λ count. read_field 4 rows_say >>= λ rows. give (front_of version layout count rows))
-    (layout_byte layout ∷ []) (counted ++ told) layout found (judged_reads 1 parse_layout (layout_byte layout ∷ []) layout refl (layout_read layout))
-    (text_then (read_field 2 parse_count) (λ count. read_field 4 rows_say >>= λ rows. give (front_of version layout count rows))
-    counted told count found (judged_reads 2 parse_count counted count refl (count_read count some limited))
-    (text_gives (read_field 4 rows_say) (λ rows. front_of version layout count rows) told rows (judged_reads 4 rows_say told rows refl (rows_read rows few)))))))
+    (text_then (read_field 8 parse_magic) (λ _. read_field 1 parse_version >>= λ version. read_field 1 parse_layout >>= λ layout. read_field 2 parse_count >>= λ count. read_field 4 parse_row_count >>= λ rows. give (front_of version layout count rows))
+    magic (two ++ (counted ++ told)) tt found (read_field_reads 8 parse_magic magic tt length-magic magic_read)
+    (text_then (read_field 1 parse_version) (λ version. read_field 1 parse_layout >>= λ layout. read_field 2 parse_count >>= λ count. read_field 4 parse_row_count >>= λ rows. give (front_of version layout count rows))
+    (version ∷ []) (layout_byte layout ∷ (counted ++ told)) version found (read_field_reads 1 parse_version (version ∷ []) version refl (version_read version one_or_two))
+    (text_then (read_field 1 parse_layout) (λ layout. read_field 2 parse_count >>= λ count. read_field 4 parse_row_count >>= λ rows. give (front_of version layout count rows))
+    (layout_byte layout ∷ []) (counted ++ told) layout found (read_field_reads 1 parse_layout (layout_byte layout ∷ []) layout refl (layout_read layout))
+    (text_then (read_field 2 parse_count) (λ count. read_field 4 parse_row_count >>= λ rows. give (front_of version layout count rows))
+    counted told count found (read_field_reads 2 parse_count counted count refl (count_read count some limited))
+    (text_gives (read_field 4 parse_row_count) (λ rows. front_of version layout count rows) told rows (read_field_reads 4 parse_row_count told rows refl (rows_read rows few)))))))
 
 -- a header, and what stands in a schema beside its shape
 pub record IsWhole (h : HeaderShape) : Type 0 where
   pub header : IsHeader h
-  pub some : 1 ≤ length h.schema.columns
+  pub nonempty : 1 ≤ length h.schema.columns
   pub limited : length h.schema.columns ≤ most_columns
   pub apart : are_apart (shape_names h.schema.columns) ≡ true
 
@@ -218,7 +227,7 @@ header_reads h is =
     let texts = flat_map schema_bytes columns_of in
     text_as header (first ++ (named ++ texts)) (first ++ named ++ texts) h (sym (append_assoc first named texts))
     (text_then front (λ first. name [] >>= λ text. columns first.version [] first.columns >>= λ found. give (header_of first text found))
-    first (named ++ texts) found h (front_reads h.version h.layout count h.rows is.header.version is.some is.limited is.header.few)
+    first (named ++ texts) found h (front_reads h.version h.layout count h.rows is.header.version is.nonempty is.limited is.header.within_limit)
     (text_then (name []) (λ text. columns h.version [] count >>= λ columns. give (header_of found text columns))
     named texts h.schema.name h (name_reads [] h.schema.name is.header.schema.name refl)
     (text_gives (columns h.version [] count) (λ columns. header_of found h.schema.name columns) texts columns_of

@@ -1,5 +1,9 @@
 -- What is read of a table file is spelled so.
-use Rattle.std.proofs.Common.{◌≡◌, ℕ, zero, suc, ◌+◌, ◌^◌, ◌<◌, ◌≤◌, Bool, true, false, ◌||◌, not, All, FitsSigned, cond, eqb, nat_lt, List, [], ◌∷◌, ◌++◌, length, get_or, take, drop, Result, Ok, Err, refl, sym, ap, subst, ◌∙◌, append_assoc, length-take, length-drop, arith, slice_index, inl, inr, ◌⊎◌}
+use Rattle.std.proofs.Common.{◌≡◌, ℕ, zero, suc, ◌+◌, ◌^◌, ◌<◌, ◌≤◌, Bool, true, false, ◌||◌, not}
+use Rattle.std.proofs.Common.{All, FitsSigned, cond, eqb, nat_lt, List, [], ◌∷◌, ◌++◌, length}
+use Rattle.std.proofs.Common.{get_or, take, drop, Result, Ok, Err, refl, sym, ap, subst, ◌∙◌}
+use Rattle.std.proofs.Common.{append_assoc, length-take, length-drop, arith, slice_index, inl, inr}
+use Rattle.std.proofs.Common.{◌⊎◌}
 use Rattle.std.specs.Int.{w16, w32, w64, to_le_bytes, from_le_bytes, cast_signed}
 use Rattle.std.specs.List.{flat_map, list_all}
 use Rattle.std.specs.Str.{bytes_eq}
@@ -7,7 +11,8 @@ use Rattle.std.proofs.lemmas.Bool.{cases_lt, ltb-false, eqb-true}
 use borrow.Author.Differences.{fits_in, read_fits}
 use Rattle.std.proofs.lemmas.Int.{of_z-to_z}
 use Rattle.std.proofs.lemmas.List.Elements.{All-nil, All-cons}
-use Rattle.std.proofs.lemmas.List.{take-append-drop, length-take-le, take_all, get_or-take, get_or-drop, get_or_past, append-nil}
+use Rattle.std.proofs.lemmas.List.{take-append-drop, length-take-le, take_all, get_or-take}
+use Rattle.std.proofs.lemmas.List.{get_or-drop, get_or_past, append-nil}
 use Rattle.std.proofs.lemmas.Nat.{le_bytes_2, le_bytes_4, le_bytes_8}
 use Rattle.std.proofs.lemmas.Slice.Eq.{bytes_eq-Decides}
 use Rattle.bw_model.specs.declared.fault.Fault.{Fault}
@@ -19,9 +24,14 @@ use Rattle.bw_model.specs.SchemaText.{ColumnShape, shape, shape_names}
 use Rattle.bw_file.specs.declared.fields.Bounds.{Bounds}
 use Rattle.bw_file.specs.declared.layout.Layout.{Layout}
 use Rattle.bw_file.specs.declared.layout.Layout.TheVariants.{Planes, Slices}
-use Rattle.bw_file.specs.FileBytes.{magic, layout_byte, flag_byte, front_bytes, name_bytes, bound_bytes, column_bytes, are_bounds}
-use Rattle.bw_file.specs.Reading.{Tail, tail, Reading, passed, ◌>>=◌, give, field, parsed_at, read_field}
-use Rattle.bw_file.specs.TableReading.{parse_magic, parse_version, parse_layout, parse_count, rows_say, bound_in, bounds_say, parse_nullable, parse_name, name, column, columns, FrontShape, front_of, front, HeaderShape, header_of, header}
+use Rattle.bw_file.specs.FileBytes.{magic, layout_byte, flag_byte, front_bytes, name_bytes}
+use Rattle.bw_file.specs.FileBytes.{bound_bytes, column_bytes, are_bounds}
+use Rattle.bw_file.specs.Reading.{Tail, tail, Reading, passed, ◌>>=◌, give, field, parsed_at}
+use Rattle.bw_file.specs.Reading.{read_field}
+use Rattle.bw_file.specs.TableReading.{parse_magic, parse_version, parse_layout, parse_count}
+use Rattle.bw_file.specs.TableReading.{parse_row_count, bound_in, parse_bounds, parse_nullable}
+use Rattle.bw_file.specs.TableReading.{parse_name, name, column, columns, FrontShape, front_of}
+use Rattle.bw_file.specs.TableReading.{front, HeaderShape, header_of, header}
 
 abbrev pub IsBytes : List ℕ → Type 0
 IsBytes bytes = (i : ℕ) → get_or bytes i 0 < 256
@@ -75,16 +85,16 @@ said_ok : {A : Type 0} (at : ℕ) (said : Result A ℕ) (t : Tail) (x : A × Tai
 said_ok {A = A} at (Ok y) t x e = let same = ok_is (y, t) x e in (ap (λ (z : A × Tail). Ok z.0) same, ap (λ (z : A × Tail). z.1) same)
 said_ok at (Err code) t x e = absurd cc
 
--- a field that was judged, and what it says
+-- a field that was checked, and what it says
 record Judged {A : Type 0} (size : ℕ) (says : List ℕ → Result A ℕ) (from : Tail) (x : A) (to : Tail) : Type 0 where
   text : List ℕ
   takes : Takes from text to
   long : length text ≡ size
   said : says text ≡ Ok x
 
-judged_takes : {A : Type 0} (size : ℕ) (says : List ℕ → Result A ℕ) (t : Tail) (x : A × Tail) → IsBytes t.bytes → read_field size says t ≡ Ok x → Judged size says t x.0 x.1
+read_field_takes : {A : Type 0} (size : ℕ) (says : List ℕ → Result A ℕ) (t : Tail) (x : A × Tail) → IsBytes t.bytes → read_field size says t ≡ Ok x → Judged size says t x.0 x.1
 unfolding read_field
-judged_takes size says t x fits e =
+read_field_takes size says t x fits e =
     let b = bind_ok (field size t) (λ bytes. parsed_at t.at (says bytes)) x e in
     let f = field_takes size t b.0 fits b.1 in
     let s = said_ok t.at (says b.0.0) b.0.1 x b.2 in
@@ -166,8 +176,8 @@ count_is text count long fits e =
     let g = left (eqb (from_le_bytes w16 text) 0 || nat_lt most_columns (from_le_bytes w16 text)) (from_le_bytes w16 text) count 304 e in
     sym (le_bytes_2 text count long fits (sym g.1))
 
-rows_are : (text : List ℕ) (rows : ℕ) → length text ≡ 4 → IsBytes text → rows_say text ≡ Ok rows → (text ≡ to_le_bytes w32 rows) × (rows ≤ most_rows)
-unfolding rows_say
+rows_are : (text : List ℕ) (rows : ℕ) → length text ≡ 4 → IsBytes text → parse_row_count text ≡ Ok rows → (text ≡ to_le_bytes w32 rows) × (rows ≤ most_rows)
+unfolding parse_row_count
 rows_are text rows long fits e =
     let g = left (nat_lt most_rows (from_le_bytes w32 text)) (from_le_bytes w32 text) rows 310 e in
     (sym (le_bytes_4 text rows long fits (sym g.1)), rw (← g.1) (ltb-false _ _ g.0))
@@ -187,9 +197,9 @@ record AreBounds (version : ℕ) (text : List ℕ) (bounds : Bounds) : Type 0 wh
   lo : FitsSigned w64 bounds.lo
   hi : FitsSigned w64 bounds.hi
 
-bounds_are : (version : ℕ) (text : List ℕ) (bounds : Bounds) → length text ≡ 16 → IsBytes text → bounds_say version text ≡ Ok bounds
+bounds_are : (version : ℕ) (text : List ℕ) (bounds : Bounds) → length text ≡ 16 → IsBytes text → parse_bounds version text ≡ Ok bounds
     → AreBounds version text bounds
-unfolding bounds_say
+unfolding parse_bounds
 bounds_are version text bounds long fits e =
     let lo = bound_in (take 8 text) in
     let hi = bound_in (take 8 (drop 8 text)) in
@@ -253,12 +263,12 @@ column_takes : (version : ℕ) (before : List (List ℕ)) (t : Tail) (x : Column
     → TakesBoth t (schema_bytes x.0) x.1 × (fits_version version x.0 ≡ true) × IsColumn x.0
 unfolding column column_bytes
 column_takes version before t x fits e =
-    let a = bind_ok (name before t) (λ text. read_field 16 (bounds_say version) >>= λ bounds. read_field 1 parse_nullable >>= λ nullable. give (shape text bounds.lo bounds.hi nullable)) x e in
-    let b = bind_ok (read_field 16 (bounds_say version) a.0.1) (λ bounds. read_field 1 parse_nullable >>= λ nullable. give (shape a.0.0 bounds.lo bounds.hi nullable)) x a.2 in
+    let a = bind_ok (name before t) (λ text. read_field 16 (parse_bounds version) >>= λ bounds. read_field 1 parse_nullable >>= λ nullable. give (shape text bounds.lo bounds.hi nullable)) x e in
+    let b = bind_ok (read_field 16 (parse_bounds version) a.0.1) (λ bounds. read_field 1 parse_nullable >>= λ nullable. give (shape a.0.0 bounds.lo bounds.hi nullable)) x a.2 in
     let c = bind_ok (read_field 1 parse_nullable b.0.1) (λ nullable. give (shape a.0.0 b.0.0.lo b.0.0.hi nullable)) x b.2 in
     let ta = name_takes before t a.0 fits a.1 in
-    let jb = judged_takes 16 (bounds_say version) a.0.1 b.0 ta.0.rest b.1 in
-    let jc = judged_takes 1 parse_nullable b.0.1 c.0 jb.takes.rest c.1 in
+    let jb = read_field_takes 16 (parse_bounds version) a.0.1 b.0 ta.0.rest b.1 in
+    let jc = read_field_takes 1 parse_nullable b.0.1 c.0 jb.takes.rest c.1 in
     let bs = bounds_are version jb.text b.0.0 jb.long jb.takes.fits jb.said in
     let tb = takes_as a.0.1 b.0.1 jb.text _ jb.takes bs.spelled in
     let tc = takes_as b.0.1 c.0.1 jc.text _ jc.takes (nullable_is jc.text c.0.0 jc.long jc.said) in
@@ -290,22 +300,22 @@ columns_take version (suc count) before t x fits e =
 -- what is known of a front and of a header
 record IsFront (f : FrontShape) : Type 0 where
   version : (f.version ≡ 1) ⊎ (f.version ≡ 2)
-  few : f.rows ≤ most_rows
+  within_limit : f.rows ≤ most_rows
 
 front_takes : (t : Tail) (x : FrontShape × Tail) → IsBytes t.bytes → front t ≡ Ok x
     → TakesBoth t (front_bytes x.0.version x.0.layout x.0.columns x.0.rows) x.1 × IsFront x.0
 unfolding front front_bytes
 front_takes t x fits e =
-    let a = bind_ok (read_field 8 parse_magic t) (λ _. read_field 1 parse_version >>= λ version. read_field 1 parse_layout >>= λ layout. read_field 2 parse_count >>= λ count. read_field 4 rows_say >>= λ rows. give (front_of version layout count rows)) x e in
-    let b = bind_ok (read_field 1 parse_version a.0.1) (λ version. read_field 1 parse_layout >>= λ layout. read_field 2 parse_count >>= λ count. read_field 4 rows_say >>= λ rows. give (front_of version layout count rows)) x a.2 in
-    let c = bind_ok (read_field 1 parse_layout b.0.1) (λ layout. read_field 2 parse_count >>= λ count. read_field 4 rows_say >>= λ rows. give (front_of b.0.0 layout count rows)) x b.2 in
-    let d = bind_ok (read_field 2 parse_count c.0.1) (λ count. read_field 4 rows_say >>= λ rows. give (front_of b.0.0 c.0.0 count rows)) x c.2 in
-    let g = bind_ok (read_field 4 rows_say d.0.1) (λ rows. give (front_of b.0.0 c.0.0 d.0.0 rows)) x d.2 in
-    let ja = judged_takes 8 parse_magic t a.0 fits a.1 in
-    let jb = judged_takes 1 parse_version a.0.1 b.0 ja.takes.rest b.1 in
-    let jc = judged_takes 1 parse_layout b.0.1 c.0 jb.takes.rest c.1 in
-    let jd = judged_takes 2 parse_count c.0.1 d.0 jc.takes.rest d.1 in
-    let jg = judged_takes 4 rows_say d.0.1 g.0 jd.takes.rest g.1 in
+    let a = bind_ok (read_field 8 parse_magic t) (λ _. read_field 1 parse_version >>= λ version. read_field 1 parse_layout >>= λ layout. read_field 2 parse_count >>= λ count. read_field 4 parse_row_count >>= λ rows. give (front_of version layout count rows)) x e in
+    let b = bind_ok (read_field 1 parse_version a.0.1) (λ version. read_field 1 parse_layout >>= λ layout. read_field 2 parse_count >>= λ count. read_field 4 parse_row_count >>= λ rows. give (front_of version layout count rows)) x a.2 in
+    let c = bind_ok (read_field 1 parse_layout b.0.1) (λ layout. read_field 2 parse_count >>= λ count. read_field 4 parse_row_count >>= λ rows. give (front_of b.0.0 layout count rows)) x b.2 in
+    let d = bind_ok (read_field 2 parse_count c.0.1) (λ count. read_field 4 parse_row_count >>= λ rows. give (front_of b.0.0 c.0.0 count rows)) x c.2 in
+    let g = bind_ok (read_field 4 parse_row_count d.0.1) (λ rows. give (front_of b.0.0 c.0.0 d.0.0 rows)) x d.2 in
+    let ja = read_field_takes 8 parse_magic t a.0 fits a.1 in
+    let jb = read_field_takes 1 parse_version a.0.1 b.0 ja.takes.rest b.1 in
+    let jc = read_field_takes 1 parse_layout b.0.1 c.0 jb.takes.rest c.1 in
+    let jd = read_field_takes 2 parse_count c.0.1 d.0 jc.takes.rest d.1 in
+    let jg = read_field_takes 4 parse_row_count d.0.1 g.0 jd.takes.rest g.1 in
     let vs = version_is jb.text b.0.0 jb.long jb.said in
     let rs = rows_are jg.text g.0.0 jg.long jg.takes.fits jg.said in
     let ta = takes_as t a.0.1 ja.text magic ja.takes (magic_is ja.text ja.said) in
@@ -319,7 +329,7 @@ front_takes t x fits e =
     let whole = takes_then t d.0.1 g.0.1 (magic ++ (b.0.0 ∷ layout_byte c.0.0 ∷ []) ++ to_le_bytes w16 d.0.0) (to_le_bytes w32 g.0.0) tabcd tg in
     let made : FrontShape × Tail = (front_of b.0.0 c.0.0 d.0.0 g.0.0, g.0.1) in
     subst (λ (y : FrontShape × Tail). TakesBoth t (front_bytes y.0.version y.0.layout y.0.columns y.0.rows) y.1 × IsFront y.0) (ok_is made x g.2)
-    (whole, record { version = vs.1; few = rs.1 })
+    (whole, record { version = vs.1; within_limit = rs.1 })
 
 -- the text of a header's shape
 abbrev pub head_bytes : HeaderShape → List ℕ
@@ -327,7 +337,7 @@ head_bytes h = front_bytes h.version h.layout (length h.schema.columns) h.rows +
 
 pub record IsHeader (h : HeaderShape) : Type 0 where
   pub version : (h.version ≡ 1) ⊎ (h.version ≡ 2)
-  pub few : h.rows ≤ most_rows
+  pub within_limit : h.rows ≤ most_rows
   pub bounds : list_all (fits_version h.version) h.schema.columns ≡ true
   pub schema : IsSchema h.schema
 
@@ -350,4 +360,4 @@ header_takes t x fits e =
     let schema : IsSchema (header_of a.0.0 b.0.0 c.0.0).schema = record { name = tb.1; columns = subst (All IsColumn) (sym found) tc.5 } in
     let made : HeaderShape × Tail = (header_of a.0.0 b.0.0 c.0.0, c.0.1) in
     subst (λ (y : HeaderShape × Tail). TakesBoth t (head_bytes y.0) y.1 × IsHeader y.0) (ok_is made x c.2)
-    (whole, record { version = ta.1.version; few = ta.1.few; bounds = bounds; schema = schema })
+    (whole, record { version = ta.1.version; within_limit = ta.1.within_limit; bounds = bounds; schema = schema })

@@ -1,5 +1,7 @@
 -- Whole tables, row by row.
-use Rattle.std.proofs.Common.{◌≡◌, ℕ, zero, suc, ◌+◌, ◌<◌, ◌≤◌, true, List, [], ◌∷◌, ◌++◌, length, get_or, map, take, Some, Ok, Err, Bool, false, if◌then◌else◌, refl, sym, ap, ◌∙◌, append_assoc, arith}
+use Rattle.std.proofs.Common.{◌≡◌, ℕ, zero, suc, ◌+◌, ◌<◌, ◌≤◌, true, List, [], ◌∷◌, ◌++◌, length}
+use Rattle.std.proofs.Common.{get_or, map, take, Some, Ok, Err, Bool, false, if◌then◌else◌, refl}
+use Rattle.std.proofs.Common.{sym, ap, ◌∙◌, append_assoc, arith}
 use Rattle.std.specs.List.{list_all}
 use Rattle.std.proofs.lemmas.List.{append-nil, take_all}
 use Rattle.bw_model.specs.declared.column.Column.{Column}
@@ -55,7 +57,7 @@ row_admitted columns (r ∷ rows) (suc i) row all lt is =
 bytes_alike : (a b : Layout) (x y : Schema) (rows : List (List Value)) → a ≡ b → x.name ≡ y.name → x.columns.items ≡ y.columns.items → file_bytes a x rows ≡ file_bytes b y rows
 bytes_alike a b x y rows layout name columns = rw (layout, name, columns) refl
 
--- the text of what an encoder was given, where it was given all rows
+-- the text of what an encoder was given, if it was given all rows
 pub bytes_of_all : (encoder : Encoder) (layout : Layout) (schema : Schema) (rows : List Row) (count : ℕ) (bytes : List ℕ) → length rows ≤ count
     → encoder_layout encoder ≡ layout → (encoder_schema encoder).name ≡ schema.name → (encoder_schema encoder).columns.items ≡ schema.columns.items
     → ((given : List (List Value)) → Holds encoder given → bytes ≡ file_bytes (encoder_layout encoder) (encoder_schema encoder) given)
@@ -65,7 +67,7 @@ bytes_of_all encoder layout schema rows count bytes all same_layout same_name sa
     text (map values_of (take count rows)) holds ∙ bytes_alike (encoder_layout encoder) layout (encoder_schema encoder) schema (map values_of (take count rows)) same_layout same_name same_columns
     ∙ ap (λ given. file_bytes layout schema (map values_of given)) whole
 
--- a source that never fails answers no failed read, so what is refused is the first fault of its
+-- a source that never fails answers no failed read, so what is rejected is the first error of its
 -- bytes
 no_read_failed : (failed : Bool) → 0 ≡ 0 + (if failed then 1 else 0) → failed ≡ false
 no_read_failed true e = absurd (omega (arith, e))

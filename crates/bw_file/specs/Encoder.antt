@@ -41,7 +41,7 @@ pub record Holds (encoder : Encoder) (rows : List (List Value)) : Type 0 where
   pub admitted : AreRows encoder.placement.schema.columns.items rows
 
 -- the encoder contains these rows after those that it had, whichever they were
-pub record TookRows (start : Encoder) (rows : List (List Value)) (now : Encoder) : Type 0 where
+pub record HasEncoded (start : Encoder) (rows : List (List Value)) (now : Encoder) : Type 0 where
   pub layout : encoder_layout now ≡ encoder_layout start
   pub schema : encoder_schema now ≡ encoder_schema start
   pub holds : (before : List (List Value)) → Holds start before → Holds now (before ++ rows)

@@ -1,5 +1,6 @@
 -- The bytes of a table file: a header, and the segments of the table's rows.
-use Rattle.std.specs.Prelude.{◌≡◌, ℕ, ℤ, pos, ◌^◌, ◌≤◌, ◌-ℤ◌, Bool, true, false, ◌&&◌, ◌⊎◌, List, [], ◌∷◌, ◌++◌, length, codes, int_le, int_lt, if◌then◌else◌, ◌==◌}
+use Rattle.std.specs.Prelude.{◌≡◌, ℕ, ℤ, pos, ◌^◌, ◌≤◌, ◌-ℤ◌, Bool, true, false, ◌&&◌, ◌⊎◌, List}
+use Rattle.std.specs.Prelude.{[], ◌∷◌, ◌++◌, length, codes, int_le, int_lt, if◌then◌else◌, ◌==◌}
 use Rattle.std.specs.Int.{w16, w32, w64, to_le_bytes, cast_unsigned}
 use Rattle.std.specs.List.{flat_map, list_all}
 use Rattle.bw_model.specs.declared.column.Column.{Column}
@@ -82,7 +83,7 @@ file_bytes2 layout schema rows = bytes_of_version 2 layout schema.name schema.co
 
 -- the rows are at most 2^24, and the columns admit them
 pub record AreRows (columns : List Column) (rows : List (List Value)) : Type 0 where
-  pub few : length rows ≤ most_rows
+  pub within_limit : length rows ≤ most_rows
   pub admitted : list_all (admits_values columns) rows ≡ true
 
 -- the bytes are those of the table of these rows under this schema, in version 1 or 2

@@ -1,5 +1,6 @@
 -- Reading bytes field by field: the value of a field and the bytes after it, or the first error.
-use Rattle.std.specs.Prelude.{◌≡◌, ℕ, ◌+◌, true, false, List, [], ◌++◌, length, take, drop, Option, IfSome, Result, Ok, Err, nat_lt, ◌<◌, slice_index}
+use Rattle.std.specs.Prelude.{◌≡◌, ℕ, ◌+◌, true, false, List, [], ◌++◌, length, take, drop, Option}
+use Rattle.std.specs.Prelude.{IfSome, Result, Ok, Err, nat_lt, ◌<◌, slice_index}
 use Rattle.std.specs.Io.KnownBytes.{Consumes}
 use Rattle.bw_model.specs.FaultTable.{TRUNCATED, BYTES_AFTER_END}
 use Rattle.bw_model.specs.declared.fault.Fault.{Fault}
@@ -66,9 +67,9 @@ abbrev pub AreBytes : List ℕ → Type 0
 AreBytes bytes = (i : ℕ) → slice_index bytes i < 256
 
 -- these bytes were consumed from a source
-pub record Took (old new : State) (bytes : List ℕ) : Type 0 where
+pub record HasConsumed (old new : State) (bytes : List ℕ) : Type 0 where
   pub consumed : Consumes old.known new.known bytes
-  pub counted : new.offset ≡ old.offset + length bytes
+  pub advanced : new.offset ≡ old.offset + length bytes
   pub each : AreBytes bytes
 
 -- Reading depends on each of these bytes: if only the first ones are there, they end too early.
@@ -85,7 +86,7 @@ NeedsMore reading at bytes = reading (tail at bytes) ≡ Err (at_byte TRUNCATED 
 pub record GoesOn {A : Type 0} (reading : Reading A) (old : State)
     (next : Reading A) (new : State) : Type 0 where
   pub bytes : List ℕ
-  pub took : Took old new bytes
+  pub took : HasConsumed old new bytes
   pub needed : NeedsEach reading old.offset bytes
   pub failures : new.failures ≡ old.failures
   pub on : (rest : List ℕ) → reading (tail old.offset (bytes ++ rest)) ≡ next (tail new.offset rest)
@@ -102,7 +103,7 @@ pub record HasFault {A : Type 0} (reading : Reading A) (old new : State)
 -- failed read, if more bytes were needed; out of memory; or the error of reading.
 pub record Fails {A : Type 0} (reading : Reading A) (old new : State) (fault : Fault) : Type 0 where
   pub bytes : List ℕ
-  pub took : Took old new bytes
+  pub took : HasConsumed old new bytes
   pub needed : NeedsEach reading old.offset bytes
   pub unfinished : is_read_fault fault ≡ true → NeedsMore reading old.offset bytes
   pub failures : new.failures ≡ old.failures + failed_reads fault
@@ -112,7 +113,7 @@ pub record Fails {A : Type 0} (reading : Reading A) (old new : State) (fault : F
 -- consumed; or 309 at the one byte that was consumed.
 pub record HasByteMore (old new : State) (fault : Fault) : Type 0 where
   pub bytes : List ℕ
-  pub took : Took old new bytes
+  pub took : HasConsumed old new bytes
   pub unfinished : is_read_fault fault ≡ true → bytes ≡ []
   pub failures : new.failures ≡ old.failures + failed_reads fault
   pub refused : is_read_fault fault ≡ false

@@ -1,5 +1,6 @@
 -- The state of a reader of a table file, and the meaning of the bytes that it has read.
-use Rattle.std.specs.Prelude.{◌≡◌, ℕ, ◌-◌, true, false, List, [], ◌∷◌, ◌++◌, ◌+◌, ◌<◌, ◌⊎◌, length, take, min, Option, Some, None, IfSome, Result, Ok, Err}
+use Rattle.std.specs.Prelude.{◌≡◌, ℕ, ◌-◌, true, false, List, [], ◌∷◌, ◌++◌, ◌+◌, ◌<◌, ◌⊎◌, length}
+use Rattle.std.specs.Prelude.{take, min, Option, Some, None, IfSome, Result, Ok, Err}
 use Rattle.std.specs.Io.KnownBytes.{IsAtEnd}
 use Rattle.bw_model.specs.FaultTable.{TRUNCATED, BYTES_AFTER_END}
 use Rattle.bw_model.specs.declared.fault.Fault.{Fault}
@@ -15,8 +16,9 @@ use Rattle.bw_file.specs.declared.layout.Layout.{Layout}
 use Rattle.bw_file.specs.declared.phase.Phase.{Phase}
 use Rattle.bw_file.specs.declared.phase.Phase.TheVariants.{Reading, Ended, Failed}
 use Rattle.bw_file.specs.declared.table_reader.TableReader.{TableReader}
-use Rattle.bw_file.specs.Reading.{State, Took, GoesOn, NeedsMore, give}
-use Rattle.bw_file.specs.TableReading.{HeaderShape, header, body, segment, group_sizes, Found, found_as, IsReadAs, IsTableFault}
+use Rattle.bw_file.specs.Reading.{State, HasConsumed, GoesOn, NeedsMore, give}
+use Rattle.bw_file.specs.TableReading.{HeaderShape, header, body, segment, group_sizes, Found}
+use Rattle.bw_file.specs.TableReading.{found_as, IsReadAs, IsTableFault}
 
 abbrev pub schema_in : TableReader → Schema
 schema_in reader = reader.placement.value.schema
@@ -93,7 +95,7 @@ FrontsEndEarly bytes = (n : ℕ) → n < length bytes
 -- table
 pub record ReadWhole (start now : State) (found : Found) : Type 0 where
   pub bytes : List ℕ
-  pub took : Took start now bytes
+  pub took : HasConsumed start now bytes
   pub needed : FrontsEndEarly bytes
   pub failures : now.failures ≡ start.failures
   pub ended : IsAtEnd now.known
@@ -129,7 +131,7 @@ AreUnfinished bytes =
 -- file's first error.
 pub record AnswersFault (start old now : State) (fault : Fault) : Type 0 where
   pub bytes : List ℕ
-  pub took : Took start now bytes
+  pub took : HasConsumed start now bytes
   pub needed : NoneToSpare bytes fault
   pub unfinished : is_read_fault fault ≡ true → AreUnfinished bytes
   pub failures : now.failures ≡ old.failures + failed_reads fault
@@ -151,7 +153,7 @@ pub record IsSegmentOf (reader : TableReader) (segment : AnySegment) : Type 0 wh
   pub count : length (any_meaning segment).rows ≡ min group_size (reader.rows - reader.given)
 
 -- A call returned the next segment.
-pub record GaveSegment (old now : State) (reader next : TableReader)
+pub record ReturnsSegment (old now : State) (reader next : TableReader)
     (segment : AnySegment) : Type 0 where
   -- it is a segment of the reader's table, of the next rows
   pub of_table : IsSegmentOf reader segment
@@ -160,10 +162,10 @@ pub record GaveSegment (old now : State) (reader next : TableReader)
       → ReadProgress start old reader groups
       → ReadProgress start now next (groups ++ (any_meaning segment).rows ∷ [])
   -- its rows are counted
-  pub counted : rows_given next ≡ rows_given reader + length (any_meaning segment).rows
+  pub row_count : rows_given next ≡ rows_given reader + length (any_meaning segment).rows
   -- these bytes were read, and no read failed
   pub bytes : List ℕ
-  pub took : Took old now bytes
+  pub took : HasConsumed old now bytes
   pub failures : now.failures ≡ old.failures
   -- the reader continues
   pub goes_on : final_result next ≡ None
@@ -171,7 +173,7 @@ pub record GaveSegment (old now : State) (reader next : TableReader)
   pub same : SameTable reader next
 
 -- A call found that the file ends after the groups so far.
-pub record EndedWhole (old now : State) (reader next : TableReader) : Type 0 where
+pub record EndsCompletely (old now : State) (reader next : TableReader) : Type 0 where
   -- the file was read completely, and spells a table of the rows of these groups
   pub whole : (start : State) (groups : List (List (List Value)))
       → ReadProgress start old reader groups → ReadWhole start now (found_so_far reader groups)
@@ -179,9 +181,9 @@ pub record EndedWhole (old now : State) (reader next : TableReader) : Type 0 whe
   pub groups : (start : State) (groups : List (List (List Value)))
       → ReadProgress start old reader groups → groups ≡ groups_of (together groups)
   -- no row was counted
-  pub counted : rows_given next ≡ rows_given reader
+  pub row_count : rows_given next ≡ rows_given reader
   -- no byte was read, and no read failed
-  pub took : Took old now []
+  pub took : HasConsumed old now []
   pub failures : now.failures ≡ old.failures
   -- the reader returns from now on that nothing follows
   pub settles : final_result next ≡ Some (Ok tt)
@@ -189,7 +191,7 @@ pub record EndedWhole (old now : State) (reader next : TableReader) : Type 0 whe
   pub same : SameTable reader next
 
 -- A call failed by this error.
-pub record Refused (old now : State) (reader next : TableReader) (fault : Fault) : Type 0 where
+pub record FailsBy (old now : State) (reader next : TableReader) (fault : Fault) : Type 0 where
   -- it is the file's first error, a failed read or out of memory, and reading depends on each byte
   -- that was read
   pub answers : (start : State) (groups : List (List (List Value)))
@@ -197,10 +199,10 @@ pub record Refused (old now : State) (reader next : TableReader) (fault : Fault)
   -- it is an error of table files
   pub own : IsTableFault fault
   -- no row was counted
-  pub counted : rows_given next ≡ rows_given reader
+  pub row_count : rows_given next ≡ rows_given reader
   -- these bytes were read, and the error is that of a failed read exactly if one failed
   pub bytes : List ℕ
-  pub took : Took old now bytes
+  pub took : HasConsumed old now bytes
   pub failures : now.failures ≡ old.failures + failed_reads fault
   -- if a read failed, more than these bytes was needed
   pub unfinished : is_read_fault fault ≡ true → WantsMore reader old.offset bytes
@@ -215,7 +217,7 @@ Repeats result (Ok x) = result ≡ Ok None
 Repeats result (Err fault) = (result ≡ Err fault) × IsTableFault fault
 
 -- A call repeated the result of an earlier one, and changed nothing.
-pub record Repeated {S : Type 0} (source next_source : S) (reader next : TableReader)
+pub record RepeatsResult {S : Type 0} (source next_source : S) (reader next : TableReader)
     (result : Result (Option AnySegment) Fault) : Type 0 where
   -- the settled result: that nothing follows, or an error
   pub answer : Result (Unit {0}) Fault
@@ -232,19 +234,19 @@ pub data GivesNext {S : Type 0} (source next_source : S) (old now : State)
     (reader next : TableReader) :
     Result (Option AnySegment) Fault → Type 0 where
   gives : {segment : AnySegment} → final_result reader ≡ None →
-      GaveSegment old now reader next segment →
+      ReturnsSegment old now reader next segment →
       GivesNext source next_source old now reader next (Ok (Some segment))
-  ends : final_result reader ≡ None → EndedWhole old now reader next →
+  ends : final_result reader ≡ None → EndsCompletely old now reader next →
       GivesNext source next_source old now reader next (Ok None)
-  refuses : {fault : Fault} → final_result reader ≡ None → Refused old now reader next fault →
+  refuses : {fault : Fault} → final_result reader ≡ None → FailsBy old now reader next fault →
       GivesNext source next_source old now reader next (Err fault)
   repeats : {result : Result (Option AnySegment) Fault} →
-      Repeated source next_source reader next result →
+      RepeatsResult source next_source reader next result →
       GivesNext source next_source old now reader next result
 
 -- The reader states this layout, schema and number of rows, and these groups are the first ones of
 -- the rows.
-pub record GaveFirst (reader : TableReader) (groups : List (List (List Value))) (kept : Layout)
+pub record ReturnsFirst (reader : TableReader) (groups : List (List (List Value))) (kept : Layout)
     (under : Schema) (rows : List (List Value)) : Type 0 where
   pub layout : layout_in reader ≡ kept
   pub schema : schema_shape (schema_in reader) ≡ schema_shape under

@@ -1,10 +1,14 @@
 -- The table that the bytes of a file spell, or their first error: field by field, then block by
 -- block.
-use Rattle.std.specs.Prelude.{◌≡◌, ℕ, ℤ, zero, suc, ◌+◌, ◌-◌, ◌*◌, ◌%◌, min, Bool, true, false, ◌&&◌, ◌||◌, not, List, [], ◌∷◌, ◌++◌, length, take, drop, slice_index, Option, Some, None, Result, Ok, Err, if◌then◌else◌, ◌==◌, nat_lt, nat_le, IsTrue}
+use Rattle.std.specs.Prelude.{◌≡◌, ℕ, ℤ, zero, suc, ◌+◌, ◌-◌, ◌*◌, ◌%◌, min, Bool, true, false}
+use Rattle.std.specs.Prelude.{◌&&◌, ◌||◌, not, List, [], ◌∷◌, ◌++◌, length, take, drop, slice_index}
+use Rattle.std.specs.Prelude.{Option, Some, None, Result, Ok, Err, if◌then◌else◌, ◌==◌, nat_lt}
+use Rattle.std.specs.Prelude.{nat_le, IsTrue}
 use Rattle.std.specs.Int.{w16, w32, w64, bit_at, from_le_bytes, cast_signed}
 use Rattle.std.specs.List.{list_any, range_with_len}
 use Rattle.std.specs.Str.{bytes_eq}
-use Rattle.bw_model.specs.FaultTable.{MAGIC, VERSION, LAYOUT, HEADER, PADDING, BYTES_AFTER_END, ROW_COUNT}
+use Rattle.bw_model.specs.FaultTable.{MAGIC, VERSION, LAYOUT, HEADER, PADDING, BYTES_AFTER_END}
+use Rattle.bw_model.specs.FaultTable.{ROW_COUNT}
 use Rattle.bw_model.specs.declared.column.Column.{Column}
 use Rattle.bw_model.specs.declared.fault.Fault.{Fault}
 use Rattle.bw_model.specs.declared.schema.Schema.{Schema}
@@ -47,16 +51,16 @@ parse_count bytes =
     if (count == 0) || nat_lt most_columns count then Err HEADER else Ok count
 
 -- the number of rows; more than 2^24 is 310
-unfoldable pub rows_say : List ℕ → Result ℕ ℕ
-rows_say bytes =
+unfoldable pub parse_row_count : List ℕ → Result ℕ ℕ
+parse_row_count bytes =
     let rows = from_le_bytes w32 bytes in if nat_lt most_rows rows then Err ROW_COUNT else Ok rows
 
 -- the bounds of a column, in a file of this version; if they are out of order or too far apart, 304
 abbrev pub bound_in : List ℕ → ℤ
 bound_in bytes = cast_signed w64 (from_le_bytes w64 bytes)
 
-unfoldable pub bounds_say : ℕ → List ℕ → Result Bounds ℕ
-bounds_say version bytes =
+unfoldable pub parse_bounds : ℕ → List ℕ → Result Bounds ℕ
+parse_bounds version bytes =
     let lo = bound_in (take 8 bytes) in
     let hi = bound_in (take 8 (drop 8 bytes)) in
     if are_bounds version lo hi then Ok (record { lo = lo; hi = hi }) else Err HEADER
@@ -84,7 +88,7 @@ name before t =
 unfoldable pub column : ℕ → List (List ℕ) → Reading ColumnShape
 column version before =
     name before >>= λ text.
-    read_field 16 (bounds_say version) >>= λ bounds.
+    read_field 16 (parse_bounds version) >>= λ bounds.
     read_field 1 parse_nullable >>= λ nullable.
     give (shape text bounds.lo bounds.hi nullable)
 
@@ -111,7 +115,7 @@ front =
     read_field 1 parse_version >>= λ version.
     read_field 1 parse_layout >>= λ layout.
     read_field 2 parse_count >>= λ count.
-    read_field 4 rows_say >>= λ rows.
+    read_field 4 parse_row_count >>= λ rows.
     give (front_of version layout count rows)
 
 -- the fields of a header

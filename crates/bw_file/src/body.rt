@@ -1,17 +1,20 @@
 //! The part of a table file after its header, read from a source: segments, block by block, and the
 //! end.
-ghost use Rattle.std.specs.Prelude.{◌≡◌, ◌+◌, ◌-◌, ◌^◌, ◌<◌, ◌≤◌, [], length, take, None, OnOk, IfOk, IfErr};
+ghost use Rattle.std.specs.Prelude.{◌≡◌, ◌+◌, ◌-◌, ◌^◌, ◌<◌, ◌≤◌, [], length, take, None, OnOk};
+ghost use Rattle.std.specs.Prelude.{IfOk, IfErr};
 ghost use Rattle.std.specs.Io.KnownBytes.{IsAtEnd};
 ghost use Rattle.bw_model.specs.Groups.{group_size};
 ghost use Rattle.bw_file.specs.AnySegment.{any_layout, any_meaning};
-ghost use Rattle.bw_file.specs.Blocks.{block_size, block_fault, block_from, bytes_before, segment_size, IsPlaced, IsSound};
+ghost use Rattle.bw_file.specs.Blocks.{block_size, block_fault, block_from, bytes_before};
+ghost use Rattle.bw_file.specs.Blocks.{segment_size, IsPlaced, IsSound};
 ghost use Rattle.bw_file.specs.SegmentBytes.{bytes_held, AreNext};
-ghost use Rattle.bw_file.specs.Reading.{Reads, HasByteMore, Took, state};
-ghost use Rattle.bw_file.specs.TableReading.{plane_has_padding, has_padding, padding_from, fault_place, one_block, blocks, segment};
+ghost use Rattle.bw_file.specs.Reading.{Reads, HasByteMore, HasConsumed, state};
+ghost use Rattle.bw_file.specs.TableReading.{plane_has_padding, has_padding, padding_from};
+ghost use Rattle.bw_file.specs.TableReading.{fault_place, one_block, blocks, segment};
 
 use crate::layout::Layout;
 use crate::segment_bytes::SegmentBytes;
-use crate::segments::{AnySegment, block_size, judge, segment_size};
+use crate::segments::{AnySegment, block_fault, block_size, segment_size};
 use crate::take::are_bytes;
 use bw_io::{Failed, Source};
 use bw_lanes::LANES;
@@ -134,7 +137,7 @@ fn read_block<S: Source>(
     let size = block_size(layout, placement, col);
     bytes.take(source, offset, start, size)?;
     let block = &bytes.as_slice()[start..start + size];
-    match judge(layout, placement, col, rows, block) {
+    match block_fault(layout, placement, col, rows, block) {
         None => Ok(()),
         Some(code) => {
             let place = fault_place(layout, placement, col, rows, block, code);
@@ -235,7 +238,7 @@ pub(crate) fn read_end<S: Source>(source: &mut S, offset: &mut u64) -> Result<()
     requires counter_fits { S.failures source.old < 2 ^ 64 - 1 }
     requires capacity { offset.old < 2 ^ 63 }
     ensures ended { OnOk result (IsAtEnd (S.to_come source.new)) }
-    ensures took { OnOk result (Took
+    ensures took { OnOk result (HasConsumed
         (state (S.to_come source.old) offset.old (S.failures source.old))
         (state (S.to_come source.new) offset.new (S.failures source.new)) []) }
     ensures failures { OnOk result (S.failures source.new ≡ S.failures source.old) }

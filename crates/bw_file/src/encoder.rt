@@ -1,5 +1,6 @@
 //! A table file written row by row.
-ghost use Rattle.std.specs.Prelude.{◌≡◌, ◌+◌, ◌-◌, ◌<◌, ◌≤◌, ◌++◌, ◌∷◌, [], List, true, take, drop, length, OnOk, OnErr, IfOk, IsOkUnless};
+ghost use Rattle.std.specs.Prelude.{◌≡◌, ◌+◌, ◌-◌, ◌<◌, ◌≤◌, ◌++◌, ◌∷◌, [], List, true, take, drop};
+ghost use Rattle.std.specs.Prelude.{length, OnOk, OnErr, IfOk, IsOkUnless};
 ghost use Rattle.std.specs.List.{list_all, flat_map};
 ghost use Rattle.std.specs.Int.{w32, to_le_bytes};
 ghost use Rattle.bw_model.specs.Column.{admits_values};
@@ -7,13 +8,15 @@ ghost use Rattle.bw_model.specs.Fault.{no_memory};
 ghost use Rattle.bw_model.specs.Limits.{most_rows};
 ghost use Rattle.bw_model.specs.Row.{Value, values_of};
 ghost use Rattle.bw_file.specs.Blocks.{segment_bytes, IsPlaced};
-ghost use Rattle.bw_file.specs.FileBytes.{are_bounds, AreRows, file_bytes, front_bytes, header_bytes, name_bytes, column_bytes, bound_bytes, layout_byte, flag_byte, version_for};
+ghost use Rattle.bw_file.specs.FileBytes.{are_bounds, AreRows, file_bytes, front_bytes};
+ghost use Rattle.bw_file.specs.FileBytes.{header_bytes, name_bytes, column_bytes, bound_bytes};
+ghost use Rattle.bw_file.specs.FileBytes.{layout_byte, flag_byte, version_for};
 
 use crate::fields::{MAGIC, are_bounds};
 use crate::layout::Layout;
 use crate::segments::{append, placement_of};
 use bw_lanes::LANES;
-use bw_model::{Column, Fault, Name, Row, RowTaker, Schema};
+use bw_model::{Column, Fault, Name, Row, RowConsumer, Schema};
 use bw_segment::{ColumnCodes, Placement, clear_rows, keep_row, no_rows};
 use byteorder::{ByteOrder, LittleEndian};
 use std::alloc::Global;
@@ -41,7 +44,8 @@ pub struct Encoder {
 }
 
 impl Encoder {
-    ghost use Rattle.bw_file.specs.Encoder.{Holds, IsAsBefore, IsBytesOf, encoder_schema, encoder_layout, rows_in};
+    ghost use Rattle.bw_file.specs.Encoder.{Holds, IsAsBefore, IsBytesOf, encoder_schema};
+    ghost use Rattle.bw_file.specs.Encoder.{encoder_layout, rows_in};
 
     /// Returns an encoder of an empty table of this schema, which it copies. Errors: 801 if memory
     /// is refused.
@@ -154,14 +158,14 @@ impl Encoder {
     }
 }
 
-impl RowTaker for Encoder {
-    ghost use Rattle.bw_file.specs.Encoder.{TookRows, encoder_schema, rows_in};
+impl RowConsumer for Encoder {
+    ghost use Rattle.bw_file.specs.Encoder.{HasEncoded, encoder_schema, rows_in};
 
     ghost takes = { λ encoder row. admits_values (encoder_schema encoder).columns.items row };
 
     ghost rows = { λ encoder. rows_in encoder };
 
-    ghost led = { TookRows };
+    ghost led = { HasEncoded };
 
     fn take(&mut self, row: &Row) -> Result<(), Fault> {
         self.add(row)

@@ -3,7 +3,9 @@ ghost use Rattle.std.specs.Prelude.{◌≡◌, ◌≤◌, ◌^◌, ◌≤ℤ◌,
 ghost use Rattle.bw_model.specs.Limits.{most_rows};
 ghost use Rattle.bw_file.specs.FileBytes.{are_bounds};
 ghost use Rattle.bw_file.specs.Reading.{at_offset};
-ghost use Rattle.bw_file.specs.TableReading.{bound_in, parse_magic, parse_version, parse_layout, parse_count, rows_say, bounds_say, parse_nullable, parse_name};
+ghost use Rattle.bw_file.specs.TableReading.{bound_in, parse_magic, parse_version, parse_layout};
+ghost use Rattle.bw_file.specs.TableReading.{parse_count, parse_row_count, parse_bounds};
+ghost use Rattle.bw_file.specs.TableReading.{parse_nullable, parse_name};
 
 use crate::layout::Layout;
 use bw_model::{Column, Fault, MAX_ROWS, code, is_name};
@@ -73,9 +75,9 @@ pub(crate) fn parse_count(bytes: [u8; 2]) -> Result<u16, u16>
 }
 
 /// Returns the number of rows, at most 2^24. Errors: 310.
-#[tactic(auto, unfolding(crate::specs::TableReading::rows_say))]
-pub(crate) fn rows_say(bytes: [u8; 4]) -> Result<u32, u16>
-    ensures rows { result ≡ rows_say bytes }
+#[tactic(auto, unfolding(crate::specs::TableReading::parse_row_count))]
+pub(crate) fn parse_row_count(bytes: [u8; 4]) -> Result<u32, u16>
+    ensures rows { result ≡ parse_row_count bytes }
     ensures within_limit { IfOk result (λ rows. rows ≤ most_rows) }
 {
     let rows = u32::from_le_bytes(bytes);
@@ -95,9 +97,9 @@ pub(crate) struct Bounds {
 
 /// Returns the bounds of a column, in a file of this version. Errors: 304 if they are out of order
 /// or too far apart.
-#[tactic(auto, unfolding(crate::specs::TableReading::bounds_say))]
-pub(crate) fn bounds_say(version: u8, bytes: &[u8; 16]) -> Result<Bounds, u16>
-    ensures bounds { result ≡ bounds_say version bytes.now }
+#[tactic(auto, unfolding(crate::specs::TableReading::parse_bounds))]
+pub(crate) fn parse_bounds(version: u8, bytes: &[u8; 16]) -> Result<Bounds, u16>
+    ensures bounds { result ≡ parse_bounds version bytes.now }
     ensures ordered { IfOk result (λ bounds. bounds.lo ≤ℤ bounds.hi) }
     ensures narrow { IfOk result (λ bounds. (bounds.hi -ℤ bounds.lo) <ℤ pos (2 ^ 63)) }
 {

@@ -1,5 +1,7 @@
 //! A table file's header, read field by field from a source.
-ghost use Rattle.std.specs.Prelude.{◌≡◌, ◌+◌, ◌-◌, ◌*◌, ◌^◌, ◌<◌, ◌≤◌, ◌≤ℤ◌, ◌<ℤ◌, ◌-ℤ◌, pos, [], map, length, false, true, Ok, Err, if◌then◌else◌, OnOk, IfOk, IsTrue};
+ghost use Rattle.std.specs.Prelude.{◌≡◌, ◌+◌, ◌-◌, ◌*◌, ◌^◌, ◌<◌, ◌≤◌, ◌≤ℤ◌, ◌<ℤ◌, ◌-ℤ◌, pos, []};
+ghost use Rattle.std.specs.Prelude.{map, length, false, true, Ok, Err, if◌then◌else◌, OnOk, IfOk};
+ghost use Rattle.std.specs.Prelude.{IsTrue};
 ghost use Rattle.std.specs.List.{list_any};
 ghost use Rattle.bw_model.specs.FaultTable.{HEADER};
 ghost use Rattle.bw_model.specs.Column.{names_of};
@@ -9,11 +11,14 @@ ghost use Rattle.bw_model.specs.SchemaText.{column_shape};
 ghost use Rattle.bw_text.specs.Text.{same_text};
 ghost use Rattle.bw_file.specs.Header.{header_shape};
 ghost use Rattle.bw_file.specs.Reading.{Reads, state, read_field};
-ghost use Rattle.bw_file.specs.TableReading.{parse_magic, parse_version, parse_layout, parse_count, rows_say, bounds_say, parse_nullable, parse_name, name, column, columns, front_of, front, header_of, header};
+ghost use Rattle.bw_file.specs.TableReading.{parse_magic, parse_version, parse_layout, parse_count};
+ghost use Rattle.bw_file.specs.TableReading.{parse_row_count, parse_bounds, parse_nullable};
+ghost use Rattle.bw_file.specs.TableReading.{parse_name, name, column, columns, front_of, front};
+ghost use Rattle.bw_file.specs.TableReading.{header_of, header};
 
 use crate::fields::{
-    Bounds, at_offset, bounds_say, parse_count, parse_layout, parse_magic, parse_nullable,
-    parse_version, rows_say,
+    Bounds, at_offset, parse_bounds, parse_count, parse_layout, parse_magic, parse_nullable,
+    parse_row_count, parse_version,
 };
 use crate::layout::Layout;
 use crate::take::take;
@@ -86,7 +91,7 @@ fn read_count<S: Source>(source: &mut S, offset: &mut u64) -> Result<u16, Fault>
 fn read_rows<S: Source>(source: &mut S, offset: &mut u64) -> Result<u32, Fault>
     requires counter_fits { S.failures source.old < 2 ^ 64 - 1 }
     requires capacity { offset.old < 2 ^ 63 }
-    ensures reads { Reads (λ x. x) (read_field 4 rows_say)
+    ensures reads { Reads (λ x. x) (read_field 4 parse_row_count)
         (state (S.to_come source.old) offset.old (S.failures source.old))
         (state (S.to_come source.new) offset.new (S.failures source.new)) result }
     ensures advanced { OnOk result (offset.new ≡ offset.old + 4) }
@@ -95,14 +100,14 @@ fn read_rows<S: Source>(source: &mut S, offset: &mut u64) -> Result<u32, Fault>
     let at = *offset;
     let mut bytes = [0; 4];
     take(source, offset, &mut bytes)?;
-    at_offset(at, rows_say(bytes))
+    at_offset(at, parse_row_count(bytes))
 }
 
 /// Reads the bounds of a column.
 fn read_bounds<S: Source>(version: u8, source: &mut S, offset: &mut u64) -> Result<Bounds, Fault>
     requires counter_fits { S.failures source.old < 2 ^ 64 - 1 }
     requires capacity { offset.old < 2 ^ 63 }
-    ensures reads { Reads (λ x. x) (read_field 16 (bounds_say version))
+    ensures reads { Reads (λ x. x) (read_field 16 (parse_bounds version))
         (state (S.to_come source.old) offset.old (S.failures source.old))
         (state (S.to_come source.new) offset.new (S.failures source.new)) result }
     ensures advanced { OnOk result (offset.new ≡ offset.old + 16) }
@@ -112,7 +117,7 @@ fn read_bounds<S: Source>(version: u8, source: &mut S, offset: &mut u64) -> Resu
     let at = *offset;
     let mut bytes = [0; 16];
     take(source, offset, &mut bytes)?;
-    at_offset(at, bounds_say(version, &bytes))
+    at_offset(at, parse_bounds(version, &bytes))
 }
 
 /// Reads whether a column is nullable.

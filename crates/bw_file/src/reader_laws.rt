@@ -5,9 +5,10 @@ ghost use Rattle.bw_model.specs.declared.schema.Schema.{Schema};
 ghost use Rattle.bw_model.specs.Row.{Value};
 ghost use Rattle.bw_model.specs.SchemaText.{schema_shape};
 ghost use Rattle.bw_file.specs.FileBytes.{IsFileBytes};
-ghost use Rattle.bw_file.specs.Reading.{State, Took};
+ghost use Rattle.bw_file.specs.Reading.{State, HasConsumed};
 ghost use Rattle.bw_io.specs.Source.{is_input_fault};
-ghost use Rattle.bw_file.specs.TableReader.{ReadProgress, ReadWhole, FrontsEndEarly, AnswersFault, GaveFirst};
+ghost use Rattle.bw_file.specs.TableReader.{ReadProgress, ReadWhole, FrontsEndEarly, AnswersFault};
+ghost use Rattle.bw_file.specs.TableReader.{ReturnsFirst};
 ghost use Rattle.bw_file.specs.TableReading.{Found, found_as};
 ghost use Rattle.bw_file.specs.declared.layout.Layout.{Layout};
 ghost use Rattle.bw_file.specs.declared.table_reader.TableReader.{TableReader};
@@ -17,7 +18,7 @@ ghost use Rattle.bw_file.specs.declared.table_reader.TableReader.{TableReader};
 pub fn bytes_were_taken()
     ensures { (start now : State) (reader : TableReader) (groups : List (List (List Value)))
         → ReadProgress start now reader groups
-        → ((bytes : List ℕ) × Took start now bytes × FrontsEndEarly bytes)
+        → ((bytes : List ℕ) × HasConsumed start now bytes × FrontsEndEarly bytes)
         × (now.failures ≡ start.failures) }
 {}
 
@@ -29,7 +30,7 @@ pub fn a_file_is_read_whole()
         → IsFileBytes bytes layout schema rows
         → (start now : State) (reader : TableReader) (groups : List (List (List Value)))
         → start.known ≡ Some bytes → ReadProgress start now reader groups
-        → GaveFirst reader groups layout schema rows }
+        → ReturnsFirst reader groups layout schema rows }
     ensures table { (bytes : List ℕ) (layout : Layout) (schema : Schema) (rows : List (List Value))
         → IsFileBytes bytes layout schema rows
         → (start now : State) (found : Found) → start.known ≡ Some bytes → ReadWhole start now found

@@ -1,5 +1,6 @@
 //! The bytes of a segment that is being read.
-ghost use Rattle.std.specs.Prelude.{◌≡◌, ◌+◌, ◌-◌, ◌^◌, ◌<◌, ◌≤◌, IfOk, IsOkUnless, OnOk, length, slice_range, take};
+ghost use Rattle.std.specs.Prelude.{◌≡◌, ◌+◌, ◌-◌, ◌^◌, ◌<◌, ◌≤◌, IfOk, IsOkUnless, OnOk, length};
+ghost use Rattle.std.specs.Prelude.{slice_range, take};
 ghost use Rattle.bw_model.specs.Fault.{no_memory};
 ghost use Rattle.bw_io.specs.Shared.{bytes_in};
 ghost use Rattle.bw_file.specs.Reading.{Reads, state, field};

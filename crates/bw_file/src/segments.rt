@@ -1,11 +1,13 @@
 //! Segments in either layout, behind the same calls.
-ghost use Rattle.std.specs.Prelude.{◌≡◌, ◌++◌, ◌<◌, ◌≤◌, List, length, take, IfOk, OnOk, OnErr, IsOkUnless};
+ghost use Rattle.std.specs.Prelude.{◌≡◌, ◌++◌, ◌<◌, ◌≤◌, List, length, take, IfOk, OnOk, OnErr};
+ghost use Rattle.std.specs.Prelude.{IsOkUnless};
 ghost use Rattle.bw_io.specs.Shared.{bytes_in};
 ghost use Rattle.bw_model.specs.Fault.{no_memory};
 ghost use Rattle.bw_model.specs.Groups.{group_size};
 ghost use Rattle.bw_model.specs.Row.{Value};
 ghost use Rattle.bw_segment.specs.Columns.{KeepRows};
-ghost use Rattle.bw_file.specs.Blocks.{form_of, block_size, block_fault, segment_size, segment_bytes, IsPlaced, IsSound, rows_spelled};
+ghost use Rattle.bw_file.specs.Blocks.{form_of, block_size, block_fault, segment_size};
+ghost use Rattle.bw_file.specs.Blocks.{segment_bytes, IsPlaced, IsSound, rows_spelled};
 
 use crate::layout::Layout;
 use bw_io::SharedBytes;
@@ -230,7 +232,7 @@ pub(crate) fn segment_size(layout: Layout, placement: &Placement) -> usize
 
 /// Returns the number of the first error of a column's block, in a segment of `rows` rows.
 #[tactic(auto, unfolding(crate::specs::Blocks::form_of))]
-pub(crate) fn judge(
+pub(crate) fn block_fault(
     layout: Layout,
     placement: &Placement,
     col: usize,

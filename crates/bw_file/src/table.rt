@@ -1,5 +1,6 @@
 //! Whole tables in memory, to the bytes of a table file and back.
-ghost use Rattle.std.specs.Prelude.{◌≡◌, ◌-◌, ◌^◌, ◌<◌, ◌++◌, ◌∷◌, [], List, map, false, length, slice_index_or, Ok, Err, OnOk, IfOk, IfErr, IsOkUnless};
+ghost use Rattle.std.specs.Prelude.{◌≡◌, ◌-◌, ◌^◌, ◌<◌, ◌++◌, ◌∷◌, [], List, map, false, length};
+ghost use Rattle.std.specs.Prelude.{slice_index_or, Ok, Err, OnOk, IfOk, IfErr, IsOkUnless};
 ghost use Rattle.bw_model.specs.Fault.{no_memory, is_memory, MatchesUnlessOom};
 ghost use Rattle.bw_model.specs.Row.{Value, values_of};
 ghost use Rattle.bw_model.specs.SchemaText.{schema_shape};

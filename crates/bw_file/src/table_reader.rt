@@ -42,7 +42,9 @@ impl TableReader {
     ghost use Rattle.bw_file.specs.Blocks.{segment_size};
     ghost use Rattle.bw_file.specs.Reading.{Fails, GoesOn, give, state};
     ghost use Rattle.bw_file.specs.TableReading.{header};
-    ghost use Rattle.bw_file.specs.TableReader.{schema_in, version_in, layout_in, header_stated, rows_stated, rows_given, bytes_taken, final_result, ReadProgress, AnswersFault, GivesNext};
+    ghost use Rattle.bw_file.specs.TableReader.{schema_in, version_in, layout_in, header_stated};
+    ghost use Rattle.bw_file.specs.TableReader.{rows_stated, rows_given, bytes_taken, final_result};
+    ghost use Rattle.bw_file.specs.TableReader.{ReadProgress, AnswersFault, GivesNext};
 
     /// Reads the header of a table file, and no byte after it. The source's count of failures must
     /// be less than 2^64 - 1.

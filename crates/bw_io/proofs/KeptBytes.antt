@@ -1,10 +1,12 @@
 -- What is left of a piece once its first bytes were taken.
-use Rattle.std.proofs.Common.{◌≡◌, ◌∙◌, ℕ, ◌+◌, ◌-◌, ◌≤◌, ◌++◌, List, take, drop, slice_range, length, length-take, length-take-le, sym, ap, subst, arith, drop-drop, append_assoc, take_at, take-append-drop}
+use Rattle.std.proofs.Common.{◌≡◌, ◌∙◌, ℕ, ◌+◌, ◌-◌, ◌≤◌, ◌++◌, List, take, drop, slice_range}
+use Rattle.std.proofs.Common.{length, length-take, length-take-le, sym, ap, subst, arith, drop-drop}
+use Rattle.std.proofs.Common.{append_assoc, take_at, take-append-drop}
 use Rattle.std.proofs.lemmas.List.{drop-take}
 use Rattle.std.specs.Prelude.{Option, Some, None}
 use Rattle.std.specs.Io.KnownBytes.{Consumes, prepend_known}
 
--- those after the first ones, so many
+-- those after the first ones, this many
 pub after_first : (xs : List ℕ) (start end count : ℕ) → count ≤ length (slice_range xs start end)
     → slice_range xs (start + count) end ≡ drop count (slice_range xs start end)
 after_first xs start end count few =

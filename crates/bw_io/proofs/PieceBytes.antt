@@ -1,5 +1,6 @@
 -- A piece that is read into memory, after its front.
-use Rattle.std.proofs.Common.{◌≡◌, ◌∙◌, ℕ, ◌+◌, ◌-◌, ◌≤◌, [], ◌++◌, List, take, drop, slice_range, length, sym, ap, arith, length-take-le, length-drop, append-nil}
+use Rattle.std.proofs.Common.{◌≡◌, ◌∙◌, ℕ, ◌+◌, ◌-◌, ◌≤◌, [], ◌++◌, List, take, drop, slice_range}
+use Rattle.std.proofs.Common.{length, sym, ap, arith, length-take-le, length-drop, append-nil}
 use Rattle.std.proofs.lemmas.List.{drop_all, drop_at}
 use Rattle.std.specs.Prelude.{Option, Some, None}
 use Rattle.std.specs.Io.KnownBytes.{Consumes, Keeps, IsAtEnd, prepend_known}
@@ -16,7 +17,7 @@ after_front memory piece long =
 pub piece_of : (memory : List ℕ) (count : ℕ) → slice_range memory 48 (48 + count) ≡ take count (drop 48 memory)
 piece_of memory count = let whole : 48 + count - 48 ≡ count = omega arith in ap (λ (n : ℕ). take n (drop 48 memory)) whole
 
--- what a reader gave is kept, where nothing was
+-- what a reader gave is kept, if nothing was
 pub piece_kept : (before after : Option (List ℕ)) (nothing kept piece : List ℕ) → nothing ≡ [] → kept ≡ piece → Consumes before after piece
     → Keeps (prepend_known nothing before) (prepend_known kept after)
 piece_kept None after nothing kept piece none same read = tt
@@ -24,7 +25,7 @@ piece_kept (Some bytes) None nothing kept piece none same read = absurd read
 piece_kept (Some bytes) (Some left) nothing kept piece none same read =
     ap (λ (l : List ℕ). l ++ left) same ∙ sym read ∙ sym (ap (λ (l : List ℕ). l ++ bytes) none)
 
--- where nothing was read into a buffer with room, the reader is at its end
+-- if nothing was read into a buffer with room, the reader is at its end
 pub nothing_read : (after : Option (List ℕ)) (kept buffer : List ℕ) (count : ℕ) → count ≤ length buffer → kept ≡ take count buffer → kept ≡ []
     → (count ≡ 0 → IsAtEnd after) → IsAtEnd (prepend_known kept after)
 nothing_read after kept buffer count few same none end =

@@ -1,5 +1,6 @@
--- What a call wrote, where it wrote nothing, or a text.
-use Rattle.std.proofs.Common.{◌≡◌, ◌∙◌, ℕ, List, Bool, true, false, Option, Result, Ok, Err, refl, sym, ap, subst}
+-- What a call wrote, if it wrote nothing, or a text.
+use Rattle.std.proofs.Common.{◌≡◌, ◌∙◌, ℕ, List, Bool, true, false, Option, Result, Ok, Err, refl}
+use Rattle.std.proofs.Common.{sym, ap, subst}
 use Rattle.std.proofs.lemmas.Bool.{eqb-true}
 use Rattle.bw_model.specs.declared.fault.Fault.{Fault}
 use Rattle.bw_io.specs.Sink.{GoesOut, WriteOutcome, everything, beginning, nothing, is_write_fault}
@@ -9,14 +10,14 @@ pub wrote_nothing : (T : Type 0) (aside : Fault → Bool) (old : Option (List �
     → (aside fault ≡ false → given ≡ Err fault) → WriteOutcome {T = T} aside old old count count given (Err fault)
 wrote_nothing T aside old count fault given other is = nothing other is refl refl
 
--- the text went out, or up to a failed write
+-- the text was written, or up to a failed write
 pub wrote_text : (T : Type 0) (aside : Fault → Bool) (old new : Option (List ℕ)) (before after : ℕ) (text : List ℕ) (given : Result (List ℕ) Fault) (result : Result T Fault)
     → given ≡ Ok text → GoesOut old new before after text result → WriteOutcome aside old new before after given result
 wrote_text T aside old new before after text given (Ok x) is goes = everything text is goes.0 goes.1
 wrote_text T aside old new before after text given (Err fault) is goes =
     subst (λ (f : Fault). WriteOutcome {T = T} aside old new before after given (Err f)) (sym goes.0) (beginning text is goes.1 goes.2)
 
--- faults of other kinds are no failed writes, whatever their places
+-- errors of other kinds are no failed writes, whatever their places
 pub no_write_fault : (allowed : Fault → Bool) (fault : Fault) → allowed fault ≡ true → allowed (record { code = 702; place = fault.place }) ≡ false → is_write_fault fault ≡ false
 no_write_fault allowed fault is none = by_code (is_write_fault fault) refl
   where

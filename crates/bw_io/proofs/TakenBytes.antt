@@ -1,5 +1,6 @@
 -- Bytes that a sink took, or a source gave, in several steps.
-use Rattle.std.proofs.Common.{◌≡◌, ℕ, ◌+◌, ◌-◌, ◌≤◌, List, ◌++◌, Option, sym, ap, ◌∙◌, subst, length, take, drop, length-append, length-drop}
+use Rattle.std.proofs.Common.{◌≡◌, ℕ, ◌+◌, ◌-◌, ◌≤◌, List, ◌++◌, Option, sym, ap, ◌∙◌, subst}
+use Rattle.std.proofs.Common.{length, take, drop, length-append, length-drop}
 use Rattle.std.proofs.Math.Seq.{take-add, take-length}
 use Rattle.std.specs.Io.KnownBytes.{Appends, Consumes}
 use Rattle.std.proofs.KnownBytes.{Appends-trans, Consumes-trans}
@@ -9,7 +10,7 @@ use Rattle.bw_io.specs.Source.{TookAtMost}
 take-drop_rest : (m : ℕ) (text : List ℕ) → take (length text - m) (drop m text) ≡ drop m text
 take-drop_rest m text = ap (λ k. take k (drop m text)) (sym (length-drop m text)) ∙ take-length (drop m text)
 
--- a text's front went out, and then the front of its rest
+-- a text's front was written, and then the front of its rest
 pub more_taken : (a b c : Option (List ℕ)) (text : List ℕ) (m n : ℕ) → Appends a b (take m text)
     → Appends b c (take n (take (length text - m) (drop m text))) → Appends a c (take (m + n) text)
 more_taken a b c text m n p q =

@@ -1,5 +1,6 @@
 -- What a source yielded to a call that read it to its end, or until it passed a limit.
-use Rattle.std.specs.Prelude.{◌≡◌, ◌⊎◌, ◌==◌, ◌&&◌, ◌||◌, if◌then◌else◌, Bool, ℕ, ◌+◌, ◌≤◌, List, length, Option, IfSome, Result, Ok, Err, MatchBool}
+use Rattle.std.specs.Prelude.{◌≡◌, ◌⊎◌, ◌==◌, ◌&&◌, ◌||◌, if◌then◌else◌, Bool, ℕ, ◌+◌, ◌≤◌, List}
+use Rattle.std.specs.Prelude.{length, Option, IfSome, Result, Ok, Err, MatchBool}
 use Rattle.std.specs.Io.KnownBytes.{Consumes, IsAtEnd}
 use Rattle.bw_model.specs.FaultTable.{READ_FAILED}
 use Rattle.bw_model.specs.declared.fault.Fault.{Fault}

@@ -1,5 +1,8 @@
 -- Whether a lane is 1, word by word.
-use Rattle.std.proofs.Common.{◌≡◌, ◌∙◌, refl, sym, ap, ap₂, ℕ, zero, suc, replicate, ◌+◌, ◌*◌, ◌^◌, ◌<◌, ◌≤◌, Bool, true, false, not, ◌==◌, ◌&&◌, ◌||◌, List, [], ◌∷◌, ◌++◌, map, length, take, take_all, get_or, bit_and, w64, arith, length-take}
+use Rattle.std.proofs.Common.{◌≡◌, ◌∙◌, refl, sym, ap, ap₂, ℕ, zero, suc, replicate, ◌+◌, ◌*◌, ◌^◌}
+use Rattle.std.proofs.Common.{◌<◌, ◌≤◌, Bool, true, false, not, ◌==◌, ◌&&◌, ◌||◌, List, [], ◌∷◌}
+use Rattle.std.proofs.Common.{◌++◌, map, length, take, take_all, get_or, bit_and, w64, arith}
+use Rattle.std.proofs.Common.{length-take}
 use Rattle.std.specs.Int.{bit_not}
 use Rattle.std.specs.List.{list_all, list_any, range_with_len}
 use Rattle.std.proofs.lemmas.Simd.{map-map}
@@ -9,7 +12,8 @@ use lib.Lanes.{zip2}
 use Rattle.bw_lanes.specs.Lanes.{bits_from_least, lanes_of_words}
 use Rattle.bw_lanes.proofs.BitLemmas.{bits_of_and, bits_of_not}
 use Rattle.bw_lanes.proofs.ByteLemmas.{all_rows, length-all_rows, rows_of_word}
-use Rattle.bw_lanes.proofs.WordLemmas.{lanes_more, length-first, before_and_part, mapped_right, zip2-append, zero_bits}
+use Rattle.bw_lanes.proofs.WordLemmas.{lanes_more, length-first, before_and_part, mapped_right}
+use Rattle.bw_lanes.proofs.WordLemmas.{zip2-append, zero_bits}
 
 pub any_is : (lanes : List Bool) → list_any (λ lane. lane) lanes ≡ not (list_all not lanes)
 any_is [] = refl

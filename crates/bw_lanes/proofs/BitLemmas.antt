@@ -1,12 +1,18 @@
 -- The bits of a number, and of two numbers that are joined bit by bit.
-use Rattle.std.proofs.Common.{◌≡◌, ◌∙◌, refl, sym, ap, ap₂, ℕ, zero, suc, ◌+◌, ◌-◌, ◌*◌, ◌/◌, ◌%◌, ◌^◌, ◌<◌, ◌≤◌, Bool, true, false, not, ◌==◌, ◌&&◌, List, [], ◌∷◌, ◌++◌, map, length, length-append, take, get_or, arith, w64, min, zero-add, bit_and, flat_map, length-take, pow_pos}
+use Rattle.std.proofs.Common.{◌≡◌, ◌∙◌, refl, sym, ap, ap₂, ℕ, zero, suc, ◌+◌, ◌-◌, ◌*◌, ◌/◌, ◌%◌}
+use Rattle.std.proofs.Common.{◌^◌, ◌<◌, ◌≤◌, Bool, true, false, not, ◌==◌, ◌&&◌, List, [], ◌∷◌}
+use Rattle.std.proofs.Common.{◌++◌, map, length, length-append, take, get_or, arith, w64, min}
+use Rattle.std.proofs.Common.{zero-add, bit_and, flat_map, length-take, pow_pos}
 use Rattle.std.proofs.lemmas.List.Concat.{get_or-flat_map}
 use Rattle.std.specs.Int.{bit_at, bit_not}
 use Rattle.std.proofs.lemmas.Bool.Decides.{nat_tests}
 use lib.Lanes.{zip2, mask_l, Each1, number_l, digits_l}
 use Rattle.std.specs.List.{range_with_len}
-use Rattle.std.proofs.lemmas.Nat.Bits.{bit_at-suc, bit_at-lt, bit_at_cat_low, bit_at_and, bit_at_not}
-use Rattle.std.proofs.Math.Nat.{mod-eq_of_lt, div-eq_of_lt, div-div-eq-div-mul, div-one, mul_comm, pow-suc, suc-mul, zero-mul, mul-suc, mul-zero, add-mul-mod_self_left, add-mul-div_left}
+use Rattle.std.proofs.lemmas.Nat.Bits.{bit_at-suc, bit_at-lt, bit_at_cat_low, bit_at_and}
+use Rattle.std.proofs.lemmas.Nat.Bits.{bit_at_not}
+use Rattle.std.proofs.Math.Nat.{mod-eq_of_lt, div-eq_of_lt, div-div-eq-div-mul, div-one, mul_comm}
+use Rattle.std.proofs.Math.Nat.{pow-suc, suc-mul, zero-mul, mul-suc, mul-zero}
+use Rattle.std.proofs.Math.Nat.{add-mul-mod_self_left, add-mul-div_left}
 use Rattle.std.proofs.lemmas.Simd.{zip2-map, bit_mask_l, pick_l_whole, map-map}
 use Rattle.std.proofs.lemmas.List.FromFn.{length-map-range_with_len, get_or-map-range_with_len}
 use Rattle.bw_lanes.specs.Lanes.{bits_from_least, lanes_of_bytes}
@@ -66,7 +72,7 @@ bits_of_mask flags =
     same_on_range (λ i. bit_at (mask_l flags) i == 1) (λ i. get_or flags i false) 0 (length flags) (λ i _ _. grind (arith, nat_tests, bit_mask_l flags i))
     ∙ pick_l_whole false flags (length flags) refl
 
--- a number that is the bit mask of so many flags
+-- a number that is the bit mask of this many flags
 pub bits_of_flags : (count : ℕ) (flags : List Bool) (word : ℕ) → length flags ≡ count → word ≡ mask_l flags → bits_from_least count word ≡ flags
 bits_of_flags count flags word long same = ap₂ bits_from_least (sym long) same ∙ bits_of_mask flags
 
@@ -113,7 +119,7 @@ length-bits_of_numbers width [] = omega (arith, mul-zero width)
 length-bits_of_numbers width (n ∷ numbers) =
     omega (arith, length-append (bits_from_least width n) (flat_map (bits_from_least width) numbers), length-bits_from_least width n, length-bits_of_numbers width numbers, mul-suc width (length numbers))
 
--- a bit of a list of numbers, each in so many bits
+-- a bit of a list of numbers, each in this many bits
 pub bit_in_numbers : (width : ℕ) (numbers : List ℕ) (row at bit : ℕ) → at < length numbers → bit < width → row ≡ width * at + bit
     → get_or (flat_map (bits_from_least width) numbers) row false ≡ (bit_at (get_or numbers at 0) bit == 1)
 unfolding bits_from_least

@@ -1,17 +1,22 @@
 -- Words made of bytes, 64 at a time.
-use Rattle.std.proofs.Common.{◌≡◌, ◌∙◌, sym, ap, ap₂, refl, add-one, get_or, bit_or, ◌&&◌, ℕ, zero, suc, ◌+◌, ◌*◌, ◌%◌, ◌^◌, ◌<◌, ◌≤◌, Bool, cond, eqb, leb, ltb, ◌==◌, List, [], ◌∷◌, ◌++◌, map, length, take, drop, replicate, bit_and, arith, w8, eq-eqb, ne_eqb, drop-cons}
+use Rattle.std.proofs.Common.{◌≡◌, ◌∙◌, sym, ap, ap₂, refl, add-one, get_or, bit_or, ◌&&◌, ℕ, zero}
+use Rattle.std.proofs.Common.{suc, ◌+◌, ◌*◌, ◌%◌, ◌^◌, ◌<◌, ◌≤◌, Bool, cond, eqb, leb, ltb, ◌==◌}
+use Rattle.std.proofs.Common.{List, [], ◌∷◌, ◌++◌, map, length, take, drop, replicate, bit_and}
+use Rattle.std.proofs.Common.{arith, w8, eq-eqb, ne_eqb, drop-cons}
 use Rattle.std.proofs.lemmas.Bool.Decides.{nat_tests}
 use Rattle.std.specs.Int.{bit_at}
 use Rattle.std.specs.List.{range_with_len}
 use Rattle.std.proofs.lemmas.List.{map-id, length-map}
-use Rattle.std.proofs.lemmas.List.FromFn.{length-range_with_len, length-map-range_with_len, get_or-range_with_len}
+use Rattle.std.proofs.lemmas.List.FromFn.{length-range_with_len, length-map-range_with_len}
+use Rattle.std.proofs.lemmas.List.FromFn.{get_or-range_with_len}
 use Rattle.std.proofs.lemmas.Nat.{one_shl, pow_pos}
 use Rattle.std.proofs.lemmas.Nat.Bits.{and_pow, bit_at-lt}
 use Rattle.std.proofs.lemmas.Simd.{bitmask_splat, zip2_splat, map-map, splat_is_map, zip2_of_maps}
 use lib.Lanes.{zip2, mask_l, top}
 use Rattle.bw_lanes.specs.Lanes.{bits_from_least, are_zero}
 use Rattle.bw_lanes.proofs.BitLemmas.{bits_of_flags, of_bit, same_on_range}
-use Rattle.bw_lanes.proofs.WordLemmas.{part, part_is, either_is_zero, tests_to, tests_more, tests_all}
+use Rattle.bw_lanes.proofs.WordLemmas.{part, part_is, either_is_zero, tests_to, tests_more}
+use Rattle.bw_lanes.proofs.WordLemmas.{tests_all}
 
 -- a bit that is taken by a mask of that bit alone
 pub bit_by_mask : (bit n : ℕ) → eqb (bit_and n (2 ^ bit)) (2 ^ bit) ≡ (bit_at n bit == 1)

@@ -1,5 +1,6 @@
 -- The lanes of a word from its top on.
-use Rattle.std.proofs.Common.{◌≡◌, ◌∙◌, ℕ, suc, ◌+◌, ◌-◌, ◌*◌, ◌/◌, ◌%◌, ◌^◌, ◌<◌, ◌≤◌, ◌==◌, true, false, List, length, get_or, sym, ap, arith, inl, inr, eq-zero-or-pos}
+use Rattle.std.proofs.Common.{◌≡◌, ◌∙◌, ℕ, suc, ◌+◌, ◌-◌, ◌*◌, ◌/◌, ◌%◌, ◌^◌, ◌<◌, ◌≤◌, ◌==◌, true}
+use Rattle.std.proofs.Common.{false, List, length, get_or, sym, ap, arith, inl, inr, eq-zero-or-pos}
 use Rattle.std.proofs.lemmas.Nat.{leading_top, pow_pos}
 use Rattle.std.proofs.lemmas.Nat.Bits.{bit_at-zero, bit_at_above, bit_at_cat_high}
 use Rattle.std.specs.Int.{bit_at}
@@ -27,7 +28,7 @@ leading a place fits = elim (eq-zero-or-pos a) [
       (λ above. bit_at_above a (suc top.0) place top.3 (omega (arith, top.1)), λ is. ap (bit_at a) (omega (arith, top.1)) ∙ top_bit a top.0 top.2 top.3)
 ]
 
--- a lane of the word that has a top one, where the lanes above that one are shifted out
+-- a lane of the word that has a top one, if the lanes above that one are shifted out
 lane_shifted : (words : List ℕ) (top lane : ℕ) → length words ≡ 8 → top < 512 → 64 * (top / 64) ≤ lane → lane ≤ top
     → get_or (lanes_of_words words) lane false ≡ (bit_at (get_or words (top / 64) 0 * 2 ^ (63 - top % 64) % 2 ^ 64) (63 - (top - lane)) == 1)
 lane_shifted words top lane eight few from to =

@@ -2,6 +2,6 @@ pub mod AnyLemmas
 pub mod BitLemmas
 pub mod ByteLemmas
 pub mod LastLemmas
-pub mod PickedLemmas
+pub mod SelectedLemmas
 pub mod StoredLemmas
 pub mod WordLemmas

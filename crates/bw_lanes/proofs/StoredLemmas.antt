@@ -1,12 +1,16 @@
 -- Lanes and the bytes that they are kept in undo each other.
-use Rattle.std.proofs.Common.{◌≡◌, ◌∙◌, refl, sym, ap, ap₂, ℕ, zero, suc, ◌+◌, ◌*◌, ◌/◌, ◌%◌, ◌^◌, ◌<◌, Bool, cond, ◌==◌, List, [], ◌∷◌, ◌++◌, length, take, drop, Fits, w8, w64, arith, flat_map, mod-lt}
+use Rattle.std.proofs.Common.{◌≡◌, ◌∙◌, refl, sym, ap, ap₂, ℕ, zero, suc, ◌+◌, ◌*◌, ◌/◌, ◌%◌, ◌^◌}
+use Rattle.std.proofs.Common.{◌<◌, Bool, cond, ◌==◌, List, [], ◌∷◌, ◌++◌, length, take, drop, Fits}
+use Rattle.std.proofs.Common.{w8, w64, arith, flat_map, mod-lt}
 use Rattle.std.proofs.Math.Seq.{drop-append_seam, take-append_seam}
 use Rattle.std.proofs.Math.Nat.{two-pow-succ}
 use Rattle.std.proofs.lemmas.List.{take-append-drop, length-take, length-drop, nil_from_length}
 use Rattle.std.proofs.lemmas.Simd.{below_from_Fits}
 use lib.Lanes.{Each1, mask_l, number_l, digits_l}
-use Rattle.bw_lanes.specs.Lanes.{bits_from_least, lanes_of_bytes, lanes_of_words, number_of_bits, bytes_from, bytes_of_lanes}
-use Rattle.bw_lanes.proofs.BitLemmas.{length-bits_from_least, bits_from_least_more, bits_of_flags, bits_of_digits, bits_of_number, of_bit}
+use Rattle.bw_lanes.specs.Lanes.{bits_from_least, lanes_of_bytes, lanes_of_words, number_of_bits}
+use Rattle.bw_lanes.specs.Lanes.{bytes_from, bytes_of_lanes}
+use Rattle.bw_lanes.proofs.BitLemmas.{length-bits_from_least, bits_from_least_more, bits_of_flags}
+use Rattle.bw_lanes.proofs.BitLemmas.{bits_of_digits, bits_of_number, of_bit}
 
 number_of_bits-mask : (bits : List Bool) → number_of_bits bits ≡ mask_l bits
 number_of_bits-mask [] = refl
@@ -52,7 +56,7 @@ digits_fit : (p count n : ℕ) → 0 < p → Each1 (λ digit. digit < p) (digits
 digits_fit p zero n some = tt
 digits_fit p (suc count) n some = (mod-lt n some, digits_fit p count (n / p) some)
 
--- numbers of so many bits, recoded as numbers of other many bits
+-- numbers of this many bits, recoded as numbers of another number of bits
 recoded : (width other count : ℕ) (numbers : List ℕ) → Each1 (λ n. n < 2 ^ other) numbers → count * width ≡ length numbers * other
     → flat_map (bits_from_least width) (digits_l (2 ^ width) count (number_l (2 ^ other) numbers)) ≡ flat_map (bits_from_least other) numbers
 recoded width other count numbers small same =

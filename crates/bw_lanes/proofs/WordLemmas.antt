@@ -1,11 +1,18 @@
 -- The lanes of words, of words that are joined and of those whose first lanes are 1, and the parts
 -- of 64 rows, one a word.
-use Rattle.std.proofs.Common.{get_or, ◌≡◌, ◌∙◌, refl, sym, ap, ap₂, ℕ, zero, suc, ◌+◌, ◌-◌, ◌*◌, ◌/◌, ◌%◌, ◌^◌, ◌<◌, ◌≤◌, Bool, true, false, not, cond, ◌==◌, ◌&&◌, ◌||◌, List, [], ◌∷◌, ◌++◌, map, flat_map, replicate, length, take, set, length-set, count_by, Fits, arith, w64, max, length-append, append_assoc, append-nil, min, add-zero, zero-add, drop, take_all, bit_or, count_ones, bit_xor, bit_and, eq-eqb, ltb, eqb}
+use Rattle.std.proofs.Common.{get_or, ◌≡◌, ◌∙◌, refl, sym, ap, ap₂, ℕ, zero, suc, ◌+◌, ◌-◌, ◌*◌}
+use Rattle.std.proofs.Common.{◌/◌, ◌%◌, ◌^◌, ◌<◌, ◌≤◌, Bool, true, false, not, cond, ◌==◌, ◌&&◌}
+use Rattle.std.proofs.Common.{◌||◌, List, [], ◌∷◌, ◌++◌, map, flat_map, replicate, length, take}
+use Rattle.std.proofs.Common.{set, length-set, count_by, Fits, arith, w64, max, length-append}
+use Rattle.std.proofs.Common.{append_assoc, append-nil, min, add-zero, zero-add, drop, take_all}
+use Rattle.std.proofs.Common.{bit_or, count_ones, bit_xor, bit_and, eq-eqb, ltb, eqb}
 use Rattle.std.proofs.Math.Nat.{two-pow-succ}
 use Rattle.std.proofs.Math.Bool.{and-true, and_assoc}
 use Rattle.std.proofs.lemmas.Bool.{eqb-true, eqb-false, ltb-true, ltb-false}
 use Rattle.std.proofs.lemmas.Nat.{le_or_l, ones_le_self, one_shl, pow_pos}
-use Rattle.std.proofs.lemmas.List.{map-append, length-map, length-take, take_more, take_more_set, replicate-append-replicate, take-append-drop, take-take, length-drop, drop_all}
+use Rattle.std.proofs.lemmas.List.{map-append, length-map, length-take, take_more, take_more_set}
+use Rattle.std.proofs.lemmas.List.{replicate-append-replicate, take-append-drop, take-take}
+use Rattle.std.proofs.lemmas.List.{length-drop, drop_all}
 use Rattle.std.proofs.lemmas.List.Folds.{list_all-append}
 use Rattle.std.proofs.lemmas.List.Concat.{flat_map-append}
 use Rattle.std.proofs.lemmas.Bool.Decides.{nat_tests}
@@ -17,8 +24,12 @@ use lib.Lanes.{zip2, Each1, Steps, fold_l, mask_l, put_chunk, sel_l, sum_l, top}
 use Rattle.std.specs.List.{list_all, range_with_len}
 use Rattle.bw_lanes.specs.Lanes.{bits_from_least, lanes_of_words, lanes_of_bytes, differ}
 use Rattle.std.proofs.lemmas.Nat.Bits.{shr_and_one, bit_at_or, bit_at_xor}
-use Rattle.bw_lanes.proofs.BitLemmas.{bit_in_numbers, length-bits_of_numbers, length-bits_from_least, bits_from_least_more, bits_of_not, bits_of_and, bits_joined, of_bit, bits_of_flags}
-use Rattle.std.proofs.lemmas.Simd.{fold-sum, sum_fits, tops_compared, mask_l-mod, length-put_chunk, get_or-zip2, length-replicate, length-zip2, put_chunk_is, take_more_put_chunk}
+use Rattle.bw_lanes.proofs.BitLemmas.{bit_in_numbers, length-bits_of_numbers}
+use Rattle.bw_lanes.proofs.BitLemmas.{length-bits_from_least, bits_from_least_more, bits_of_not}
+use Rattle.bw_lanes.proofs.BitLemmas.{bits_of_and, bits_joined, of_bit, bits_of_flags}
+use Rattle.std.proofs.lemmas.Simd.{fold-sum, sum_fits, tops_compared, mask_l-mod, length-put_chunk}
+use Rattle.std.proofs.lemmas.Simd.{get_or-zip2, length-replicate, length-zip2, put_chunk_is}
+use Rattle.std.proofs.lemmas.Simd.{take_more_put_chunk}
 use Rattle.std.proofs.Math.Seq.{take-add, drop-cons, drop-append_seam, take-append_seam, drop-drop}
 
 pub zip2-append : {A B C : Type 0} (f : A → B → C) (xs xs' : List A) (ys ys' : List B) → length xs ≡ length ys → zip2 f (xs ++ xs') (ys ++ ys') ≡ zip2 f xs ys ++ zip2 f xs' ys'
@@ -61,7 +72,7 @@ pub lanes_more : (word : ℕ) (words : List ℕ) → length words ≡ 8 → word
 lanes_more word words eight lt =
     ap lanes_of_words (take_more words word 0 (omega (arith, eight))) ∙ lanes_of_words-append (take word words) (get_or words word 0 ∷ []) ∙ ap (λ l. lanes_of_words (take word words) ++ l) (lanes_of_word (get_or words word 0))
 
--- a number of so many bits is 0 exactly where none of them is 1
+-- a number of this many bits is 0 if and only if none of them is 1
 pub zero_bits : (count n : ℕ) → n < 2 ^ count → (n == 0) ≡ list_all not (bits_from_least count n)
 unfolding bits_from_least
 zero_bits zero n small = eq-eqb n 0 (omega arith)
@@ -71,7 +82,7 @@ zero_bits (suc count) n small =
 pub either_is_zero : (a b : ℕ) → (bit_or a b == 0) ≡ ((a == 0) && (b == 0))
 either_is_zero a b = grind (arith, nat_tests, le_or_l a b, or_zero_l b)
 
--- words joined by or are 0 exactly where no lane is 1
+-- the OR of words is 0 if and only if no lane is 1
 zero_words : (a : ℕ) (words : List ℕ) → Each1 (Fits w64) words → (fold_l bit_or a words == 0) ≡ ((a == 0) && list_all not (lanes_of_words words))
 unfolding lanes_of_words
 zero_words a [] small = sym (and-true (a == 0))
@@ -82,7 +93,7 @@ zero_words a (word ∷ words) small =
 pub no_word : (words : List ℕ) → Each1 (Fits w64) words → (fold_l bit_or 0 words == 0) ≡ list_all not (lanes_of_words words)
 no_word words small = zero_words 0 words small
 
--- a number of so many bits has as many ones as bits that are 1
+-- a number of this many bits has as many ones as bits that are 1
 pub ones_in_bits : (count n : ℕ) → n < 2 ^ count → count_ones n ≡ count_by (λ lane. lane) (bits_from_least count n)
 unfolding bits_from_least
 ones_in_bits zero n small = omega (arith, ones_le_self n)
@@ -183,7 +194,7 @@ mapped_right f g [] ys = refl
 mapped_right f g (x ∷ xs) [] = refl
 mapped_right f g (x ∷ xs) (y ∷ ys) = ap (λ l. f x (g y) ∷ l) (mapped_right f g xs ys)
 
--- so many ones and then zeros
+-- this many ones and then zeros
 abbrev pub run : ℕ → ℕ → List Bool
 run ones zeros = replicate ones true ++ replicate zeros false
 

@@ -1,4 +1,4 @@
 pub mod Lanes
 pub mod Last
-pub mod Picked
+pub mod Selected
 pub mod Shifted

@@ -5,7 +5,7 @@
 //! counts are numbers of lanes that are 1. None allocates memory, and none fails.
 //!
 //! The layout is BitWeaving's vertical one (Li and Patel), with words of 64 bits, and ByteSlice's
-//! (Feng, Lo, Kao and Xu) for bytes. Read `plane.rt` first, then `bytes.rt`, `picked.rt` and
+//! (Feng, Lo, Kao and Xu) for bytes. Read `plane.rt` first, then `bytes.rt`, `selected.rt` and
 //! `shifted.rt`.
 #![tactic(auto)]
 
@@ -13,8 +13,8 @@ mod bytes;
 mod codes;
 mod lanes;
 mod last;
-mod picked;
 mod plane;
+mod selected;
 mod shifted;
 mod stored;
 
@@ -22,7 +22,7 @@ pub use bytes::{bytes_any, bytes_bit, bytes_eq, bytes_lt, bytes_none};
 pub use codes::{codes_eq, codes_lt};
 pub use lanes::LANES;
 pub use last::last_between;
-pub use picked::{bytes_of_plane, greatest_in, keep_in, least_in, sum_in};
 pub use plane::{Plane, Selection, and, count, count_and, is_zero, lane, mask, not, or, xor};
+pub use selected::{bytes_of_plane, greatest_in, keep_in, least_in, sum_in};
 pub use shifted::push_bit;
 pub use stored::{load, to_bytes};

@@ -1,5 +1,7 @@
 //! Planes: one bit of each of 512 rows, and the operations on them, by vectors of words.
-ghost use Rattle.std.specs.Prelude.{◌≡◌, ◌-◌, ◌<◌, ◌≤◌, ◌^◌, ◌==◌, ◌++◌, ◌&&◌, ◌||◌, true, false, not, if◌then◌else◌, map, count_by, nat_lt, replicate, slice_index_or};
+ghost use Rattle.std.specs.Prelude.{◌≡◌, ◌-◌, ◌<◌, ◌≤◌, ◌^◌, ◌==◌, ◌++◌, ◌&&◌, ◌||◌, true, false};
+ghost use Rattle.std.specs.Prelude.{not, if◌then◌else◌, map, count_by, nat_lt, replicate};
+ghost use Rattle.std.specs.Prelude.{slice_index_or};
 ghost use Rattle.std.specs.List.{flat_map, list_all, range_with_len};
 ghost use lib.Lanes.{zip2};
 ghost use Rattle.bw_lanes.specs.Lanes.{bits_from_least, lanes_of_words, differ};

@@ -5,8 +5,8 @@ ghost use Rattle.bw_lanes.specs.Lanes.{bits_from_least, lanes_of_words};
 ghost use Rattle.bw_lanes.specs.Shifted.{with_bit};
 
 use crate::lanes::LANES;
-use crate::picked::{bytes_of_word, put};
 use crate::plane::Plane;
+use crate::selected::{bytes_of_word, put};
 use std::simd::prelude::*;
 
 /// Shifts one more bit into a byte of each lane: each byte becomes its double, plus 1 if the
@@ -25,7 +25,7 @@ pub fn push_bit(bytes: &mut [u8; LANES], plane: &Plane)
 }
 
 /// Returns the same for the bytes of 64 rows and their word.
-#[tactic(auto, using(crate::proofs::PickedLemmas::shifted_computed))]
+#[tactic(auto, using(crate::proofs::SelectedLemmas::shifted_computed))]
 fn with_bits(bytes: u8x64, word: u64) -> u8x64
     ensures { result ≡ zip2 with_bit bytes (bits_from_least 64 word) }
 {

@@ -1,15 +1,15 @@
--- Where a call wrote something, the texts of its sources came whole.
+-- If a call wrote something, the texts of its sources were read completely.
 use Rattle.std.proofs.Common.{◌≡◌, ℕ, List, Result, Ok, Err, refl, sym, ap, subst}
 use Rattle.bw_model.specs.declared.fault.Fault.{Fault}
 use Rattle.bw_model.specs.declared.schema.Schema.{Schema}
 use Rattle.bw_io.specs.Source.{Arrival, NotReached, Whole, TooLong, Failed}
 use Rattle.bw_csv.specs.Input.{IsMadeOf, IsMadeAfter}
-use Rattle.bw_csv_calls.specs.Arrived.{IsSchemaFrom}
+use Rattle.bw_csv_calls.specs.ReadInputs.{IsSchemaFrom}
 use Rattle.bw_csv_calls.specs.Direct.{IsAnswer, IsAnswerUnder, answer_of}
-use Rattle.bw_laws.specs.OneAnswer.{CameOf, DirectMayWrite}
+use Rattle.bw_laws.specs.OneAnswer.{IsArrivalOf, DirectMayWrite}
 use Rattle.bw_laws.proofs.OneAnswerLemmas.{one_answer}
 
--- what was made of a CSV and is no fault was made of a text that came whole
+-- what was made of a CSV and is no error was made of a text that was read completely
 pub record CsvText {A : Type 0} (csv : Arrival) (make : List ℕ → Result A Fault) (x : A) : Type 0 where
   pub text : List ℕ
   pub came : csv ≡ Whole text
@@ -21,31 +21,31 @@ csv_text_of (Whole text) make x made = record { text = text; came = refl; given 
 csv_text_of TooLong make x made = absurd (cc made)
 csv_text_of (Failed fault) make x made = absurd (cc made)
 
--- what came of a source of a text, where a schema or bytes came, is that text
-pub schema_came_whole : (limit : ℕ) (text : List ℕ) (came : Arrival) (schema : Schema) → CameOf limit text came → IsSchemaFrom came (Ok schema) → came ≡ Whole text
+-- if a schema or bytes were read from a source of a text, they are those of that text
+pub schema_came_whole : (limit : ℕ) (text : List ℕ) (came : Arrival) (schema : Schema) → IsArrivalOf limit text came → IsSchemaFrom came (Ok schema) → came ≡ Whole text
 schema_came_whole limit text NotReached schema source from = absurd from
 schema_came_whole limit text (Whole bytes) schema source from = ap Whole source.is.0.1
 schema_came_whole limit text TooLong schema source from = absurd (cc from)
 schema_came_whole limit text (Failed fault) schema source from = absurd (cc from)
 
-csv_came_whole : (limit : ℕ) (text bytes : List ℕ) (came : Arrival) → CameOf limit text came → came ≡ Whole bytes → came ≡ Whole text
+csv_came_whole : (limit : ℕ) (text bytes : List ℕ) (came : Arrival) → IsArrivalOf limit text came → came ≡ Whole bytes → came ≡ Whole text
 csv_came_whole limit text bytes NotReached source is = absurd (cc is)
 csv_came_whole limit text bytes (Whole all) source is = ap Whole source.is.0.1
 csv_came_whole limit text bytes TooLong source is = absurd (cc is)
 csv_came_whole limit text bytes (Failed fault) source is = absurd (cc is)
 
-pub came_whole_after : {A : Type 0} (limit : ℕ) (csv given : List ℕ) (came : Arrival) (first : Result A Fault) (make : A → List ℕ → Result (List ℕ) Fault) → CameOf limit csv came
+pub came_whole_after : {A : Type 0} (limit : ℕ) (csv given : List ℕ) (came : Arrival) (first : Result A Fault) (make : A → List ℕ → Result (List ℕ) Fault) → IsArrivalOf limit csv came
     → IsMadeAfter first make came (Ok given) → came ≡ Whole csv
 came_whole_after limit csv given came (Ok x) make source made =
     let of = csv_text_of came (make x) given made in csv_came_whole limit csv of.text came source of.came
 came_whole_after limit csv given came (Err fault) make source made = absurd (cc (made.1))
 
--- both texts came whole
+-- both texts were read completely
 pub record Arrived (schema csv : List ℕ) (schema_came csv_came : Arrival) : Type 0 where
   pub schema_whole : schema_came ≡ Whole schema
   pub csv_whole : csv_came ≡ Whole csv
 
-arrived_under : (schema csv sql answer : List ℕ) (limit most : ℕ) (came csv_came : Arrival) → CameOf limit schema came → CameOf most csv csv_came
+arrived_under : (schema csv sql answer : List ℕ) (limit most : ℕ) (came csv_came : Arrival) → IsArrivalOf limit schema came → IsArrivalOf most csv csv_came
     → (reading : Result Schema Fault) → IsSchemaFrom came reading → IsAnswerUnder reading sql csv_came (Ok answer) → Arrived schema csv came csv_came
 arrived_under schema csv sql answer limit most came csv_came source csv_source (Ok under) from is = record {
   schema_whole = schema_came_whole limit schema came under source from;

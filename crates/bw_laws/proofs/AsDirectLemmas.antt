@@ -1,5 +1,6 @@
 -- What is answered over a loaded table is what `direct` may write.
-use Rattle.std.proofs.Common.{◌≡◌, ◌∙◌, ◌≤◌, ℕ, List, length, Option, Result, Ok, Err, IfOk, IsTrue, refl, sym, ap, subst}
+use Rattle.std.proofs.Common.{◌≡◌, ◌∙◌, ◌≤◌, ℕ, List, length, Option, Result, Ok, Err, IfOk, IsTrue}
+use Rattle.std.proofs.Common.{refl, sym, ap, subst}
 use Rattle.std.specs.Io.KnownBytes.{Appends}
 use Rattle.std.specs.List.{list_all}
 use Rattle.bw_model.specs.declared.column.Column.{Column}
@@ -13,7 +14,7 @@ use Rattle.bw_model.specs.Row.{Value}
 use Rattle.bw_model.specs.Schema.{IsSchema}
 use Rattle.bw_model.specs.SchemaText.{schema_shape}
 use Rattle.bw_io.specs.Source.{Arrival, NotReached, Whole, TooLong, Failed}
-use Rattle.bw_sql.specs.Asked.{query_shape}
+use Rattle.bw_sql.specs.QueryShape.{query_shape}
 use Rattle.bw_sql.specs.Statement.{IsReadAs}
 use Rattle.bw_sql.proofs.SameNames.{columns_too, spells_too}
 use Rattle.bw_answer.specs.Answer.{csv_text, meaning}
@@ -24,21 +25,22 @@ use Rattle.bw_file.specs.FileBytes.{IsFileBytes, file_bytes}
 use Rattle.bw_file.specs.TableReading.{Found}
 use Rattle.bw_file.proofs.SpelledFile.{of_one_table}
 use Rattle.bw_query.specs.TableAnswer.{AnswersFile, by_statement}
-use Rattle.bw_csv_calls.specs.Arrived.{IsSchemaFrom}
+use Rattle.bw_csv_calls.specs.ReadInputs.{IsSchemaFrom}
 use Rattle.bw_csv_calls.specs.Direct.{IsAnswer, IsAnswerUnder, answer_of}
 use Rattle.bw_csv_calls.specs.Load.{IsFile, file_of}
-use Rattle.bw_laws.specs.AsDirect.{IsAnswerable, LoadMayWrite, TookAnswer, TookAsDirect}
-use Rattle.bw_laws.specs.Joined.{AnswersCsv}
+use Rattle.bw_laws.specs.AsDirect.{IsAnswerable, LoadMayWrite, HasConsumedAnswer}
+use Rattle.bw_laws.specs.AsDirect.{HasConsumedAsDirect}
+use Rattle.bw_laws.specs.LoadThenQuery.{AnswersCsv}
 use Rattle.bw_laws.specs.OneAnswer.{DirectMayWrite}
 use Rattle.bw_laws.proofs.ArrivedLemmas.{csv_text_of, one_text}
-use Rattle.bw_laws.proofs.JoinedLemmas.{Loaded, answers, loaded, loaded_text}
+use Rattle.bw_laws.proofs.LoadThenQueryLemmas.{Loaded, answers, loaded, loaded_text}
 use Rattle.bw_laws.proofs.OneAnswerLemmas.{one_answer, one_schema}
 use Rattle.bw_laws.proofs.SoundSchemaLemmas.{sound_shape}
 
 abbrev Rows : Type 0
 Rows = List (List Value)
 
--- columns admit each row of a text, and a text has at most so many
+-- columns admit each row of a text, and a text has at most this many
 abbrev pub AdmitsRows : Type 0
 AdmitsRows = (columns : List Column) (text : List ℕ) → IfOk (rows_of columns text) (λ rows. IsTrue (list_all (admits_values columns) rows))
 
@@ -67,7 +69,7 @@ file_of_rows layout schema text bytes admits limits under of =
 
 under_direct : AdmitsRows → LimitsRows → (layout : Layout) (came csv : Arrival) (bytes sql : List ℕ) (program old new : Option (List ℕ))
     (reading : Result Schema Fault) → IsSchemaFrom came reading → IsMadeAfter reading (file_of layout) csv (Ok bytes)
-    → AnswersFile (by_statement program sql) bytes old new → TookAnswer came csv sql old new
+    → AnswersFile (by_statement program sql) bytes old new → HasConsumedAnswer came csv sql old new
 under_direct admits limits layout came csv bytes sql program old new (Err fault) from made file = absurd (cc (made.1))
 under_direct admits limits layout came csv bytes sql program old new (Ok schema) from made file =
     let csv_came = csv_text_of csv (file_of layout schema) bytes made in
@@ -89,13 +91,13 @@ under_direct admits limits layout came csv bytes sql program old new (Ok schema)
     }
 
 pub took_answer : AdmitsRows → LimitsRows → (layout : Layout) (schema csv : Arrival) (bytes sql : List ℕ) (program old new : Option (List ℕ))
-    → IsFile layout schema csv (Ok bytes) → AnswersFile (by_statement program sql) bytes old new → TookAnswer schema csv sql old new
+    → IsFile layout schema csv (Ok bytes) → AnswersFile (by_statement program sql) bytes old new → HasConsumedAnswer schema csv sql old new
 took_answer admits limits layout schema csv bytes sql program old new is file =
     under_direct admits limits layout schema csv bytes sql program old new is.0 is.1 is.2 file
 
 -- so it is over the texts of the sources
 pub took_as_direct : AdmitsRows → LimitsRows → (layout : Layout) (schema csv bytes sql : List ℕ) (program old new : Option (List ℕ))
-    → LoadMayWrite layout schema csv bytes → AnswersFile (by_statement program sql) bytes old new → TookAsDirect schema csv sql old new
+    → LoadMayWrite layout schema csv bytes → AnswersFile (by_statement program sql) bytes old new → HasConsumedAsDirect schema csv sql old new
 took_as_direct admits limits layout schema csv bytes sql program old new load file =
     let took = took_answer admits limits layout load.schema_came load.csv_came bytes sql program old new load.is file in
     let may : DirectMayWrite schema csv sql took.text =
@@ -114,7 +116,7 @@ took_as_direct admits limits layout schema csv bytes sql program old new load fi
     }
 
 -- two sinks that took what `direct` may write took the same text
-pub took_alike : (schema csv sql : List ℕ) (old new before after : Option (List ℕ)) → TookAsDirect schema csv sql old new → TookAsDirect schema csv sql before after
+pub took_alike : (schema csv sql : List ℕ) (old new before after : Option (List ℕ)) → HasConsumedAsDirect schema csv sql old new → HasConsumedAsDirect schema csv sql before after
     → (text : List ℕ) × Appends old new text × Appends before after text
 took_alike schema csv sql old new before after a b =
     (a.text, a.took, subst (λ (text : List ℕ). Appends before after text) (a.only b.text b.may) b.took)
@@ -125,7 +127,7 @@ rows_spelled : (columns : List Column) (query : Query) (text answer : List ℕ) 
 rows_spelled columns query text answer (Ok rows) spelled given = (rows, spelled)
 rows_spelled columns query text answer (Err fault) spelled given = absurd (cc given)
 
--- where a query has an answer over a CSV that came, a load has a file for it
+-- if a query has an answer over a CSV that came, a load has a file for it
 answerable_under : AdmitsRows → LimitsRows → (layout : Layout) (came csv : Arrival) (sql answer : List ℕ) (given : Result (List ℕ) Fault)
     (schema other : Schema) (query : Query) → IsSchemaFrom came (Ok schema) → schema_shape other ≡ schema_shape schema → IsReadAs other sql (Ok query)
     → IsMadeOf (answer_of other.columns.items query) csv (Ok answer) → IsMadeOf (file_of layout schema) csv given → IsAnswerable layout sql given

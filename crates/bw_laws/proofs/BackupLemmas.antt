@@ -1,5 +1,7 @@
 -- The text of a dump spells the table's rows, and so a load of it gives the table's file.
-use Rattle.std.proofs.Common.{◌≡◌, ◌∙◌, ◌⊎◌, inl, inr, ℕ, zero, suc, ◌+◌, ◌≤◌, List, [], ◌∷◌, ◌++◌, length, length-append, map, Option, Some, None, Result, Ok, Err, Bool, true, false, refl, sym, ap, subst, arith, slice_index, MatchBool}
+use Rattle.std.proofs.Common.{◌≡◌, ◌∙◌, ◌⊎◌, inl, inr, ℕ, zero, suc, ◌+◌, ◌≤◌, List, [], ◌∷◌, ◌++◌}
+use Rattle.std.proofs.Common.{length, length-append, map, Option, Some, None, Result, Ok, Err, Bool}
+use Rattle.std.proofs.Common.{true, false, refl, sym, ap, subst, arith, slice_index, MatchBool}
 use Rattle.std.specs.Prelude.{slice_index_or}
 use Rattle.std.specs.Io.KnownBytes.{Appends, Consumes}
 use Rattle.std.specs.List.{filter_map, list_all, range_with_len}
@@ -27,19 +29,24 @@ use Rattle.bw_csv.specs.Input.{IsMadeAfter, IsMadeOf}
 use Rattle.bw_csv.specs.Rows.{row_of_record, rows_from, rows_of, values_of_fields}
 use Rattle.bw_csv.proofs.DigitsAlone.{both}
 use Rattle.bw_csv.proofs.RowLemmas.{rows_after-rows}
-use Rattle.bw_csv_calls.specs.Arrived.{IsSchemaFrom}
+use Rattle.bw_csv_calls.specs.ReadInputs.{IsSchemaFrom}
 use Rattle.bw_csv_calls.specs.Load.{file_of}
-use Rattle.bw_io.specs.Source.{Arrival, NotReached, Whole, TooLong, Failed, PassedLimit, is_input_fault}
+use Rattle.bw_io.specs.Source.{Arrival, NotReached, Whole, TooLong, Failed, PassedLimit}
+use Rattle.bw_io.specs.Source.{is_input_fault}
 use Rattle.bw_file.specs.declared.layout.Layout.{Layout}
-use Rattle.bw_file.specs.FileBytes.{IsFileBytes, bytes_of_version, file_bytes, file_bytes2, front_bytes, header_bytes, magic}
+use Rattle.bw_file.specs.FileBytes.{IsFileBytes, bytes_of_version, file_bytes, file_bytes2}
+use Rattle.bw_file.specs.FileBytes.{front_bytes, header_bytes, magic}
 use Rattle.bw_file.specs.Reading.{Tail, tail}
-use Rattle.bw_file.specs.TableReading.{Found, HeaderShape, IsReadAfter, IsReadAs, found_as, found_in, header}
+use Rattle.bw_file.specs.TableReading.{Found, HeaderShape, IsReadAfter, IsReadAs, found_as}
+use Rattle.bw_file.specs.TableReading.{found_in, header}
 use Rattle.bw_file.proofs.ReaderLemmas.{head_at}
 use Rattle.bw_query.specs.TableAnswer.{AnswersFile, IsEveryRow, by_dump}
-use Rattle.bw_laws.specs.OneAnswer.{CameOf}
+use Rattle.bw_laws.specs.OneAnswer.{IsArrivalOf}
 use Rattle.bw_laws.specs.Backup.{IsOfNeededVersion, IsThatFile, IsTold, LoadsUnder, table_text}
 use Rattle.bw_laws.proofs.SpelledRecords.{is_record, records_read, unmarked}
-use Rattle.bw_laws.proofs.SpelledValues.{AreColumns, first_is, is_solid, name_is_solid, names_head, others_are, shows, solid_shows, value_shows, value_spelled, word_unmarked}
+use Rattle.bw_laws.proofs.SpelledValues.{AreColumns, first_is, is_solid, name_is_solid, names_head}
+use Rattle.bw_laws.proofs.SpelledValues.{others_are, shows, solid_shows, value_shows, value_spelled}
+use Rattle.bw_laws.proofs.SpelledValues.{word_unmarked}
 use Rattle.bw_text.specs.Text.{goes_on_in_word}
 
 abbrev Rows : Type 0
@@ -177,7 +184,7 @@ dump_text bytes layout schema rows query file every =
 
 pub text_spells : (bytes : List ℕ) (layout : Layout) (schema : Schema) (rows : Rows) → IsFileBytes bytes layout schema rows
     → rows_of schema.columns.items (table_text schema rows) ≡ Ok rows
-text_spells bytes layout schema rows file = rows_again schema.columns.items rows schema.inhabited file.under.columns file.admitted.admitted file.admitted.few
+text_spells bytes layout schema rows file = rows_again schema.columns.items rows schema.inhabited file.under.columns file.admitted.admitted file.admitted.within_limit
 
 -- so a load of a text that spells the rows gives their file
 pub text_loads : (layout : Layout) (schema : Schema) (rows : Rows) (text : List ℕ) → rows_of schema.columns.items text ≡ Ok rows
@@ -214,7 +221,7 @@ input_is : (fault : Fault) (memory : Bool) (before after : ℕ) → is_memory fa
 input_is fault true before after e came = rw e refl
 input_is fault false before after e came = rw (came.0) refl
 
-failed_input : (limit : ℕ) (bytes : List ℕ) (fault : Fault) → CameOf limit bytes (Failed fault) → is_input_fault fault ≡ true
+failed_input : (limit : ℕ) (bytes : List ℕ) (fault : Fault) → IsArrivalOf limit bytes (Failed fault) → is_input_fault fault ≡ true
 failed_input limit bytes fault of = input_is fault (is_memory fault) of.before of.after refl of.is
 
 not_past : (bytes left taken : List ℕ) (limit : ℕ) → length bytes ≤ limit → bytes ≡ taken ++ left → length taken ≡ limit + 1 → ⊥
@@ -245,7 +252,7 @@ module _ (layout : Layout) (schema : Schema) (rows : Rows) (csv : List ℕ) (spe
   failed_is_given : (given : Result (List ℕ) Fault) (fault : Fault) → is_input_fault fault ≡ true → given ≡ Err fault → IsGiven given
   failed_is_given given fault input e = rw e input
 
-  with_csv : (under : Schema) (came : Arrival) (given : Result (List ℕ) Fault) → schema_shape under ≡ schema_shape schema → length csv ≤ longest_csv → CameOf longest_csv csv came
+  with_csv : (under : Schema) (came : Arrival) (given : Result (List ℕ) Fault) → schema_shape under ≡ schema_shape schema → length csv ≤ longest_csv → IsArrivalOf longest_csv csv came
       → IsMadeOf (file_of layout under) came given → IsGiven given
   with_csv under NotReached given alike short of made = absurd made
   with_csv under (Whole all) given alike short of made =
@@ -256,13 +263,13 @@ module _ (layout : Layout) (schema : Schema) (rows : Rows) (csv : List ℕ) (spe
   with_csv under (Failed fault) given alike short of made = failed_is_given given fault (failed_input longest_csv csv fault of) made
 
   with_schema : (text : List ℕ) (under : Result Schema Fault) (came : Arrival) (given : Result (List ℕ) Fault) → IsSchemaText text (schema_shape schema)
-      → IsSchemaFrom (Whole text) under → length csv ≤ longest_csv → CameOf longest_csv csv came → IsMadeAfter under (file_of layout) came given → IsGiven given
+      → IsSchemaFrom (Whole text) under → length csv ≤ longest_csv → IsArrivalOf longest_csv csv came → IsMadeAfter under (file_of layout) came given → IsGiven given
   with_schema text (Ok under) came given is from short of made = with_csv under came given (spelled_alike text (schema_shape under) (schema_shape schema) from is) short of made
   with_schema text (Err fault) came given is from short of made =
       absurd (let clash : ◌≡◌ {A = Result SchemaShape Fault} (Ok (schema_shape schema)) (Err fault) = sym (read_of text (schema_shape schema) is) ∙ from in cc clash)
 
   by_schema : (text : List ℕ) (schema_came came : Arrival) (under : Result Schema Fault) (given : Result (List ℕ) Fault) → IsSchemaText text (schema_shape schema)
-      → CameOf longest_schema text schema_came → IsSchemaFrom schema_came under → length csv ≤ longest_csv → CameOf longest_csv csv came
+      → IsArrivalOf longest_schema text schema_came → IsSchemaFrom schema_came under → length csv ≤ longest_csv → IsArrivalOf longest_csv csv came
       → IsMadeAfter under (file_of layout) came given → IsGiven given
   by_schema text NotReached came under given is source from short of made = absurd from
   by_schema text (Whole all) came under given is source from short of made =

@@ -1,5 +1,8 @@
--- A table file that is cut is refused: reading takes each field whole before it judges it.
-use Rattle.std.proofs.Common.{◌≡◌, ◌∙◌, refl, sym, ap, subst, inl, inr, ℕ, zero, suc, ◌+◌, ◌-◌, ◌<◌, true, List, [], ◌∷◌, ◌++◌, length, take, drop, append_assoc, length-append, take-append-drop, Option, Some, None, Result, Ok, Err, arith, nat_lt, slice_index}
+-- A table file that is cut is rejected: reading takes each field whole before it judges it.
+use Rattle.std.proofs.Common.{◌≡◌, ◌∙◌, refl, sym, ap, subst, inl, inr, ℕ, zero, suc, ◌+◌, ◌-◌, ◌<◌}
+use Rattle.std.proofs.Common.{true, List, [], ◌∷◌, ◌++◌, length, take, drop, append_assoc}
+use Rattle.std.proofs.Common.{length-append, take-append-drop, Option, Some, None, Result, Ok, Err}
+use Rattle.std.proofs.Common.{arith, nat_lt, slice_index}
 use Rattle.std.proofs.Math.Seq.{take-append-add}
 use Rattle.std.proofs.lemmas.Bool.{cases_lt, lt-ltb}
 use Rattle.std.proofs.lemmas.List.{length-take-le, take-append-le}
@@ -12,14 +15,20 @@ use Rattle.bw_model.specs.SchemaText.{ColumnShape, shape, shape_names, schema_sh
 use Rattle.bw_file.specs.declared.layout.Layout.{Layout}
 use Rattle.bw_file.specs.Blocks.{block_size, block_fault, rows_spelled}
 use Rattle.bw_file.specs.FileBytes.{IsFileBytes}
-use Rattle.bw_file.specs.Reading.{Tail, tail, Reading, passed, ◌>>=◌, give, field, parsed_at, read_field, NeedsEach}
-use Rattle.bw_file.specs.TableReading.{parse_magic, parse_version, parse_layout, parse_count, rows_say, bounds_say, parse_nullable, parse_name, name, column, columns, front_of, front, HeaderShape, header_of, header, sound_at, one_block, blocks, segment, group_sizes, end, body, Found, found_as, found_in, IsReadAfter, IsReadAs}
+use Rattle.bw_file.specs.Reading.{Tail, tail, Reading, passed, ◌>>=◌, give, field, parsed_at}
+use Rattle.bw_file.specs.Reading.{read_field, NeedsEach}
+use Rattle.bw_file.specs.TableReading.{parse_magic, parse_version, parse_layout, parse_count}
+use Rattle.bw_file.specs.TableReading.{parse_row_count, parse_bounds, parse_nullable, parse_name}
+use Rattle.bw_file.specs.TableReading.{name, column, columns, front_of, front, HeaderShape}
+use Rattle.bw_file.specs.TableReading.{header_of, header, sound_at, one_block, blocks, segment}
+use Rattle.bw_file.specs.TableReading.{group_sizes, end, body, Found, found_as, found_in}
+use Rattle.bw_file.specs.TableReading.{IsReadAfter, IsReadAs}
 use Rattle.bw_file.proofs.FileSpelling.{body_found}
 use Rattle.bw_file.proofs.ReadingLemmas.{field_needs, needs_more, needs_none}
 use Rattle.bw_file.proofs.SpelledFile.{read_one_way, spelled_is_read}
 use Rattle.bw_file.proofs.SpelledHeader.{field_reads}
 
--- what a reading took of bytes, each of which it needs, whatever stands after them
+-- what a reading took of bytes, each of which it needs, whatever follows them
 record Takes {A : Type 0} (reading : Reading A) (at : ℕ) (bytes : List ℕ) (read : A × Tail) : Type 0 where
   taken : List ℕ
   split : bytes ≡ taken ++ read.1.bytes
@@ -34,7 +43,7 @@ record TakesWhole {A : Type 0} (reading : Reading A) (at : ℕ) : Type 0 where
 ok_same : {A : Type 0} {x y : A} → ◌≡◌ {A = Result A Fault} (Ok x) (Ok y) → x ≡ y
 ok_same e = cc
 
--- a reading that takes these bytes, whatever stands after them
+-- a reading that takes these bytes, whatever follows them
 takes_text : {A : Type 0} (reading : Reading A) (at : ℕ) (taken rest : List ℕ) (x : A) (after : ℕ) (bytes : List ℕ) (read : A × Tail) → after ≡ at + length taken
     → ((rest : List ℕ) → reading (tail at (taken ++ rest)) ≡ Ok (x, tail after rest)) → NeedsEach reading at taken → taken ++ rest ≡ bytes → reading (tail at bytes) ≡ Ok read → Takes reading at bytes read
 takes_text reading at taken rest x after bytes read place on needs whole e =
@@ -98,9 +107,9 @@ takes_as one other at same p = record {
       };
 }
 
-judged_takes : {A : Type 0} (size : ℕ) (says : List ℕ → Result A ℕ) (at : ℕ) → TakesWhole (read_field size says) at
+read_field_takes : {A : Type 0} (size : ℕ) (says : List ℕ → Result A ℕ) (at : ℕ) → TakesWhole (read_field size says) at
 unfolding read_field
-judged_takes size says at =
+read_field_takes size says at =
     takes_as (field size >>= λ bytes. parsed_at at (says bytes)) (read_field size says) at (λ bytes. refl)
     (then_takes (field size) (λ bytes. parsed_at at (says bytes)) at (field_takes size at) (λ bytes n. said_takes at n (says bytes)))
 
@@ -116,8 +125,8 @@ column_takes : (version : ℕ) (before : List (List ℕ)) (at : ℕ) → TakesWh
 unfolding column
 column_takes version before at =
     then_takes (name before) _ at (name_takes before at) (λ text n.
-    then_takes (read_field 16 (bounds_say version)) _ n (judged_takes 16 (bounds_say version) n) (λ bounds m.
-    then_takes (read_field 1 parse_nullable) _ m (judged_takes 1 parse_nullable m) (λ nullable k. give_takes (shape text bounds.lo bounds.hi nullable) k)))
+    then_takes (read_field 16 (parse_bounds version)) _ n (read_field_takes 16 (parse_bounds version) n) (λ bounds m.
+    then_takes (read_field 1 parse_nullable) _ m (read_field_takes 1 parse_nullable m) (λ nullable k. give_takes (shape text bounds.lo bounds.hi nullable) k)))
 
 columns_take : (version : ℕ) (before : List ColumnShape) (count at : ℕ) → TakesWhole (columns version before count) at
 unfolding columns
@@ -128,11 +137,11 @@ columns_take version before (suc count) at =
 front_takes : (at : ℕ) → TakesWhole front at
 unfolding front
 front_takes at =
-    then_takes (read_field 8 parse_magic) _ at (judged_takes 8 parse_magic at) (λ _ a.
-    then_takes (read_field 1 parse_version) _ a (judged_takes 1 parse_version a) (λ version b.
-    then_takes (read_field 1 parse_layout) _ b (judged_takes 1 parse_layout b) (λ layout c.
-    then_takes (read_field 2 parse_count) _ c (judged_takes 2 parse_count c) (λ count d.
-    then_takes (read_field 4 rows_say) _ d (judged_takes 4 rows_say d) (λ rows e. give_takes (front_of version layout count rows) e)))))
+    then_takes (read_field 8 parse_magic) _ at (read_field_takes 8 parse_magic at) (λ _ a.
+    then_takes (read_field 1 parse_version) _ a (read_field_takes 1 parse_version a) (λ version b.
+    then_takes (read_field 1 parse_layout) _ b (read_field_takes 1 parse_layout b) (λ layout c.
+    then_takes (read_field 2 parse_count) _ c (read_field_takes 2 parse_count c) (λ count d.
+    then_takes (read_field 4 parse_row_count) _ d (read_field_takes 4 parse_row_count d) (λ rows e. give_takes (front_of version layout count rows) e)))))
 
 header_takes : (at : ℕ) → TakesWhole header at
 unfolding header
@@ -189,7 +198,7 @@ body_needs layout schema (size ∷ sizes) before at bytes read e =
     then_needs (segment layout schema size) (λ group. body layout schema sizes (before ++ group ∷ [])) at bytes read (segment layout schema size (tail at bytes)) (segment_takes layout schema size at)
     (λ x is. body_needs layout schema sizes (before ++ x.0 ∷ []) x.1.at x.1.bytes read is) refl e
 
--- so the beginning of a file that is read as a table is refused at its length
+-- so the beginning of a file that is read as a table is rejected at its length
 cut_by : (bytes : List ℕ) (n : ℕ) (h : Result (HeaderShape × Tail) Fault) (found : Found) → n < length bytes → header (tail 0 bytes) ≡ h → IsReadAfter h (Ok found)
     → IsReadAs (take n bytes) (Err (at_byte 305 n))
 cut_by bytes n (Err fault) found less is read = absurd (cc read)

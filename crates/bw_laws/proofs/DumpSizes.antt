@@ -1,5 +1,7 @@
--- How long the text of a dump is at most: a name has 63 bytes at most, a number 20, and a byte stands after each field.
-use Rattle.std.proofs.Common.{◌≡◌, ◌∙◌, ℕ, zero, suc, ◌+◌, ◌*◌, ◌≤◌, List, [], ◌∷◌, ◌++◌, length, length-append, append_assoc, map, Some, None, true, not, ap, arith}
+-- How long the text of a dump is at most: a name has 63 bytes at most, a number 20, and a byte
+-- follows each field.
+use Rattle.std.proofs.Common.{◌≡◌, ◌∙◌, ℕ, zero, suc, ◌+◌, ◌*◌, ◌≤◌, List, [], ◌∷◌, ◌++◌, length}
+use Rattle.std.proofs.Common.{length-append, append_assoc, map, Some, None, true, not, ap, arith}
 use Rattle.std.specs.Prelude.{◌&&◌, ⊤, nat_le}
 use Rattle.std.specs.List.{join_with_byte, list_all}
 use Rattle.std.proofs.lemmas.Bool.{leb-true}
@@ -23,7 +25,7 @@ use Rattle.bw_laws.specs.Backup.{table_text}
 use Rattle.bw_laws.proofs.BackupLemmas.{as_wide}
 use Rattle.bw_laws.proofs.SpelledValues.{AreColumns, first_is, fits_in, others_are}
 
--- each field has at most so many bytes
+-- each field has at most this many bytes
 abbrev AreShort : ℕ → List (List ℕ) → Type 0
 AreShort most [] = ⊤
 AreShort most (field ∷ fields) = (length field ≤ most) × AreShort most fields
@@ -88,4 +90,4 @@ few_columns (suc (suc (suc (suc columns)))) rows size most few all = absurd (ome
 
 pub three_columns : (bytes : List ℕ) (layout : Layout) (schema : Schema) (rows : List (List Value)) → IsFileBytes bytes layout schema rows
     → length schema.columns.items ≤ 3 → length (table_text schema rows) ≤ longest_csv
-three_columns bytes layout schema rows file few = few_columns (length schema.columns.items) (length rows) _ (table_short bytes layout schema rows file) few file.admitted.few
+three_columns bytes layout schema rows file few = few_columns (length schema.columns.items) (length rows) _ (table_short bytes layout schema rows file) few file.admitted.within_limit

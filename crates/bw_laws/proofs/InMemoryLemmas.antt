@@ -1,5 +1,6 @@
 -- Over a table in memory a statement has the answer that it has over its file.
-use Rattle.std.proofs.Common.{◌≡◌, ◌∙◌, ◌⊎◌, ℕ, Bool, true, false, List, [], ◌++◌, Option, Some, None, Result, Ok, Err, inl, inr, refl, sym, ap, subst}
+use Rattle.std.proofs.Common.{◌≡◌, ◌∙◌, ◌⊎◌, ℕ, Bool, true, false, List, [], ◌++◌, Option, Some}
+use Rattle.std.proofs.Common.{None, Result, Ok, Err, inl, inr, refl, sym, ap, subst}
 use Rattle.std.specs.Io.KnownBytes.{Appends, Consumes}
 use Rattle.bw_model.specs.declared.column.Column.{Column}
 use Rattle.bw_model.specs.declared.cond.Cond.{Cond}
@@ -11,13 +12,13 @@ use Rattle.bw_model.specs.CondTree.{tree_of}
 use Rattle.bw_model.specs.Fault.{is_memory}
 use Rattle.bw_model.specs.Row.{Value}
 use Rattle.bw_model.specs.SchemaText.{schema_shape}
-use Rattle.bw_sql.specs.Asked.{QueryShape, query_shape}
+use Rattle.bw_sql.specs.QueryShape.{QueryShape, query_shape}
 use Rattle.bw_sql.specs.Statement.{IsReadAs}
 use Rattle.bw_sql.proofs.SameNames.{columns_too}
 use Rattle.bw_sql.proofs.Texts.{text_query}
 use Rattle.bw_program.specs.Program.{ProgramShape}
 use Rattle.bw_cert_text.specs.CertificateShape.{CertificateShape}
-use Rattle.bw_cert.specs.Judged.{Certifies, IsFileFault}
+use Rattle.bw_cert.specs.FileVerdict.{Certifies, IsFileFault}
 use Rattle.bw_answer.specs.Answer.{csv_text}
 use Rattle.bw_file.specs.declared.layout.Layout.{Layout}
 use Rattle.bw_file.specs.FileBytes.{IsFileBytes}
@@ -30,8 +31,10 @@ use Rattle.bw_file.proofs.ReaderSpelling.{no_fault}
 use Rattle.bw_file.proofs.SpelledFile.{of_one_table, spelled_is_read}
 use Rattle.bw_query.specs.MemoryAnswer.{RowsText}
 use Rattle.bw_query.specs.Scan.{IsScanFault, IsUsable}
-use Rattle.bw_query.specs.TableAnswer.{AnswersFile, AskedRefused, HeaderRead, SegmentRefused, TableGave, by_statement, is_no_verdict}
-use Rattle.bw_laws.specs.OneAnswer.{asked_in}
+use Rattle.bw_query.specs.TableAnswer.{AnswersFile, HasRejectedQuery, IsHeaderOf}
+use Rattle.bw_query.specs.TableAnswer.{HasFailedAtSegment}
+use Rattle.bw_query.specs.TableAnswer.{IsTableResult, by_statement, is_no_verdict}
+use Rattle.bw_laws.specs.OneAnswer.{query_asked_in}
 use Rattle.bw_laws.proofs.OneAnswerLemmas.{one_reading}
 use Rattle.bw_laws.proofs.OneMeaningLemmas.{one_meaning}
 use Rattle.bw_laws.proofs.OneTableLemmas.{took_meaning}
@@ -44,7 +47,7 @@ one_text bytes sql text layout schema rows program second old new is told file =
     let same = one_meaning names took.query told.query rows (text_query schema sql (query_shape took.query) (query_shape told.query) took.spelled told.asked.0) in
     subst (λ (those : List ℕ). Appends old new those) (ap csv_text same ∙ sym told.is) took.took
 
--- one file is judged in one way, for conditions of one tree
+-- one file is checked in one way, for conditions of one tree
 pub record OneVerdict : Type 0 where
   pub accepted : (columns : List Column) (cond same : Cond) (file : List ℕ) (program : ProgramShape) (certificate : CertificateShape) (fault : Fault)
       → tree_of cond ≡ tree_of same → Certifies columns cond file program certificate → IsFileFault columns same file fault → ⊥
@@ -52,7 +55,7 @@ pub record OneVerdict : Type 0 where
       → fault ≡ other
 
 module _ (verdict : OneVerdict) (schema other : Schema) (shape : schema_shape schema ≡ schema_shape other) (sql : List ℕ) where
-  trees : (query another : Query) → asked_in (Ok query) ≡ asked_in (Ok another) → tree_of query.cond ≡ tree_of another.cond
+  trees : (query another : Query) → query_asked_in (Ok query) ≡ query_asked_in (Ok another) → tree_of query.cond ≡ tree_of another.cond
   trees query another same =
       let one : query_shape query ≡ query_shape another = cc same in
       ap (λ (a : QueryShape). a.cond) one
@@ -76,10 +79,10 @@ module _ (verdict : OneVerdict) (schema other : Schema) (shape : schema_shape sc
   fault_here : (file : Option (List ℕ)) (cond : Cond) (fault : Fault) → IsScanFault file other.columns.items cond fault → IsScanFault file schema.columns.items cond fault
   fault_here file cond fault refused = subst (λ (cs : List Column). IsScanFault file cs cond fault) columns refused
 
-  read_alike : (reading second : Result Query Fault) → IsReadAs schema sql reading → IsReadAs other sql second → asked_in reading ≡ asked_in second
+  read_alike : (reading second : Result Query Fault) → IsReadAs schema sql reading → IsReadAs other sql second → query_asked_in reading ≡ query_asked_in second
   read_alike reading second a b = one_reading schema other sql reading second shape a b
 
-  pub one_question : (file : Option (List ℕ)) (given second : Result Query Fault) → by_statement file sql schema given → by_statement file sql other second → asked_in given ≡ asked_in second
+  pub one_question : (file : Option (List ℕ)) (given second : Result Query Fault) → by_statement file sql schema given → by_statement file sql other second → query_asked_in given ≡ query_asked_in second
   one_question file (Ok query) (Ok another) a b = read_alike (Ok query) (Ok another) a.0 b.0
   one_question file (Ok query) (Err fault) a (inl b) = absurd (cc (read_alike (Ok query) (Err fault) a.0 b))
   one_question file (Ok query) (Err fault) a (inr b) =
@@ -108,7 +111,7 @@ known_rest (Some xs) (Some ys) bytes taken e consumed = (ys, sym (some_is xs byt
 
 -- a header that was read of a table's bytes tells of the table's schema
 header_of_table : (bytes : List ℕ) (layout : Layout) (schema other : Schema) (rows : List (List Value)) (start after : State) → IsFileBytes bytes layout schema rows → start.known ≡ Some bytes
-    → start.offset ≡ 0 → HeaderRead start after other → schema_shape schema ≡ schema_shape other
+    → start.offset ≡ 0 → IsHeaderOf start after other → schema_shape schema ≡ schema_shape other
 header_of_table bytes layout schema other rows start after file known first head =
     let read = head.read in
     let left = known_rest start.known after.known bytes read.bytes known read.took.consumed in
@@ -128,19 +131,19 @@ memory_is_none fault none = by_memory (is_memory fault) refl
     by_memory true e = absurd (cc (rw e at none))
     by_memory false e = e
 
-err_is : (fault second : Fault) → asked_in (Err fault) ≡ asked_in (Err second) → fault ≡ second
+err_is : (fault second : Fault) → query_asked_in (Err fault) ≡ query_asked_in (Err second) → fault ≡ second
 err_is fault second e = cc
 
 pub one_refusal : (verdict : OneVerdict) (bytes sql : List ℕ) (layout : Layout) (schema : Schema) (rows : List (List Value)) (program : Option (List ℕ)) (failures : ℕ) (now : State) (fault second : Fault)
-    → IsFileBytes bytes layout schema rows → by_statement program sql schema (Err fault) → TableGave (by_statement program sql) (state (Some bytes) 0 failures) now (Err second)
+    → IsFileBytes bytes layout schema rows → by_statement program sql schema (Err fault) → IsTableResult (by_statement program sql) (state (Some bytes) 0 failures) now (Err second)
     → is_no_verdict second ≡ false → fault ≡ second
 one_refusal verdict bytes sql layout schema rows program failures now fault second file asks gave none = by_place gave.answer
   where
     start : State
     start = state (Some bytes) 0 failures
 
-    by_place : Fails header (state (Some bytes) 0 failures) now second ⊎ AskedRefused (by_statement program sql) (state (Some bytes) 0 failures) now second
-        ⊎ SegmentRefused (by_statement program sql) (state (Some bytes) 0 failures) now second → fault ≡ second
+    by_place : Fails header (state (Some bytes) 0 failures) now second ⊎ HasRejectedQuery (by_statement program sql) (state (Some bytes) 0 failures) now second
+        ⊎ HasFailedAtSegment (by_statement program sql) (state (Some bytes) 0 failures) now second → fault ≡ second
     by_place (inl fails) = absurd (input_is_none second (no_fault bytes layout schema rows file _ _ now second refl (header_refused _ now second refl fails)) none)
     by_place (inr (inl refused)) =
         let shape = header_of_table bytes layout schema refused.schema rows _ now file refl refl refused.head in

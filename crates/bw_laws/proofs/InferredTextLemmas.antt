@@ -1,5 +1,9 @@
--- The schema that is inferred from a CSV text has names that are names, and bounds that 64 bits hold, as its rows do.
-use Rattle.std.proofs.Common.{◌≡◌, ◌∙◌, sym, ap, subst, ℕ, ℤ, zero, suc, ◌+◌, ◌^◌, ◌<◌, ◌≤◌, ◌==◌, Bool, true, false, not, if◌then◌else◌, nat_le, nat_lt, List, [], ◌∷◌, ◌++◌, length, map, get_or, All, Option, Some, None, Ok, FitsSigned, w64, length-append, arith, refl}
+-- The schema that is inferred from a CSV text has names that are names, and bounds that 64 bits
+-- hold, as its rows do.
+use Rattle.std.proofs.Common.{◌≡◌, ◌∙◌, sym, ap, subst, ℕ, ℤ, zero, suc, ◌+◌, ◌^◌, ◌<◌, ◌≤◌, ◌==◌}
+use Rattle.std.proofs.Common.{Bool, true, false, not, if◌then◌else◌, nat_le, nat_lt, List, [], ◌∷◌}
+use Rattle.std.proofs.Common.{◌++◌, length, map, get_or, All, Option, Some, None, Ok, FitsSigned}
+use Rattle.std.proofs.Common.{w64, length-append, arith, refl}
 use Rattle.std.specs.List.{list_any}
 use Rattle.std.proofs.lemmas.Bool.{leb-false}
 use Rattle.std.proofs.lemmas.Int.{ints, clamps}
@@ -16,12 +20,15 @@ use Rattle.bw_model.specs.SchemaText.{ColumnShape, SchemaShape, shape_names, is_
 use Rattle.bw_model.specs.Total.{combine_totals, total}
 use Rattle.bw_model.proofs.SchemaLemmas.{are_apart-push}
 use Rattle.bw_model.proofs.TotalLemmas.{total_append}
-use Rattle.bw_csv.specs.Bare.{bare_number, bare_row, bare_rows, bare_value, bare_values, records_of, within_64_bits}
+use Rattle.bw_csv.specs.Bare.{bare_number, bare_row, bare_rows, bare_value, bare_values, records_of}
+use Rattle.bw_csv.specs.Bare.{within_64_bits}
 use Rattle.bw_csv.specs.Rows.{is_minus, is_null_text, unsigned, with_row, without_blanks}
 use Rattle.bw_csv.proofs.BareLemmas.{bound, passed}
 use Rattle.bw_schemas.specs.Heading.{heading_names, names_from, some_names}
-use Rattle.bw_schemas.specs.Inferred.{column_over, columns_over, infer_schema, inferred_after, or_zero, check_bounds, ranged_column, schema_over, table_of}
-use Rattle.bw_schemas.specs.Printed.{schema_text}
+use Rattle.bw_schemas.specs.InferredSchema.{column_over, columns_over, infer_schema, inferred_after}
+use Rattle.bw_schemas.specs.InferredSchema.{or_zero, check_bounds, ranged_column, schema_over}
+use Rattle.bw_schemas.specs.InferredSchema.{table_of}
+use Rattle.bw_schemas.specs.PrintedSchema.{schema_text}
 use Rattle.bw_schemas.proofs.NarrowLemmas.{greatest_of_one, least_of_one}
 use Rattle.bw_laws.proofs.ShapeText.{IsSound, AreSound, shape_spelled}
 use Rattle.bw_laws.proofs.SoundSchemaLemmas.{number_fits}
@@ -115,13 +122,13 @@ abbrev IsName : List ℕ → Type 0
 IsName name = is_name name ≡ true
 
 record AreNames (names : List (List ℕ)) : Type 0 where
-  few : length names ≤ 64
+  within_limit : length names ≤ 64
   are : All IsName names
   apart : are_apart names ≡ true
 
 no_names : AreNames []
 unfolding are_apart
-no_names = record { few = omega arith; are = All-nil IsName; apart = refl }
+no_names = record { within_limit = omega arith; are = All-nil IsName; apart = refl }
 
 not_not : (b : Bool) → not b ≡ false → b ≡ true
 not_not true h = refl
@@ -138,7 +145,7 @@ names_after before (name ∷ names) all good e =
     let new = passed (list_any (λ other. same_text other name) before) (at_record 104 0) rest all named.1 in
     let fewer : length before < 64 = leb-false _ _ room.0 in
     names_after (before ++ name ∷ []) names all (record {
-      few = omega (arith, length-append before (name ∷ []));
+      within_limit = omega (arith, length-append before (name ∷ []));
       are = All-push IsName before name good.are (not_not (is_name name) named.0);
       apart = are_apart-push before name good.apart new.0;
     }) new.1
@@ -155,7 +162,7 @@ heading_sound fields names e =
     let same : one.0 ≡ names = cc two.1 in
     subst (λ (names : List (List ℕ)). AreNames names × (1 ≤ length names)) same (names_after [] (map without_blanks fields) one.0 no_names one.1, some_are one.0 two.0)
 
--- columns over rows that aren't refused
+-- columns over rows that aren't rejected
 abbrev Columns : List (List ℕ) → List ColumnShape → Type 0
 Columns names columns = All IsSound columns × (shape_names columns ≡ names)
 
@@ -200,8 +207,8 @@ inferred_sound table (heading ∷ more) schema named e =
     subst AreSound same (record {
       name = named;
       columns = columns.0;
-      some = omega (arith, good.1);
-      few = omega (arith, good.0.few);
+      nonempty = omega (arith, good.1);
+      within_limit = omega (arith, good.0.within_limit);
       apart = ap are_apart columns.1 ∙ good.0.apart;
     })
 

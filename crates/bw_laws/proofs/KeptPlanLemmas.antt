@@ -1,5 +1,5 @@
--- What a sink holds after a plan was written, and that a file which is certified for a condition is so for another one
--- for which its certificate is valid.
+-- What a sink holds after a plan was written, and that a file which is certified for a condition is
+-- so for another one for which its certificate is valid.
 use Rattle.std.proofs.Common.{ℕ, List, [], Some, Result, Ok, Err, sym, subst}
 use Rattle.bw_model.specs.declared.column.Column.{Column}
 use Rattle.bw_model.specs.declared.cond.Cond.{Cond}
@@ -7,7 +7,7 @@ use Rattle.bw_model.specs.declared.fault.Fault.{Fault}
 use Rattle.bw_io.specs.Sink.{WriteOutcome, everything, none_aside}
 use Rattle.bw_program.specs.Program.{ProgramShape}
 use Rattle.bw_cert_text.specs.CertificateShape.{CertificateShape}
-use Rattle.bw_cert.specs.Judged.{Certifies}
+use Rattle.bw_cert.specs.FileVerdict.{Certifies}
 use Rattle.bw_cert.specs.Valid.{Valid}
 use Rattle.bw_query.specs.Plan.{IsPlan, IsPlanned}
 

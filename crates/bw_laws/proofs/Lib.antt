@@ -5,7 +5,7 @@ pub mod CutFileLemmas
 pub mod DumpSizes
 pub mod InMemoryLemmas
 pub mod InferredTextLemmas
-pub mod JoinedLemmas
+pub mod LoadThenQueryLemmas
 pub mod KeptPlanLemmas
 pub mod OneAnswerLemmas
 pub mod OneFileLemmas

@@ -1,5 +1,6 @@
 -- A schema text, a CSV text and a statement have one answer.
-use Rattle.std.proofs.Common.{◌≡◌, ◌∙◌, ℕ, not, ◌||◌, ◌==◌, List, Result, Ok, Err, refl, sym, ap, subst}
+use Rattle.std.proofs.Common.{◌≡◌, ◌∙◌, ℕ, not, ◌||◌, ◌==◌, List, Result, Ok, Err, refl, sym, ap}
+use Rattle.std.proofs.Common.{subst}
 use Rattle.bw_model.specs.declared.column.Column.{Column}
 use Rattle.bw_model.specs.declared.fault.Fault.{Fault}
 use Rattle.bw_model.specs.declared.query.Query.{Query}
@@ -10,25 +11,27 @@ use Rattle.bw_model.specs.SchemaText.{SchemaShape, schema_shape}
 use Rattle.bw_io.specs.Source.{Arrival, NotReached, Whole, TooLong, Failed}
 use Rattle.bw_sql.specs.declared.reader.Refusal.{Refusal}
 use Rattle.bw_sql.specs.declared.reader.Refusal.TheVariants.{Syntax, Literal}
-use Rattle.bw_sql.specs.Asked.{QueryShape, query_shape}
+use Rattle.bw_sql.specs.QueryShape.{QueryShape, query_shape}
 use Rattle.bw_sql.specs.Demand.{meets, refusal}
 use Rattle.bw_sql.specs.Frontier.{Begins, Stands, IsFirst, asked_for, at_token, at_sign, at_end}
 use Rattle.bw_sql.specs.Grammar.{StatementIs}
 use Rattle.bw_sql.specs.Refusal.{code_of}
-use Rattle.bw_sql.specs.Statement.{IsFault, IsReadAs, IsRefusal, too_long, refused, token_refused, end_refused, byte_refused}
+use Rattle.bw_sql.specs.Statement.{IsFault, IsReadAs, IsRefusal, too_long, refused, token_refused}
+use Rattle.bw_sql.specs.Statement.{end_refused, byte_refused}
 use Rattle.bw_sql.specs.Token.{Lexeme}
 use Rattle.bw_sql.proofs.SameNames.{columns_too, spells_too}
 use Rattle.bw_sql.proofs.Texts.{text_query, same_fault, spelled_or_refused}
 use Rattle.bw_answer.specs.Answer.{csv_text, meaning}
 use Rattle.bw_csv.specs.Input.{IsMadeOf, IsMadeAfter}
 use Rattle.bw_csv.specs.Rows.{rows_of}
-use Rattle.bw_csv_calls.specs.Arrived.{IsSchemaFrom}
+use Rattle.bw_csv_calls.specs.ReadInputs.{IsSchemaFrom}
 use Rattle.bw_csv_calls.specs.Direct.{IsAnswer, IsAnswerUnder, answer_of}
-use Rattle.bw_laws.specs.OneAnswer.{asked_in, shape_in}
+use Rattle.bw_laws.specs.OneAnswer.{query_asked_in, shape_in}
 use Rattle.bw_laws.proofs.OneMeaningLemmas.{one_meaning}
 use Rattle.bw_laws.proofs.SchemaTextLemmas as texts
 
--- what is spelled under a schema, as far as the demands of one number go, is spelled under one of its shape
+-- what is spelled under a schema, as far as the demands of one number go, is spelled under one of
+-- its shape
 spelled_too : (s t : Schema) (why : Refusal) (tokens : List Lexeme) (query : QueryShape) → schema_shape s ≡ schema_shape t
     → StatementIs s.columns.items (asked_for s why) tokens query → StatementIs t.columns.items (asked_for t why) tokens query
 spelled_too s t why tokens query same spelled =
@@ -40,7 +43,7 @@ begins_too : (s t : Schema) (why : Refusal) (tokens : List Lexeme) → schema_sh
 begins_too s t why tokens same begins =
     record { more = begins.more; query = begins.query; spelled = spelled_too s t why _ begins.query same begins.spelled }
 
--- so each fault stands where it does under a schema of its shape
+-- so each error is at the same place under a schema of its shape
 stands_too : (s t : Schema) (tokens : List Lexeme) (why : Refusal) (place : ℕ) → schema_shape s ≡ schema_shape t → Stands s tokens why place → Stands t tokens why place
 stands_too s t tokens why place same (at_token before after token is begins stops) =
     at_token before after token is (begins_too s t why before same begins) (λ goes_on. stops (begins_too t s why _ (sym same) goes_on))
@@ -66,7 +69,7 @@ fault_too s t text fault same (refused short refusal) = refused short (refusal_t
 
 -- a statement is read in one way under schemas of one shape
 pub one_reading : (s t : Schema) (text : List ℕ) (reading second : Result Query Fault) → schema_shape s ≡ schema_shape t
-    → IsReadAs s text reading → IsReadAs t text second → asked_in reading ≡ asked_in second
+    → IsReadAs s text reading → IsReadAs t text second → query_asked_in reading ≡ query_asked_in second
 one_reading s t text (Ok query) (Ok other) same a b = ap Ok (text_query t text (query_shape query) (query_shape other) (spells_too s t text (query_shape query) same a) b)
 one_reading s t text (Ok query) (Err fault) same a b = absurd (spelled_or_refused t text (query_shape query) fault (spells_too s t text (query_shape query) same a) b)
 one_reading s t text (Err fault) (Ok query) same a b = absurd (spelled_or_refused t text (query_shape query) fault b (fault_too s t text fault same a))
@@ -84,7 +87,7 @@ one_schema (Whole text) (Err fault) (Err other) a b =
 one_schema TooLong reading second a b = ap shape_in (a ∙ sym b)
 one_schema (Failed fault) reading second a b = ap shape_in (a ∙ sym b)
 
--- what follows from an answer, where it is the same of each
+-- what follows from an answer, if it is the same of each
 then_alike : {A B : Type 0} (first : Result A Fault) (f g : A → Result B Fault) → ((x : A) → f x ≡ g x) → (first >>= f) ≡ (first >>= g)
 then_alike (Ok x) f g alike = alike x
 then_alike (Err fault) f g alike = refl

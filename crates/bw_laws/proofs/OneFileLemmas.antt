@@ -11,10 +11,10 @@ use Rattle.bw_csv.specs.Input.{IsMadeAfter}
 use Rattle.bw_csv.specs.Rows.{rows_of}
 use Rattle.bw_file.specs.declared.layout.Layout.{Layout}
 use Rattle.bw_file.specs.FileBytes.{bytes_of_version, version_for}
-use Rattle.bw_csv_calls.specs.Arrived.{IsSchemaFrom}
+use Rattle.bw_csv_calls.specs.ReadInputs.{IsSchemaFrom}
 use Rattle.bw_csv_calls.specs.Load.{IsFile, file_of}
 use Rattle.bw_laws.specs.AsDirect.{LoadMayWrite}
-use Rattle.bw_laws.specs.OneAnswer.{CameOf}
+use Rattle.bw_laws.specs.OneAnswer.{IsArrivalOf}
 use Rattle.bw_laws.proofs.ArrivedLemmas.{Arrived, came_whole_after, schema_came_whole}
 use Rattle.bw_laws.proofs.OneAnswerLemmas.{after_alike, one_schema}
 
@@ -28,8 +28,8 @@ pub one_file : (layout : Layout) (schema csv : Arrival) (given other : Result (L
 one_file layout schema csv given other a b =
     after_alike schema_shape (file_of layout) (file_of layout) a.0 b.0 csv given other (file_alike layout) (one_schema schema a.0 b.0 a.1 b.1) a.2 b.2
 
--- where a load wrote bytes, both texts came whole
-arrived_under : (schema csv bytes : List ℕ) (limit most : ℕ) (came csv_came : Arrival) → CameOf limit schema came → CameOf most csv csv_came
+-- if a load wrote bytes, both texts were read completely
+arrived_under : (schema csv bytes : List ℕ) (limit most : ℕ) (came csv_came : Arrival) → IsArrivalOf limit schema came → IsArrivalOf most csv csv_came
     → (layout : Layout) (reading : Result Schema Fault) → IsSchemaFrom came reading → IsMadeAfter reading (file_of layout) csv_came (Ok bytes) → Arrived schema csv came csv_came
 arrived_under schema csv bytes limit most came csv_came source csv_source layout (Ok under) from is = record {
   schema_whole = schema_came_whole limit schema came under source from;

@@ -1,5 +1,6 @@
 -- Queries of the same items, whose conditions have the same tree, have one meaning.
-use Rattle.std.proofs.Common.{◌≡◌, ◌∙◌, ℕ, cond, List, [], ◌∷◌, map, filter_map, refl, sym, ap, ap₂, Bool, if◌then◌else◌}
+use Rattle.std.proofs.Common.{◌≡◌, ◌∙◌, ℕ, cond, List, [], ◌∷◌, map, filter_map, refl, sym, ap, ap₂}
+use Rattle.std.proofs.Common.{Bool, if◌then◌else◌}
 use Rattle.bw_model.specs.declared.cond.Truth.{Truth}
 use Rattle.bw_model.specs.declared.cond.Truth.TheVariants.{Yes}
 use Rattle.bw_model.specs.declared.cond.Cond.{Cond}
@@ -12,7 +13,7 @@ use Rattle.bw_model.specs.Selection.{matching_rows}
 use Rattle.bw_model.specs.Total.{total}
 use Rattle.bw_model.specs.Truth.{is_truth}
 use Rattle.bw_model.proofs.SameLemmas.{truth_of-tree_of}
-use Rattle.bw_sql.specs.Asked.{QueryShape, query_shape}
+use Rattle.bw_sql.specs.QueryShape.{QueryShape, query_shape}
 use Rattle.bw_answer.specs.Answer.{meaning, heading_of, lists_rows, field_of, value_text}
 
 kept_alike : (cond other : Cond) (rows : List (List Value)) → tree_of cond ≡ tree_of other → matching_rows cond rows ≡ matching_rows other rows

@@ -5,7 +5,7 @@ use Rattle.bw_model.specs.declared.query.Query.{Query}
 use Rattle.bw_model.specs.declared.schema.Schema.{Schema}
 use Rattle.bw_model.specs.Column.{names_of}
 use Rattle.bw_model.specs.Row.{Value}
-use Rattle.bw_sql.specs.Asked.{query_shape}
+use Rattle.bw_sql.specs.QueryShape.{query_shape}
 use Rattle.bw_sql.specs.Statement.{Spells}
 use Rattle.bw_sql.proofs.SameNames.{columns_too, spells_too}
 use Rattle.bw_sql.proofs.Texts.{text_query}

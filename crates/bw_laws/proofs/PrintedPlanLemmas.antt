@@ -1,17 +1,22 @@
--- A plan's file is cut at the line CERTIFICATE that was printed: no line of a printed program has that word alone.
-use Rattle.std.proofs.Common.{◌≡◌, ◌∙◌, refl, sym, ap, subst, ℕ, suc, ◌+◌, Bool, true, false, not, cond, List, [], ◌∷◌, ◌++◌, codes, length, Result, Ok, append_assoc}
+-- A plan's file is cut at the line CERTIFICATE that was printed: no line of a printed program has
+-- that word alone.
+use Rattle.std.proofs.Common.{◌≡◌, ◌∙◌, refl, sym, ap, subst, ℕ, suc, ◌+◌, Bool, true, false, not}
+use Rattle.std.proofs.Common.{cond, List, [], ◌∷◌, ◌++◌, codes, length, Result, Ok, append_assoc}
 use Rattle.std.specs.Fmt.{decimal}
 use Rattle.std.specs.List.{list_all}
 use Rattle.std.proofs.lemmas.Bool.{and_parts, eqb-true}
 use Rattle.bw_model.specs.declared.column.Column.{Column}
 use Rattle.bw_model.specs.declared.fault.Fault.{Fault}
-use Rattle.bw_text.specs.Lines.{NumberedWords, begins_comment, cut_lines, is_line_feed, is_skipped, numbered, numbered_from, only_of, with_first, words_of}
-use Rattle.bw_text.specs.Printed.{line_text, spaced}
+use Rattle.bw_text.specs.Lines.{NumberedWords, begins_comment, cut_lines, is_line_feed, is_skipped}
+use Rattle.bw_text.specs.Lines.{numbered, numbered_from, only_of, with_first, words_of}
+use Rattle.bw_text.specs.Printing.{line_text, spaced}
 use Rattle.bw_text.specs.Text.{same_text}
 use Rattle.bw_program.specs.declared.instr.Instr.{Instr}
 use Rattle.bw_program.specs.PrintText.{instr_words, lines_text, print_text}
 use Rattle.bw_program.specs.Program.{ProgramShape}
-use Rattle.bw_program.specs.ProgramText.{IsProgramText, SpellsInstr, SpellsLines, load, nulls, fill, conjunction, disjunction, difference, negation, below, same, skip, result_line, instr_line}
+use Rattle.bw_program.specs.ProgramText.{IsProgramText, SpellsInstr, SpellsLines, load, nulls, fill}
+use Rattle.bw_program.specs.ProgramText.{conjunction, disjunction, difference, negation, below}
+use Rattle.bw_program.specs.ProgramText.{same, skip, result_line, instr_line}
 use Rattle.bw_cert_text.specs.CertificateFields.{CertificateFields}
 use Rattle.bw_cert_text.specs.CertificateText.{IsCertificateText, SpellsFrom}
 use Rattle.bw_cert.specs.ProgramFile.{after_divider, before_divider, divides, is_divider_word}

@@ -1,11 +1,16 @@
--- A schema text spells one schema or has one fault: what is read is spelled, what is spelled is read, and what is
--- refused is refused by a fault of schema texts.
-use Rattle.std.proofs.Common.{◌≡◌, ◌∙◌, sym, ◌≤◌, ◌⊎◌, inl, inr, ℕ, List, [], ◌∷◌, ◌++◌, length, Bool, true, false, not, Option, Some, None, Result, Ok, Err, refl, subst, IfErr, nat_le, nat_lt, arith}
+-- A schema text spells one schema or has one error: what is read is spelled, what is spelled is
+-- read, and what is rejected is rejected by an error of schema texts.
+use Rattle.std.proofs.Common.{◌≡◌, ◌∙◌, sym, ◌≤◌, ◌⊎◌, inl, inr, ℕ, List, [], ◌∷◌, ◌++◌, length}
+use Rattle.std.proofs.Common.{Bool, true, false, not, Option, Some, None, Result, Ok, Err, refl}
+use Rattle.std.proofs.Common.{subst, IfErr, nat_le, nat_lt, arith}
 use Rattle.std.specs.List.{list_any}
 use Rattle.bw_model.specs.declared.fault.Fault.{Fault}
 use Rattle.bw_model.specs.Fault.{◌>>=◌, refused_if, at_line, nowhere}
 use Rattle.bw_model.specs.Name.{is_name}
-use Rattle.bw_model.specs.SchemaText.{ColumnShape, SchemaShape, shape_names, is_range, column_words, table_words, table_on, named_table, column_on, next_column, after_room, columns_on, with_columns, schema_on, schema_of, IsSchemaText}
+use Rattle.bw_model.specs.SchemaText.{ColumnShape, SchemaShape, shape_names, is_range, column_words}
+use Rattle.bw_model.specs.SchemaText.{table_words, table_on, named_table, column_on, next_column}
+use Rattle.bw_model.specs.SchemaText.{after_room, columns_on, with_columns, schema_on, schema_of}
+use Rattle.bw_model.specs.SchemaText.{IsSchemaText}
 use Rattle.bw_text.specs.Lines.{NumberedWords, lines_in, end_in, whole, is_empty}
 use Rattle.bw_text.specs.Text.{same_text}
 use Rattle.bw_model.proofs.SchemaSpelling.{spelled_of, read_of}
@@ -27,7 +32,7 @@ one_schema text shape other one two = let same : ◌≡◌ {A = Result SchemaSha
 pub one_fault : (text : List ℕ) (fault other : Fault) → schema_of text ≡ Err fault → schema_of text ≡ Err other → fault ≡ other
 one_fault text fault other one two = let same : ◌≡◌ {A = Result SchemaShape Fault} (Err fault) (Err other) = sym one ∙ two in cc
 
--- each test refuses by a number of schema texts, and so does what follows it
+-- each test rejects by a number of schema texts, and so does what follows it
 abbrev IsNumbered : Fault → Type 0
 IsNumbered fault = (101 ≤ fault.code) × (fault.code ≤ 106)
 

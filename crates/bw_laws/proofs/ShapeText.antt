@@ -1,20 +1,25 @@
--- The text of a shape whose names are names, and whose bounds are in order and 64 bits hold, spells that shape.
-use Rattle.std.proofs.Common.{◌≡◌, sym, subst, ℕ, ℤ, ◌+◌, ◌*◌, ◌≤◌, Bool, true, false, not, ◌&&◌, All, List, [], ◌∷◌, ◌++◌, length, Some, nat_le, length-append, arith, refl}
+-- The text of a shape whose names are names, and whose bounds are in order and 64 bits hold, spells
+-- that shape.
+use Rattle.std.proofs.Common.{◌≡◌, sym, subst, ℕ, ℤ, ◌+◌, ◌*◌, ◌≤◌, Bool, true, false, not, ◌&&◌}
+use Rattle.std.proofs.Common.{All, List, [], ◌∷◌, ◌++◌, length, Some, nat_le, length-append, arith}
+use Rattle.std.proofs.Common.{refl}
 use Rattle.std.specs.Fmt.{signed_decimal}
 use Rattle.std.specs.List.{list_all, AllZip}
 use Rattle.std.proofs.lemmas.Bool.{leb-true}
 use Rattle.std.proofs.lemmas.List.Elements.{All-head, All-tail}
 use Rattle.bw_text.specs.Keyword.{is_reserved}
 use Rattle.bw_text.specs.Lines.{NumberedWords, cut_lines, numbered, numbered_from}
-use Rattle.bw_text.specs.Printed.{is_plain_word, line_text, spaced}
+use Rattle.bw_text.specs.Printing.{is_plain_word, line_text, spaced}
 use Rattle.bw_text.specs.Text.{same_text, is_word}
 use Rattle.bw_text.proofs.SpacedWords.{line_said, plain_word}
 use Rattle.bw_model.specs.Limits.{longest_name}
 use Rattle.bw_model.specs.Name.{is_name, are_apart}
 use Rattle.bw_model.specs.Schema.{IsColumn}
-use Rattle.bw_model.specs.SchemaText.{ColumnShape, SchemaShape, shape, shape_names, column_words, table_words, is_range, SpellsColumn, SpellsSchema, IsSchemaText}
+use Rattle.bw_model.specs.SchemaText.{ColumnShape, SchemaShape, shape, shape_names, column_words}
+use Rattle.bw_model.specs.SchemaText.{table_words, is_range, SpellsColumn, SpellsSchema}
+use Rattle.bw_model.specs.SchemaText.{IsSchemaText}
 use Rattle.bw_model.proofs.BitsLemmas.{both}
-use Rattle.bw_schemas.specs.Printed.{column_line, columns_text, schema_text, table_line}
+use Rattle.bw_schemas.specs.PrintedSchema.{column_line, columns_text, schema_text, table_line}
 use Rattle.bw_schemas.proofs.PrintedBounds.{bound_spelled, bound_plain, bound_length}
 use Rattle.bw_schemas.proofs.PrintedText.{no_comments}
 
@@ -27,8 +32,8 @@ pub record IsSound (column : ColumnShape) : Type 0 where
 pub record AreSound (schema : SchemaShape) : Type 0 where
   pub name : is_name schema.name ≡ true
   pub columns : All IsSound schema.columns
-  pub some : 1 ≤ length schema.columns
-  pub few : length schema.columns ≤ 64
+  pub nonempty : 1 ≤ length schema.columns
+  pub within_limit : length schema.columns ≤ 64
   pub apart : are_apart (shape_names schema.columns) ≡ true
 
 -- a name is a plain word of at most 63 bytes
@@ -112,14 +117,14 @@ unfolding schema_text
 shape_spelled schema is =
     let more = columns_text schema.columns in
     let size : length (line_text (table_line schema.name) ++ more) ≤ 65536 =
-    omega (arith, length-append (line_text (table_line schema.name)) more, table_short schema.name is.name, columns_short schema.columns is.columns, is.few) in (
+    omega (arith, length-append (line_text (table_line schema.name)) more, table_short schema.name is.name, columns_short schema.columns is.columns, is.within_limit) in (
       size,
       subst (λ (l : List NumberedWords). SpellsSchema l schema) (sym (table_said schema.name more is.name)) (
         table_spelled schema.name,
         is.name,
         columns_spelled 2 schema.columns is.columns,
-        is.some,
-        is.few,
+        is.nonempty,
+        is.within_limit,
         is.apart,
       ),
     )

@@ -1,5 +1,7 @@
 -- A schema text spells a schema whose names are names and whose bounds 64 bits hold.
-use Rattle.std.proofs.Common.{◌≡◌, ℕ, ℤ, pos, ◌-ℤ◌, ◌≤◌, ◌<◌, ◌^◌, ◌==◌, List, [], ◌∷◌, drop, Bool, true, false, not, ◌||◌, Option, Some, None, All, FitsSigned, w64, refl, subst, arith, nat_le, nat_lt, codes, if◌then◌else◌, slice_index}
+use Rattle.std.proofs.Common.{◌≡◌, ℕ, ℤ, pos, ◌-ℤ◌, ◌≤◌, ◌<◌, ◌^◌, ◌==◌, List, [], ◌∷◌, drop, Bool}
+use Rattle.std.proofs.Common.{true, false, not, ◌||◌, Option, Some, None, All, FitsSigned, w64}
+use Rattle.std.proofs.Common.{refl, subst, arith, nat_le, nat_lt, codes, if◌then◌else◌, slice_index}
 use Rattle.std.specs.List.{AllZip}
 use Rattle.std.proofs.lemmas.Bool.{leb-true, ltb-true}
 use Rattle.std.proofs.lemmas.Int.{ints}
@@ -8,7 +10,9 @@ use Rattle.bw_text.specs.Lines.{NumberedWords, lines_in, whole}
 use Rattle.bw_text.specs.Number.{are_digits, digits_value, number_of}
 use Rattle.bw_text.specs.Text.{same_text}
 use Rattle.bw_model.specs.Schema.{IsColumn, IsSchema}
-use Rattle.bw_model.specs.SchemaText.{ColumnShape, SchemaShape, shape, bound_of, signed_digits, with_bounds, are_not_null, column_words, SpellsColumn, SpellsSchema, IsSchemaText}
+use Rattle.bw_model.specs.SchemaText.{ColumnShape, SchemaShape, shape, bound_of, signed_digits}
+use Rattle.bw_model.specs.SchemaText.{with_bounds, are_not_null, column_words, SpellsColumn}
+use Rattle.bw_model.specs.SchemaText.{SpellsSchema, IsSchemaText}
 
 -- a number that a sign and digits spell is one that 64 bits hold
 negative_fits : (v : ℕ) (within : Bool) (n : ℤ) → nat_le v (2 ^ 63) ≡ within → (if within then Some (pos 0 -ℤ pos v) else None) ≡ Some n → FitsSigned w64 n

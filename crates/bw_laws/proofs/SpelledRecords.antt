@@ -1,5 +1,6 @@
 -- The records of a text of records whose fields show themselves are these records.
-use Rattle.std.proofs.Common.{◌≡◌, ◌∙◌, ℕ, List, [], ◌∷◌, ◌++◌, Some, Bool, true, false, not, refl, ap, eqb, append_assoc}
+use Rattle.std.proofs.Common.{◌≡◌, ◌∙◌, ℕ, List, [], ◌∷◌, ◌++◌, Some, Bool, true, false, not, refl}
+use Rattle.std.proofs.Common.{ap, eqb, append_assoc}
 use Rattle.std.specs.Prelude.{◌||◌}
 use Rattle.std.specs.List.{join_with_byte, list_all}
 use Rattle.csv.specs.Machine.{next_record}

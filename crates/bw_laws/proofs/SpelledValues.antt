@@ -1,5 +1,8 @@
--- A number in decimal, NULL and a name, each as a field of a CSV text: it needs no quotes, and it spells itself.
-use Rattle.std.proofs.Common.{◌≡◌, ◌∙◌, ℕ, ℤ, pos, negsuc, suc, ◌-ℤ◌, ◌-◌, ◌^◌, ◌<◌, ◌≤◌, List, [], ◌∷◌, Some, None, Ok, Bool, true, false, not, length, take, get_or, map, refl, sym, ap, arith, eqb, lt-ltb, FitsSigned, w64, All}
+-- A number in decimal, NULL and a name, each as a field of a CSV text: it needs no quotes, and it
+-- spells itself.
+use Rattle.std.proofs.Common.{◌≡◌, ◌∙◌, ℕ, ℤ, pos, negsuc, suc, ◌-ℤ◌, ◌-◌, ◌^◌, ◌<◌, ◌≤◌, List, []}
+use Rattle.std.proofs.Common.{◌∷◌, Some, None, Ok, Bool, true, false, not, length, take, get_or}
+use Rattle.std.proofs.Common.{map, refl, sym, ap, arith, eqb, lt-ltb, FitsSigned, w64, All}
 use Rattle.std.specs.Prelude.{◌&&◌, ◌||◌, int_le, nat_le}
 use Rattle.std.specs.Char.{is_ascii_digit, to_ascii_lowercase}
 use Rattle.std.specs.Fmt.{decimal, signed_decimal}
@@ -22,7 +25,8 @@ use Rattle.bw_text.specs.Text.{begins_word, goes_on_in_word, is_word, same_text}
 use Rattle.bw_text.proofs.DecimalLemmas.{Spells, decimal_spells}
 use Rattle.bw_answer.specs.Answer.{value_text}
 use Rattle.bw_csv.specs.Plain.{is_plain}
-use Rattle.bw_csv.specs.Rows.{after_minus, is_blank, is_heading, is_minus, value_of_field, without_blanks, without_end_blanks, without_front_blanks}
+use Rattle.bw_csv.specs.Rows.{after_minus, is_blank, is_heading, is_minus, value_of_field}
+use Rattle.bw_csv.specs.Rows.{without_blanks, without_end_blanks, without_front_blanks}
 use Rattle.bw_csv.proofs.DigitsAlone.{both, other_than, signed_digits}
 use Rattle.bw_csv.proofs.PlainFields.{plain_number}
 
@@ -31,14 +35,14 @@ abbrev pub shows : List ℕ → Bool
 shows [] = false
 shows (c ∷ cs) = list_all is_plain (c ∷ cs)
 
--- digits, after a minus sign where there is one, which spell a number of 64 bits
+-- digits, after a minus sign if there is one, which spell a number of 64 bits
 record Signed (n : ℤ) (field : List ℕ) : Type 0 where
   digits : are_digits (after_minus field) ≡ true
   number : number_of (is_minus field) (after_minus field) ≡ Some n
 
 positive : (n : ℕ) (digits : List ℕ) → n < 2 ^ 63 → Spells n digits → Signed (pos n) digits
 unfolding number_of
-positive n [] small spells = absurd (omega (arith, spells.some))
+positive n [] small spells = absurd (omega (arith, spells.nonempty))
 positive n (c ∷ cs) small spells =
     let first = both (is_ascii_digit c) (list_all is_ascii_digit cs) spells.all in
     let unsigned : eqb c 45 ≡ false = other_than c 45 first.0 (omega arith) in
@@ -49,7 +53,7 @@ positive n (c ∷ cs) small spells =
 
 negative : (n : ℕ) (digits : List ℕ) → suc n ≤ 2 ^ 63 → Spells (suc n) digits → Signed (negsuc n) (45 ∷ digits)
 unfolding number_of
-negative n [] small spells = absurd (omega (arith, spells.some))
+negative n [] small spells = absurd (omega (arith, spells.nonempty))
 negative n (c ∷ cs) small spells =
     let minus : pos 0 -ℤ pos (suc n) ≡ negsuc n = omega (arith, ints) in
     record { digits = spells.all; number = rw (spells.value, le-leb (suc n) (2 ^ 63) small) (ap Some minus) }
@@ -119,7 +123,7 @@ goes_on false false true true e = refl
 goes_on false false true false e = refl
 goes_on false false false d e = absurd (cc e)
 
--- a name begins with a byte, and goes on in words' bytes
+-- a name begins with a byte, and continues in words' bytes
 abbrev pub is_solid : List ℕ → Bool
 is_solid [] = false
 is_solid (c ∷ cs) = list_all goes_on_in_word (c ∷ cs)

@@ -12,19 +12,19 @@ use Rattle.bw_file.specs.FileBytes.{IsFileBytes}
 use Rattle.bw_sql.specs.Statement.{IsReadAs}
 use Rattle.bw_csv_calls.specs.Direct.{IsAnswer}
 use Rattle.bw_csv_calls.specs.Load.{IsFile}
-use Rattle.bw_laws.specs.OneAnswer.{CameOf, DirectMayWrite}
+use Rattle.bw_laws.specs.OneAnswer.{IsArrivalOf, DirectMayWrite}
 
 -- over sources of this schema text and of this CSV text, `load` may write these bytes
 pub record LoadMayWrite (layout : Layout) (schema csv bytes : List ℕ) : Type 0 where
   pub schema_came : Arrival
   pub csv_came : Arrival
-  pub schema_source : CameOf longest_schema schema schema_came
-  pub csv_source : CameOf longest_csv csv csv_came
+  pub schema_source : IsArrivalOf longest_schema schema schema_came
+  pub csv_source : IsArrivalOf longest_csv csv csv_came
   pub is : IsFile layout schema_came csv_came (Ok bytes)
 
 -- a sink received the text of the one answer that follows from what was read of the schema's source
 -- and of the CSV's
-pub record TookAnswer (schema csv : Arrival) (sql : List ℕ)
+pub record HasConsumedAnswer (schema csv : Arrival) (sql : List ℕ)
     (old new : Option (List ℕ)) : Type 0 where
   pub text : List ℕ
   pub is : IsAnswer schema sql csv (Ok text)
@@ -33,7 +33,7 @@ pub record TookAnswer (schema csv : Arrival) (sql : List ℕ)
 
 -- a sink received the one text that `direct` may write over sources of this schema text and of this
 -- CSV text
-pub record TookAsDirect (schema csv sql : List ℕ) (old new : Option (List ℕ)) : Type 0 where
+pub record HasConsumedAsDirect (schema csv sql : List ℕ) (old new : Option (List ℕ)) : Type 0 where
   pub text : List ℕ
   pub may : DirectMayWrite schema csv sql text
   pub only : (other : List ℕ) → DirectMayWrite schema csv sql other → other ≡ text

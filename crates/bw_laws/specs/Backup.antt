@@ -1,5 +1,6 @@
 -- The text of a dump, and the table file that a load writes of it.
-use Rattle.std.specs.Prelude.{◌≡◌, ◌⊎◌, ℕ, ◌+◌, ◌*◌, List, ◌∷◌, map, Some, Result, Ok, Err, IsTrue, slice_index}
+use Rattle.std.specs.Prelude.{◌≡◌, ◌⊎◌, ℕ, ◌+◌, ◌*◌, List, ◌∷◌, map, Some, Result, Ok, Err, IsTrue}
+use Rattle.std.specs.Prelude.{slice_index}
 use Rattle.bw_model.specs.declared.fault.Fault.{Fault}
 use Rattle.bw_model.specs.declared.schema.Schema.{Schema}
 use Rattle.bw_model.specs.Column.{names_of}
@@ -13,7 +14,7 @@ use Rattle.bw_file.specs.declared.layout.Layout.{Layout}
 use Rattle.bw_file.specs.FileBytes.{version_for}
 use Rattle.bw_file.specs.Reading.{State, state}
 use Rattle.bw_schemas.specs.Info.{TellsHeader}
-use Rattle.bw_laws.specs.OneAnswer.{CameOf}
+use Rattle.bw_laws.specs.OneAnswer.{IsArrivalOf}
 
 -- a table as a CSV text: the names of its columns, and then the values of each row
 abbrev pub table_text : Schema → List (List Value) → List ℕ
@@ -48,7 +49,7 @@ IsThatFile file (Err fault) = IsTrue (is_input_fault fault)
 abbrev pub Loads : Layout → List ℕ → List ℕ → List ℕ → Type 0
 Loads layout schema csv file =
     (schema_came csv_came : Arrival) (given : Result (List ℕ) Fault)
-    → CameOf longest_schema schema schema_came → CameOf longest_csv csv csv_came
+    → IsArrivalOf longest_schema schema schema_came → IsArrivalOf longest_csv csv csv_came
     → IsFile layout schema_came csv_came given → IsThatFile file given
 
 -- the same under every schema text that spells this schema

@@ -1,4 +1,4 @@
 pub mod AsDirect
 pub mod Backup
-pub mod Joined
+pub mod LoadThenQuery
 pub mod OneAnswer

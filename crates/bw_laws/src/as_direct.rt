@@ -7,7 +7,8 @@ ghost use Rattle.bw_file.specs.declared.layout.Layout.{Layout};
 ghost use Rattle.bw_query.specs.TableAnswer.{AnswersFile, by_statement};
 ghost use Rattle.bw_csv_calls.specs.Direct.{IsAnswer};
 ghost use Rattle.bw_csv_calls.specs.Load.{IsFile};
-ghost use Rattle.bw_laws.specs.AsDirect.{IsAnswerable, LoadMayWrite, TookAnswer, TookAsDirect};
+ghost use Rattle.bw_laws.specs.AsDirect.{IsAnswerable, LoadMayWrite, HasConsumedAnswer};
+ghost use Rattle.bw_laws.specs.AsDirect.{HasConsumedAsDirect};
 
 use bw_csv::rows_are_admitted;
 
@@ -23,11 +24,11 @@ pub fn what_is_loaded_is_answered_as_direct()
         (program old new : Option (List ℕ))
         → LoadMayWrite layout schema csv bytes
         → AnswersFile (by_statement program sql) bytes old new
-        → TookAsDirect schema csv sql old new }
+        → HasConsumedAsDirect schema csv sql old new }
     ensures came { (layout : Layout) (schema csv : Arrival) (bytes sql : List ℕ)
         (program old new : Option (List ℕ))
         → IsFile layout schema csv (Ok bytes) → AnswersFile (by_statement program sql) bytes old new
-        → TookAnswer schema csv sql old new }
+        → HasConsumedAnswer schema csv sql old new }
     ensures alike { (layout other : Layout) (schema csv bytes others sql : List ℕ)
         (program old new second before after : Option (List ℕ))
         → LoadMayWrite layout schema csv bytes

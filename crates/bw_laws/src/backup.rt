@@ -13,7 +13,8 @@ ghost use Rattle.bw_csv_calls.specs.Load.{file_of};
 ghost use Rattle.bw_file.specs.declared.layout.Layout.{Layout};
 ghost use Rattle.bw_file.specs.FileBytes.{IsFileBytes, file_bytes};
 ghost use Rattle.bw_query.specs.TableAnswer.{AnswersFile, IsEveryRow, by_dump};
-ghost use Rattle.bw_laws.specs.Backup.{IsOfNeededVersion, IsTold, Loads, LoadsUnder, longest_dump, table_text};
+ghost use Rattle.bw_laws.specs.Backup.{IsOfNeededVersion, IsTold, Loads, LoadsUnder, longest_dump};
+ghost use Rattle.bw_laws.specs.Backup.{table_text};
 
 use bw_csv::rows_are_admitted;
 use bw_file::{a_file_is_of_one_table, what_is_spelled_is_read};

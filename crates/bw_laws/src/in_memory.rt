@@ -9,8 +9,9 @@ ghost use Rattle.bw_file.specs.declared.layout.Layout.{Layout};
 ghost use Rattle.bw_file.specs.FileBytes.{IsFileBytes};
 ghost use Rattle.bw_file.specs.Reading.{State, state};
 ghost use Rattle.bw_query.specs.MemoryAnswer.{RowsText};
-ghost use Rattle.bw_query.specs.TableAnswer.{AnswersFile, TableGave, by_statement, is_no_verdict};
-ghost use Rattle.bw_laws.specs.OneAnswer.{asked_in};
+ghost use Rattle.bw_query.specs.TableAnswer.{AnswersFile, IsTableResult, by_statement};
+ghost use Rattle.bw_query.specs.TableAnswer.{is_no_verdict};
+ghost use Rattle.bw_laws.specs.OneAnswer.{query_asked_in};
 
 use bw_cert::one_verdict;
 
@@ -33,12 +34,12 @@ pub fn a_table_in_memory_is_answered_as_its_file()
         (given second : Result Query Fault)
         → IsFileBytes bytes layout schema rows → IsFileBytes bytes another other others
         → by_statement program sql schema given → by_statement program sql other second
-        → asked_in given ≡ asked_in second }
+        → query_asked_in given ≡ query_asked_in second }
     ensures refused { (bytes sql : List ℕ) (layout : Layout) (schema : Schema)
         (rows : List (List Value))
         (program : Option (List ℕ)) (failures : ℕ) (now : State) (fault second : Fault)
         → IsFileBytes bytes layout schema rows → by_statement program sql schema (Err fault)
-        → TableGave (by_statement program sql) (state (Some bytes) 0 failures) now (Err second)
+        → IsTableResult (by_statement program sql) (state (Some bytes) 0 failures) now (Err second)
         → is_no_verdict second ≡ false → fault ≡ second }
 {
     one_verdict();

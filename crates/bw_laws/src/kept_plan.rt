@@ -15,7 +15,7 @@ ghost use Rattle.bw_query.specs.Served.{ByProgram, IsServed};
 ghost use Rattle.bw_query.specs.TableAnswer.{AnswersFile, by_statement};
 
 use crate::schema_text::a_schema_text_spells_one_schema_or_has_one_fault;
-use bw_cert::{certificates_are_judged_by_what_they_say, one_verdict, valid_exactly_where_checked};
+use bw_cert::{certificates_are_checked_by_their_fields, one_verdict, valid_exactly_where_checked};
 use bw_file::a_file_is_of_one_table;
 use bw_sql::{one_query_of_a_text, schemas_of_one_shape};
 
@@ -56,6 +56,6 @@ pub fn a_kept_plan_is_used()
     schemas_of_one_shape();
     one_query_of_a_text();
     valid_exactly_where_checked();
-    certificates_are_judged_by_what_they_say();
+    certificates_are_checked_by_their_fields();
     one_verdict();
 }

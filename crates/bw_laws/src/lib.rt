@@ -4,7 +4,8 @@
 //! spells one schema or has one error; an inferred schema is spelled by its text. No other crate
 //! depends on them.
 //!
-//! Read `joined.rt` with `specs/Joined.antt` first, then `as_direct.rt` with `specs/AsDirect.antt`.
+//! Read `load_then_query.rt` with `specs/LoadThenQuery.antt` first, then `as_direct.rt` with
+//! `specs/AsDirect.antt`.
 #![tactic(auto)]
 
 mod as_direct;
@@ -12,8 +13,8 @@ mod backup;
 mod cut_file;
 mod in_memory;
 mod inferred_text;
-mod joined;
 mod kept_plan;
+mod load_then_query;
 mod one_answer;
 mod one_file;
 mod one_meaning;
@@ -29,8 +30,8 @@ pub use backup::{
 pub use cut_file::a_cut_file_is_refused;
 pub use in_memory::a_table_in_memory_is_answered_as_its_file;
 pub use inferred_text::an_inferred_schema_text_spells_its_schema;
-pub use joined::what_is_loaded_is_answered;
 pub use kept_plan::a_kept_plan_is_used;
+pub use load_then_query::what_is_loaded_is_answered;
 pub use one_answer::{one_reading_under_one_shape, there_is_one_answer};
 pub use one_file::there_is_one_file;
 pub use one_meaning::one_meaning_of_what_is_asked;

@@ -7,14 +7,14 @@ ghost use Rattle.bw_model.specs.SchemaText.{schema_shape};
 ghost use Rattle.bw_io.specs.Source.{Arrival};
 ghost use Rattle.bw_sql.specs.Statement.{IsReadAs};
 ghost use Rattle.bw_csv_calls.specs.Direct.{IsAnswer};
-ghost use Rattle.bw_laws.specs.OneAnswer.{DirectMayWrite, asked_in};
+ghost use Rattle.bw_laws.specs.OneAnswer.{DirectMayWrite, query_asked_in};
 
 /// A theorem: under schemas of one name and the same columns, a statement is read in one way. Two
 /// readings are equal queries or the same error.
 pub fn one_reading_under_one_shape()
     ensures { (schema other : Schema) (text : List ℕ) (reading second : Result Query Fault)
         → schema_shape schema ≡ schema_shape other → IsReadAs schema text reading
-        → IsReadAs other text second → asked_in reading ≡ asked_in second }
+        → IsReadAs other text second → query_asked_in reading ≡ query_asked_in second }
 {}
 
 /// A theorem: a schema text, a CSV text and a statement have one answer. What was read of the two

@@ -2,7 +2,7 @@
 ghost use Rattle.std.specs.Prelude.{◌≡◌, ℕ, List};
 ghost use Rattle.bw_model.specs.declared.query.Query.{Query};
 ghost use Rattle.bw_model.specs.Row.{Value};
-ghost use Rattle.bw_sql.specs.Asked.{query_shape};
+ghost use Rattle.bw_sql.specs.QueryShape.{query_shape};
 ghost use Rattle.bw_answer.specs.Answer.{meaning};
 
 /// A theorem: two queries with the same items and the same trees of conditions have the same

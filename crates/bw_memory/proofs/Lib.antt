@@ -1,2 +1,2 @@
-pub mod KeptLemmas
+pub mod StoredSegmentLemmas
 pub mod ReadLemmas

@@ -1,3 +1,3 @@
-pub mod Kept
+pub mod StoredSegments
 pub mod MemoryTable
 pub mod ReadSegments

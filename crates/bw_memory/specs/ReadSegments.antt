@@ -6,18 +6,19 @@ use Rattle.bw_segment.specs.declared.column_blocks.ColumnBlocks.{ColumnBlocks}
 use Rattle.bw_file.specs.Reading.{State}
 use Rattle.bw_file.specs.TableReader.{ReadWhole, ReadProgress, found_so_far, layout_in, schema_in}
 use Rattle.bw_file.specs.declared.table_reader.TableReader.{TableReader}
-use Rattle.bw_memory.specs.Kept.{KeepSegments, groups_kept}
+use Rattle.bw_memory.specs.StoredSegments.{StoresSegments, stored_groups}
 
--- Of a file of which a reader had read the header all segments, so many, of so many rows are kept; the file was read
--- whole, and these are the groups of its rows.
-pub record KeptAll (old now : State) (reader : TableReader) (rows count : ℕ)
+-- After a reader had read the header of a file, all segments were read and stored: this many, of
+-- this many rows. All of the file was read, and these are the groups of its rows.
+pub record StoresAllSegments (old now : State) (reader : TableReader) (rows count : ℕ)
     (columns : List ColumnBlocks) : Type 0 where
-  pub segments : KeepSegments (layout_in reader) (schema_in reader).columns.items rows count columns
-  pub few : rows ≤ most_rows
+  pub segments : StoresSegments (layout_in reader) (schema_in reader).columns.items rows count
+      columns
+  pub within_limit : rows ≤ most_rows
   pub read : (start : State) → ReadProgress start old reader []
       → ReadWhole start now (found_so_far reader
-      (groups_kept (layout_in reader) (schema_in reader).columns.items rows count columns))
+      (stored_groups (layout_in reader) (schema_in reader).columns.items rows count columns))
   pub cut : (start : State) → ReadProgress start old reader []
-      → groups_kept (layout_in reader) (schema_in reader).columns.items rows count columns
-      ≡ groups_of (together (groups_kept (layout_in reader) (schema_in reader).columns.items rows
+      → stored_groups (layout_in reader) (schema_in reader).columns.items rows count columns
+      ≡ groups_of (together (stored_groups (layout_in reader) (schema_in reader).columns.items rows
       count columns))

@@ -1,10 +1,10 @@
 //! The parts of a table that depend on its layout.
 ghost use Rattle.std.specs.Prelude.{◌≡◌, ℕ, List, length, IfOk, OnOk, IsOkUnless};
 ghost use Rattle.bw_model.specs.Fault.{no_memory};
-ghost use Rattle.bw_segment.specs.ColumnBlocks.{KeepBlocks};
+ghost use Rattle.bw_segment.specs.ColumnBlocks.{StoresBlocks};
 ghost use Rattle.bw_file.specs.AnySegment.{any_layout, any_meaning};
 ghost use Rattle.bw_file.specs.Blocks.{IsPlaced, form_of};
-ghost use Rattle.bw_memory.specs.Kept.{AddSegment, AreOf};
+ghost use Rattle.bw_memory.specs.StoredSegments.{AddsSegment, AreBytesOf};
 
 use bw_file::{AnySegment, Layout};
 use bw_model::{Fault, Schema};
@@ -42,7 +42,7 @@ pub(crate) fn no_columns(
     placement: &Placement,
 ) -> Result<Vec<ColumnBlocks>, Fault>
     ensures keep { IfOk result (λ columns.
-        KeepBlocks (form_of layout) placement.now.schema.columns.items 0 columns.items) }
+        StoresBlocks (form_of layout) placement.now.schema.columns.items 0 columns.items) }
     ensures only_oom { IsOkUnless result no_memory }
 {
     match layout {
@@ -55,8 +55,8 @@ pub(crate) fn no_columns(
 #[tactic(auto, unfolding(bw_file::specs::Blocks::form_of, bw_file::specs::AnySegment::any_meaning))]
 pub(crate) fn push_segment(columns: &mut [ColumnBlocks], segment: &AnySegment) -> Result<(), Fault>
     requires { length columns.old ≡ length (any_meaning segment.now).columns }
-    ensures added { OnOk result ((bytes : List ℕ) × AreOf segment.now bytes
-        × AddSegment (any_layout segment.now) (any_meaning segment.now).columns bytes columns.old
+    ensures added { OnOk result ((bytes : List ℕ) × AreBytesOf segment.now bytes
+        × AddsSegment (any_layout segment.now) (any_meaning segment.now).columns bytes columns.old
         columns.new) }
     ensures only_oom { IsOkUnless result no_memory }
 {

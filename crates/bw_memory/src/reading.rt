@@ -1,17 +1,19 @@
 //! Reads a table into memory.
-ghost use Rattle.std.specs.Prelude.{◌≡◌, ◌-◌, ◌^◌, ◌<◌, ℕ, List, [], None, Some, IsTrue, IfOk, IfErr};
+ghost use Rattle.std.specs.Prelude.{◌≡◌, ◌-◌, ◌^◌, ◌<◌, ℕ, List, [], None, Some, IsTrue, IfOk};
+ghost use Rattle.std.specs.Prelude.{IfErr};
 ghost use Rattle.bw_model.specs.declared.schema.Schema.{Schema};
 ghost use Rattle.bw_model.specs.Row.{Value};
-ghost use Rattle.bw_segment.specs.ColumnBlocks.{KeepBlocks};
+ghost use Rattle.bw_segment.specs.ColumnBlocks.{StoresBlocks};
 ghost use Rattle.bw_io.specs.Source.{TellsFailure, is_input_fault};
 ghost use Rattle.bw_file.specs.declared.layout.Layout.{Layout};
 ghost use Rattle.bw_file.specs.Blocks.{form_of};
 ghost use Rattle.bw_file.specs.FileBytes.{IsFileBytes};
 ghost use Rattle.bw_file.specs.Reading.{State, state};
-ghost use Rattle.bw_file.specs.TableReader.{AnswersFault, ReadProgress, bytes_taken, layout_in, rows_given, schema_in, final_result};
+ghost use Rattle.bw_file.specs.TableReader.{AnswersFault, ReadProgress, bytes_taken, layout_in};
+ghost use Rattle.bw_file.specs.TableReader.{rows_given, schema_in, final_result};
 ghost use Rattle.bw_file.specs.TableReading.{IsTableFault};
-ghost use Rattle.bw_memory.specs.MemoryTable.{CameWhole, layout_of, rows_of, schema_of};
-ghost use Rattle.bw_memory.specs.ReadSegments.{KeptAll};
+ghost use Rattle.bw_memory.specs.MemoryTable.{HasReadTable, layout_of, rows_of, schema_of};
+ghost use Rattle.bw_memory.specs.ReadSegments.{StoresAllSegments};
 
 use crate::layouts::{no_columns, placement_of, push_segment};
 use crate::table::MemoryTable;
@@ -29,7 +31,7 @@ impl MemoryTable {
     /// fails; 801 if memory is refused. The source's count of errors must be able to rise.
     pub fn read<S: Source>(alloc: Global, source: &mut S) -> Result<Self, Fault>
         requires { S.failures source.old < 2 ^ 64 - 1 }
-        ensures table { IfOk result (λ table. (offset : ℕ) × CameWhole
+        ensures table { IfOk result (λ table. (offset : ℕ) × HasReadTable
             (state (S.to_come source.old) 0 (S.failures source.old))
             (state (S.to_come source.new) offset (S.failures source.new))
             (layout_of table) (schema_of table) (rows_of table)) }
@@ -39,8 +41,8 @@ impl MemoryTable {
             (state (S.to_come source.new) offset (S.failures source.new)) fault) }
         ensures fault { IfErr result IsTableFault }
 
-        // Where the bytes to come are known: they were the table's file; and where they are one, it's only a failed read
-        // or memory that can refuse it.
+        // If the unread bytes are known, a success shows that they are the table's file. If they
+        // are a table file's, only a failed read or memory can fail.
         ensures file { (bytes : List ℕ) → S.to_come source.old ≡ Some bytes
             → IfOk result (λ table. IsFileBytes bytes (layout_of table) (schema_of table)
             (rows_of table)) }
@@ -70,7 +72,7 @@ fn read_table<S: Source>(
     ensures table { IfOk result (λ table. (start : State)
         → ReadProgress start (state (S.to_come source.old) (bytes_taken reader.old)
         (S.failures source.old)) reader.old []
-        → CameWhole start (state (S.to_come source.new) (bytes_taken reader.new)
+        → HasReadTable start (state (S.to_come source.new) (bytes_taken reader.new)
         (S.failures source.new)) (layout_of table) (schema_of table) (rows_of table)) }
     ensures refused { IfErr result (λ fault. (start : State)
         → ReadProgress start (state (S.to_come source.old) (bytes_taken reader.old)
@@ -102,9 +104,10 @@ fn read_segments<S: Source>(
 ) -> Result<u32, Fault>
     requires counter_fits { S.failures source.old < 2 ^ 64 - 1 }
     requires fresh { (rows_given reader.old ≡ 0) × (final_result reader.old ≡ None) }
-    requires none { KeepBlocks (form_of (layout_in reader.old)) (schema_in reader.old).columns.items
+    requires none { StoresBlocks (form_of (layout_in reader.old))
+        (schema_in reader.old).columns.items
         0 columns.old }
-    ensures kept { IfOk result (λ count. KeptAll
+    ensures kept { IfOk result (λ count. StoresAllSegments
         (state (S.to_come source.old) (bytes_taken reader.old) (S.failures source.old))
         (state (S.to_come source.new) (bytes_taken reader.new) (S.failures source.new))
         reader.old (rows_given reader.new) count columns.new) }

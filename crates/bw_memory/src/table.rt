@@ -4,7 +4,7 @@ ghost use Rattle.bw_model.specs.Fault.{no_memory};
 ghost use Rattle.bw_model.specs.Groups.{groups_of, together};
 ghost use Rattle.bw_model.specs.Limits.{most_rows};
 ghost use Rattle.bw_file.specs.Blocks.{IsPlaced, form_of};
-ghost use Rattle.bw_memory.specs.Kept.{KeepSegments, groups_kept};
+ghost use Rattle.bw_memory.specs.StoredSegments.{StoresSegments, stored_groups};
 
 use bw_file::Layout;
 use bw_lanes::LANES;
@@ -23,15 +23,17 @@ pub struct MemoryTable {
     pub(crate) columns: Vec<ColumnBlocks>,
     ghost placed: { IsPlaced layout placement.value },
     ghost within_limit: { rows ≤ most_rows },
-    ghost kept: { KeepSegments layout placement.value.schema.columns.items rows segments
+    ghost kept: { StoresSegments layout placement.value.schema.columns.items rows segments
         columns.items },
-    ghost cut: { groups_kept layout placement.value.schema.columns.items rows segments columns.items
+    ghost cut: { stored_groups layout placement.value.schema.columns.items rows segments
+        columns.items
         ≡ groups_of (together
-        (groups_kept layout placement.value.schema.columns.items rows segments columns.items)) },
+        (stored_groups layout placement.value.schema.columns.items rows segments columns.items)) },
 }
 
 impl MemoryTable {
-    ghost use Rattle.bw_memory.specs.MemoryTable.{layout_of, meaning_numbered, rows_of, schema_of, segments_in};
+    ghost use Rattle.bw_memory.specs.MemoryTable.{layout_of, meaning_numbered, rows_of, schema_of};
+    ghost use Rattle.bw_memory.specs.MemoryTable.{segments_in};
 
     /// Returns the table's schema.
     pub fn schema(&self) -> &Schema

@@ -1,5 +1,8 @@
 -- Codes undo values, and the row of a row's bits is that row.
-use Rattle.std.proofs.Common.{◌≡◌, ◌∙◌, refl, sym, ap, ap₂, ℕ, zero, suc, ℤ, pos, ◌+◌, ◌*◌, ◌%◌, ◌^◌, ◌<◌, ◌≤◌, ◌+ℤ◌, ◌-ℤ◌, ◌≤ℤ◌, Bool, true, false, cond, ◌==◌, ◌&&◌, List, [], ◌∷◌, ◌++◌, length, length-append, append_assoc, get_or, Some, None, unwrap_or, arith, add-one, add-zero, unsigned_abs, int_le}
+use Rattle.std.proofs.Common.{◌≡◌, ◌∙◌, refl, sym, ap, ap₂, ℕ, zero, suc, ℤ, pos, ◌+◌, ◌*◌, ◌%◌}
+use Rattle.std.proofs.Common.{◌^◌, ◌<◌, ◌≤◌, ◌+ℤ◌, ◌-ℤ◌, ◌≤ℤ◌, Bool, true, false, cond, ◌==◌, ◌&&◌}
+use Rattle.std.proofs.Common.{List, [], ◌∷◌, ◌++◌, length, length-append, append_assoc, get_or}
+use Rattle.std.proofs.Common.{Some, None, unwrap_or, arith, add-one, add-zero, unsigned_abs, int_le}
 use Rattle.std.specs.Int.{bit_at}
 use Rattle.std.proofs.Math.Seq.{get_or-append_seam}
 use Rattle.std.proofs.Math.Nat.{mod-eq_of_lt}
@@ -12,7 +15,8 @@ use Rattle.bw_model.specs.Row.{Value}
 use Rattle.bw_model.specs.Column.{admits_value, admits_values}
 use Rattle.bw_model.specs.Truth.{is_null}
 use Rattle.bw_model.specs.Code.{span_of, width_of, code_of, value_of_code}
-use Rattle.bw_model.specs.Variable.{null_count, variable_count, assignment_of, low_bits, value_bits, bits_of, spelled, value_spelled, row_from, row_of}
+use Rattle.bw_model.specs.Variable.{null_count, variable_count, assignment_of, low_bits, value_bits}
+use Rattle.bw_model.specs.Variable.{bits_of, spelled, value_spelled, row_from, row_of}
 use Rattle.bw_model.proofs.DigitLemmas.{below_width}
 
 pub code_in_span : (lo hi n : ℤ) → (int_le lo n && int_le n hi) ≡ true → unsigned_abs (n -ℤ lo) ≤ unsigned_abs (hi -ℤ lo)
@@ -84,7 +88,7 @@ code_bits true null width code before after =
 code_bits false null width code before after =
     ap (λ first. spelled (assignment_of (before ++ (low_bits width code ++ after))) first width) (add-zero (length before)) ∙ spelled_low width code before after
 
--- the value that its bits spell, wherever they stand
+-- the value that its bits spell, wherever they are
 value_spelled-value_bits : (column : Column) (value : Value) (before after : List Bool) → admits_value column value ≡ true →
     value_spelled column (assignment_of (before ++ (value_bits column value ++ after))) (length before) ≡ value
 value_spelled-value_bits column None before after nullable =

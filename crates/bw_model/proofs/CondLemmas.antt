@@ -7,10 +7,16 @@ use Rattle.bw_model.specs.declared.cond.Truth.TheVariants.{Yes}
 use Rattle.bw_model.specs.declared.cond.Op.{Op}
 use Rattle.bw_model.specs.declared.cond.Operand.{Operand}
 use Rattle.bw_model.specs.declared.cond.Cond.{Cond, Cond-F, fold-roll-Cond}
-use Rattle.bw_model.specs.declared.cond.Cond.TheVariants.{Always, Cmp, Between, Among, IsNull, And, Or, Not, Test, rolls-Always, rolls-Cmp, rolls-Between, rolls-Among, rolls-IsNull, rolls-And, rolls-Or, rolls-Not, rolls-Test}
+use Rattle.bw_model.specs.declared.cond.Cond.TheVariants.{Always, Cmp, Between, Among, IsNull, And}
+use Rattle.bw_model.specs.declared.cond.Cond.TheVariants.{Or, Not, Test, rolls-Always, rolls-Cmp}
+use Rattle.bw_model.specs.declared.cond.Cond.TheVariants.{rolls-Between, rolls-Among, rolls-IsNull}
+use Rattle.bw_model.specs.declared.cond.Cond.TheVariants.{rolls-And, rolls-Or, rolls-Not}
+use Rattle.bw_model.specs.declared.cond.Cond.TheVariants.{rolls-Test}
 use Rattle.bw_model.specs.Row.{Value}
-use Rattle.bw_model.specs.Truth.{truth_from, all_of, any_of, negation, is_truth, compare_values, between, in_list, is_null}
-use Rattle.bw_model.specs.Cond.{truth_of, truth_step, names_within, within_step, operand_value, is_within}
+use Rattle.bw_model.specs.Truth.{truth_from, all_of, any_of, negation, is_truth, compare_values}
+use Rattle.bw_model.specs.Truth.{between, in_list, is_null}
+use Rattle.bw_model.specs.Cond.{truth_of, truth_step, names_within, within_step, operand_value}
+use Rattle.bw_model.specs.Cond.{is_within}
 
 pub truth_of-Always : (row : List Value) → truth_of row Always ≡ Yes
 unfolding truth_of

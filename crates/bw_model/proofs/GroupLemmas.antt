@@ -1,13 +1,17 @@
 -- Groups of a table, lanes of a group, and the items whose bit is 1.
-use Rattle.std.proofs.Common.{◌≡◌, ◌∙◌, refl, sym, ap, ap₂, ℕ, zero, suc, ◌+◌, ◌-◌, ◌/◌, ◌<◌, ◌≤◌, min, Bool, true, false, cond, List, [], ◌∷◌, ◌++◌, map, filter, length, take, drop, get_or, replicate, length-append, append_assoc, add-one, add-zero, arith, length-drop, length-take, All}
-use Rattle.std.proofs.lemmas.List.{take-append-drop, length-map, length-replicate, get_or-append-add}
+use Rattle.std.proofs.Common.{◌≡◌, ◌∙◌, refl, sym, ap, ap₂, ℕ, zero, suc, ◌+◌, ◌-◌, ◌/◌, ◌<◌, ◌≤◌}
+use Rattle.std.proofs.Common.{min, Bool, true, false, cond, List, [], ◌∷◌, ◌++◌, map, filter}
+use Rattle.std.proofs.Common.{length, take, drop, get_or, replicate, length-append, append_assoc}
+use Rattle.std.proofs.Common.{add-one, add-zero, arith, length-drop, length-take, All}
+use Rattle.std.proofs.lemmas.List.{take-append-drop, length-map, length-replicate}
+use Rattle.std.proofs.lemmas.List.{get_or-append-add}
 use Rattle.std.proofs.lemmas.List.Elements.{All-cons}
 use Rattle.std.proofs.Math.ListN.{get_or-append}
 use Rattle.std.proofs.Math.Seq.{get_or-append_seam}
 use Rattle.bw_model.specs.declared.column.Column.{Column}
 use Rattle.bw_model.specs.Row.{Value}
 use Rattle.bw_model.specs.Groups.{group_size, groups_within, groups_of, together, lanes_of}
-use Rattle.bw_model.specs.Stored.{no_bits}
+use Rattle.bw_model.specs.StoredCodes.{no_bits}
 use Rattle.bw_model.specs.Variable.{Assignment, assignment_of, bits_of}
 use Rattle.bw_model.specs.Selection.{positions_from, selected_items}
 
@@ -80,22 +84,22 @@ unfolding groups_of group_size
 groups_of-sizes rows = within_sizes (length rows) rows
 
 -- the items that pass a test are those whose bit it sets, and those at the positions of these bits
-pub filter-picked : {A : Type 0} (test : A → Bool) (items : List A) → filter test items ≡ selected_items (map test items) items
-filter-picked test [] = refl
-filter-picked {A = A} test (item ∷ items) = go (test item) (filter-picked test items)
+pub filter-selected : {A : Type 0} (test : A → Bool) (items : List A) → filter test items ≡ selected_items (map test items) items
+filter-selected test [] = refl
+filter-selected {A = A} test (item ∷ items) = go (test item) (filter-selected test items)
   where
     go : (b : Bool) → filter test items ≡ selected_items (map test items) items →
         cond b (item ∷ filter test items) (filter test items) ≡ selected_items (b ∷ map test items) (item ∷ items)
     go true later = ap (λ (rest : List A). item ∷ rest) later
     go false later = later
 
-pub picked-positions : {A : Type 0} (d : A) (bits : List Bool) (before items : List A) → length bits ≤ length items →
+pub selected_items-positions : {A : Type 0} (d : A) (bits : List Bool) (before items : List A) → length bits ≤ length items →
     selected_items bits items ≡ map (λ position. get_or (before ++ items) position d) (positions_from (length before) bits)
-picked-positions d [] before items le = refl
-picked-positions d (bit ∷ bits) before [] le = absurd (omega arith)
-picked-positions {A = A} d (bit ∷ bits) before (item ∷ items) le =
+selected_items-positions d [] before items le = refl
+selected_items-positions d (bit ∷ bits) before [] le = absurd (omega arith)
+selected_items-positions {A = A} d (bit ∷ bits) before (item ∷ items) le =
     let longer : length (before ++ item ∷ []) ≡ suc (length before) = length-append before (item ∷ []) ∙ add-one (length before) in
-    go bit (picked-positions d bits (before ++ item ∷ []) items (omega arith)
+    go bit (selected_items-positions d bits (before ++ item ∷ []) items (omega arith)
     ∙ ap₂ (λ (all : List A) (first : ℕ). map (λ position. get_or all position d) (positions_from first bits)) (append_assoc before (item ∷ []) items) longer)
   where
     go : (b : Bool) → selected_items bits items ≡ map (λ position. get_or (before ++ item ∷ items) position d) (positions_from (suc (length before)) bits) →
@@ -115,12 +119,12 @@ positions_from-append position (bit ∷ front) back =
     go true later = ap (λ rest. position ∷ rest) later
     go false later = later
 
-pub picked-append : {A : Type 0} (front back : List Bool) (items others : List A) → length front ≡ length items →
+pub selected_items-append : {A : Type 0} (front back : List Bool) (items others : List A) → length front ≡ length items →
     selected_items (front ++ back) (items ++ others) ≡ selected_items front items ++ selected_items back others
-picked-append [] back [] others same = refl
-picked-append [] back (item ∷ items) others same = absurd (omega arith)
-picked-append (bit ∷ front) back [] others same = absurd (omega arith)
-picked-append {A = A} (bit ∷ front) back (item ∷ items) others same = go bit (picked-append front back items others (omega arith))
+selected_items-append [] back [] others same = refl
+selected_items-append [] back (item ∷ items) others same = absurd (omega arith)
+selected_items-append (bit ∷ front) back [] others same = absurd (omega arith)
+selected_items-append {A = A} (bit ∷ front) back (item ∷ items) others same = go bit (selected_items-append front back items others (omega arith))
   where
     go : (b : Bool) → selected_items (front ++ back) (items ++ others) ≡ selected_items front items ++ selected_items back others →
         selected_items (b ∷ (front ++ back)) (item ∷ (items ++ others)) ≡ selected_items (b ∷ front) (item ∷ items) ++ selected_items back others

@@ -9,8 +9,8 @@ pub mod SameLemmas
 pub mod SchemaCodes
 pub mod SchemaLemmas
 pub mod SchemaSpelling
-pub mod StandingLemmas
-pub mod StoredLemmas
+pub mod FaultPlaceLemmas
+pub mod StoredCodeLemmas
 pub mod TotalLemmas
 pub mod TreeLemmas
 pub mod VariableLemmas

@@ -1,6 +1,7 @@
 -- Names are plain words, so they are read as they are written; and a column that a word names is
 -- there.
-use Rattle.std.proofs.Common.{◌≡◌, refl, ℕ, Bool, true, false, cond, not, ◌&&◌, List, length, Some, None, nat_le, nat_lt}
+use Rattle.std.proofs.Common.{◌≡◌, refl, ℕ, Bool, true, false, cond, not, ◌&&◌, List, length, Some}
+use Rattle.std.proofs.Common.{None, nat_le, nat_lt}
 use Rattle.std.specs.List.{position_or_len}
 use Rattle.std.proofs.lemmas.Bool.{and_parts}
 use Rattle.bw_model.specs.declared.column.Column.{Column}
@@ -8,7 +9,7 @@ use Rattle.bw_model.specs.Column.{column_named}
 use Rattle.bw_model.specs.Limits.{longest_name}
 use Rattle.bw_model.specs.Name.{is_name}
 use Rattle.bw_text.specs.Keyword.{is_reserved}
-use Rattle.bw_text.specs.Printed.{is_plain_word}
+use Rattle.bw_text.specs.Printing.{is_plain_word}
 use Rattle.bw_text.specs.Text.{is_word, same_text}
 use Rattle.bw_text.proofs.SpacedWords.{plain_word}
 

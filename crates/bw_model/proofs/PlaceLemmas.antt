@@ -1,5 +1,8 @@
--- Where the bits of a row stand, and what a row of an assignment has in each column.
-use Rattle.std.proofs.Common.{◌≡◌, ◌∙◌, refl, sym, ap, ap₂, ℕ, zero, suc, ◌+◌, ◌-◌, ◌<◌, ⊎_elim, Bool, true, false, cond, ◌==◌, ◌&&◌, List, [], ◌∷◌, ◌++◌, length, take, length-append, get_or, add-zero, zero-add, Some, None, unwrap_or, arith}
+-- Where the bits of a row are, and what a row of an assignment has in each column.
+use Rattle.std.proofs.Common.{◌≡◌, ◌∙◌, refl, sym, ap, ap₂, ℕ, zero, suc, ◌+◌, ◌-◌, ◌<◌, ⊎_elim}
+use Rattle.std.proofs.Common.{Bool, true, false, cond, ◌==◌, ◌&&◌, List, [], ◌∷◌, ◌++◌, length}
+use Rattle.std.proofs.Common.{take, length-append, get_or, add-zero, zero-add, Some, None}
+use Rattle.std.proofs.Common.{unwrap_or, arith}
 use Rattle.std.specs.Int.{bit_at}
 use Rattle.std.proofs.Math.ListN.{get_or-append}
 use Rattle.std.proofs.lemmas.Bool.{cases_lt}
@@ -10,7 +13,10 @@ use Rattle.bw_model.specs.Row.{Value, value_in}
 use Rattle.bw_model.specs.Column.{admits_value, admits_values}
 use Rattle.bw_model.specs.Truth.{is_null}
 use Rattle.bw_model.specs.Code.{width_of, width_at, code_of, code_at, value_at, value_of_code}
-use Rattle.bw_model.specs.Variable.{null_count, variable_count, variables_of, is_nullable, first_variable, null_variable, bit_variable, Assignment, assignment_of, low_bits, value_bits, bits_of, spelled, row_from, row_of, value_assigned}
+use Rattle.bw_model.specs.Variable.{null_count, variable_count, variables_of, is_nullable}
+use Rattle.bw_model.specs.Variable.{first_variable, null_variable, bit_variable, Assignment}
+use Rattle.bw_model.specs.Variable.{assignment_of, low_bits, value_bits, bits_of, spelled, row_from}
+use Rattle.bw_model.specs.Variable.{row_of, value_assigned}
 use Rattle.bw_model.proofs.BitsLemmas.{both, given, length-value_bits, length_value_list}
 use Rattle.bw_model.proofs.VariableLemmas.{width_before_next, width_positive}
 

@@ -1,5 +1,6 @@
 -- Columns of the same names and bounds are the same.
-use Rattle.std.proofs.Common.{◌≡◌, ◌≤ℤ◌, ◌<ℤ◌, ◌-ℤ◌, ℤ, pos, ◌^◌, Bool, List, [], ◌∷◌, map, ℕ, refl, ap, ap₂, subst}
+use Rattle.std.proofs.Common.{◌≡◌, ◌≤ℤ◌, ◌<ℤ◌, ◌-ℤ◌, ℤ, pos, ◌^◌, Bool, List, [], ◌∷◌, map, ℕ, refl}
+use Rattle.std.proofs.Common.{ap, ap₂, subst}
 use Rattle.std.proofs.Math.Dec.{T_prop}
 use Rattle.bw_model.specs.declared.column.Column.{Column}
 use Rattle.bw_model.specs.SchemaText.{ColumnShape, column_shape}

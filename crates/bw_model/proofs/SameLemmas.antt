@@ -1,14 +1,19 @@
 -- Conditions with the same tree have the same meaning, name the same columns, and are whole both or
 -- neither.
-use Rattle.std.proofs.Common.{◌≡◌, ◌∙◌, refl, sym, ap, ap₂, subst, ℕ, suc, Bool, ◌&&◌, nat_le, List, [], ◌∷◌, map, length}
+use Rattle.std.proofs.Common.{◌≡◌, ◌∙◌, refl, sym, ap, ap₂, subst, ℕ, suc, Bool, ◌&&◌, nat_le, List}
+use Rattle.std.proofs.Common.{[], ◌∷◌, map, length}
 use Rattle.std.specs.List.{list_all}
 use Rattle.bw_model.specs.declared.cond.Truth.{Truth}
-use Rattle.bw_model.specs.declared.cond.Cond.{Cond, Cond-F, fold-Cond, fold-roll-Cond, roll-Cond, ind-Cond}
+use Rattle.bw_model.specs.declared.cond.Cond.{Cond, Cond-F, fold-Cond, fold-roll-Cond, roll-Cond}
+use Rattle.bw_model.specs.declared.cond.Cond.{ind-Cond}
 use Rattle.bw_model.specs.declared.cond.Cond.TheFolds.{map-Cond}
 use Rattle.bw_model.specs.Row.{Value}
 use Rattle.bw_model.specs.Truth.{truth_from, all_of, any_of, negation, is_truth}
-use Rattle.bw_model.specs.Cond.{truth_of, truth_step, names_within, within_step, is_whole, whole_step}
-use Rattle.bw_model.specs.CondTree.{CondTree, tree_of, tree_step, trees_of, tree_truth, tree_truths, tree_within, trees_within, is_whole_tree, are_whole_trees, count_of}
+use Rattle.bw_model.specs.Cond.{truth_of, truth_step, names_within, within_step, is_whole}
+use Rattle.bw_model.specs.Cond.{whole_step}
+use Rattle.bw_model.specs.CondTree.{CondTree, tree_of, tree_step, trees_of, tree_truth, tree_truths}
+use Rattle.bw_model.specs.CondTree.{tree_within, trees_within, is_whole_tree, are_whole_trees}
+use Rattle.bw_model.specs.CondTree.{count_of}
 
 -- What a fold says of conditions, and what is said of their trees, is one where it is one for each
 -- layer whose parts are such conditions.

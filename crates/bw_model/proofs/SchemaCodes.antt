@@ -1,5 +1,7 @@
--- What is refused of a schema text is refused by one of its own faults.
-use Rattle.std.proofs.Common.{◌≡◌, ◌∙◌, ap, ◌&&◌, ◌||◌, ℕ, List, [], ◌∷◌, ◌++◌, Bool, true, false, not, Option, Some, None, Result, Ok, Err, refl, subst, IfErr, nat_le, nat_lt, length}
+-- What is rejected of a schema text is rejected by one of its own errors.
+use Rattle.std.proofs.Common.{◌≡◌, ◌∙◌, ap, ◌&&◌, ◌||◌, ℕ, List, [], ◌∷◌, ◌++◌, Bool, true, false}
+use Rattle.std.proofs.Common.{not, Option, Some, None, Result, Ok, Err, refl, subst, IfErr, nat_le}
+use Rattle.std.proofs.Common.{nat_lt, length}
 use Rattle.std.specs.List.{list_any}
 use Rattle.std.proofs.Math.Bool.{or-true}
 use Rattle.bw_model.specs.declared.fault.Fault.{Fault}
@@ -7,7 +9,10 @@ use Rattle.bw_model.specs.declared.schema.Schema.{Schema}
 use Rattle.bw_model.specs.Fault.{MatchesUnlessOom, is_memory, ◌>>=◌, refused_if, at_line, nowhere}
 use Rattle.bw_text.specs.Lines.{NumberedWords, lines_in, end_in, whole, is_empty}
 use Rattle.bw_model.specs.Name.{is_name}
-use Rattle.bw_model.specs.SchemaText.{ColumnShape, SchemaShape, schema_shape, shape_names, is_range, column_words, table_words, table_on, named_table, column_on, next_column, after_room, columns_on, with_columns, schema_on, schema_of, IsSchemaFault}
+use Rattle.bw_model.specs.SchemaText.{ColumnShape, SchemaShape, schema_shape, shape_names, is_range}
+use Rattle.bw_model.specs.SchemaText.{column_words, table_words, table_on, named_table, column_on}
+use Rattle.bw_model.specs.SchemaText.{next_column, after_room, columns_on, with_columns, schema_on}
+use Rattle.bw_model.specs.SchemaText.{schema_of, IsSchemaFault}
 use Rattle.bw_text.specs.Text.{same_text}
 
 refused_so : {A : Type 0} (b : Bool) (fault : Fault) (next : Result A Fault) → IsSchemaFault fault → IfErr next IsSchemaFault
@@ -67,7 +72,7 @@ fault_by : (memory : Bool) (text : List ℕ) (fault : Fault) → is_memory fault
 fault_by true text fault m given = memory_so fault m
 fault_by false text fault m given = refused_by (schema_of text) fault (given m) (text_so text)
 
--- so whatever reads a schema text refuses by one of them, out of memory included
+-- so whatever reads a schema text rejects by one of them, out of memory included
 pub codes_of_schema : (text : List ℕ) (result : Result Schema Fault) → MatchesUnlessOom schema_shape result (schema_of text) → IfErr result IsSchemaFault
 codes_of_schema text (Ok schema) gives = tt
 codes_of_schema text (Err fault) gives = fault_by (is_memory fault) text fault refl gives

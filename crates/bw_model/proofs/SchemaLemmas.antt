@@ -1,5 +1,7 @@
 -- What schema texts say, line by line.
-use Rattle.std.proofs.Common.{sym, map, ℤ, ◌≤◌, nat_lt, Result, arith, ◌∙◌, ◌<◌, nat_le, Some, Ok, Err, ◌≡◌, ◌≢◌, ℕ, List, [], ◌∷◌, ◌++◌, length, None, Bool, true, false, refl, not, ◌||◌, ◌&&◌, ap}
+use Rattle.std.proofs.Common.{sym, map, ℤ, ◌≤◌, nat_lt, Result, arith, ◌∙◌, ◌<◌, nat_le, Some, Ok}
+use Rattle.std.proofs.Common.{Err, ◌≡◌, ◌≢◌, ℕ, List, [], ◌∷◌, ◌++◌, length, None, Bool, true}
+use Rattle.std.proofs.Common.{false, refl, not, ◌||◌, ◌&&◌, ap}
 use Rattle.std.specs.List.{list_any}
 use Rattle.std.proofs.lemmas.List.Folds.{list_any-append}
 use Rattle.bw_model.specs.declared.fault.Fault.{Fault}
@@ -11,7 +13,9 @@ use Rattle.bw_model.specs.Name.{are_apart, is_name}
 use Rattle.std.proofs.lemmas.Bool.{lt-leb, le-ltb, lt-ltb}
 use Rattle.std.proofs.lemmas.List.{length-map}
 use Rattle.bw_text.specs.Text.{same_text}
-use Rattle.bw_model.specs.SchemaText.{ColumnShape, shape, shape_names, column_shape, schema_of, schema_on, columns_on, table_on, with_columns, column_words, column_on, after_room, is_range}
+use Rattle.bw_model.specs.SchemaText.{ColumnShape, shape, shape_names, column_shape, schema_of}
+use Rattle.bw_model.specs.SchemaText.{schema_on, columns_on, table_on, with_columns, column_words}
+use Rattle.bw_model.specs.SchemaText.{column_on, after_room, is_range}
 
 -- lines of other numbers of words are no columns
 pub column_words-other : (words : List (List ℕ)) → length words ≢ 4 → length words ≢ 6 → None ≡ column_words words
@@ -120,7 +124,7 @@ pub schema_on-first : (lines rest : List NumberedWords) (line : NumberedWords) (
 unfolding schema_on
 schema_on-first lines rest line end name e t = rw (e, t) refl
 
--- the next line is a column's, or has the fault
+-- the next line is a column's, or has the error
 pub columns_on-next : (columns : List Column) (lines rest : List NumberedWords) (line : NumberedWords) (column : Result ColumnShape Fault)
     → lines ≡ line ∷ rest → column_on (names_of columns) line ≡ column
     → columns_on (map column_shape columns) lines ≡ (column >>= λ c. columns_on (map column_shape columns ++ c ∷ []) rest)

@@ -1,5 +1,7 @@
 -- What is read of a schema text is spelled by it, and what is spelled is read.
-use Rattle.std.proofs.Common.{◌≡◌, ℕ, ◌<◌, ◌≤◌, List, [], ◌∷◌, ◌++◌, length, Bool, true, false, not, ◌||◌, Option, Some, None, Result, Ok, Err, refl, ap, sym, subst, ◌∙◌, arith, IfOk, nat_le, nat_lt, append_assoc, length-append}
+use Rattle.std.proofs.Common.{◌≡◌, ℕ, ◌<◌, ◌≤◌, List, [], ◌∷◌, ◌++◌, length, Bool, true, false, not}
+use Rattle.std.proofs.Common.{◌||◌, Option, Some, None, Result, Ok, Err, refl, ap, sym, subst, ◌∙◌}
+use Rattle.std.proofs.Common.{arith, IfOk, nat_le, nat_lt, append_assoc, length-append}
 use Rattle.std.specs.List.{list_any, AllZip}
 use Rattle.std.proofs.lemmas.Bool.{leb-false, lt-leb, le-ltb, ltb-false}
 use Rattle.std.proofs.lemmas.List.{length-map, append-nil, map-append}
@@ -9,7 +11,10 @@ use Rattle.bw_model.specs.declared.schema.Schema.{Schema}
 use Rattle.bw_model.specs.Fault.{MatchesUnlessOom, ◌>>=◌, refused_if, at_line, nowhere}
 use Rattle.bw_text.specs.Lines.{NumberedWords, lines_in, end_in, whole, is_empty}
 use Rattle.bw_model.specs.Name.{is_name, are_apart}
-use Rattle.bw_model.specs.SchemaText.{ColumnShape, SchemaShape, schema_shape, shape_names, is_range, column_words, table_words, table_on, named_table, column_on, next_column, after_room, columns_on, with_columns, schema_on, schema_of, SpellsColumn, SpellsSchema, IsSchemaText}
+use Rattle.bw_model.specs.SchemaText.{ColumnShape, SchemaShape, schema_shape, shape_names, is_range}
+use Rattle.bw_model.specs.SchemaText.{column_words, table_words, table_on, named_table, column_on}
+use Rattle.bw_model.specs.SchemaText.{next_column, after_room, columns_on, with_columns, schema_on}
+use Rattle.bw_model.specs.SchemaText.{schema_of, SpellsColumn, SpellsSchema, IsSchemaText}
 use Rattle.bw_text.specs.Text.{same_text}
 use Rattle.bw_model.proofs.SchemaLemmas.{are_apart-push, both, not_both, negated}
 

@@ -4,7 +4,11 @@ use Rattle.bw_model.specs.declared.cond.Truth.{Truth}
 use Rattle.bw_model.specs.declared.cond.Op.{Op}
 use Rattle.bw_model.specs.declared.cond.Operand.{Operand}
 use Rattle.bw_model.specs.declared.cond.Cond.{Cond, Cond-F, fold-roll-Cond}
-use Rattle.bw_model.specs.declared.cond.Cond.TheVariants.{Always, Cmp, Between, Among, IsNull, And, Or, Not, Test, rolls-Always, rolls-Cmp, rolls-Between, rolls-Among, rolls-IsNull, rolls-And, rolls-Or, rolls-Not, rolls-Test}
+use Rattle.bw_model.specs.declared.cond.Cond.TheVariants.{Always, Cmp, Between, Among, IsNull, And}
+use Rattle.bw_model.specs.declared.cond.Cond.TheVariants.{Or, Not, Test, rolls-Always, rolls-Cmp}
+use Rattle.bw_model.specs.declared.cond.Cond.TheVariants.{rolls-Between, rolls-Among, rolls-IsNull}
+use Rattle.bw_model.specs.declared.cond.Cond.TheVariants.{rolls-And, rolls-Or, rolls-Not}
+use Rattle.bw_model.specs.declared.cond.Cond.TheVariants.{rolls-Test}
 use Rattle.bw_model.specs.CondTree.{CondTree, trees_of, tree_step, tree_of}
 use Rattle.bw_model.specs.CondTree as shape
 

@@ -1,5 +1,6 @@
--- Where the variables of a column stand.
-use Rattle.std.proofs.Common.{◌≡◌, ℕ, zero, suc, ◌+◌, ◌<◌, ◌≤◌, List, [], ◌∷◌, length, take, arith, add-one}
+-- Where the variables of a column are.
+use Rattle.std.proofs.Common.{◌≡◌, ℕ, zero, suc, ◌+◌, ◌<◌, ◌≤◌, List, [], ◌∷◌, length, take, arith}
+use Rattle.std.proofs.Common.{add-one}
 use Rattle.std.proofs.lemmas.List.Sums.{sum_by-cons, sum_by-take-drop}
 use Rattle.bw_model.specs.declared.column.Column.{Column}
 use Rattle.bw_model.specs.Code.{width_of, width_at}

@@ -1,5 +1,7 @@
 -- Codes: a value's distance from its column's minimum, and how many binary digits it has.
-use Rattle.std.specs.Prelude.{ℕ, ℤ, Bool, pos, ◌==◌, unwrap_or, ◌+◌, ◌/◌, ◌+ℤ◌, ◌-ℤ◌, max, ◌&&◌, List, map, length, slice_index, slice_index_or, Option, Some, None, if◌then◌else◌, int_le, unsigned_abs}
+use Rattle.std.specs.Prelude.{ℕ, ℤ, Bool, pos, ◌==◌, unwrap_or, ◌+◌, ◌/◌, ◌+ℤ◌, ◌-ℤ◌, max, ◌&&◌}
+use Rattle.std.specs.Prelude.{List, map, length, slice_index, slice_index_or, Option, Some, None}
+use Rattle.std.specs.Prelude.{if◌then◌else◌, int_le, unsigned_abs}
 use Rattle.std.specs.Int.{bit_at}
 use Rattle.std.specs.Int.Digits.{digits_of}
 use Rattle.bw_model.specs.declared.column.Column.{Column}

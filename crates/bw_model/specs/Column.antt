@@ -1,5 +1,6 @@
 -- Columns, and the rows that they admit.
-use Rattle.std.specs.Prelude.{ℕ, Bool, true, false, List, [], ◌∷◌, map, Option, Some, None, ◌&&◌, int_le}
+use Rattle.std.specs.Prelude.{ℕ, Bool, true, false, List, [], ◌∷◌, map, Option, Some, None, ◌&&◌}
+use Rattle.std.specs.Prelude.{int_le}
 use Rattle.std.specs.List.{position}
 use Rattle.bw_model.specs.declared.column.Column.{Column}
 use Rattle.bw_model.specs.Row.{Value}

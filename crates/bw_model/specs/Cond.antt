@@ -6,9 +6,11 @@ use Rattle.bw_model.specs.declared.cond.Truth.TheVariants.{Yes}
 use Rattle.bw_model.specs.declared.cond.Operand.{Operand}
 use Rattle.bw_model.specs.declared.cond.Operand.TheVariants.{Col, Lit, Null}
 use Rattle.bw_model.specs.declared.cond.Cond.{Cond, Cond-F, fold-Cond}
-use Rattle.bw_model.specs.declared.cond.Cond.TheOpen.{Always, Cmp, Between, Among, IsNull, And, Or, Not, Test}
+use Rattle.bw_model.specs.declared.cond.Cond.TheOpen.{Always, Cmp, Between, Among, IsNull, And, Or}
+use Rattle.bw_model.specs.declared.cond.Cond.TheOpen.{Not, Test}
 use Rattle.bw_model.specs.Row.{Value, value_in}
-use Rattle.bw_model.specs.Truth.{truth_from, all_of, any_of, negation, is_truth, compare_values, between, in_list, is_null}
+use Rattle.bw_model.specs.Truth.{truth_from, all_of, any_of, negation, is_truth, compare_values}
+use Rattle.bw_model.specs.Truth.{between, in_list, is_null}
 
 -- the value that an operand has in a row
 abbrev pub operand_value : List Value → Operand → Value

@@ -9,7 +9,8 @@ use Rattle.bw_model.specs.declared.cond.Operand.{Operand}
 use Rattle.bw_model.specs.declared.cond.Cond.{Cond, Cond-F, fold-Cond}
 use Rattle.bw_model.specs.declared.cond.Cond.TheOpen as layer
 use Rattle.bw_model.specs.Row.{Value}
-use Rattle.bw_model.specs.Truth.{truth_from, all_of, any_of, negation, is_truth, compare_values, between, in_list, is_null}
+use Rattle.bw_model.specs.Truth.{truth_from, all_of, any_of, negation, is_truth, compare_values}
+use Rattle.bw_model.specs.Truth.{between, in_list, is_null}
 use Rattle.bw_model.specs.Cond.{operand_value, is_within}
 
 mutual

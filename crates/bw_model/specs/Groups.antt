@@ -1,9 +1,10 @@
 -- A table in groups of 512 rows, of which the last may have fewer, and the assignments of a group's
 -- rows.
-use Rattle.std.specs.Prelude.{ℕ, zero, suc, ◌-◌, List, [], ◌∷◌, ◌++◌, map, length, take, drop, replicate}
+use Rattle.std.specs.Prelude.{ℕ, zero, suc, ◌-◌, List, [], ◌∷◌, ◌++◌, map, length, take, drop}
+use Rattle.std.specs.Prelude.{replicate}
 use Rattle.bw_model.specs.declared.column.Column.{Column}
 use Rattle.bw_model.specs.Row.{Value}
-use Rattle.bw_model.specs.Stored.{no_bits}
+use Rattle.bw_model.specs.StoredCodes.{no_bits}
 use Rattle.bw_model.specs.Variable.{Assignment, assignment_of, bits_of}
 
 -- the most rows of a group

@@ -11,8 +11,8 @@ pub mod Row
 pub mod Schema
 pub mod SchemaText
 pub mod Selection
-pub mod Standing
-pub mod Stored
+pub mod FaultPlaces
+pub mod StoredCodes
 pub mod Total
 pub mod Truth
 pub mod Variable

@@ -1,7 +1,11 @@
 -- Schema texts: the schema of a text, or its first error.
-use Rattle.std.specs.Prelude.{◌≡◌, ◌≤◌, IsTrue, ℕ, ℤ, pos, ◌-ℤ◌, ◌^◌, Bool, true, false, List, [], ◌∷◌, ◌++◌, map, drop, length, Option, Some, None, Result, Ok, Err, codes, not, ◌&&◌, ◌||◌, ◌==◌, if◌then◌else◌, int_le, int_lt, nat_le, nat_lt, slice_index}
+use Rattle.std.specs.Prelude.{◌≡◌, ◌≤◌, IsTrue, ℕ, ℤ, pos, ◌-ℤ◌, ◌^◌, Bool, true, false, List, []}
+use Rattle.std.specs.Prelude.{◌∷◌, ◌++◌, map, drop, length, Option, Some, None, Result, Ok, Err}
+use Rattle.std.specs.Prelude.{codes, not, ◌&&◌, ◌||◌, ◌==◌, if◌then◌else◌, int_le, int_lt, nat_le}
+use Rattle.std.specs.Prelude.{nat_lt, slice_index}
 use Rattle.std.specs.List.{list_any, AllZip}
-use Rattle.bw_model.specs.FaultTable.{SCHEMA_FORM, SCHEMA_NAME, SCHEMA_RANGE, NAME_TWICE, COLUMN_COUNT, SCHEMA_TOO_LONG}
+use Rattle.bw_model.specs.FaultTable.{SCHEMA_FORM, SCHEMA_NAME, SCHEMA_RANGE, NAME_TWICE}
+use Rattle.bw_model.specs.FaultTable.{COLUMN_COUNT, SCHEMA_TOO_LONG}
 use Rattle.bw_model.specs.declared.fault.Fault.{Fault}
 use Rattle.bw_model.specs.declared.column.Column.{Column}
 use Rattle.bw_model.specs.declared.parse.Words.{Words}

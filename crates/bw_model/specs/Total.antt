@@ -1,6 +1,7 @@
 -- Aggregates of rows, after SQL-92: nulls are dropped first. Over nothing, COUNT is 0 and the
 -- others are null.
-use Rattle.std.specs.Prelude.{ℕ, ℤ, pos, ◌+ℤ◌, List, length, Option, Some, None, Bool, true, false, nat_lt}
+use Rattle.std.specs.Prelude.{ℕ, ℤ, pos, ◌+ℤ◌, List, length, Option, Some, None, Bool, true, false}
+use Rattle.std.specs.Prelude.{nat_lt}
 use Rattle.std.specs.List.{filter_map, reduce}
 use Rattle.std.specs.Int.{int_min, int_max}
 use Rattle.bw_model.specs.declared.query.Item.{Item}

@@ -1,5 +1,6 @@
 -- Truth in three values, after SQL-92: FALSE is less than UNKNOWN, and UNKNOWN less than TRUE.
-use Rattle.std.specs.Prelude.{ℤ, Bool, true, false, List, [], ◌∷◌, Some, None, map, not, int_lt, int_le}
+use Rattle.std.specs.Prelude.{ℤ, Bool, true, false, List, [], ◌∷◌, Some, None, map, not, int_lt}
+use Rattle.std.specs.Prelude.{int_le}
 use Rattle.std.specs.Ordering.{int_eq}
 use Rattle.bw_model.specs.declared.cond.Truth.{Truth}
 use Rattle.bw_model.specs.declared.cond.Truth.TheVariants.{No, Unknown, Yes}

@@ -3,7 +3,8 @@ ghost use Rattle.std.specs.Prelude.{◌≡◌, ℕ, ℤ, Some, ◌+◌, ◌<◌,
 ghost use Rattle.std.specs.Int.Digits.{digits_of};
 ghost use Rattle.bw_model.specs.Row.{values_of};
 ghost use Rattle.bw_model.specs.Column.{admits_value, admits_values, column_named};
-ghost use Rattle.bw_model.specs.Code.{span_of, width_of, code_of, value_of_code, span_at, width_at, slices_at, code_at, value_at};
+ghost use Rattle.bw_model.specs.Code.{span_of, width_of, code_of, value_of_code, span_at, width_at};
+ghost use Rattle.bw_model.specs.Code.{slices_at, code_at, value_at};
 
 use crate::column::Column;
 use crate::row::{Row, Value};

@@ -1,7 +1,21 @@
 //! Errors: their numbers, their words and their places.
 ghost use Rattle.std.specs.Prelude.{◌≡◌, ◌≤◌, Some, length};
 ghost use Rattle.bw_model.specs.Fault.{no_memory, nowhere, at_byte, at_line, at_record, place_text};
-ghost use Rattle.bw_model.specs.FaultTable.{words_of, SCHEMA_FORM, SCHEMA_NAME, SCHEMA_RANGE, NAME_TWICE, COLUMN_COUNT, SCHEMA_TOO_LONG, NO_HEADING, HEADING, RECORD_LENGTH, NOT_A_NUMBER, OUT_OF_RANGE, NULL_NOT_ALLOWED, TOO_MANY_ROWS, CSV_TOO_LONG, CSV_FAULT, MAGIC, VERSION, LAYOUT, HEADER, TRUNCATED, CODE_TOO_LARGE, NULL_WITH_CODE, PADDING, BYTES_AFTER_END, ROW_COUNT, CHARACTER, SYNTAX, UNKNOWN_TABLE, UNKNOWN_COLUMN, LITERAL, MIXED_ITEMS, STATEMENT_TOO_LONG, NESTING, PROGRAM_FORM, REGISTER, COLUMN_OR_BIT, SKIP_TARGET, PROGRAM_TOO_LONG, NO_RESULT, NO_NULLS, PROGRAM_FILE_TOO_LONG, NODE, PRODUCT_ROW, CHAIN_ROW, LIMIT, CERTIFICATE_FORM, CONDITION_LINE, INSTRUCTION_LINE, JOIN, REGISTER_UNKNOWN, END, NO_PROGRAM, READ_FAILED, WRITE_FAILED, OUT_OF_MEMORY};
+ghost use Rattle.bw_model.specs.FaultTable.{words_of, SCHEMA_FORM, SCHEMA_NAME, SCHEMA_RANGE};
+ghost use Rattle.bw_model.specs.FaultTable.{NAME_TWICE, COLUMN_COUNT, SCHEMA_TOO_LONG, NO_HEADING};
+ghost use Rattle.bw_model.specs.FaultTable.{HEADING, RECORD_LENGTH, NOT_A_NUMBER, OUT_OF_RANGE};
+ghost use Rattle.bw_model.specs.FaultTable.{NULL_NOT_ALLOWED, TOO_MANY_ROWS, CSV_TOO_LONG};
+ghost use Rattle.bw_model.specs.FaultTable.{CSV_FAULT, MAGIC, VERSION, LAYOUT, HEADER, TRUNCATED};
+ghost use Rattle.bw_model.specs.FaultTable.{CODE_TOO_LARGE, NULL_WITH_CODE, PADDING};
+ghost use Rattle.bw_model.specs.FaultTable.{BYTES_AFTER_END, ROW_COUNT, CHARACTER, SYNTAX};
+ghost use Rattle.bw_model.specs.FaultTable.{UNKNOWN_TABLE, UNKNOWN_COLUMN, LITERAL, MIXED_ITEMS};
+ghost use Rattle.bw_model.specs.FaultTable.{STATEMENT_TOO_LONG, NESTING, PROGRAM_FORM, REGISTER};
+ghost use Rattle.bw_model.specs.FaultTable.{COLUMN_OR_BIT, SKIP_TARGET, PROGRAM_TOO_LONG};
+ghost use Rattle.bw_model.specs.FaultTable.{NO_RESULT, NO_NULLS, PROGRAM_FILE_TOO_LONG, NODE};
+ghost use Rattle.bw_model.specs.FaultTable.{PRODUCT_ROW, CHAIN_ROW, LIMIT, CERTIFICATE_FORM};
+ghost use Rattle.bw_model.specs.FaultTable.{CONDITION_LINE, INSTRUCTION_LINE, JOIN};
+ghost use Rattle.bw_model.specs.FaultTable.{REGISTER_UNKNOWN, END, NO_PROGRAM, READ_FAILED};
+ghost use Rattle.bw_model.specs.FaultTable.{WRITE_FAILED, OUT_OF_MEMORY};
 ghost use Rattle.bw_model.specs.declared.fault.code.TheConstants as constant;
 
 use std::alloc::{AllocError, AllocFailed};

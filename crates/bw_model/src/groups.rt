@@ -1,12 +1,14 @@
 //! Laws of groups, lanes and selections, for the crates that scan a table group by group.
-ghost use Rattle.std.specs.Prelude.{◌≡◌, ◌+◌, ◌-◌, ◌/◌, ◌<◌, ◌≤◌, ◌++◌, ℕ, Bool, List, [], ◌∷◌, map, length, take, drop, slice_index_or, All, IsTrue};
+ghost use Rattle.std.specs.Prelude.{◌≡◌, ◌+◌, ◌-◌, ◌/◌, ◌<◌, ◌≤◌, ◌++◌, ℕ, Bool, List, [], ◌∷◌};
+ghost use Rattle.std.specs.Prelude.{map, length, take, drop, slice_index_or, All, IsTrue};
 ghost use Rattle.bw_model.specs.declared.cond.Cond.{Cond};
 ghost use Rattle.bw_model.specs.declared.column.Column.{Column};
 ghost use Rattle.bw_model.specs.Column.{admits_values};
 ghost use Rattle.bw_model.specs.Row.{Value};
 ghost use Rattle.bw_model.specs.Groups.{group_size, groups_of, together, lanes_of};
-ghost use Rattle.bw_model.specs.Selection.{positions_from, positions_of, selected_items, selection, matching_positions, matching_rows};
-ghost use Rattle.bw_model.specs.Stored.{no_bits};
+ghost use Rattle.bw_model.specs.Selection.{positions_from, positions_of, selected_items, selection};
+ghost use Rattle.bw_model.specs.Selection.{matching_positions, matching_rows};
+ghost use Rattle.bw_model.specs.StoredCodes.{no_bits};
 ghost use Rattle.bw_model.specs.Variable.{assignment_of, bits_of};
 
 /// A law: a table is its first 512 rows, followed by the groups of the other rows, and its groups
@@ -47,7 +49,7 @@ pub fn kept_rows_are_selected()
     ensures joined { (front back : List Bool) (position : ℕ)
         → positions_from position (front ++ back) ≡ positions_from position front
         ++ positions_from (position + length front) back }
-    ensures picked { (front back : List Bool) (rows others : List (List Value))
+    ensures selected { (front back : List Bool) (rows others : List (List Value))
         → length front ≡ length rows
         → selected_items (front ++ back) (rows ++ others) ≡ selected_items front rows
         ++ selected_items back others }

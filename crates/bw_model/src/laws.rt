@@ -5,7 +5,7 @@ ghost use Rattle.bw_model.specs.Column.{names_of};
 ghost use Rattle.bw_model.specs.Name.{is_name};
 ghost use Rattle.bw_model.specs.Schema.{IsColumn, IsSchema};
 ghost use Rattle.bw_model.specs.SchemaText.{column_shape, schema_of, schema_shape, is_range};
-ghost use Rattle.bw_model.specs.Standing.{StandsAsListed};
+ghost use Rattle.bw_model.specs.FaultPlaces.{StandsAsListed};
 ghost use Rattle.bw_model.specs.declared.fault.Fault.{Fault};
 
 use crate::column::Column;
@@ -13,7 +13,7 @@ use crate::schema::Schema;
 
 /// A law: an error of a schema text is where the table of errors lists it: at a line, or nowhere if
 /// the text is too long.
-#[tactic(auto, using(crate::proofs::StandingLemmas::schema_of_listed))]
+#[tactic(auto, using(crate::proofs::FaultPlaceLemmas::schema_of_listed))]
 pub fn schema_faults_stand_as_listed()
     ensures { (text : List ℕ) (fault : Fault) → schema_of text ≡ Err fault → StandsAsListed fault }
 {}

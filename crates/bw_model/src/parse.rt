@@ -1,12 +1,16 @@
 //! Schema texts: a line `TABLE name`, then for each column a line `COLUMN name lo hi` or
 //! `COLUMN name lo hi NOT NULL`. `lines.rt` of `bw_text` has the rules of lines. The case of
 //! keywords is ignored.
-ghost use Rattle.std.specs.Prelude.{◌≡◌, ◌<◌, Ok, false, map, length, option_map, pos, ◌≤ℤ◌, ◌<ℤ◌, ◌-ℤ◌, ◌^◌, IfOk, IfErr, IsTrue};
+ghost use Rattle.std.specs.Prelude.{◌≡◌, ◌<◌, Ok, false, map, length, option_map, pos, ◌≤ℤ◌, ◌<ℤ◌};
+ghost use Rattle.std.specs.Prelude.{◌-ℤ◌, ◌^◌, IfOk, IfErr, IsTrue};
 ghost use Rattle.std.specs.List.{list_any};
 ghost use Rattle.bw_model.specs.Column.{names_of};
 ghost use Rattle.bw_model.specs.Fault.{MatchesUnlessOom};
 ghost use Rattle.bw_text.specs.Lines.{line_of};
-ghost use Rattle.bw_model.specs.SchemaText.{schema_of, schema_shape, SchemaShape, IsSchemaText, IsSchemaFault, column_shape, column_words, with_bounds, are_not_null, column_on, table_on, is_range, bound_of, signed_digits, words_shape};
+ghost use Rattle.bw_model.specs.SchemaText.{schema_of, schema_shape, SchemaShape, IsSchemaText};
+ghost use Rattle.bw_model.specs.SchemaText.{IsSchemaFault, column_shape, column_words, with_bounds};
+ghost use Rattle.bw_model.specs.SchemaText.{are_not_null, column_on, table_on, is_range, bound_of};
+ghost use Rattle.bw_model.specs.SchemaText.{signed_digits, words_shape};
 ghost use Rattle.bw_text.specs.Text.{same_text};
 
 use crate::column::Column;

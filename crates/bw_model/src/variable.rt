@@ -1,10 +1,13 @@
 //! The variables of a schema: the null bits and code bits of a row, numbered from 0.
-ghost use Rattle.std.specs.Prelude.{◌≡◌, ◌+◌, ◌*◌, ◌/◌, ◌%◌, ◌^◌, ◌<◌, ◌≤◌, ℕ, List, Some, IfSome, length, IsTrue};
+ghost use Rattle.std.specs.Prelude.{◌≡◌, ◌+◌, ◌*◌, ◌/◌, ◌%◌, ◌^◌, ◌<◌, ◌≤◌, ℕ, List, Some, IfSome};
+ghost use Rattle.std.specs.Prelude.{length, IsTrue};
 ghost use Rattle.bw_model.specs.Column.{admits_values};
 ghost use Rattle.bw_model.specs.Code.{width_at, slices_at, has_bit};
-ghost use Rattle.bw_model.specs.Stored.{stored_at, number_spelled, byte_of, byte_spelled, no_bits};
+ghost use Rattle.bw_model.specs.StoredCodes.{stored_at, number_spelled, byte_of, byte_spelled};
+ghost use Rattle.bw_model.specs.StoredCodes.{no_bits};
 ghost use Rattle.bw_model.specs.Truth.{is_null};
-ghost use Rattle.bw_model.specs.Variable.{Assignment, variables_of, null_variable, bit_variable, assignment_of, bits_of, row_of, value_assigned};
+ghost use Rattle.bw_model.specs.Variable.{Assignment, variables_of, null_variable, bit_variable};
+ghost use Rattle.bw_model.specs.Variable.{assignment_of, bits_of, row_of, value_assigned};
 ghost use Rattle.bw_model.specs.Row.{Value, value_in};
 
 use crate::column::Column;

@@ -6,7 +6,7 @@ use Rattle.bw_cert_text.specs.declared.lines.ChainLine.{ChainLine}
 use Rattle.bw_cert_text.specs.CertificateFields.{chain_fields, certificate_fields}
 use Rattle.bw_cert_text.specs.CertificateShape.{CertificateShape}
 use Rattle.bw_cert_text.specs.Columns.{are_columns, has_columns}
-use Rattle.bw_plan.specs.Named.{are_chains_named}
+use Rattle.bw_plan.specs.ChainNames.{are_chains_named}
 
 chains_named : (columns : List stored.Column) (chains : List ChainLine) → list_all (λ chain. are_columns columns chain.columns) (map chain_fields chains) ≡ are_chains_named columns chains
 chains_named columns [] = refl

@@ -1,2 +1,2 @@
-pub mod Named
-pub mod Refused
+pub mod ChainNames
+pub mod Refusal

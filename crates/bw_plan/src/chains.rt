@@ -45,8 +45,8 @@ impl Entry for Link {
 }
 
 impl Link {
-    /// What it compares, of so many bits, without a node.
-    fn shortened(self, len: u32) -> Self {
+    /// Returns the same comparison of this many bits, without a node.
+    fn with_len(self, len: u32) -> Self {
         Link {
             len,
             bound: self.bound % (1 << len.min(63)),
@@ -114,7 +114,7 @@ pub(crate) fn chain(
 ) -> Result<Cited, Refusal> {
     let mut last: Option<Cited> = None;
     for len in 0..=whole.len.min(63) {
-        let wanted = whole.shortened(len);
+        let wanted = whole.with_len(len);
         let cited = match chains.find(wanted) {
             Some((number, link)) => Cited {
                 number,

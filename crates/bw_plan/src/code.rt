@@ -77,11 +77,11 @@ pub(crate) struct Code<'a> {
     pub(crate) edges: Vec<EdgeProducts>,
     /// The order of variables in which registers' nodes are worked out.
     pub(crate) order: VariableOrder,
-    /// The digits of a byte of the column whose codes are compared, and those of its top byte,
-    /// where they are kept.
+    /// The digits of a byte of the column whose codes are compared, and those of its top byte, if
+    /// they are kept in registers.
     pub(crate) digits: Option<Digits>,
     pub(crate) top_digit: Option<Digits>,
-    /// Whether skips that leave out but a few instructions are left out themselves.
+    /// Whether skips that save only a few instructions are omitted.
     pub(crate) has_few_skips: bool,
     registers: [RegisterState; 64],
     skips: Vec<Skip>,
@@ -89,9 +89,9 @@ pub(crate) struct Code<'a> {
     meeting: usize,
     /// Whether there are to be skips.
     with_skips: bool,
-    /// How many instructions look at a byte.
+    /// How many instructions compare a byte.
     looks: usize,
-    /// Whether there are skips from part to part of a condition, which are shown by products of
+    /// Whether there are skips from part to part of a condition, which are proved by products of
     /// whole diagrams.
     pub(crate) skips_parts: bool,
 }
@@ -120,7 +120,7 @@ impl<'a> Code<'a> {
         }
     }
 
-    /// Appends the lines of a condition, and returns the node that is 1 where it is TRUE.
+    /// Appends the lines of a condition, and returns its TRUE node.
     pub(crate) fn begin(&mut self, cond: &Cond) -> Result<u32, Refusal> {
         if self.facts.bits() > MANY_BITS {
             self.facts.limit_products(MAX_LINE_PRODUCTS);
@@ -197,7 +197,7 @@ impl<'a> Code<'a> {
         u8::try_from(number).map_err(|_| Refusal::NoProgram)
     }
 
-    /// How many instructions there is room for.
+    /// Returns how many more instructions fit.
     pub(crate) fn room(&self) -> usize {
         MAX_INSTRUCTIONS.saturating_sub(self.instrs.len())
     }
@@ -210,7 +210,7 @@ impl<'a> Code<'a> {
             .count()
     }
 
-    /// A register that isn't needed and holds a plane of this node, from now on needed.
+    /// Reserves a free register that already has this node's plane, if there is one.
     fn reserve_plane(&mut self, node: u32) -> Result<Option<Register>, Refusal> {
         self.meet()?;
         for (number, register) in self.registers.iter_mut().enumerate() {
@@ -337,7 +337,7 @@ impl<'a> Code<'a> {
         Ok(())
     }
 
-    /// A new register, which is made a connective of two.
+    /// Returns a new register with a connective of two.
     pub(crate) fn emit_connective(
         &mut self,
         op: Connective,
@@ -372,14 +372,14 @@ impl<'a> Code<'a> {
         Ok(())
     }
 
-    /// A new register, which is made the opposite of one.
+    /// Returns a new register with the opposite of one.
     pub(crate) fn opposite(&mut self, from: Register) -> Result<Register, Refusal> {
         let register = self.claim()?;
         self.oppose(register, from)?;
         Ok(register)
     }
 
-    /// How many skips are still to meet, apart from those that meet here.
+    /// Returns how many skips are still to meet, besides those that meet here.
     pub(crate) fn waiting(&mut self) -> Result<usize, Refusal> {
         self.meet()?;
         Ok(self.skips.len())
@@ -483,7 +483,7 @@ impl<'a> Code<'a> {
         if known.needed { known.node } else { None }
     }
 
-    /// Removes a skip, its instruction and its line. What comes after moves up by one.
+    /// Removes a skip, its instruction and its line. All after them move up by one.
     fn take_back(&mut self, at: usize) {
         let Some((number, line)) = self.skips.get(at).map(|skip| (skip.number, skip.line)) else {
             return;
@@ -574,8 +574,9 @@ impl<'a> Code<'a> {
         Ok(())
     }
 
-    /// Returns the product rows of a register that has the same node by a skip as from above. One
-    /// says that the node differs from itself nowhere, so they suffice whatever the skip's node is.
+    /// Returns the product rows for a register that has the same node by a skip as from above. One
+    /// proves that the node differs from itself nowhere, so they suffice for every node of the
+    /// skip.
     fn same(&mut self, tested: u32, differs: u32) -> Result<EdgeProducts, Refusal> {
         let within = self.facts.row(self.order, Connective::Diff, 0, tested)?;
         Ok(EdgeProducts {
@@ -596,7 +597,7 @@ impl<'a> Code<'a> {
         true
     }
 
-    /// Returns the product rows that prove that a register with node `reserve_plane` at a skip has the value
+    /// Returns the product rows that prove that a register with node `held` at a skip has the value
     /// of `node` where skips meet, if it has: the two differ nowhere where the skip's node is 0.
     fn edge(&mut self, tested: u32, held: u32, node: u32) -> Result<Option<EdgeProducts>, Refusal> {
         let differs = self.facts.row(self.order, Connective::Xor, held, node)?;

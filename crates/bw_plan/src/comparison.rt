@@ -24,13 +24,13 @@ pub(crate) struct ColumnComparison {
     pub(crate) left: ColumnIndex,
     pub(crate) right: ColumnIndex,
     pub(crate) negated: bool,
-    /// The columns as they stand in the condition.
+    /// The columns in the order of the condition.
     pub(crate) columns: [ColumnIndex; 2],
 }
 
 impl LiteralComparison {
-    /// The terminal that is worth whether a number of so many bits is less than (equal to) the
-    /// limit, if no such number or each of them is.
+    /// Returns the terminal that says whether a number of this many bits is less than (equal to)
+    /// the limit, if none or every such number is.
     pub(crate) fn terminal(self, width: u32) -> Option<u32> {
         let past = self.limit >= 1 << width.min(63);
         match self.kind {
@@ -43,7 +43,7 @@ impl LiteralComparison {
 }
 
 impl ColumnComparison {
-    /// The terminal that is worth whether a column's code compares so to itself.
+    /// Returns the terminal that says how a column's code compares to itself.
     pub(crate) fn terminal(self) -> Option<u32> {
         match self.kind {
             _ if self.left != self.right => None,

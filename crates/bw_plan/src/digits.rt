@@ -22,17 +22,17 @@ pub(crate) struct Upper {
     register: Register,
 }
 
-/// Two digits take 64 instructions, and save time if a byte is compared with so many numbers: a
-/// byte comparison takes ten times as long as an AND.
+/// The least number of values for which two digits of a byte, which take 64 instructions, save
+/// time: a byte comparison takes ten times as long as an AND.
 const MANY_NUMBERS: usize = 48;
 
 /// The same for the digit of a byte of four bits.
 const SOME_NUMBERS: usize = 10;
 
-/// Two digits are kept if so many registers are free.
+/// The least number of free registers for which two digits are kept.
 const ROOM_FOR_TWO: usize = 48;
 
-/// A third digit is kept if so many registers are free.
+/// The least number of free registers for which a third digit is kept.
 const ROOM_FOR_THREE: usize = 60;
 
 impl Code<'_> {
@@ -126,8 +126,8 @@ impl Code<'_> {
         self.top_digit = None;
     }
 
-    /// A register that is 1 where a byte is a number, and so is a mask, if there is one. `before`
-    /// is kept from number to number, in their order, and let go after them.
+    /// Returns a register that is 1 if a byte is a number and a mask, if there is one, is 1.
+    /// `before` is kept from number to number, in ascending order, and released after the last.
     pub(crate) fn same_byte(
         &mut self,
         column: ColumnIndex,
@@ -152,7 +152,7 @@ impl Code<'_> {
         top.or(self.digits.filter(|digits| digits.slice == slice))
     }
 
-    /// The same by the digits of the byte.
+    /// Returns the same, by the digits of the byte.
     fn same_digits(
         &mut self,
         digits: Digits,
@@ -181,7 +181,7 @@ impl Code<'_> {
         self.emit_connective(Connective::And, register, lower)
     }
 
-    /// Lets the register of an upper digit go.
+    /// Releases the register of an upper digit.
     pub(crate) fn let_go(&mut self, before: Option<Upper>) {
         if let Some(upper) = before {
             self.release(upper.register);

@@ -3,7 +3,7 @@ ghost use Rattle.std.specs.Prelude.{IsTrue, IfOk};
 ghost use Rattle.bw_program.specs.Program.{fits};
 ghost use Rattle.bw_cert_text.specs.CertificateFields.{certificate_fields};
 ghost use Rattle.bw_cert_text.specs.Columns.{has_columns, is_column};
-ghost use Rattle.bw_plan.specs.Named.{is_chain_named, are_chains_named};
+ghost use Rattle.bw_plan.specs.ChainNames.{is_chain_named, are_chains_named};
 
 use crate::chains::Link;
 use crate::facts::Facts;

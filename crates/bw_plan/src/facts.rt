@@ -153,8 +153,9 @@ impl<'a> Facts<'a> {
         chains::chain(self.schema, &mut self.nodes, &mut self.chains, whole)
     }
 
-    /// The node that is 1 where a column is null, if it has a null variable. Refused is, as
-    /// `NoProgram`, what would pass 65,534 nodes.
+    /// Returns the node that is 1 if a column is null, if it has a null variable.
+    ///
+    /// Errors: `NoProgram` past 65,534 nodes.
     pub(crate) fn nulls(&mut self, column: ColumnIndex) -> Result<Option<u32>, Refusal> {
         let column = column as usize;
         if column >= self.schema.columns.len() {

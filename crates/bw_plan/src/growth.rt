@@ -1,32 +1,33 @@
-//! How many facts the parts of a condition take, foretold before all are joined.
+//! How many facts the parts of a condition take, forecast before all are joined.
 use crate::facts::{Extent, Facts};
 use crate::nodes::MAX_NODES;
 use crate::refusal::Refusal;
 
-/// Nothing is forecast before the first parts have taken this part of the limit of product rows.
+/// No forecast is made before the first parts have taken this fraction of the limit of product
+/// rows.
 const FIRST_ROWS: usize = 8;
 
-/// How many parts were joined, and which facts there were then.
+/// How many parts were combined, and which facts there were then.
 #[derive(Clone, Copy)]
 struct Mark {
     joined: usize,
     extent: Extent,
 }
 
-/// The parts of a condition, which are joined one after another. A part takes at least as many
-/// nodes and product rows as those before it, since what it is joined with has grown.
+/// The parts of a condition, which are combined one after another. A part takes at least as many
+/// nodes and product rows as those before it, since what it is combined with has grown.
 #[derive(Clone, Copy)]
 pub(crate) struct Growth {
     parts: usize,
     joined: usize,
     start: Extent,
-    /// How it was after the last number of parts that is a power of two, and after half of these.
+    /// The state after the last number of parts that is a power of two, and after half of these.
     late: Mark,
     early: Mark,
 }
 
 impl Growth {
-    /// Returns so many parts, none of them joined.
+    /// Returns this many parts, none of them combined.
     pub(crate) fn of(parts: usize, facts: &Facts<'_>) -> Self {
         let start = facts.extent();
         let none = Mark {
@@ -42,7 +43,7 @@ impl Growth {
         }
     }
 
-    /// Records that one more part is joined.
+    /// Records that one more part is combined.
     ///
     /// Errors: `NoProgram` if the limit of nodes or of product rows would be passed, if each
     /// remaining part took as many as the last half of the parts so far.
@@ -52,8 +53,8 @@ impl Growth {
         let limit = facts.products().limit();
         if now.products.saturating_sub(self.start.products) >= limit / FIRST_ROWS {
             let early = self.early.extent;
-            let nodes = self.foretold(early.nodes, now.nodes);
-            let rows = self.foretold(early.products, now.products);
+            let nodes = self.forecast(early.nodes, now.nodes);
+            let rows = self.forecast(early.products, now.products);
             if nodes > MAX_NODES || rows > limit {
                 return Err(Refusal::NoProgram);
             }
@@ -68,9 +69,9 @@ impl Growth {
         Ok(())
     }
 
-    /// How many there will be once all parts are joined, if there are so many now and were so many
-    /// early.
-    fn foretold(&self, early: usize, now: usize) -> usize {
+    /// Returns how many there will be once all parts are combined, if there were `early` of them
+    /// and are `now`.
+    fn forecast(&self, early: usize, now: usize) -> usize {
         let parts = self.joined.saturating_sub(self.early.joined).max(1);
         let each = now.saturating_sub(early) / parts;
         let left = self.parts.saturating_sub(self.joined);

@@ -2,7 +2,7 @@
 use crate::refusal::Refusal;
 use std::alloc::Global;
 
-/// What a ledger contains once.
+/// An entry of a ledger, in which it occurs once.
 pub(crate) trait Entry: Copy {
     /// Returns two words of its key. Most entries with different keys have different words.
     fn words(self) -> [u64; 2];
@@ -34,7 +34,7 @@ pub(crate) struct Ledger<T: Entry> {
 const FEWEST_HASHES: usize = 256;
 
 impl<T: Entry> Ledger<T> {
-    /// Returns no entries, of which there may be so many.
+    /// Returns no entries, with a limit of their number.
     pub(crate) fn new(alloc: Global, limit: u32) -> Self {
         Ledger {
             slots: Vec::new(alloc),

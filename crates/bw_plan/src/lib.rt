@@ -6,16 +6,16 @@
 //! that what its certificate states is true, is no promise of this crate: the checker says so,
 //! judging each line anew, or else the proposal isn't used.
 //!
-//! `facts.rt` has what a certificate states, nodes, chains and product rows, each worked out once;
-//! `steps.rt` has the lines of the condition's steps, which cite them. The diagrams and the
+//! `facts.rt` has what a certificate states, nodes, chains and product rows, each computed once;
+//! `steps.rt` has the lines of the condition's steps, which reference them. The diagrams and the
 //! products of nodes are those of Bryant (Graph-Based Algorithms for Boolean Function Manipulation,
 //! 1986). The order of variables and the chains are this project's own.
 //!
-//! In the program codes are compared byte by byte from the top, as in ByteSlice (Feng, Lo, Kao and
-//! Xu), and skips stop a comparison early, as in BitWeaving (Li and Patel). For a long list of
-//! numbers the digits of a byte are kept in registers. Columns are compared with one another bit by
-//! bit: the top bits from the top down, with skips, and the others, of many or wide columns, from
-//! the lowest one up, which takes fewer nodes.
+//! A program compares codes byte by byte from the top, as in ByteSlice (Feng, Lo, Kao and Xu), and
+//! skips stop a comparison early, as in BitWeaving (Li and Patel). For a long list of numbers the
+//! digits of a byte are kept in registers. Columns are compared with one another bit by bit: the
+//! top bits from the top down, with skips, and the others, of many or wide columns, from the lowest
+//! one up, which takes fewer nodes.
 //!
 //! Read `planner.rt` first, then `facts.rt` and `steps.rt`, and then `truths.rt`.
 #![tactic(auto)]

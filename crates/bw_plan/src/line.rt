@@ -1,4 +1,4 @@
-//! The lines of a certificate after those of its facts, as long as instructions may be taken back.
+//! The lines of a certificate after those of its facts, while instructions may be removed.
 ghost use Rattle.std.specs.Prelude.{◌<◌};
 
 use bw_cert_text::{ConditionEntry, EdgePairs, EdgeProducts, Entry, InstructionEntry, Keep};

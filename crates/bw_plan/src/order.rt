@@ -21,7 +21,7 @@ pub(crate) enum VariableOrder {
 
 /// The place of a variable in the orders.
 #[derive(Clone, Copy)]
-struct Standing {
+struct Position {
     column: ColumnIndex,
     bit: u32,
     rank: u32,
@@ -30,7 +30,7 @@ struct Standing {
 /// The places of a schema's variables in its orders.
 #[derive(Drop)]
 pub(crate) struct Ranks {
-    standings: Vec<Standing>,
+    positions: Vec<Position>,
     /// How many comparisons of two columns there are.
     pub(crate) relations: usize,
     /// How many bits the codes of the condition's columns have.
@@ -38,26 +38,26 @@ pub(crate) struct Ranks {
 }
 
 impl Ranks {
-    /// The ranks under a condition.
+    /// Returns the ranks under a condition.
     pub(crate) fn new(alloc: Global, schema: &Schema, cond: &Cond) -> Result<Self, Refusal> {
         let mut compared = Vec::new(alloc);
         collect(cond, &mut compared)?;
         let sequence = sequence_of(schema, cond);
         let groups = Groups::of(&sequence, &compared);
-        let mut standings = Vec::new(alloc);
+        let mut positions = Vec::new(alloc);
         for (column, each) in schema.columns.iter().enumerate() {
             let Ok(number) = u8::try_from(column) else {
                 return Err(Refusal::NoProgram);
             };
             if each.nullable {
-                standings.push(groups.standing(number, NULL_BIT))?;
+                positions.push(groups.position(number, NULL_BIT))?;
             }
             for bit in (0..schema.width(column)).rev() {
-                standings.push(groups.standing(number, bit))?;
+                positions.push(groups.position(number, bit))?;
             }
         }
         Ok(Ranks {
-            standings,
+            positions,
             relations: compared.len(),
             bits: sequence.bits(schema),
         })
@@ -65,7 +65,7 @@ impl Ranks {
 
     /// Returns how early a variable is tested.
     pub(crate) fn rank(&self, order: VariableOrder, variable: u32) -> u32 {
-        let Some(standing) = self.standings.get(variable as usize) else {
+        let Some(standing) = self.positions.get(variable as usize) else {
             return u32::MAX;
         };
         match order {
@@ -129,12 +129,12 @@ impl Groups {
     }
 
     /// Returns the place of the variable of a column's bit.
-    fn standing(&self, column: ColumnIndex, bit: u32) -> Standing {
+    fn position(&self, column: ColumnIndex, bit: u32) -> Position {
         let group = self.group.get(column as usize).copied().unwrap_or(column);
         let level = self.level.get(column as usize).copied().unwrap_or(0);
         let place = NULL_BIT.saturating_sub(bit);
         let rank = ((u32::from(group) * 65 + place.min(64)) * 64 + u32::from(level)) * 256;
-        Standing {
+        Position {
             column,
             bit,
             rank: rank + u32::from(column),

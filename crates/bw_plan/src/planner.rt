@@ -4,7 +4,7 @@ ghost use Rattle.bw_model.specs.Cond.{names_within};
 ghost use Rattle.bw_program.specs.Program.{fits};
 ghost use Rattle.bw_cert_text.specs.CertificateFields.{certificate_fields};
 ghost use Rattle.bw_cert_text.specs.Columns.{has_columns};
-ghost use Rattle.bw_plan.specs.Refused.{IsRefusal};
+ghost use Rattle.bw_plan.specs.Refusal.{IsRefusal};
 
 use crate::code::Code;
 use crate::emit;
@@ -59,15 +59,14 @@ pub fn propose_in_order<'a>(
         IsTrue (has_columns schema.now.columns.items (certificate_fields proposal.certificate))) }
     ensures fault { IfErr result IsRefusal }
 {
-    match planned(alloc, schema, cond, order) {
+    match plan(alloc, schema, cond, order) {
         Ok(proposal) => Ok(proposal),
         Err(refusal) => Err(refusal.fault()),
     }
 }
 
-/// A program for a condition: with skips, or if that isn't to be had, without, when it takes fewer
-/// instructions and nodes.
-fn planned<'a>(
+/// Returns a program for a condition, and its certificate.
+fn plan<'a>(
     alloc: Global,
     schema: &'a Schema,
     cond: &Cond,
@@ -80,7 +79,7 @@ fn planned<'a>(
 {
     let mut code = Code::new(alloc, Facts::new(alloc, schema, cond)?);
     let (program, row) = program_of(schema, cond, order, &mut code)?;
-    match certified(schema, code, row) {
+    match certificate_of(schema, code, row) {
         Ok(certificate) => Ok(Proposal {
             program,
             certificate,
@@ -108,7 +107,8 @@ fn program_of(
     }
 }
 
-/// The program of a condition that has this node, and the row that says that its answer has it too.
+/// Returns the program of a condition that has this node, and the row that proves that its result
+/// has it too.
 fn emit_program(
     schema: &Schema,
     cond: &Cond,
@@ -117,14 +117,14 @@ fn emit_program(
 ) -> Result<(Program, u32), Refusal>
     ensures { IfOk result (λ made. IsTrue (fits schema.now.columns.items made.0)) }
 {
-    let answer = written(code, cond)?;
-    let row = agreeing(code, answer, node)?;
+    let answer = emit_condition(code, cond)?;
+    let row = agreement_row(code, answer, node)?;
     let program = emit::program(code.alloc, schema, &code.instrs, answer)?;
     Ok((program, row))
 }
 
-/// The row that says that a register holds a node.
-fn agreeing(code: &mut Code<'_>, register: Register, wanted: u32) -> Result<u32, Refusal> {
+/// Returns the row that proves that a register has a node.
+fn agreement_row(code: &mut Code<'_>, register: Register, wanted: u32) -> Result<u32, Refusal> {
     let node = code.node(register)?;
     let row = code
         .facts
@@ -136,9 +136,13 @@ fn agreeing(code: &mut Code<'_>, register: Register, wanted: u32) -> Result<u32,
     }
 }
 
-/// The certificate of the instructions, after as many lines as their program has, with the row that
-/// ends it.
-fn certified<'a>(schema: &'a Schema, code: Code<'_>, row: u32) -> Result<Certificate<'a>, Refusal>
+/// Returns the certificate of the instructions. Its lines come after those of the program, and
+/// `row` ends it.
+fn certificate_of<'a>(
+    schema: &'a Schema,
+    code: Code<'_>,
+    row: u32,
+) -> Result<Certificate<'a>, Refusal>
     ensures { IfOk result (λ certificate.
         IsTrue (has_columns schema.now.columns.items (certificate_fields certificate))) }
 {
@@ -154,8 +158,8 @@ fn certified<'a>(schema: &'a Schema, code: Code<'_>, row: u32) -> Result<Certifi
     emit::certificate(alloc, schema, &facts, &lines, &edges, row, before)
 }
 
-/// Writes the instructions of a condition, and gives the result register.
-fn written(code: &mut Code<'_>, cond: &Cond) -> Result<Register, Refusal> {
+/// Appends the instructions of a condition, and returns the result register.
+fn emit_condition(code: &mut Code<'_>, cond: &Cond) -> Result<Register, Refusal> {
     let wanted = WantedTruths {
         yes: true,
         no: false,

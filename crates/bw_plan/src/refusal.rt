@@ -1,5 +1,5 @@
 //! Why there is no proposal.
-ghost use Rattle.bw_plan.specs.Refused.{IsRefusal};
+ghost use Rattle.bw_plan.specs.Refusal.{IsRefusal};
 
 use bw_model::{Fault, code};
 use std::alloc::{AllocError, AllocFailed};

@@ -8,16 +8,15 @@ use bw_program::Register;
 /// Registers of one bit of two columns.
 #[derive(Clone, Copy)]
 struct Bits {
-    /// It is 1 where the bits differ.
+    /// 1 if the bits differ.
     differs: Register,
-    /// Where the bits differ, it is 1 where the left one is 0. It is `differs` itself where only
-    /// the right column has the bit, and none where only the left one has it, or where nothing is
-    /// asked but whether the columns are equal.
+    /// If the bits differ, 1 if the left one is 0. It is `differs` itself if only the right column
+    /// has the bit. There is none if only the left one has it, or if only equality is wanted.
     below: Option<Register>,
 }
 
-/// The result of the top bits of two columns: where the left code is less by them, if that is
-/// needed, and where they are equal.
+/// The result of the top bits of two columns: whether the left code is less by them, if that is
+/// wanted, and whether they are equal.
 #[derive(Clone, Copy)]
 struct Tops {
     less: Option<Register>,
@@ -25,9 +24,9 @@ struct Tops {
 }
 
 impl Code<'_> {
-    /// A register that is 1 where the code of a column is less than (equal to) that of another.
-    /// Their top bits are compared from the top down, with skips to where this ends if no row has
-    /// them equal so far, and the bits below from the lowest one up.
+    /// Returns a register that is 1 if the code of a column is less than (equal to) that of
+    /// another. Their top bits are compared from the top down, with skips to the end of the
+    /// comparison if no row has them equal so far, and the bits below from the lowest one up.
     pub(crate) fn relation(&mut self, relation: ColumnComparison) -> Result<Register, Refusal> {
         let left = self.facts.width(relation.left);
         let bits = left.max(self.facts.width(relation.right));
@@ -81,8 +80,8 @@ impl Code<'_> {
         Ok(same.map(|same| Tops { less, same }))
     }
 
-    /// Adds the next bit below to a comparison from the top down. Updates where the code is less by
-    /// the bits so far, if that is needed, and returns where they are equal.
+    /// Adds the next bit below to a comparison from the top down. Updates whether the code is less
+    /// by the bits so far, if that is wanted, and returns whether they are equal.
     fn next_below(
         &mut self,
         relation: ColumnComparison,
@@ -93,7 +92,7 @@ impl Code<'_> {
         let Bits { differs, below } = self.bits(relation, bit)?;
         if let (Some(less), Some(below)) = (less, below) {
             let below = if below == differs {
-                self.copied(differs)?
+                self.copy(differs)?
             } else {
                 self.join(Connective::And, below, below, differs)?;
                 below
@@ -111,8 +110,8 @@ impl Code<'_> {
         Ok(same)
     }
 
-    /// Returns a register that is 1 where so many low bits of a column are a number less than
-    /// (equal to) that of another.
+    /// Returns a register that is 1 if this many low bits of a column are a number less than (equal
+    /// to) that of another.
     fn lows(&mut self, relation: ColumnComparison, bits: u32) -> Result<Register, Refusal> {
         let made = self.fill(relation.kind == ChainKind::Equal)?;
         for bit in 0..bits {

@@ -4,10 +4,10 @@ use bw_model::Cond;
 /// More registers than a comparison takes.
 const COMPARISON: u32 = 12;
 
-/// Parts are taken in their order as long as they take so many registers.
+/// Parts are processed in their order, unless they take more registers than this.
 const ROOMY: u32 = 24;
 
-/// How many registers a condition takes at most, where each part takes one to hold.
+/// Returns how many registers a condition takes at most, if each part keeps one.
 #[cycle(room)]
 fn room(cond: &Cond) -> u32 {
     match cond {
@@ -34,7 +34,7 @@ struct Rooms {
     largest: usize,
 }
 
-/// How many registers some parts take.
+/// Returns how many registers some parts take.
 #[cycle(room)]
 fn rooms_of(parts: &[Cond]) -> Rooms {
     let mut made = Rooms {
@@ -58,7 +58,7 @@ fn rooms_of(parts: &[Cond]) -> Rooms {
     made
 }
 
-/// The part with which to begin: the first one, or where the parts take many registers in their
+/// Returns the part to begin with: the first one, or, if the parts take many registers in their
 /// order, the one that takes the most.
 pub(crate) fn leading(parts: &[Cond]) -> usize {
     let rooms = rooms_of(parts);

@@ -3,7 +3,7 @@ use crate::code::Code;
 use crate::digits::Upper;
 use crate::refusal::Refusal;
 use crate::sets::{
-    byte_of, first_group, going_on, groups_from, is_rare, is_soon_done, most_instructions,
+    bounds_below, byte_of, first_group, groups_from, is_rare, is_soon_done, most_instructions,
 };
 use bw_diagram::{ChainKind, Connective};
 use bw_program::{ColumnIndex, Register, SliceIndex};
@@ -68,7 +68,7 @@ impl Code<'_> {
     ) -> Result<Register, Refusal> {
         let here = self.bytes(column, slice, bounds)?;
         let masked = if out.is_some() { mask } else { None };
-        let mut out = self.added(here, masked, out)?;
+        let mut out = self.toggle_lanes(here, masked, out)?;
         if slice > 0 {
             let mut rest = bounds;
             let mut before = None;
@@ -85,8 +85,8 @@ impl Code<'_> {
         }
     }
 
-    /// Returns the same for the bounds with one byte in common, where the codes have it too. A new
-    /// register is 0 in other lanes.
+    /// Returns the same for the bounds with one byte in common, in the lanes whose codes have it
+    /// too. A new register is 0 in other lanes.
     #[cycle(within)]
     fn below(
         &mut self,
@@ -97,7 +97,7 @@ impl Code<'_> {
         out: Option<Register>,
         before: &mut Option<Upper>,
     ) -> Result<Option<Register>, Refusal> {
-        let inner = going_on(group, slice);
+        let inner = bounds_below(group, slice);
         let Some(byte) = inner.first().map(|bound| byte_of(*bound, slice)) else {
             return Ok(out);
         };
@@ -172,12 +172,12 @@ impl Code<'_> {
             before = match before {
                 Some(last) if last.checked_add(1) == Some(byte) => {
                     let next = self.same_byte(column, slice, last, None, &mut upper)?;
-                    made = self.added(Some(next), None, made)?;
+                    made = self.toggle_lanes(Some(next), None, made)?;
                     None
                 }
                 Some(last) => {
                     let next = self.byte(ChainKind::Less, column, slice, last)?;
-                    made = self.added(Some(next), None, made)?;
+                    made = self.toggle_lanes(Some(next), None, made)?;
                     Some(byte)
                 }
                 None => Some(byte),
@@ -186,15 +186,15 @@ impl Code<'_> {
         match before {
             Some(last) => {
                 let next = self.byte(ChainKind::Less, column, slice, last)?;
-                self.added(Some(next), None, made)
+                self.toggle_lanes(Some(next), None, made)
             }
             None => Ok(made),
         }
     }
 
-    /// A register, `out` if there is one, with the lanes turned round that are 1 in another and in
-    /// `mask`.
-    fn added(
+    /// Returns a register, `out` if there is one, with the lanes toggled that are 1 in another and
+    /// in `mask`.
+    fn toggle_lanes(
         &mut self,
         next: Option<Register>,
         mask: Option<Register>,

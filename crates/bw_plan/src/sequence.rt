@@ -2,7 +2,7 @@
 use bw_model::{Cond, Operand, Schema};
 use bw_program::ColumnIndex;
 
-/// Some columns, first the one that is tested first, and how much is compared with them.
+/// Some columns, the one that is tested first at the front, and how much is compared with them.
 #[derive(Clone, Copy)]
 pub(crate) struct Sequence {
     columns: [ColumnIndex; 64],
@@ -53,7 +53,7 @@ impl Sequence {
         }
     }
 
-    /// Appends the column of an operand, which is compared so many times.
+    /// Appends the column of an operand, which is compared this many times.
     fn push_operand(&mut self, schema: &Schema, operand: Operand, times: usize) {
         let Operand::Col(column) = operand else {
             return;
@@ -82,8 +82,8 @@ impl Sequence {
     }
 }
 
-/// Returns the columns of a condition. If parts are joined, the smaller one comes first: the nodes
-/// of the larger one are then unchanged below it.
+/// Returns the columns of a condition. If parts are combined, the smaller one comes first: the
+/// nodes of the larger one are then unchanged below it.
 #[cycle(sequence)]
 pub(crate) fn sequence_of(schema: &Schema, cond: &Cond) -> Sequence {
     let mut sequence = Sequence::new();

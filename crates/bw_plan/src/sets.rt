@@ -7,7 +7,7 @@ use bw_model::Operand;
 use bw_program::{ColumnIndex, SliceIndex};
 use std::alloc::Global;
 
-/// A set of numbers of so many bits: those with an odd number of bounds above them, or, where it is
+/// A set of numbers of this many bits: those with an odd number of bounds above them or, if it is
 /// inverted, with an even number.
 #[derive(Drop)]
 pub(crate) struct Set {
@@ -17,7 +17,7 @@ pub(crate) struct Set {
 }
 
 impl Set {
-    /// The empty set.
+    /// Returns the empty set.
     fn new(alloc: Global, width: u32) -> Self {
         Set {
             bounds: Vec::new(alloc),
@@ -26,7 +26,7 @@ impl Set {
         }
     }
 
-    /// Puts the numbers below a limit in where they aren't, and takes them out where they are.
+    /// Adds the numbers below a limit that are missing, and removes those that aren't.
     fn toggle(&mut self, limit: i128) -> Result<(), Refusal> {
         if limit >= 1 << self.width.min(63) {
             self.inverted = !self.inverted;
@@ -36,7 +36,7 @@ impl Set {
         Ok(())
     }
 
-    /// Puts the numbers in from one on and below another.
+    /// Adds the numbers from one on and below another.
     fn add(&mut self, from: i128, below: i128) -> Result<(), Refusal> {
         if from < below {
             self.toggle(from)?;
@@ -45,7 +45,7 @@ impl Set {
         Ok(())
     }
 
-    /// The set of a comparison with a number.
+    /// Returns the set of a comparison with a number.
     pub(crate) fn of(alloc: Global, width: u32, bound: LiteralComparison) -> Result<Self, Refusal> {
         let mut set = Set::new(alloc, width);
         match bound.kind {
@@ -57,14 +57,15 @@ impl Set {
         Ok(set)
     }
 
-    /// About how many instructions tell its numbers.
+    /// Estimates how many instructions test for its numbers.
     pub(crate) fn instructions(&self) -> usize {
         let top = self.width.saturating_sub(1) / 8;
         most_instructions(&self.bounds, top.min(7) as u8, None)
     }
 
-    /// The set of the literals of a list with which a column is compared, if there are some.
-    pub(crate) fn listed(
+    /// Returns the set of the literals of a list with which a column is compared, if there are
+    /// some.
+    pub(crate) fn of_literals(
         facts: &Facts<'_>,
         x: Operand,
         items: &[Operand],
@@ -83,7 +84,7 @@ impl Set {
         }
     }
 
-    /// The set of some codes in order.
+    /// Returns the set of some codes, in ascending order.
     fn of_codes(alloc: Global, width: u32, codes: &[i128]) -> Result<Self, Refusal> {
         let mut set = Set::new(alloc, width);
         let mut last = None;
@@ -97,7 +98,7 @@ impl Set {
         Ok(set)
     }
 
-    /// The set of the codes from one on and up to another.
+    /// Returns the set of the codes from one on and up to another.
     pub(crate) fn range(alloc: Global, width: u32, from: i128, to: i128) -> Result<Self, Refusal> {
         let mut set = Set::new(alloc, width);
         set.add(from.max(0), to.saturating_add(1))?;
@@ -105,7 +106,7 @@ impl Set {
         Ok(set)
     }
 
-    /// Sorts the bounds, and drops those that stand twice, which cancel.
+    /// Sorts the bounds, and removes those that occur twice, which cancel.
     fn finish(&mut self) {
         self.bounds.sort_unstable();
         let mut kept = 0;
@@ -127,7 +128,7 @@ impl Set {
     }
 }
 
-/// How far the literals of a list are above a column's least value, in order.
+/// Returns how far the literals of a list are above a column's minimum, in ascending order.
 fn literal_codes(alloc: Global, items: &[Operand], lo: i64) -> Result<Vec<i128>, Refusal> {
     let mut codes = Vec::new(alloc);
     for item in items {
@@ -199,14 +200,14 @@ pub(crate) fn most_instructions(
     most
 }
 
-/// Returns whether bounds that go on below a byte are those of one number, whose last byte is the
+/// Returns whether bounds that differ below a byte are those of one number, whose last byte is the
 /// next.
 pub(crate) fn is_soon_done(inner: &[u64], slice: SliceIndex) -> bool {
     slice == 1 && inner.len() <= 2
 }
 
-/// The bounds of a group that go on below a byte.
-pub(crate) fn going_on(group: &[u64], slice: SliceIndex) -> &[u64] {
+/// Returns the bounds of a group that differ below a byte.
+pub(crate) fn bounds_below(group: &[u64], slice: SliceIndex) -> &[u64] {
     match group {
         [first, rest @ ..] if below(*first, slice) == 0 => rest,
         _ => group,

@@ -11,18 +11,17 @@ use bw_diagram::Connective;
 use bw_model::{Cond, Op, Operand, Truth};
 use bw_program::ColumnIndex;
 
-/// A list has so many items at most: to plan a longer one takes longer than to look up the rows of
-/// a table that isn't very large.
+/// The most items of a list: planning a longer one takes longer than looking it up row by row in a
+/// table that isn't very large.
 const MAX_LIST: usize = 400;
 
-/// A list whose literals take more instructions takes so many product rows at most. With more it
-/// takes longer to plan the list and to scan a million rows for it than to look it up in each of
-/// them.
+/// The most product rows of a list whose literals take more instructions. With more, planning the
+/// list and scanning a million rows for it takes longer than looking it up in each of them.
 const LONG_LIST: usize = 1200;
 
 const MAX_LONG_LIST_PRODUCTS: usize = 4000;
 
-/// The numbers of a condition's nodes: where it is TRUE, and where it is FALSE.
+/// The numbers of a condition's nodes: one that is 1 if it is TRUE, and one if it is FALSE.
 #[derive(Clone, Copy)]
 pub(crate) struct TruthNodes {
     pub(crate) yes: u32,
@@ -30,7 +29,7 @@ pub(crate) struct TruthNodes {
 }
 
 impl TruthNodes {
-    /// Those of a step with one truth on every row.
+    /// Returns the nodes of a step with one truth on every row.
     fn constant(truth: Truth) -> Self {
         TruthNodes {
             yes: u32::from(truth == Truth::Yes),
@@ -38,8 +37,8 @@ impl TruthNodes {
         }
     }
 
-    /// Those of the opposite condition.
-    fn exchanged(self) -> Self {
+    /// Returns the nodes of the opposite condition.
+    fn opposite(self) -> Self {
         TruthNodes {
             yes: self.no,
             no: self.yes,
@@ -47,8 +46,9 @@ impl TruthNodes {
     }
 }
 
-/// The nodes of a condition, with the lines of its steps appended, operands first. Refused are, as
-/// `NoProgram`, AND, OR and IN of nothing, what [`compare`] refuses, and what would pass a limit of
+/// Returns the nodes of a condition, and appends the lines of its steps, operands first.
+///
+/// Errors: `NoProgram` for AND, OR and IN of nothing, for those of [`compare`], and past a limit of
 /// the facts.
 #[cycle(steps)]
 pub(crate) fn steps_of(
@@ -58,31 +58,31 @@ pub(crate) fn steps_of(
 ) -> Result<TruthNodes, Refusal> {
     match cond {
         Cond::Always => constant(lines, Truth::Yes),
-        Cond::Cmp(op, x, y) => compared(facts, lines, *op, *x, *y),
+        Cond::Cmp(op, x, y) => add_comparison(facts, lines, *op, *x, *y),
         Cond::Between(x, y, z) => {
-            let lower = compared(facts, lines, Op::Ge, *x, *y)?;
-            let upper = compared(facts, lines, Op::Le, *x, *z)?;
-            joined(facts, lines, false, lower, upper)
+            let lower = add_comparison(facts, lines, Op::Ge, *x, *y)?;
+            let upper = add_comparison(facts, lines, Op::Le, *x, *z)?;
+            add_connective(facts, lines, false, lower, upper)
         }
         Cond::Among(x, items) => among(facts, lines, *x, items),
-        Cond::IsNull(x) => null_tested(facts, lines, *x),
-        Cond::And(parts) => all_joined(facts, lines, false, parts),
-        Cond::Or(parts) => all_joined(facts, lines, true, parts),
+        Cond::IsNull(x) => add_null_test(facts, lines, *x),
+        Cond::And(parts) => add_parts(facts, lines, false, parts),
+        Cond::Or(parts) => add_parts(facts, lines, true, parts),
         Cond::Not(part) => {
             let made = steps_of(facts, lines, part)?;
             put(lines, ConditionEntry::Not)?;
-            Ok(made.exchanged())
+            Ok(made.opposite())
         }
         Cond::Test(part, wanted) => {
             let made = steps_of(facts, lines, part)?;
-            tested(facts, lines, *wanted, made)
+            add_truth_test(facts, lines, *wanted, made)
         }
     }
 }
 
-/// The nodes of parts of which any, or else each, is to hold.
+/// Returns the nodes of the OR of all parts, or else of their AND.
 #[cycle(steps)]
-fn all_joined(
+fn add_parts(
     facts: &mut Facts<'_>,
     lines: &mut Vec<PlannedLine>,
     any: bool,
@@ -95,13 +95,13 @@ fn all_joined(
     let mut growth = Growth::of(others.len(), facts);
     for part in others {
         let next = steps_of(facts, lines, part)?;
-        made = joined(facts, lines, any, made, next)?;
+        made = add_connective(facts, lines, any, made, next)?;
         growth.join(facts)?;
     }
     Ok(made)
 }
 
-/// The nodes of a list of equations with one operand, of which one is to hold.
+/// Returns the nodes of the OR of the equations of a list with one operand.
 fn among(
     facts: &mut Facts<'_>,
     lines: &mut Vec<PlannedLine>,
@@ -115,10 +115,10 @@ fn among(
     let Some((first, others)) = items.split_first() else {
         return Err(Refusal::NoProgram);
     };
-    let mut made = compared(facts, lines, Op::Eq, x, *first)?;
+    let mut made = add_comparison(facts, lines, Op::Eq, x, *first)?;
     for item in others {
-        let next = compared(facts, lines, Op::Eq, x, *item)?;
-        made = joined(facts, lines, true, made, next)?;
+        let next = add_comparison(facts, lines, Op::Eq, x, *item)?;
+        made = add_connective(facts, lines, true, made, next)?;
         if facts.products().len() > most {
             return Err(Refusal::NoProgram);
         }
@@ -126,9 +126,9 @@ fn among(
     Ok(made)
 }
 
-/// How many product rows there may be once a list is planned.
+/// Returns how many product rows there may be once a list is planned.
 fn most_products(facts: &Facts<'_>, x: Operand, items: &[Operand]) -> Result<usize, Refusal> {
-    Ok(match Set::listed(facts, x, items)? {
+    Ok(match Set::of_literals(facts, x, items)? {
         Some((_, set)) if set.instructions() > LONG_LIST => {
             facts
                 .products()
@@ -145,14 +145,14 @@ fn put(lines: &mut Vec<PlannedLine>, entry: ConditionEntry) -> Result<(), Refusa
     Ok(())
 }
 
-/// The nodes of a step with one truth on every row.
+/// Returns the nodes of a step with one truth on every row.
 fn constant(lines: &mut Vec<PlannedLine>, truth: Truth) -> Result<TruthNodes, Refusal> {
     put(lines, ConditionEntry::Fixed)?;
     Ok(TruthNodes::constant(truth))
 }
 
-/// The nodes of two parts that are joined by OR, or else by AND.
-fn joined(
+/// Returns the nodes of two parts, combined by OR, or else by AND.
+fn add_connective(
     facts: &mut Facts<'_>,
     lines: &mut Vec<PlannedLine>,
     any: bool,
@@ -181,8 +181,8 @@ fn joined(
     })
 }
 
-/// The nodes of `IS TRUE`, `IS FALSE` or `IS UNKNOWN`.
-fn tested(
+/// Returns the nodes of `IS TRUE`, `IS FALSE` or `IS UNKNOWN`.
+fn add_truth_test(
     facts: &mut Facts<'_>,
     lines: &mut Vec<PlannedLine>,
     wanted: Truth,
@@ -210,8 +210,8 @@ fn tested(
     })
 }
 
-/// The nodes of `IS NULL`.
-fn null_tested(
+/// Returns the nodes of `IS NULL`.
+fn add_null_test(
     facts: &mut Facts<'_>,
     lines: &mut Vec<PlannedLine>,
     x: Operand,
@@ -232,8 +232,8 @@ fn null_tested(
     })
 }
 
-/// The nodes of a comparison.
-fn compared(
+/// Returns the nodes of a comparison.
+fn add_comparison(
     facts: &mut Facts<'_>,
     lines: &mut Vec<PlannedLine>,
     op: Op,
@@ -242,12 +242,12 @@ fn compared(
 ) -> Result<TruthNodes, Refusal> {
     match compare(facts, op, x, y)? {
         Comparison::Fixed(truth) => constant(lines, truth),
-        Comparison::Literal(bound) => bounded(facts, lines, bound),
-        Comparison::Columns(relation) => related(facts, lines, relation),
+        Comparison::Literal(bound) => add_literal_comparison(facts, lines, bound),
+        Comparison::Columns(relation) => add_column_comparison(facts, lines, relation),
     }
 }
 
-/// The row and the node of where a column has a value: none, and 1, where it always has.
+/// Returns the row and the node that is 1 if a column has a value: none, and 1, if it always has.
 fn values(facts: &mut Facts<'_>, column: ColumnIndex) -> Result<(Option<u64>, u32), Refusal> {
     let Some(nulls) = facts.nulls(column)? else {
         return Ok((None, 1));
@@ -256,8 +256,8 @@ fn values(facts: &mut Facts<'_>, column: ColumnIndex) -> Result<(Option<u64>, u3
     Ok((Some(u64::from(values.number)), values.node))
 }
 
-/// The nodes of a comparison of a column with a number.
-fn bounded(
+/// Returns the nodes of a comparison of a column with a number.
+fn add_literal_comparison(
     facts: &mut Facts<'_>,
     lines: &mut Vec<PlannedLine>,
     bound: LiteralComparison,
@@ -287,15 +287,11 @@ fn bounded(
         yes: p.node,
         no: q.node,
     };
-    Ok(if bound.negated {
-        made.exchanged()
-    } else {
-        made
-    })
+    Ok(if bound.negated { made.opposite() } else { made })
 }
 
-/// The nodes of a comparison of two columns.
-fn related(
+/// Returns the nodes of a comparison of two columns.
+fn add_column_comparison(
     facts: &mut Facts<'_>,
     lines: &mut Vec<PlannedLine>,
     relation: ColumnComparison,
@@ -330,7 +326,7 @@ fn related(
         no: q.node,
     };
     Ok(if relation.negated {
-        made.exchanged()
+        made.opposite()
     } else {
         made
     })

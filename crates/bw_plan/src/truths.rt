@@ -1,4 +1,4 @@
-//! Instructions that work out where a condition is TRUE, and where it is FALSE.
+//! Instructions that compute whether a condition is TRUE, and whether it is FALSE.
 use crate::code::Code;
 use crate::comparison::{ColumnComparison, Comparison, LiteralComparison, compare};
 use crate::growth::Growth;
@@ -18,22 +18,21 @@ pub(crate) struct WantedTruths {
 }
 
 impl WantedTruths {
-    /// What is wanted of the opposite.
-    fn exchanged(self) -> Self {
+    /// Returns what is wanted of the opposite condition.
+    fn opposite(self) -> Self {
         WantedTruths {
             yes: self.no,
             no: self.yes,
         }
     }
 
-    /// What is wanted of a condition that is negated, or isn't.
-    fn turned(self, negated: bool) -> Self {
-        if negated { self.exchanged() } else { self }
+    /// Returns what is wanted of a condition that is negated, or isn't.
+    fn opposite_if(self, negated: bool) -> Self {
+        if negated { self.opposite() } else { self }
     }
 }
 
-/// The registers that are 1 where a condition is TRUE, and where it is FALSE, of those that are
-/// wanted.
+/// The wanted ones of two registers: one that is 1 if a condition is TRUE, and one if it is FALSE.
 #[derive(Clone, Copy)]
 pub(crate) struct TruthRegisters {
     pub(crate) yes: Option<Register>,
@@ -41,25 +40,25 @@ pub(crate) struct TruthRegisters {
 }
 
 impl TruthRegisters {
-    /// The registers of the opposite.
-    fn exchanged(self) -> Self {
+    /// Returns the registers of the opposite condition.
+    fn opposite(self) -> Self {
         TruthRegisters {
             yes: self.no,
             no: self.yes,
         }
     }
 
-    /// The registers of a condition that is negated, or isn't.
-    fn turned(self, negated: bool) -> Self {
-        if negated { self.exchanged() } else { self }
+    /// Returns the registers of a condition that is negated, or isn't.
+    fn opposite_if(self, negated: bool) -> Self {
+        if negated { self.opposite() } else { self }
     }
 }
 
-/// So many parts of a condition are looked at for an early end.
+/// The number of first parts of a condition that may have a skip to its end.
 const SKIPPED_PARTS: usize = 16;
 
 impl Code<'_> {
-    /// The registers of a condition.
+    /// Returns the registers of a condition.
     #[cycle(truths)]
     pub(crate) fn truths(
         &mut self,
@@ -68,28 +67,28 @@ impl Code<'_> {
     ) -> Result<TruthRegisters, Refusal> {
         match cond {
             Cond::Always => self.constant(Truth::Yes, wanted),
-            Cond::Cmp(op, x, y) => self.compared(*op, *x, *y, wanted),
+            Cond::Cmp(op, x, y) => self.emit_comparison(*op, *x, *y, wanted),
             Cond::Between(x, y, z) => self.between(*x, *y, *z, wanted),
             Cond::Among(x, items) => self.among(*x, items, wanted),
-            Cond::IsNull(x) => self.null_tested(*x, wanted),
-            Cond::And(parts) => self.all_joined(false, parts, wanted),
-            Cond::Or(parts) => self.all_joined(true, parts, wanted),
-            Cond::Not(part) => Ok(self.truths(part, wanted.exchanged())?.exchanged()),
+            Cond::IsNull(x) => self.emit_null_test(*x, wanted),
+            Cond::And(parts) => self.emit_parts(false, parts, wanted),
+            Cond::Or(parts) => self.emit_parts(true, parts, wanted),
+            Cond::Not(part) => Ok(self.truths(part, wanted.opposite())?.opposite()),
             Cond::Test(part, truth) => {
                 let needed = WantedTruths {
                     yes: *truth != Truth::No,
                     no: *truth != Truth::Yes,
                 };
                 let made = self.truths(part, needed)?;
-                self.tested(*truth, made, wanted)
+                self.emit_truth_test(*truth, made, wanted)
             }
         }
     }
 
-    /// The registers of parts of which any, or else each, is to hold: first of the part that takes
-    /// many registers, if there is one.
+    /// Returns the registers of the OR of all parts, or else of their AND: first of the part that
+    /// takes many registers, if there is one.
     #[cycle(truths)]
-    fn all_joined(
+    fn emit_parts(
         &mut self,
         any: bool,
         parts: &[Cond],
@@ -122,9 +121,9 @@ impl Code<'_> {
         made.ok_or(Refusal::NoProgram)
     }
 
-    /// Skips to the end of parts where the others can change nothing.
+    /// Skips to the end of the parts if the others can change nothing.
     fn skip_if_settled(&mut self, any: bool, made: TruthRegisters) -> Result<(), Refusal> {
-        let made = made.turned(any);
+        let made = made.opposite_if(any);
         match (made.yes, made.no) {
             (_, Some(excluded)) => {
                 let left = self.opposite(excluded)?;
@@ -132,19 +131,19 @@ impl Code<'_> {
                 self.release(left);
                 Ok(())
             }
-            (Some(picked), None) => self.skip(picked),
+            (Some(selected), None) => self.skip(selected),
             (None, None) => Ok(()),
         }
     }
 
-    /// Joins the registers of one part with those of another, which are let go.
+    /// Combines the registers of one part with those of another, which are released.
     fn join_parts(
         &mut self,
         any: bool,
         made: TruthRegisters,
         next: TruthRegisters,
     ) -> Result<(), Refusal> {
-        let (made, next) = (made.turned(any), next.turned(any));
+        let (made, next) = (made.opposite_if(any), next.opposite_if(any));
         if let (Some(to), Some(y)) = (made.yes, next.yes) {
             self.join_into(Connective::And, to, y)?;
         }
@@ -154,7 +153,7 @@ impl Code<'_> {
         Ok(())
     }
 
-    /// The registers of one truth on every row.
+    /// Returns the registers of one truth on every row.
     fn constant(&mut self, truth: Truth, wanted: WantedTruths) -> Result<TruthRegisters, Refusal> {
         let mut made = TruthRegisters {
             yes: None,
@@ -169,8 +168,8 @@ impl Code<'_> {
         Ok(made)
     }
 
-    /// The registers of `IS TRUE`, `IS FALSE` or `IS UNKNOWN`.
-    fn tested(
+    /// Returns the registers of `IS TRUE`, `IS FALSE` or `IS UNKNOWN`.
+    fn emit_truth_test(
         &mut self,
         truth: Truth,
         made: TruthRegisters,
@@ -185,13 +184,17 @@ impl Code<'_> {
             _ => return Err(Refusal::NoProgram),
         };
         Ok(
-            self.sides(held, &[], false, wanted.turned(negated))?
-                .turned(negated),
+            self.sides(held, &[], false, wanted.opposite_if(negated))?
+                .opposite_if(negated),
         )
     }
 
-    /// The registers of `IS NULL`.
-    fn null_tested(&mut self, x: Operand, wanted: WantedTruths) -> Result<TruthRegisters, Refusal> {
+    /// Returns the registers of `IS NULL`.
+    fn emit_null_test(
+        &mut self,
+        x: Operand,
+        wanted: WantedTruths,
+    ) -> Result<TruthRegisters, Refusal> {
         let column = match x {
             Operand::Col(column) => self.facts.column(column)?,
             Operand::Lit(_) => return self.constant(Truth::No, wanted),
@@ -212,8 +215,8 @@ impl Code<'_> {
         }
     }
 
-    /// The registers of a comparison.
-    fn compared(
+    /// Returns the registers of a comparison.
+    fn emit_comparison(
         &mut self,
         op: Op,
         x: Operand,
@@ -222,13 +225,13 @@ impl Code<'_> {
     ) -> Result<TruthRegisters, Refusal> {
         match compare(&self.facts, op, x, y)? {
             Comparison::Fixed(truth) => self.constant(truth, wanted),
-            Comparison::Literal(bound) => self.bounded(bound, wanted),
-            Comparison::Columns(relation) => self.related(relation, wanted),
+            Comparison::Literal(bound) => self.emit_literal_comparison(bound, wanted),
+            Comparison::Columns(relation) => self.emit_column_comparison(relation, wanted),
         }
     }
 
-    /// The registers of a comparison of a column with a number.
-    fn bounded(
+    /// Returns the registers of a comparison of a column with a number.
+    fn emit_literal_comparison(
         &mut self,
         bound: LiteralComparison,
         wanted: WantedTruths,
@@ -237,7 +240,7 @@ impl Code<'_> {
         self.in_set(bound.column, &set, wanted)
     }
 
-    /// The registers of whether a column's code is in a set.
+    /// Returns the registers of whether a column's code is in a set.
     fn in_set(
         &mut self,
         column: ColumnIndex,
@@ -248,12 +251,12 @@ impl Code<'_> {
         let start = self.instrs.len();
         let inside = self.codes(column, &set.bounds)?;
         let early = self.has_skips_from(start);
-        let made = self.sides(inside, &[column], early, wanted.turned(set.inverted))?;
+        let made = self.sides(inside, &[column], early, wanted.opposite_if(set.inverted))?;
         self.meet_from(first);
-        Ok(made.turned(set.inverted))
+        Ok(made.opposite_if(set.inverted))
     }
 
-    /// The registers of `BETWEEN`.
+    /// Returns the registers of `BETWEEN`.
     fn between(
         &mut self,
         x: Operand,
@@ -265,15 +268,15 @@ impl Code<'_> {
             return self.in_range(column, least, most, wanted);
         }
         let first = self.waiting()?;
-        let made = self.compared(Op::Ge, x, y, wanted)?;
+        let made = self.emit_comparison(Op::Ge, x, y, wanted)?;
         self.skip_if_settled(false, made)?;
-        let next = self.compared(Op::Le, x, z, wanted)?;
+        let next = self.emit_comparison(Op::Le, x, z, wanted)?;
         self.join_parts(false, made, next)?;
         self.meet_from(first);
         Ok(made)
     }
 
-    /// The registers of whether a column is from one number on and up to another.
+    /// Returns the registers of whether a column is from one number on and up to another.
     fn in_range(
         &mut self,
         column: usize,
@@ -288,15 +291,15 @@ impl Code<'_> {
         self.in_set(column, &set, wanted)
     }
 
-    /// The registers of whether a column is one of the literals of a list, if it is a column and
-    /// there are some.
+    /// Returns the registers of whether a column is one of the literals of a list, if it is a
+    /// column and there are some.
     fn in_list(
         &mut self,
         x: Operand,
         items: &[Operand],
         wanted: WantedTruths,
     ) -> Result<Option<TruthRegisters>, Refusal> {
-        match Set::listed(&self.facts, x, items)? {
+        match Set::of_literals(&self.facts, x, items)? {
             Some((column, set)) => match self.in_set(column, &set, wanted) {
                 Ok(made) => Ok(Some(made)),
                 Err(refusal) => Err(refusal),
@@ -305,7 +308,7 @@ impl Code<'_> {
         }
     }
 
-    /// The registers of `IN`: the literals at once, and then what else is in the list.
+    /// Returns the registers of `IN`: of the literals at once, and then of the other items.
     fn among(
         &mut self,
         x: Operand,
@@ -322,7 +325,7 @@ impl Code<'_> {
             if let Some(made) = made {
                 self.skip_if_settled(true, made)?;
             }
-            let next = self.compared(Op::Eq, x, *item, wanted)?;
+            let next = self.emit_comparison(Op::Eq, x, *item, wanted)?;
             match made {
                 Some(made) => self.join_parts(true, made, next)?,
                 None => made = Some(next),
@@ -332,9 +335,9 @@ impl Code<'_> {
         made.ok_or(Refusal::NoProgram)
     }
 
-    /// The registers of a comparison of two columns. Its skips meet right after its own
+    /// Returns the registers of a comparison of two columns. Its skips meet right after its own
     /// instructions: after a NOT or a null plane, "less so far" would differ by them.
-    fn related(
+    fn emit_column_comparison(
         &mut self,
         relation: ColumnComparison,
         wanted: WantedTruths,
@@ -350,16 +353,21 @@ impl Code<'_> {
         let [c, d] = relation.columns;
         let both = [c, d];
         let count = if c == d { 1 } else { 2 };
-        let made = self.sides(held, &both[..count], true, wanted.turned(relation.negated))?;
+        let made = self.sides(
+            held,
+            &both[..count],
+            true,
+            wanted.opposite_if(relation.negated),
+        )?;
         self.meet_from(first);
         self.meet()?;
         self.order = VariableOrder::Whole;
-        Ok(made.turned(relation.negated))
+        Ok(made.opposite_if(relation.negated))
     }
 
-    /// The registers that are 1 where all of some columns have values and a register is 1, and
-    /// where they have values and it is 0. Where there may be an early end, the null planes are
-    /// left out at one.
+    /// Returns the registers that are 1 if all of some columns have values and a register is 1, and
+    /// if they have values and it is 0. With `early`, a skip omits the null planes if no lane is
+    /// left.
     fn sides(
         &mut self,
         held: Register,
@@ -372,7 +380,7 @@ impl Code<'_> {
             no: None,
         };
         if wanted.no {
-            let outside = if wanted.yes { self.copied(held)? } else { held };
+            let outside = if wanted.yes { self.copy(held)? } else { held };
             for column in columns {
                 if let Some(nulls) = self.nulls(*column)? {
                     self.join_into(Connective::Or, outside, nulls)?;
@@ -397,16 +405,16 @@ impl Code<'_> {
         Ok(made)
     }
 
-    /// A register with the same lanes as another.
-    pub(crate) fn copied(&mut self, register: Register) -> Result<Register, Refusal> {
+    /// Returns a register with the same lanes as another.
+    pub(crate) fn copy(&mut self, register: Register) -> Result<Register, Refusal> {
         let copy = self.fill(false)?;
         self.join(Connective::Or, copy, copy, register)?;
         Ok(copy)
     }
 }
 
-/// Whether a part is the same comparison as the one before it, so that nothing needs to be done for
-/// it.
+/// Returns whether a part is the same comparison as the one before it, so that nothing needs to be
+/// done for it.
 fn repeats(parts: &[Cond], number: usize) -> bool {
     let before = number.checked_sub(1).and_then(|before| parts.get(before));
     match (before, parts.get(number)) {
@@ -417,8 +425,8 @@ fn repeats(parts: &[Cond], number: usize) -> bool {
     }
 }
 
-/// Whether a part takes but two instructions or three, which takes no longer than to ask whether
-/// they may be left out.
+/// Returns whether a part takes only two or three instructions, so that a test whether to skip it
+/// saves nothing.
 fn is_quick(part: &Cond) -> bool {
     match part {
         Cond::Not(part) => matches!(**part, Cond::IsNull(_)),

@@ -1,5 +1,7 @@
--- The codes that planes spell: 512, each of so many binary digits.
-use Rattle.std.proofs.Common.{◌≡◌, ◌∙◌, sym, ap, subst, ℕ, suc, ◌+◌, ◌-◌, ◌*◌, ◌/◌, ◌%◌, ◌^◌, ◌<◌, ◌≤◌, false, cond, ◌==◌, List, [], ◌∷◌, map, length, take, drop, get_or, bit_and, arith, ap₂, shr_lt, pow_mono, take-take, div-one}
+-- The codes that planes spell: 512, each of this many binary digits.
+use Rattle.std.proofs.Common.{◌≡◌, ◌∙◌, sym, ap, subst, ℕ, suc, ◌+◌, ◌-◌, ◌*◌, ◌/◌, ◌%◌, ◌^◌, ◌<◌}
+use Rattle.std.proofs.Common.{◌≤◌, false, cond, ◌==◌, List, [], ◌∷◌, map, length, take, drop}
+use Rattle.std.proofs.Common.{get_or, bit_and, arith, ap₂, shr_lt, pow_mono, take-take, div-one}
 use Rattle.std.specs.Int.{bit_at}
 use Rattle.std.specs.List.{range_with_len, AllByRecursion}
 use Rattle.std.proofs.lemmas.List.{get_or-take, get_or-drop, get_or-map, length-take, length-drop}
@@ -14,7 +16,7 @@ use Rattle.bw_model.specs.Groups.{group_size}
 use Rattle.bw_model.specs.Variable.{spelled}
 use Rattle.bw_model.proofs.BitsLemmas.{bit_worth}
 use lib.Lanes.{zip2}
-use Rattle.bw_model.specs.Stored.{byte_of}
+use Rattle.bw_model.specs.StoredCodes.{byte_of}
 use Rattle.bw_segment.proofs.ByteLemmas.{with_byte, codes_from, top_byte, byte_more, codes_whole}
 use Rattle.bw_segment.proofs.DescentLemmas.{high_more}
 use Rattle.bw_planes.specs.Planes.{plane_lanes, row_bits, planes_codes}
@@ -24,7 +26,7 @@ pub codes_long : (width : ℕ) (bytes : List ℕ) → length (planes_codes width
 unfolding group_size
 codes_long = length-planes_codes
 
--- what is the same of all numbers of so many digits is the same of codes, each of which is one
+-- what is the same of all numbers of this many digits is the same of codes, each of which is one
 pub codes_agree : {A : Type 0} (f g : ℕ → A) (width : ℕ) (bytes : List ℕ) → ((code : ℕ) → code < 2 ^ width → f code ≡ g code) → map f (planes_codes width bytes) ≡ map g (planes_codes width bytes)
 unfolding planes_codes
 codes_agree f g width bytes same =
@@ -54,7 +56,7 @@ bit_in_lane width place lane bytes long there lt =
     ∙ ap (λ l. get_or l lane false) (plane_of_codes width bit bytes long (omega arith)) ∙ get_or-map (λ code. has_bit code bit) (planes_codes width bytes) lane 0 false (omega (arith, codes_long width bytes)) in
     omega (arith, shr_and_one byte (lane % 8), bit_worth (bit_at byte (lane % 8)) 1 (bit_at-lt byte (lane % 8)), ap {B = ℕ} (λ b. cond b 1 0) shown)
 
--- the highest bits, so many, of the code in a lane
+-- the highest bits, this many, of the code in a lane
 unfoldable pub top_bits : ℕ → ℕ → ℕ → List ℕ → ℕ
 top_bits width place lane bytes = get_or (planes_codes width bytes) lane 0 / 2 ^ (width - place)
 

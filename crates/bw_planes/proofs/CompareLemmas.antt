@@ -1,6 +1,9 @@
 -- Some bits of codes, compared bit by bit with a constant: from the top bit down, or from the least
 -- one up.
-use Rattle.std.proofs.Common.{◌≡◌, ◌∙◌, refl, sym, ap, ap₂, subst, ℕ, ◌+◌, ◌-◌, ◌*◌, ◌/◌, ◌%◌, ◌^◌, ◌<◌, Bool, true, false, not, cond, ltb, eqb, ◌==◌, ◌&&◌, ◌||◌, List, map, length, bit_and, replicate, min, inl, inr, arith, pow_mono, shr_lt, div-add-mod', shr-shr, pow_pos}
+use Rattle.std.proofs.Common.{◌≡◌, ◌∙◌, refl, sym, ap, ap₂, subst, ℕ, ◌+◌, ◌-◌, ◌*◌, ◌/◌, ◌%◌, ◌^◌}
+use Rattle.std.proofs.Common.{◌<◌, Bool, true, false, not, cond, ltb, eqb, ◌==◌, ◌&&◌, ◌||◌, List}
+use Rattle.std.proofs.Common.{map, length, bit_and, replicate, min, inl, inr, arith, pow_mono}
+use Rattle.std.proofs.Common.{shr_lt, div-add-mod', shr-shr, pow_pos}
 use Rattle.std.proofs.Math.Nat.{div-eq_of_lt, mod-eq_of_lt, mod-lt}
 use Rattle.std.proofs.lemmas.Bool.{cases_lt}
 use Rattle.std.proofs.lemmas.Bool.Decides.{nat_tests}
@@ -10,7 +13,7 @@ use lib.Lanes.{zip2}
 use Rattle.bw_lanes.specs.Lanes.{lanes_of_words}
 use Rattle.bw_lanes.proofs.WordLemmas.{mapped_right, ones_are_one, zeros_are_zero}
 use Rattle.bw_model.specs.Code.{has_bit}
-use Rattle.bw_model.specs.Stored.{byte_of}
+use Rattle.bw_model.specs.StoredCodes.{byte_of}
 use Rattle.bw_planes.specs.Planes.{planes_codes}
 use Rattle.bw_planes.proofs.KeptLemmas.{low_more}
 use Rattle.bw_planes.proofs.CodeLemmas.{codes_agree, codes_long}
@@ -26,7 +29,7 @@ everywhere codes test b lanes long is same = is ∙ splat_is_map codes 512 b lon
 bit_from : (code low bit : ℕ) → has_bit code (low + bit) ≡ has_bit (code / 2 ^ low) bit
 bit_from code low bit = ap (λ n. n % 2 == 1) (sym (shr-shr code low bit))
 
--- a constant that has a 1 above so many bits is above every number of these
+-- a constant that has a 1 above this many bits is above every number of these
 pub above_all : (n count c : ℕ) → (c / 2 ^ count ≡ 0 → ⊥) → n % 2 ^ count < c
 above_all n count c some = elim (cases_lt c (2 ^ count)) [
   | inl less ↦ absurd (some (div-eq_of_lt less))
@@ -43,7 +46,7 @@ at_least_by_bit s t p b one ls lt = grind (arith, nat_tests, ls, lt)
 equal_by_bit : IsByBit eqb (λ one e p. e && cond one p (not p))
 equal_by_bit s t p b one ls lt = grind (arith, nat_tests, ls, lt)
 
--- how so many bits of codes, from one on, stand to those of a constant
+-- how this many bits of codes, from one on, stand to those of a constant
 unfoldable pub compared_in : (ℕ → ℕ → Bool) → ℕ → ℕ → ℕ → List ℕ → List Bool
 compared_in test low bits c codes = map (λ code. test (code / 2 ^ low % 2 ^ bits) (c % 2 ^ bits)) codes
 
@@ -88,7 +91,7 @@ compared_all test low bits count c codes same none =
 
 pub ruleset comparison = (compared_none, at_least_more, equal_more, compared_all, codes_long)
 
--- the bits of a byte of a number of so many digits are this byte
+-- the bits of a byte of a number of this many digits are this byte
 byte_bits : (code width slice count : ℕ) → code < 2 ^ width → 8 * slice < width → count ≡ min (width - 8 * slice) 8 → code / 2 ^ (8 * slice) % 2 ^ count ≡ byte_of slice code
 byte_bits code width slice count small there is = elim (cases_lt (width - 8 * slice) 8) [
   | inl fewer ↦
@@ -113,7 +116,7 @@ not_not b = grind (arith, nat_tests)
 pub negated : (test : ℕ → Bool) (codes : List ℕ) → map not (map (λ code. not (test code)) codes) ≡ map test codes
 negated test codes = map-map not (λ code. not (test code)) codes ∙ (λ i. map (λ code. not_not (test code) i) codes)
 
--- in which lanes the lowest bits, so many, aren't all 0
+-- in which lanes the lowest bits, this many, aren't all 0
 unfoldable pub used_in : ℕ → List ℕ → List Bool
 used_in bits codes = map (λ code. not (code % 2 ^ bits == 0)) codes
 

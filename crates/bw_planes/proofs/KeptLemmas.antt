@@ -1,6 +1,8 @@
 -- Planes keep codes: the planes of codes spell these, and numbers that planes spell have these
 -- planes.
-use Rattle.std.proofs.Common.{◌≡◌, ◌∙◌, refl, sym, ap, ap₂, ℕ, zero, suc, ◌+◌, ◌-◌, ◌*◌, ◌/◌, ◌%◌, ◌^◌, ◌<◌, ◌≤◌, Bool, true, false, cond, ◌==◌, List, ◌++◌, map, length, take, drop, get_or, length-append, add-one, arith}
+use Rattle.std.proofs.Common.{◌≡◌, ◌∙◌, refl, sym, ap, ap₂, ℕ, zero, suc, ◌+◌, ◌-◌, ◌*◌, ◌/◌, ◌%◌}
+use Rattle.std.proofs.Common.{◌^◌, ◌<◌, ◌≤◌, Bool, true, false, cond, ◌==◌, List, ◌++◌, map, length}
+use Rattle.std.proofs.Common.{take, drop, get_or, length-append, add-one, arith}
 use Rattle.std.specs.Int.{bit_at}
 use Rattle.std.specs.List.{range_with_len, All}
 use Rattle.std.proofs.Math.Nat.{div-eq_of_lt, mod-eq_of_lt, mod-lt, two-pow-succ, add-mod_left}
@@ -8,12 +10,14 @@ use Rattle.std.proofs.Math.Pow.{mod-mod-pow}
 use Rattle.std.proofs.Math.Seq.{take-append_seam, drop-append-add, drop-drop}
 use Rattle.std.proofs.lemmas.Nat.{mod-pow-add, div-mul-add, pow_pos}
 use Rattle.std.proofs.lemmas.Nat.Bits.{bit_at-lt}
-use Rattle.std.proofs.lemmas.List.{take-append-drop, drop_all, length-map, length-take, length-drop, get_or-map}
+use Rattle.std.proofs.lemmas.List.{take-append-drop, drop_all, length-map, length-take, length-drop}
+use Rattle.std.proofs.lemmas.List.{get_or-map}
 use Rattle.std.proofs.lemmas.List.Elements.{All-take, All-drop}
 use Rattle.std.proofs.lemmas.List.FromFn.{fill_by_all, length-map-range_with_len}
 use Rattle.std.proofs.lemmas.Simd.{map-map}
 use Rattle.bw_lanes.specs.Lanes.{bytes_of_lanes, lanes_of_bytes}
-use Rattle.bw_lanes.proofs.StoredLemmas.{lanes_of_bytes_of_lanes, bytes_of_lanes_of_bytes, length-bytes_of_lanes}
+use Rattle.bw_lanes.proofs.StoredLemmas.{lanes_of_bytes_of_lanes, bytes_of_lanes_of_bytes}
+use Rattle.bw_lanes.proofs.StoredLemmas.{length-bytes_of_lanes}
 use Rattle.bw_lanes.proofs.WordLemmas.{length-lanes_of_bytes}
 use Rattle.bw_model.specs.Code.{has_bit}
 use Rattle.bw_model.specs.Groups.{group_size}
@@ -83,7 +87,7 @@ bit_of_spelled bits first (suc count) (suc k) lt =
     ∙ sym (low_bit (spelled bits first (suc count)) count bit (omega arith)) ∙ ap (λ n. has_bit n bit) low
     ∙ bit_of_spelled bits (suc first) count k (omega arith) ∙ ap bits next
 
--- variables that have the low bits of a number, so many, from the top one, spell these
+-- variables that have the low bits of a number, this many, from the top one, spell these
 spelled_low : (bits : Assignment) (n first count : ℕ)
     → ((k : ℕ) → k < count → bits (first + k) ≡ has_bit n (count - suc k)) → spelled bits first count ≡ n % 2 ^ count
 spelled_low bits n first zero each = omega arith
@@ -170,7 +174,7 @@ plane_of_codes width bit bytes long lt =
     ∙ (λ i. map (λ row. (ap (has_bit (spelled (row_bits bytes row) 0 width)) same
     ∙ bit_of_spelled (row_bits bytes row) 0 width k (omega arith) ∙ ap (row_bits bytes row) here) i) rows))
 
--- the planes of the numbers that planes spell, of so many low bits
+-- the planes of the numbers that planes spell, of this many low bits
 text_of_codes : (width : ℕ) (bytes : List ℕ) → length bytes ≡ 64 * width → All (λ byte. byte < 2 ^ 8) bytes
     → (bits : ℕ) → bits ≤ width → planes_bytes bits (planes_codes width bytes) ≡ drop (64 * (width - bits)) bytes
 text_of_codes width bytes long small zero le = sym (drop_all (64 * (width - 0)) bytes (omega (arith, long)))

@@ -1,14 +1,16 @@
 -- The highest digits of codes, which tell in nearly all segments that none is above a number, or
 -- below it.
-use Rattle.std.proofs.Common.{◌≡◌, ◌∙◌, refl, sym, ap, subst, ℕ, ◌+◌, ◌/◌, ◌%◌, ◌^◌, ◌<◌, Bool, true, false, not, cond, ltb, ◌||◌, List, [], ◌∷◌, map, arith, mod-eq_of_lt, le-ltb, ltb-true, ltb-false, pow_pos}
+use Rattle.std.proofs.Common.{◌≡◌, ◌∙◌, refl, sym, ap, subst, ℕ, ◌+◌, ◌/◌, ◌%◌, ◌^◌, ◌<◌, Bool}
+use Rattle.std.proofs.Common.{true, false, not, cond, ltb, ◌||◌, List, [], ◌∷◌, map, arith}
+use Rattle.std.proofs.Common.{mod-eq_of_lt, le-ltb, ltb-true, ltb-false, pow_pos}
 use Rattle.std.specs.List.{AllByRecursion, list_all, list_any}
 use Rattle.std.proofs.Math.Bool.{not-not}
 use Rattle.bw_model.proofs.BitsLemmas.{both}
 use Rattle.bw_segment.proofs.DescentLemmas.{below}
 use Rattle.bw_segment.proofs.LowLemmas.{without_ones}
-use Rattle.bw_segment.specs.Picked.{is_beyond}
+use Rattle.bw_segment.specs.Selected.{is_beyond}
 
--- none is above a number where none has as many as it in these digits
+-- none is above a number if none has as many as it in these digits
 pub none_near : (width low digits most : ℕ) → width ≡ digits + low → (codes : List ℕ) → AllByRecursion (λ code. code < 2 ^ width) codes
     → list_all not (map (λ code. not (ltb (code / 2 ^ low % 2 ^ digits) (most / 2 ^ low))) codes) ≡ true → list_any (ltb most) codes ≡ false
 none_near width low digits most whole [] small none = refl

@@ -1,11 +1,14 @@
 -- The sum of the codes in some lanes: word by word, and in a word by the bits of the codes.
-use Rattle.std.proofs.Common.{◌≡◌, ◌∙◌, refl, sym, subst, ap, ap₂, ℕ, suc, ◌+◌, ◌-◌, ◌*◌, ◌/◌, ◌%◌, ◌^◌, ◌<◌, ◌≤◌, cond, List, [], ◌∷◌, ◌++◌, map, length, take, drop, sum, sum_by, count_by, arith, mod-eq_of_lt, mul-le-mul, pow_mono}
+use Rattle.std.proofs.Common.{◌≡◌, ◌∙◌, refl, sym, subst, ap, ap₂, ℕ, suc, ◌+◌, ◌-◌, ◌*◌, ◌/◌, ◌%◌}
+use Rattle.std.proofs.Common.{◌^◌, ◌<◌, ◌≤◌, cond, List, [], ◌∷◌, ◌++◌, map, length, take, drop}
+use Rattle.std.proofs.Common.{sum, sum_by, count_by, arith, mod-eq_of_lt, mul-le-mul, pow_mono}
 use Rattle.std.specs.List.{AllByRecursion, range_with_len}
 use Rattle.std.specs.Int.{bit_at}
 use Rattle.std.proofs.Math.Seq.{drop-append_seam, take-append_seam, drop-drop}
 use Rattle.std.proofs.lemmas.Nat.{mod-pow-add, pow-add}
 use Rattle.std.proofs.lemmas.Nat.Bits.{bit_at-lt}
-use Rattle.std.proofs.lemmas.List.{take-append-drop, length-drop, take-take, drop-take, take-map, drop-map, length-take}
+use Rattle.std.proofs.lemmas.List.{take-append-drop, length-drop, take-take, drop-take, take-map}
+use Rattle.std.proofs.lemmas.List.{drop-map, length-take}
 use Rattle.std.proofs.lemmas.List.Concat.{flat_map-append}
 use Rattle.std.proofs.lemmas.List.Sums.{sum_by-cons}
 use Rattle.bw_lanes.specs.Lanes.{bits_from_least, lanes_of_bytes}
@@ -17,7 +20,7 @@ use Rattle.bw_model.proofs.BitsLemmas.{bit_worth}
 use Rattle.bw_planes.specs.Planes.{plane_lanes, row_bits, planes_codes, codes_in_word}
 use Rattle.bw_planes.proofs.KeptLemmas.{plane_of_codes}
 use Rattle.bw_segment.proofs.DescentLemmas.{high_more}
-use Rattle.bw_segment.proofs.PickedLemmas.{no_bits, word_more, words_summed}
+use Rattle.bw_segment.proofs.SelectedLemmas.{no_bits, word_more, words_summed}
 use Rattle.bw_planes.proofs.CodeLemmas.{codes_long, small_in_rows}
 
 lanes_range : (k n : ℕ) (bytes : List ℕ) → k + n ≤ length bytes → lanes_of_bytes (take n (drop k bytes)) ≡ take (8 * n) (drop (8 * k) (lanes_of_bytes bytes))

@@ -1,17 +1,19 @@
 -- Bytes of codes made of their bits, from the top one down, in many lanes at once.
-use Rattle.std.proofs.Common.{◌≡◌, ◌∙◌, sym, ap, ap₂, ℕ, suc, ◌+◌, ◌-◌, ◌*◌, ◌/◌, ◌%◌, ◌^◌, ◌<◌, min, Bool, ◌==◌, List, map, length, replicate, add-one, arith, mod-lt, pow_mono}
+use Rattle.std.proofs.Common.{◌≡◌, ◌∙◌, sym, ap, ap₂, ℕ, suc, ◌+◌, ◌-◌, ◌*◌, ◌/◌, ◌%◌, ◌^◌, ◌<◌}
+use Rattle.std.proofs.Common.{min, Bool, ◌==◌, List, map, length, replicate, add-one, arith, mod-lt}
+use Rattle.std.proofs.Common.{pow_mono}
 use Rattle.std.proofs.lemmas.Bool.Decides.{nat_tests}
 use Rattle.std.proofs.lemmas.Nat.{shr-shr, mod-pow-add, pow_pos}
 use Rattle.std.proofs.lemmas.Simd.{zip2_of_maps, splat_is_map}
 use lib.Lanes.{zip2}
 use Rattle.bw_lanes.specs.Shifted.{with_bit}
 use Rattle.bw_model.specs.Code.{has_bit}
-use Rattle.bw_model.specs.Stored.{byte_of}
+use Rattle.bw_model.specs.StoredCodes.{byte_of}
 use Rattle.bw_planes.specs.Planes.{planes_codes}
 use Rattle.bw_planes.proofs.CodeLemmas.{codes_long}
 use Rattle.bw_planes.proofs.CompareLemmas.{of_byte}
 
--- so many bits of codes from one on
+-- this many bits of codes from one on
 abbrev pub bits_from : ℕ → ℕ → List ℕ → List ℕ
 bits_from bit count codes = map (λ code. code / 2 ^ bit % 2 ^ count) codes
 

@@ -1,5 +1,6 @@
 -- Codes stored as planes: one plane of 64 bytes for each bit, from the top bit down.
-use Rattle.std.specs.Prelude.{ℕ, zero, suc, ◌*◌, Bool, false, List, [], ◌++◌, map, take, drop, slice_index_or}
+use Rattle.std.specs.Prelude.{ℕ, zero, suc, ◌*◌, Bool, false, List, [], ◌++◌, map, take, drop}
+use Rattle.std.specs.Prelude.{slice_index_or}
 use Rattle.std.specs.List.{range_with_len}
 use Rattle.bw_lanes.specs.Lanes.{bytes_of_lanes, lanes_of_bytes}
 use Rattle.bw_model.specs.Code.{has_bit}

@@ -1,7 +1,8 @@
 //! Comparisons of some bits of the codes with a constant, from the lowest bit up, by one operation
 //! for each plane. There is no early end: to ask after each plane whether a lane is left takes
 //! longer than the planes of a byte.
-ghost use Rattle.std.specs.Prelude.{◌≡◌, ◌==◌, ◌&&◌, ◌||◌, if◌then◌else◌, ◌+◌, ◌*◌, ◌/◌, ◌%◌, ◌^◌, ◌<◌, ◌≤◌, length, map, nat_lt, not};
+ghost use Rattle.std.specs.Prelude.{◌≡◌, ◌==◌, ◌&&◌, ◌||◌, if◌then◌else◌, ◌+◌, ◌*◌, ◌/◌, ◌%◌, ◌^◌};
+ghost use Rattle.std.specs.Prelude.{◌<◌, ◌≤◌, length, map, nat_lt, not};
 ghost use lib.Lanes.{zip2};
 ghost use Rattle.bw_lanes.specs.Lanes.{lanes_of_words};
 ghost use Rattle.bw_model.specs.Code.{has_bit};

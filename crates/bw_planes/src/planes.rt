@@ -1,10 +1,11 @@
 //! Codes stored as planes, and the results of their kernels.
-ghost use Rattle.std.specs.Prelude.{◌≡◌, ◌+◌, ◌*◌, ◌/◌, ◌%◌, ◌^◌, ◌<◌, ◌≤◌, IfSome, false, if◌then◌else◌, length, map, max, min, nat_lt, not, true};
+ghost use Rattle.std.specs.Prelude.{◌≡◌, ◌+◌, ◌*◌, ◌/◌, ◌%◌, ◌^◌, ◌<◌, ◌≤◌, IfSome, false};
+ghost use Rattle.std.specs.Prelude.{if◌then◌else◌, length, map, max, min, nat_lt, not, true};
 ghost use Rattle.std.specs.List.{list_any, reduce};
 ghost use Rattle.bw_lanes.specs.Lanes.{lanes_of_words};
 ghost use Rattle.bw_model.specs.Code.{has_bit};
 ghost use Rattle.bw_model.specs.Selection.{selected_items};
-ghost use Rattle.bw_model.specs.Stored.{byte_of};
+ghost use Rattle.bw_model.specs.StoredCodes.{byte_of};
 ghost use Rattle.bw_planes.specs.Planes.{plane_packing, planes_codes};
 
 use crate::compare::{at_least, eq, equal_step};

@@ -1,5 +1,7 @@
 -- What is read of a line is spelled by it, and what is spelled is read.
-use Rattle.std.proofs.Common.{◌≡◌, ◌∙◌, refl, sym, ap, subst, ℕ, ◌<◌, ◌≤◌, ◌==◌, Bool, true, false, not, List, [], ◌∷◌, drop, Option, Some, None, Result, Ok, Err, nat_le, nat_lt}
+use Rattle.std.proofs.Common.{◌≡◌, ◌∙◌, refl, sym, ap, subst, ℕ, ◌<◌, ◌≤◌, ◌==◌, Bool, true, false}
+use Rattle.std.proofs.Common.{not, List, [], ◌∷◌, drop, Option, Some, None, Result, Ok, Err, nat_le}
+use Rattle.std.proofs.Common.{nat_lt}
 use Rattle.std.proofs.lemmas.Bool.{ltb-true, ltb-false, leb-false, lt-ltb, le-ltb, lt-leb}
 use Rattle.bw_model.specs.declared.column.Column.{Column}
 use Rattle.bw_model.specs.declared.fault.Fault.{Fault}
@@ -10,18 +12,22 @@ use Rattle.bw_text.specs.Lines.{NumberedWords}
 use Rattle.bw_text.specs.Number.{natural_of}
 use Rattle.bw_model.specs.Variable.{is_nullable}
 use Rattle.bw_program.specs.declared.instr.Instr.{Instr}
-use Rattle.bw_program.specs.declared.instr.Instr.TheVariants.{Load, Nulls, Fill, And, Or, Xor, Not, ByteLt, ByteEq, Skip}
+use Rattle.bw_program.specs.declared.instr.Instr.TheVariants.{Load, Nulls, Fill, And, Or, Xor, Not}
+use Rattle.bw_program.specs.declared.instr.Instr.TheVariants.{ByteLt, ByteEq, Skip}
 use Rattle.bw_text.specs.declared.opcode.Opcode.{Opcode}
 use Rattle.bw_text.specs.declared.opcode.Opcode.TheVariants as op
 use Rattle.bw_text.specs.Opcode.{opcode_of}
-use Rattle.bw_program.specs.ProgramText.{found_on, load_on, nulls_on, fill_on, three_on, not_on, byte_on, skip_on, opcode_in, instr_after, instr_on, goes_past, SpellsInstr, load, nulls, fill, conjunction, disjunction, difference, negation, below, same, skip}
+use Rattle.bw_program.specs.ProgramText.{found_on, load_on, nulls_on, fill_on, three_on, not_on}
+use Rattle.bw_program.specs.ProgramText.{byte_on, skip_on, opcode_in, instr_after, instr_on}
+use Rattle.bw_program.specs.ProgramText.{goes_past, SpellsInstr, load, nulls, fill, conjunction}
+use Rattle.bw_program.specs.ProgramText.{disjunction, difference, negation, below, same, skip}
 use Rattle.bw_text.specs.Register.{register_of}
 
 negated_not : (b : Bool) → not b ≡ false → b ≡ true
 negated_not true e = refl
 negated_not false e = absurd (cc e)
 
--- what is after a test that did not refuse
+-- what is after a test that did not reject
 passed : {A : Type 0} (b : Bool) (fault : Fault) (r : Result A Fault) (x : A) → refused_if b fault r ≡ Ok x → (b ≡ false) × (r ≡ Ok x)
 passed true fault r x e = absurd (cc e)
 passed false fault r x e = (refl, e)

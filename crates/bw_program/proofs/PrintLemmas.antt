@@ -1,10 +1,11 @@
 -- Canonical texts, one line at a time.
-use Rattle.std.proofs.Common.{◌≡◌, refl, ℕ, zero, suc, ◌+◌, ◌≤◌, List, [], ◌∷◌, ◌++◌, length, drop, Some, slice_get, add-one}
+use Rattle.std.proofs.Common.{◌≡◌, refl, ℕ, zero, suc, ◌+◌, ◌≤◌, List, [], ◌∷◌, ◌++◌, length, drop}
+use Rattle.std.proofs.Common.{Some, slice_get, add-one}
 use Rattle.std.proofs.lemmas.List.{drop_all}
 use Rattle.bw_model.specs.declared.column.Column.{Column}
 use Rattle.bw_program.specs.declared.instr.Instr.{Instr}
 use Rattle.bw_program.specs.PrintText.{instr_words, result_words, lines_text}
-use Rattle.bw_text.specs.Printed.{line_text}
+use Rattle.bw_text.specs.Printing.{line_text}
 
 -- the item at a position, in front of those after it
 drop-found : (instrs : List Instr) (i : ℕ) (instr : Instr) → slice_get instrs i ≡ Some instr → drop i instrs ≡ instr ∷ drop (suc i) instrs

@@ -1,5 +1,7 @@
 -- The canonical text of a program spells it.
-use Rattle.std.proofs.Common.{◌≡◌, ◌∙◌, refl, sym, ap, subst, ℕ, zero, suc, ◌+◌, ◌^◌, ◌<◌, ◌≤◌, Bool, true, false, not, ◌&&◌, ◌||◌, List, [], ◌∷◌, ◌++◌, length, map, Some, nat_le, nat_lt, get_or, arith}
+use Rattle.std.proofs.Common.{◌≡◌, ◌∙◌, refl, sym, ap, subst, ℕ, zero, suc, ◌+◌, ◌^◌, ◌<◌, ◌≤◌}
+use Rattle.std.proofs.Common.{Bool, true, false, not, ◌&&◌, ◌||◌, List, [], ◌∷◌, ◌++◌, length, map}
+use Rattle.std.proofs.Common.{Some, nat_le, nat_lt, get_or, arith}
 use Rattle.std.specs.Char.{to_ascii_lowercase}
 use Rattle.std.specs.Fmt.{decimal}
 use Rattle.std.specs.List.{list_all, list_any}
@@ -17,18 +19,23 @@ use Rattle.bw_model.specs.Name.{is_name, are_apart}
 use Rattle.bw_text.specs.Text.{same_text}
 use Rattle.bw_model.specs.Variable.{is_nullable}
 use Rattle.bw_program.specs.declared.instr.Instr.{Instr}
-use Rattle.bw_program.specs.declared.instr.Instr.TheVariants.{Load, Nulls, Fill, And, Or, Xor, Not, ByteLt, ByteEq, Skip}
+use Rattle.bw_program.specs.declared.instr.Instr.TheVariants.{Load, Nulls, Fill, And, Or, Xor, Not}
+use Rattle.bw_program.specs.declared.instr.Instr.TheVariants.{ByteLt, ByteEq, Skip}
 use Rattle.bw_text.specs.declared.opcode.Opcode.TheVariants as op
 use Rattle.bw_text.specs.Opcode.{opcode_spelling}
-use Rattle.bw_program.specs.PrintText.{column_text, instr_words, result_words, lines_text, print_text}
-use Rattle.bw_program.specs.Program.{ProgramShape, is_program, is_sound, are_sound, instr_fits, fits}
-use Rattle.bw_program.specs.ProgramText.{SpellsInstr, load, nulls, fill, conjunction, disjunction, difference, negation, below, same, skip, SpellsLines, result_line, instr_line, IsProgramText}
+use Rattle.bw_program.specs.PrintText.{column_text, instr_words, result_words, lines_text}
+use Rattle.bw_program.specs.PrintText.{print_text}
+use Rattle.bw_program.specs.Program.{ProgramShape, is_program, is_sound, are_sound, instr_fits}
+use Rattle.bw_program.specs.Program.{fits}
+use Rattle.bw_program.specs.ProgramText.{SpellsInstr, load, nulls, fill, conjunction, disjunction}
+use Rattle.bw_program.specs.ProgramText.{difference, negation, below, same, skip, SpellsLines}
+use Rattle.bw_program.specs.ProgramText.{result_line, instr_line, IsProgramText}
 use Rattle.bw_model.proofs.BitsLemmas.{both}
 use Rattle.bw_text.proofs.DecimalLemmas.{natural_of-decimal, plain_number}
 use Rattle.bw_text.proofs.RegisterLemmas.{plain_register, register_of-text}
 use Rattle.bw_text.proofs.SpacedWords.{line_said}
 use Rattle.bw_text.proofs.WordSpelling.{opcode_of-spelling}
-use Rattle.bw_text.specs.Printed.{is_plain_word, line_text}
+use Rattle.bw_text.specs.Printing.{is_plain_word, line_text}
 use Rattle.bw_text.specs.Register.{is_register, register_text}
 use Rattle.bw_model.proofs.NameLemmas.{plain_name}
 

@@ -1,6 +1,9 @@
 -- What is read of a program text is spelled by it, and what is spelled is read; what is spelled is
 -- a program that fits.
-use Rattle.std.proofs.Common.{◌≡◌, ◌∙◌, refl, sym, ap, subst, ℕ, suc, ◌+◌, ◌<◌, ◌≤◌, Bool, true, false, ◌&&◌, cond, List, [], ◌∷◌, ◌++◌, length, drop, Option, Some, None, Result, Ok, Err, nat_le, arith, append_assoc, length-append, add-one}
+use Rattle.std.proofs.Common.{◌≡◌, ◌∙◌, refl, sym, ap, subst, ℕ, suc, ◌+◌, ◌<◌, ◌≤◌, Bool, true}
+use Rattle.std.proofs.Common.{false, ◌&&◌, cond, List, [], ◌∷◌, ◌++◌, length, drop, Option, Some}
+use Rattle.std.proofs.Common.{None, Result, Ok, Err, nat_le, arith, append_assoc, length-append}
+use Rattle.std.proofs.Common.{add-one}
 use Rattle.std.specs.List.{list_all}
 use Rattle.std.specs.Prelude.{IfOk, IsTrue}
 use Rattle.std.proofs.lemmas.Bool.{lt-ltb, le-leb, leb-false, lt-leb}
@@ -14,11 +17,16 @@ use Rattle.bw_program.specs.declared.parse.Placed.{Placed}
 use Rattle.bw_text.specs.declared.opcode.Opcode.{Opcode}
 use Rattle.bw_text.specs.declared.opcode.Opcode.TheVariants as op
 use Rattle.bw_text.specs.Opcode.{opcode_of}
-use Rattle.bw_program.specs.Program.{ProgramShape, most_instructions, is_sound, are_sound, is_program, instr_fits, fits}
+use Rattle.bw_program.specs.Program.{ProgramShape, most_instructions, is_sound, are_sound}
+use Rattle.bw_program.specs.Program.{is_program, instr_fits, fits}
 use Rattle.bw_text.specs.Register.{is_register}
 use Rattle.bw_text.proofs.RegisterLemmas.{register_is}
 use Rattle.bw_model.proofs.NameLemmas.{named_column_is_there}
-use Rattle.bw_program.specs.ProgramText.{found_on, names_result, opcode_in, is_result_line, result_after, last_line, within_end, goes_past, instrs_of, ended, finished, instr_on, program_on, program_of, SpellsInstr, SpellsLines, result_line, instr_line, IsProgramText}
+use Rattle.bw_program.specs.ProgramText.{found_on, names_result, opcode_in, is_result_line}
+use Rattle.bw_program.specs.ProgramText.{result_after, last_line, within_end, goes_past, instrs_of}
+use Rattle.bw_program.specs.ProgramText.{ended, finished, instr_on, program_on, program_of}
+use Rattle.bw_program.specs.ProgramText.{SpellsInstr, SpellsLines, result_line, instr_line}
+use Rattle.bw_program.specs.ProgramText.{IsProgramText}
 use Rattle.bw_text.specs.Register.{register_of}
 use Rattle.bw_program.specs.ProgramText as text
 use Rattle.bw_program.proofs.InstrSpelling.{instr_spelled, spelled_instr}
@@ -55,7 +63,7 @@ within_more end (q ∷ before) p all here = (all.0, within_more end before p all
 record Read (columns : List Column) (before : List Placed) (lines : List NumberedWords) (program : ProgramShape) : Type 0 where
   rest : List Placed
   instrs : program.instrs ≡ instrs_of (before ++ rest)
-  few : length (before ++ rest) ≤ most_instructions
+  within_limit : length (before ++ rest) ≤ most_instructions
   within : AllWithin (length (before ++ rest)) (before ++ rest)
   spelled : SpellsLines columns (length (before ++ rest)) (length before) lines (instrs_of rest) program.result
 
@@ -100,7 +108,7 @@ finished_read columns before line lines program is few e = go (result_after line
         subst (Read columns before (line ∷ lines)) ended.1 (record {
           rest = [];
           instrs = ap instrs_of (sym same);
-          few = subst (λ (p : List Placed). length p ≤ most_instructions) (sym same) few;
+          within_limit = subst (λ (p : List Placed). length p ≤ most_instructions) (sym same) few;
           within = subst (λ (p : List Placed). AllWithin (length p) p) (sym same) ended.0;
           spelled = spelled;
         })
@@ -134,7 +142,7 @@ program_read columns before (line ∷ lines) end program few e =
         record {
           rest = p ∷ after.rest;
           instrs = after.instrs ∙ ap instrs_of same;
-          few = subst (λ (all : List Placed). length all ≤ most_instructions) same after.few;
+          within_limit = subst (λ (all : List Placed). length all ≤ most_instructions) same after.within_limit;
           within = within;
           spelled = instr_line first others;
         }
@@ -159,7 +167,7 @@ pub text_spelled : (columns : List Column) (bytes : List ℕ) (program : Program
 text_spelled columns bytes program e =
     let read = program_read columns [] (lines_in (whole bytes)) (end_in (whole bytes)) program (omega arith) e in
     let count : length program.instrs ≡ length read.rest = ap length read.instrs ∙ length-map read.rest (λ (p : Placed). p.instr) in
-    let few = read.few in
+    let few = read.within_limit in
     let instrs : instrs_of read.rest ≡ program.instrs = sym read.instrs in (
       omega arith,
       subst (λ (is : List Instr). SpellsLines columns (length program.instrs) 0 (lines_in (whole bytes)) is program.result) instrs

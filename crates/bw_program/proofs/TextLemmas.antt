@@ -1,5 +1,6 @@
 -- A program text, one line or one instruction at a time.
-use Rattle.std.proofs.Common.{◌≡◌, ◌∙◌, refl, sym, ap, ℕ, ◌+◌, ◌<◌, ◌≤◌, true, false, List, [], ◌∷◌, ◌++◌, length, drop, Result, Ok, Err, nat_le, get_or, add-one}
+use Rattle.std.proofs.Common.{◌≡◌, ◌∙◌, refl, sym, ap, ℕ, ◌+◌, ◌<◌, ◌≤◌, true, false, List, [], ◌∷◌}
+use Rattle.std.proofs.Common.{◌++◌, length, drop, Result, Ok, Err, nat_le, get_or, add-one}
 use Rattle.std.specs.Prelude.{IfOk, IfErr}
 use Rattle.std.proofs.lemmas.Bool.{lt-leb}
 use Rattle.std.proofs.lemmas.List.{drop_all}
@@ -11,7 +12,8 @@ use Rattle.bw_text.specs.Lines.{NumberedWords}
 use Rattle.bw_program.specs.declared.instr.Instr.{Instr}
 use Rattle.bw_program.specs.declared.parse.Placed.{Placed}
 use Rattle.bw_program.specs.Program.{ProgramShape, most_instructions}
-use Rattle.bw_program.specs.ProgramText.{within_end, goes_past, instr_on, is_result_line, result_after, finished, program_on}
+use Rattle.bw_program.specs.ProgramText.{within_end, goes_past, instr_on, is_result_line}
+use Rattle.bw_program.specs.ProgramText.{result_after, finished, program_on}
 
 -- the skips from an instruction on, by whether it goes past the end itself
 pub within_end-next : (end : ℕ) (placed : List Placed) (i : ℕ) (d : Placed) (x : ProgramShape) → i < length placed → goes_past end (get_or placed i d).instr ≡ false →
@@ -64,7 +66,7 @@ result_refused columns before lines rest line end whole (Ok register) told e is 
 result_refused columns before lines rest line end whole (Err fault) told e is read = λ _.
     told ∙ program_on-result columns before lines rest line end e is ∙ ap (λ r. r >>= λ result. finished before rest result) (sym read)
 
--- an instruction was read, or refused
+-- an instruction was read, or rejected
 pub instr_read : (columns : List Column) (before : List Placed) (lines rest : List NumberedWords) (line : NumberedWords) (end : ℕ) (instr : Result Instr Fault) →
     lines ≡ line ∷ rest → is_result_line line ≡ false → length before < most_instructions → instr ≡ instr_on columns (length before) line →
     program_on columns before lines end ≡ (instr >>= λ i. program_on columns (before ++ record { line = line.number; instr = i } ∷ []) rest end)

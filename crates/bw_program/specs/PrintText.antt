@@ -5,11 +5,12 @@ use Rattle.std.specs.Fmt.{decimal}
 use Rattle.bw_model.specs.declared.column.Column.{Column}
 use Rattle.bw_model.specs.Column.{names_of}
 use Rattle.bw_program.specs.declared.instr.Instr.{Instr}
-use Rattle.bw_program.specs.declared.instr.Instr.TheVariants.{Load, Nulls, Fill, And, Or, Xor, Not, ByteLt, ByteEq, Skip}
+use Rattle.bw_program.specs.declared.instr.Instr.TheVariants.{Load, Nulls, Fill, And, Or, Xor, Not}
+use Rattle.bw_program.specs.declared.instr.Instr.TheVariants.{ByteLt, ByteEq, Skip}
 use Rattle.bw_text.specs.declared.opcode.Opcode.TheVariants as op
 use Rattle.bw_text.specs.Opcode.{opcode_spelling}
 use Rattle.bw_program.specs.Program.{ProgramShape}
-use Rattle.bw_text.specs.Printed.{line_text}
+use Rattle.bw_text.specs.Printing.{line_text}
 use Rattle.bw_text.specs.Register.{register_text}
 
 -- the name of the column of a number

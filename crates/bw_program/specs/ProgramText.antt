@@ -1,6 +1,9 @@
 -- Program texts: the program that a text spells under a schema's columns, or its first error.
-use Rattle.std.specs.Prelude.{◌≡◌, ◌<◌, ◌≤◌, ℕ, suc, ◌||◌, ◌&&◌, ◌==◌, Bool, true, false, not, IsTrue, List, [], ◌∷◌, ◌++◌, drop, length, map, Option, Some, None, Result, Ok, Err, if◌then◌else◌, nat_le, nat_lt}
-use Rattle.bw_model.specs.FaultTable.{PROGRAM_FORM, REGISTER, COLUMN_OR_BIT, SKIP_TARGET, PROGRAM_TOO_LONG, NO_RESULT, NO_NULLS}
+use Rattle.std.specs.Prelude.{◌≡◌, ◌<◌, ◌≤◌, ℕ, suc, ◌||◌, ◌&&◌, ◌==◌, Bool, true, false, not}
+use Rattle.std.specs.Prelude.{IsTrue, List, [], ◌∷◌, ◌++◌, drop, length, map, Option, Some, None}
+use Rattle.std.specs.Prelude.{Result, Ok, Err, if◌then◌else◌, nat_le, nat_lt}
+use Rattle.bw_model.specs.FaultTable.{PROGRAM_FORM, REGISTER, COLUMN_OR_BIT, SKIP_TARGET}
+use Rattle.bw_model.specs.FaultTable.{PROGRAM_TOO_LONG, NO_RESULT, NO_NULLS}
 use Rattle.bw_model.specs.declared.column.Column.{Column}
 use Rattle.bw_model.specs.declared.fault.Fault.{Fault}
 use Rattle.bw_model.specs.Code.{width_at, slices_at}
@@ -10,7 +13,8 @@ use Rattle.bw_text.specs.Lines.{NumberedWords, lines_in, end_in, whole}
 use Rattle.bw_text.specs.Number.{natural_of}
 use Rattle.bw_model.specs.Variable.{is_nullable}
 use Rattle.bw_program.specs.declared.instr.Instr.{Instr}
-use Rattle.bw_program.specs.declared.instr.Instr.TheVariants.{Load, Nulls, Fill, And, Or, Xor, Not, ByteLt, ByteEq, Skip}
+use Rattle.bw_program.specs.declared.instr.Instr.TheVariants.{Load, Nulls, Fill, And, Or, Xor, Not}
+use Rattle.bw_program.specs.declared.instr.Instr.TheVariants.{ByteLt, ByteEq, Skip}
 use Rattle.bw_text.specs.declared.opcode.Opcode.{Opcode}
 use Rattle.bw_text.specs.declared.opcode.Opcode.TheVariants as op
 use Rattle.bw_program.specs.declared.parse.Placed.{Placed}

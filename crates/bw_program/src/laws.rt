@@ -2,7 +2,8 @@
 ghost use Rattle.std.specs.Prelude.{◌≡◌, ◌+◌, ◌<◌, ◌⊎◌, ℕ, List, Ok};
 ghost use Rattle.bw_model.specs.declared.column.Column.{Column};
 ghost use Rattle.bw_model.specs.Variable.{Assignment};
-ghost use Rattle.bw_program.specs.Machine.{State, Reaches, FallsThrough, SkipsTo, start, state_after, steps_from};
+ghost use Rattle.bw_program.specs.Machine.{State, Reaches, FallsThrough, SkipsTo, start};
+ghost use Rattle.bw_program.specs.Machine.{state_after, steps_from};
 ghost use Rattle.bw_program.specs.Program.{ProgramShape};
 ghost use Rattle.bw_program.specs.ProgramText.{IsProgramText, program_of};
 

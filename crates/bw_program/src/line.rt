@@ -1,7 +1,11 @@
 //! The instruction that a line of a program text spells.
-ghost use Rattle.std.specs.Prelude.{◌≡◌, ◌<◌, List, Some, ℕ, map, drop, length, IfSome, IfOk, IfErr};
+ghost use Rattle.std.specs.Prelude.{◌≡◌, ◌<◌, List, Some, ℕ, map, drop, length, IfSome, IfOk};
+ghost use Rattle.std.specs.Prelude.{IfErr};
 ghost use Rattle.bw_text.specs.Lines.{line_of};
-ghost use Rattle.bw_program.specs.ProgramText.{natural_on, register_on, column_on, load_on, nulls_on, fill_on, three_on, not_on, byte_on, skip_on, instr_after, instr_on, is_result_line, result_after, IsProgramFault};
+ghost use Rattle.bw_program.specs.ProgramText.{natural_on, register_on, column_on, load_on};
+ghost use Rattle.bw_program.specs.ProgramText.{nulls_on, fill_on, three_on, not_on, byte_on};
+ghost use Rattle.bw_program.specs.ProgramText.{skip_on, instr_after, instr_on, is_result_line};
+ghost use Rattle.bw_program.specs.ProgramText.{result_after, IsProgramFault};
 
 use crate::instr::{ColumnIndex, Instr, Register, SliceIndex};
 use bw_model::{Fault, Schema, code};

@@ -1,9 +1,12 @@
 //! Program texts, read line by line: instructions, then `RESULT x`.
-ghost use Rattle.std.specs.Prelude.{◌≡◌, ◌<◌, ◌≤◌, ℕ, Ok, Err, [], false, length, option_map, IfOk, IfErr, OnOk, IsTrue};
+ghost use Rattle.std.specs.Prelude.{◌≡◌, ◌<◌, ◌≤◌, ℕ, Ok, Err, [], false, length, option_map, IfOk};
+ghost use Rattle.std.specs.Prelude.{IfErr, OnOk, IsTrue};
 ghost use Rattle.bw_model.specs.Fault.{MatchesUnlessOom, is_memory};
 ghost use Rattle.bw_text.specs.Lines.{lines_in, end_in};
 ghost use Rattle.bw_program.specs.Program.{ProgramShape, fits, most_instructions};
-ghost use Rattle.bw_program.specs.ProgramText.{program_of, program_on, last_line, finished, instrs_of, within_end, goes_past, IsProgramText, IsProgramFault};
+ghost use Rattle.bw_program.specs.ProgramText.{program_of, program_on, last_line, finished};
+ghost use Rattle.bw_program.specs.ProgramText.{instrs_of, within_end, goes_past, IsProgramText};
+ghost use Rattle.bw_program.specs.ProgramText.{IsProgramFault};
 
 use crate::instr::{Instr, Register};
 use crate::line::{instr_of, is_result_line, result_of};

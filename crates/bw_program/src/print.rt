@@ -1,5 +1,6 @@
 //! Program texts in their canonical form.
-ghost use Rattle.std.specs.Prelude.{◌≡◌, ◌++◌, ◌∷◌, [], ◌<◌, List, IfOk, OnOk, IsOkUnless, IsTrue, length};
+ghost use Rattle.std.specs.Prelude.{◌≡◌, ◌++◌, ◌∷◌, [], ◌<◌, List, IfOk, OnOk, IsOkUnless, IsTrue};
+ghost use Rattle.std.specs.Prelude.{length};
 ghost use Rattle.std.specs.Fmt.{decimal};
 ghost use Rattle.std.specs.List.{list_all};
 ghost use Rattle.bw_model.specs.declared.column.Column.{Column};
@@ -7,7 +8,7 @@ ghost use Rattle.bw_model.specs.Column.{names_of};
 ghost use Rattle.bw_model.specs.Fault.{no_memory};
 ghost use Rattle.bw_model.specs.Name.{is_name, are_apart};
 ghost use Rattle.bw_text.specs.Opcode.{opcode_spelling};
-ghost use Rattle.bw_text.specs.Printed.{line_text, piece_text};
+ghost use Rattle.bw_text.specs.Printing.{line_text, piece_text};
 ghost use Rattle.bw_text.specs.Register.{register_text};
 ghost use Rattle.bw_program.specs.PrintText.{column_text, instr_words, print_text, result_words};
 ghost use Rattle.bw_program.specs.Program.{ProgramShape, is_program, fits, instr_fits};

@@ -1,5 +1,7 @@
 -- Scans that are kept: what serves a condition serves each of the same tree.
-use Rattle.std.proofs.Common.{◌≡◌, ◌∙◌, ◌<◌, ◌≤◌, ◌+◌, refl, sym, ap, subst, ℕ, List, [], Option, Some, None, Vec, Global, get_or, length, option_map, take, slice_get, Result, Ok, Err, IfOk, arith}
+use Rattle.std.proofs.Common.{◌≡◌, ◌∙◌, ◌<◌, ◌≤◌, ◌+◌, refl, sym, ap, subst, ℕ, List, [], Option}
+use Rattle.std.proofs.Common.{Some, None, Vec, Global, get_or, length, option_map, take, slice_get}
+use Rattle.std.proofs.Common.{Result, Ok, Err, IfOk, arith}
 use Rattle.std.specs.Prelude.{All}
 use Rattle.std.proofs.lemmas.List.{get_or-map, length-map, take_all, take_more}
 use Rattle.std.proofs.lemmas.List.Elements.{All-from_get_or, All-get_or, All-push}
@@ -15,11 +17,12 @@ use Rattle.bw_model.specs.Row.{Value}
 use Rattle.bw_program.specs.Program.{ProgramShape}
 use Rattle.bw_cert_text.specs.CertificateShape.{CertificateShape}
 use Rattle.bw_cert.specs.Valid.{Valid}
-use Rattle.bw_cert.specs.Judged.{Certifies}
+use Rattle.bw_cert.specs.FileVerdict.{Certifies}
 use Rattle.bw_query.specs.declared.scan.Scan.{Scan}
 use Rattle.bw_query.specs.declared.scan.Scan.TheVariants.{Program, Rows}
 use Rattle.bw_query.specs.declared.served.Scanned.{Scanned}
-use Rattle.bw_query.specs.Among.{IsChosenAmong, IsFirstUsable, IsRejected, IsServedAmong, first, none, texts_of}
+use Rattle.bw_query.specs.ProgramChoice.{IsChosenAmong, IsFirstUsable, IsRejected, IsServedAmong}
+use Rattle.bw_query.specs.ProgramChoice.{first, none, texts_of}
 use Rattle.bw_query.specs.Scan.{IsChosen, IsFor, IsUsable}
 use Rattle.bw_query.specs.Served.{report_of}
 use Rattle.bw_query.specs.TableText.{IsScanOf}

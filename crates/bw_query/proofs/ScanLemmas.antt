@@ -1,5 +1,6 @@
 -- Who finds a query's rows, and what is reported of that.
-use Rattle.std.proofs.Common.{◌≡◌, ◌∙◌, ℕ, Bool, true, false, List, [], ◌∷◌, Option, Some, None, inl, inr, refl}
+use Rattle.std.proofs.Common.{◌≡◌, ◌∙◌, ℕ, Bool, true, false, List, [], ◌∷◌, Option, Some, None}
+use Rattle.std.proofs.Common.{inl, inr, refl}
 use Rattle.std.specs.List.{sum_by}
 use Rattle.bw_model.specs.declared.column.Column.{Column}
 use Rattle.bw_model.specs.declared.cond.Cond.{Cond}
@@ -56,7 +57,7 @@ serves None schema query rows Rows scanned chosen counts = record {
   });
 }
 
--- a fault that can't be another one is out of memory
+-- an error that can't be another one is out of memory
 pub only_memory : (fault : Fault) → (is_memory fault ≡ false → ⊥) → is_memory fault ≡ true
 only_memory fault other = by_case (is_memory fault) refl
   where

@@ -1,5 +1,7 @@
--- Where a call over a table file ends: at the header, at what is asked, at a segment, or when the text goes out.
-use Rattle.std.proofs.Common.{◌≡◌, ◌∙◌, ℕ, ◌+◌, List, ◌++◌, Bool, true, false, ◌||◌, ◌==◌, inl, inr, Option, Some, None, Result, Ok, Err, refl, sym, ap, subst, arith}
+-- Where a call over a table file ends: at the header, at the query, at a segment, or when the text
+-- is written.
+use Rattle.std.proofs.Common.{◌≡◌, ◌∙◌, ℕ, ◌+◌, List, ◌++◌, Bool, true, false, ◌||◌, ◌==◌, inl, inr}
+use Rattle.std.proofs.Common.{Option, Some, None, Result, Ok, Err, refl, sym, ap, subst, arith}
 use Rattle.std.specs.Prelude.{OnOk}
 use Rattle.std.specs.Io.KnownBytes.{Appends, Consumes, IsAtEnd}
 use Rattle.std.proofs.lemmas.Bool.{eqb-true}
@@ -10,10 +12,11 @@ use Rattle.bw_model.specs.declared.schema.Schema.{Schema}
 use Rattle.bw_model.specs.Fault.{is_memory, no_memory, nowhere}
 use Rattle.bw_model.specs.SchemaText.{IsSchemaFault, is_schema_fault}
 use Rattle.bw_sql.specs.Refusal.{IsStatementFault, is_statement_fault}
-use Rattle.bw_cert.specs.Judged.{is_file_fault}
+use Rattle.bw_cert.specs.FileVerdict.{is_file_fault}
 use Rattle.bw_model.specs.Groups.{groups_of, together}
 use Rattle.bw_model.specs.Row.{Value}
-use Rattle.bw_io.specs.Sink.{GoesOut, WriteOutcome, beginning, everything, is_write_fault, none_aside, nothing}
+use Rattle.bw_io.specs.Sink.{GoesOut, WriteOutcome, beginning, everything, is_write_fault}
+use Rattle.bw_io.specs.Sink.{none_aside, nothing}
 use Rattle.bw_io.proofs.SinkLemmas.{no_write_fault, wrote_nothing, wrote_text}
 use Rattle.bw_io.specs.Source.{TellsFailure, failed_by, failed_reads, is_input_fault, is_read_fault}
 use Rattle.bw_file.specs.FileBytes.{IsFileBytes}
@@ -23,7 +26,8 @@ use Rattle.bw_file.specs.TableReader.{AnswersFault, schema_in, version_in, heade
 use Rattle.bw_file.specs.declared.table_reader.TableReader.{TableReader}
 use Rattle.bw_file.proofs.FileSpelling.{read_is_spelled_by}
 use Rattle.bw_query.specs.MemoryAnswer.{is_output_fault}
-use Rattle.bw_query.specs.TableAnswer.{AnswersFile, HeaderRead, TableGave, TableText, is_no_verdict}
+use Rattle.bw_query.specs.TableAnswer.{AnswersFile, IsHeaderOf, IsTableResult, TableText}
+use Rattle.bw_query.specs.TableAnswer.{is_no_verdict}
 use Rattle.bw_query.specs.declared.scan.Scan.{Scan}
 use Rattle.bw_query.specs.declared.served.Scanned.{Scanned}
 use Rattle.bw_query.specs.TableText.{IsScanOf, TextOver}
@@ -33,11 +37,11 @@ Given = Result (List ℕ) Fault
 
 -- a source gave this
 abbrev pub Gives : (Schema → Result Query Fault → Type 0) → State → (ℕ → State) → Given → Type 0
-Gives asks start now given = (offset : ℕ) × TableGave asks start (now offset) given
+Gives asks start now given = (offset : ℕ) × IsTableResult asks start (now offset) given
 
 -- and what is given for it went W
 abbrev pub Ends : (Schema → Result Query Fault → Type 0) → State → (ℕ → State) → (Given → Type 0) → Type 0
-Ends asks start now W = (offset : ℕ) × (given : Given) × TableGave asks start (now offset) given × W given
+Ends asks start now W = (offset : ℕ) × (given : Given) × IsTableResult asks start (now offset) given × W given
 
 pub ends : (asks : Schema → Result Query Fault → Type 0) (start : State) (now : ℕ → State) (W : Given → Type 0) (given : Given) → Gives asks start now given → W given → Ends asks start now W
 ends asks start now W given gave w = (gave.0, given, gave.1, w)
@@ -46,25 +50,25 @@ ends asks start now W given gave w = (gave.0, given, gave.1, w)
 abbrev pub Stated : State → State → TableReader → Type 0
 Stated start after reader = GoesOn header start (give (header_stated (version_in reader) reader)) after
 
-head_of : (start after : State) (reader : TableReader) → Stated start after reader → HeaderRead start after (schema_in reader)
+head_of : (start after : State) (reader : TableReader) → Stated start after reader → IsHeaderOf start after (schema_in reader)
 head_of start after reader told = record { stated = header_stated (version_in reader) reader; read = told; shape = refl }
 
--- the header was refused
+-- the header was rejected
 pub header_exit : (asks : Schema → Result Query Fault → Type 0) (start : State) (now : ℕ → State) (fault : Fault)
     → ((offset : ℕ) × Fails header start (now offset) fault) → Gives asks start now (Err fault)
 header_exit asks start now fault fails = (fails.0, record { failures = fails.1.failures; answer = inl fails.1 })
 
--- what is asked was refused
+-- what is asked was rejected
 pub asked_refused : (asks : Schema → Result Query Fault → Type 0) (start now : State) (reader : TableReader) (fault : Fault)
-    → Stated start now reader → failed_reads fault ≡ 0 → (is_memory fault ≡ false → asks (schema_in reader) (Err fault)) → TableGave asks start now (Err fault)
+    → Stated start now reader → failed_reads fault ≡ 0 → (is_memory fault ≡ false → asks (schema_in reader) (Err fault)) → IsTableResult asks start now (Err fault)
 asked_refused asks start now reader fault told none asked = record {
   failures = omega (arith, told.failures, none);
   answer = inr (inl (record { schema = schema_in reader; head = head_of start now reader told; asked = asked }));
 }
 
--- a segment was refused, or a read of one failed
+-- a segment was rejected, or a read of one failed
 pub segment_refused : (asks : Schema → Result Query Fault → Type 0) (start old now : State) (reader : TableReader) (query : Query) (fault : Fault)
-    → Stated start old reader → asks (schema_in reader) (Ok query) → AnswersFault start old now fault → TableGave asks start now (Err fault)
+    → Stated start old reader → asks (schema_in reader) (Ok query) → AnswersFault start old now fault → IsTableResult asks start now (Err fault)
 segment_refused asks start old now reader query fault told asked answers = record {
   failures = answers.failures ∙ ap (λ (n : ℕ). n + failed_reads fault) told.failures;
   answer = inr (inr (record {
@@ -115,7 +119,7 @@ all_came bytes taken (Some xs) (Some ys) e consumes ends =
     let same : xs ≡ bytes = cc e in
     sym (append-nil taken) ∙ ap (λ (l : List ℕ). taken ++ l) (sym ends) ∙ sym consumes ∙ same
 
--- so the text went out for known bytes, which are a table file's
+-- so the text was written for known bytes, which are a table file's
 pub table_answered : (asks : Schema → Result Query Fault → Type 0) (start now : State) (text : List ℕ) (found : TableText asks start now text)
     (Told : Schema → Query → List (List Value) → Type 0) → Told found.schema found.query found.rows → (bytes : List ℕ) → start.known ≡ Some bytes
     → (old new : Option (List ℕ)) → Appends old new text
@@ -136,7 +140,7 @@ table_answered asks start now text found Told told bytes known old new appends =
       told,
     )
 
--- and so where it went out at all
+-- and so if it was written at all
 pub answered_or_not : (asks : Schema → Result Query Fault → Type 0) (start now : State) (text : List ℕ) → TableText asks start now text → (bytes : List ℕ) → start.known ≡ Some bytes
     → (old new : Option (List ℕ)) (before after : ℕ) (result : Result (Unit {0}) Fault) → GoesOut old new before after text result
     → OnOk result (AnswersFile asks bytes old new)
@@ -144,23 +148,24 @@ answered_or_not asks start now text found bytes known old new before after (Ok x
     (table_answered asks start now text found (λ s q r. Unit {0}) tt bytes known old new goes.0).0
 answered_or_not asks start now text found bytes known old new before after (Err fault) goes = tt
 
--- the file was read whole
+-- the file was read completely
 pub text_gave : (asks : Schema → Result Query Fault → Type 0) (start now : State) (schema : Schema) (query : Query) (scan : Scan) (text : List ℕ) (scanned : Scanned)
-    → asks schema (Ok query) → TextOver start now schema query scan text scanned → TableGave asks start now (Ok text)
+    → asks schema (Ok query) → TextOver start now schema query scan text scanned → IsTableResult asks start now (Ok text)
 text_gave asks start now schema query scan text scanned asked over =
     let found = text_over asks start now schema query scan text scanned (λ s q r. Unit {0}) (λ rows counts. tt) asked over in
     record { failures = omega (arith, over.read.failures); answer = found.0 }
 
--- a fault was answered that is no failed write, and nothing was written
+-- an error was answered that is no failed write, and nothing was written
 pub refused : (T : Type 0) (old : Option (List ℕ)) (count : ℕ) (fault : Fault) → is_write_fault fault ≡ false → WriteOutcome {T = T} none_aside old old count count (Err fault) (Err fault)
 refused T old count fault other = wrote_nothing T none_aside old count fault (Err fault) other (λ _. refl)
 
--- the text went out whole, or up to a failed write
+-- the text was written whole, or up to a failed write
 pub went : (T : Type 0) (old new : Option (List ℕ)) (before after : ℕ) (text : List ℕ) (result : Result T Fault) → GoesOut {T = T} old new before after text result
     → WriteOutcome {T = T} none_aside old new before after (Ok text) result
 went T old new before after text result goes = wrote_text T none_aside old new before after text (Ok text) result refl goes
 
--- what was answered tells how many reads failed, as what was given does: a failed write is no failed read
+-- the result has as many failed reads as what was returned before the write: a failed write is no
+-- failed read
 tells_as : (T : Type 0) (old new : Option (List ℕ)) (before after : ℕ) (given : Given) (result : Result T Fault) → WriteOutcome none_aside old new before after given result → failed_by given ≡ failed_by result
 tells_as T old new before after given _ (everything text is _ _) = ap failed_by is
 tells_as T old new before after given _ (beginning text is _ _) = ap failed_by is
@@ -170,7 +175,8 @@ pub tells : (T : Type 0) (asks : Schema → Result Query Fault → Type 0) (star
     → (told : Ends asks start now (λ given. WriteOutcome none_aside old new before after given result)) → TellsFailure start.failures (now told.0).failures result
 tells T asks start now old new before after result told = told.2.failures ∙ ap (λ (n : ℕ). start.failures + n) (tells_as T old new before after told.1 result told.3)
 
--- faults of a schema, of a statement, of a table file and of a program file, and out of memory, are no failed writes
+-- errors of a schema, of a statement, of a table file and of a program file, and out of memory, are
+-- no failed writes
 pub schema_writes_nothing : (fault : Fault) → IsSchemaFault fault → is_write_fault fault ≡ false
 schema_writes_nothing fault is = no_write_fault is_schema_fault fault is refl
 
@@ -193,7 +199,7 @@ unplanned_writes_nothing fault own = by_memory (is_memory fault) refl
     by_memory true is = no_write_fault is_memory fault is refl
     by_memory false is = ap is_write_fault (own is)
 
--- a fault that isn't a failed read
+-- an error that isn't a failed read
 pub no_failed_read : (allowed : Fault → Bool) (fault : Fault) → allowed fault ≡ true → allowed (record { code = 701; place = fault.place }) ≡ false → is_read_fault fault ≡ false
 no_failed_read allowed fault is none = by_code (fault.code == 701) refl
   where
@@ -219,7 +225,7 @@ memory_verdict fault is = input_verdict fault (either (is_memory fault) (is_read
     either true b e = refl
     either false b e = absurd (cc e)
 
--- out of memory is a refusal that no statement calls for
+-- out of memory is a rejection that no statement calls for
 pub memory_output : (fault : Fault) → is_memory fault ≡ true → is_output_fault fault ≡ true
 memory_output fault is = either (is_memory fault) (is_write_fault fault) is
   where

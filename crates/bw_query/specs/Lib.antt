@@ -1,4 +1,4 @@
-pub mod Among
+pub mod ProgramChoice
 pub mod AnswerText
 pub mod MemoryAnswer
 pub mod Plan

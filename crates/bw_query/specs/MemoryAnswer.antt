@@ -1,4 +1,4 @@
--- What an answer over a table in memory is to be.
+-- The expected result of a query over a table in memory.
 use Rattle.std.specs.Prelude.{◌≡◌, ℕ, ◌||◌, Bool, false, List, Option, Result, Ok, Err}
 use Rattle.std.specs.Io.KnownBytes.{Appends}
 use Rattle.bw_model.specs.declared.fault.Fault.{Fault}
@@ -10,7 +10,7 @@ use Rattle.bw_model.specs.Row.{Value}
 use Rattle.bw_answer.specs.Answer.{csv_text, meaning}
 use Rattle.bw_io.specs.Sink.{is_write_fault}
 
--- the text of the meaning of what is asked under a schema, over rows
+-- the text is that of the query's meaning over the rows
 pub record RowsText (asks : Schema → Result Query Fault → Type 0) (schema : Schema)
     (rows : List (List Value))
     (text : List ℕ) : Type 0 where
@@ -18,14 +18,14 @@ pub record RowsText (asks : Schema → Result Query Fault → Type 0) (schema : 
   pub asked : asks schema (Ok query)
   pub is : text ≡ csv_text (meaning (names_of schema.columns.items) query rows)
 
--- What is asked of a table in memory, of this schema and these rows, is answered by this text, or by its fault; out of
--- memory may be answered to anything.
+-- The text of the query's meaning, or the query's error, under the table's schema over its rows.
+-- Out of memory may be the error at any time.
 abbrev pub IsMemoryAnswer : (Schema → Result Query Fault → Type 0) → Schema → List (List Value)
     → Result (List ℕ) Fault → Type 0
 IsMemoryAnswer asks schema rows (Ok text) = RowsText asks schema rows text
 IsMemoryAnswer asks schema rows (Err fault) = is_memory fault ≡ false → asks schema (Err fault)
 
--- a sink took the text of the meaning of what is asked, over the rows
+-- a sink consumed the text of the query's meaning over the rows
 pub record AnswersRows (asks : Schema → Result Query Fault → Type 0) (schema : Schema)
     (rows : List (List Value))
     (old new : Option (List ℕ)) : Type 0 where
@@ -33,6 +33,6 @@ pub record AnswersRows (asks : Schema → Result Query Fault → Type 0) (schema
   pub asked : asks schema (Ok query)
   pub text : Appends old new (csv_text (meaning (names_of schema.columns.items) query rows))
 
--- a refusal that no statement calls for: a failed write, or out of memory
+-- an error that depends on no statement: a failed write, or out of memory
 abbrev pub is_output_fault : Fault → Bool
 is_output_fault fault = is_memory fault || is_write_fault fault

@@ -1,4 +1,4 @@
--- What a plan for a statement is: a program file that is accepted for it.
+-- A plan for a statement: a program file that is accepted for it.
 use Rattle.std.specs.Prelude.{◌≡◌, ℕ, List, ◌++◌, codes, false, Result, Ok, Err}
 use Rattle.bw_model.specs.FaultTable.{NO_PROGRAM}
 use Rattle.bw_model.specs.declared.column.Column.{Column}
@@ -15,12 +15,13 @@ use Rattle.bw_cert_text.specs.CertificateShape.{CertificateShape}
 use Rattle.bw_cert_text.specs.CertificateText.{IsCertificateText}
 use Rattle.bw_cert_text.specs.PrintText as certificate_text
 use Rattle.bw_cert_text.specs.Reprint.{renumbered}
-use Rattle.bw_cert.specs.Judged.{Certifies}
+use Rattle.bw_cert.specs.FileVerdict.{Certifies}
 use Rattle.bw_sql.specs.Statement.{IsReadAs}
 
--- The file is the printed text of a program, the line CERTIFICATE, and the printed text of a certificate. The first
--- text spells that program. The second spells that certificate, in the columns' spelling of names, and with the numbers
--- of its own lines, wherever its first line stands.
+-- The file is the printed text of a program, the line CERTIFICATE, and the printed text of a
+-- certificate. The first text spells that program. The second spells that certificate, in the
+-- columns' spelling of names. Its numbers of lines follow from the number of its first line,
+-- whichever that is.
 pub record IsPrinted (columns : List Column) (file : List ℕ) : Type 0 where
   pub shown : ProgramShape
   pub stated : CertificateFields
@@ -30,8 +31,8 @@ pub record IsPrinted (columns : List Column) (file : List ℕ) : Type 0 where
   pub states : (first : ℕ) → IsCertificateText first (certificate_text.print_text columns stated)
       (renumbered first (certificate_text.respelled columns stated))
 
--- A text spells a schema, a statement a query under it, and the file, which is printed so, a program and a certificate
--- that is valid for it and the query's condition.
+-- The first text spells a schema, and the statement a query under it. The file, which is printed as
+-- above, spells a program and a certificate that is valid for it and the query's condition.
 pub record IsPlan (text sql file : List ℕ) : Type 0 where
   pub schema : Schema
   pub query : Query
@@ -42,7 +43,7 @@ pub record IsPlan (text sql file : List ℕ) : Type 0 where
   pub printed : IsPrinted schema.columns.items file
   pub certifies : Certifies schema.columns.items query.cond file program certificate
 
--- the schema text's fault; else the statement's under the schema; else that there is no plan
+-- the schema text's error; else the statement's under the schema; else that there is no plan
 pub data IsPlanFault (text sql : List ℕ) : Fault → Type 0 where
   schema_refused : {fault : Fault} → schema_of text ≡ Err fault → IsPlanFault text sql fault
   statement_refused : {schema : Schema} {fault : Fault} → IsSchemaText text (schema_shape schema) →
@@ -50,7 +51,7 @@ pub data IsPlanFault (text sql : List ℕ) : Fault → Type 0 where
   unplanned : {schema : Schema} (query : Query) → IsSchemaText text (schema_shape schema) →
       IsReadAs schema sql (Ok query) → IsPlanFault text sql (nowhere NO_PROGRAM)
 
--- a plan, or the first fault, out of memory aside
+-- a plan, or the first error, unless memory ran out
 abbrev pub IsPlanned : List ℕ → List ℕ → Result (List ℕ) Fault → Type 0
 IsPlanned text sql (Ok file) = IsPlan text sql file
 IsPlanned text sql (Err fault) = is_memory fault ≡ false → IsPlanFault text sql fault

@@ -1,5 +1,6 @@
--- Who finds the rows that a query keeps, and how often planes are loaded and instructions are skipped.
-use Rattle.std.specs.Prelude.{◌≡◌, ℕ, List, Option, Some, None, option_map, Result, Ok, Err, if◌then◌else◌}
+-- What selects the rows of a query, and how many planes it loads and instructions it skips.
+use Rattle.std.specs.Prelude.{◌≡◌, ℕ, List, Option, Some, None, option_map, Result, Ok, Err}
+use Rattle.std.specs.Prelude.{if◌then◌else◌}
 use Rattle.std.specs.Borrow.{Bor}
 use Rattle.bw_model.specs.declared.column.Column.{Column}
 use Rattle.bw_model.specs.declared.cond.Cond.{Cond}
@@ -13,7 +14,7 @@ use Rattle.bw_program.specs.Program.{ProgramShape}
 use Rattle.bw_cert_text.specs.CertificateShape.{CertificateShape}
 use Rattle.bw_cert.specs.declared.certified.Certified.{Certified}
 use Rattle.bw_cert.specs.Valid.{Valid}
-use Rattle.bw_cert.specs.Judged.{Certifies, IsFileFault}
+use Rattle.bw_cert.specs.FileVerdict.{Certifies, IsFileFault}
 use Rattle.bw_query.specs.declared.scan.Scan.{Scan}
 use Rattle.bw_query.specs.declared.scan.Scan.TheVariants.{Program, Rows}
 
@@ -23,7 +24,7 @@ IsFor columns cond (Program certified) = (certified.schema.columns.items ≡ col
     × (tree_of certified.condition ≡ tree_of cond)
 IsFor columns cond Rows = Unit {0}
 
--- The program of a program file is used, where there is one. Else it's some program that with some certificate is
+-- With a program file its program is used. Else it's some program that with some certificate is
 -- valid, or none.
 abbrev pub IsChosen : Option (List ℕ) → List Column → Cond → Scan → Type 0
 IsChosen (Some file) columns cond (Program certified) = (certificate : CertificateShape)
@@ -33,23 +34,23 @@ IsChosen None columns cond (Program certified) = (certificate : CertificateShape
     × Valid columns cond certified.program certificate
 IsChosen None columns cond Rows = Unit {0}
 
--- The scan by what came of a search for a program: by the program; row by row, where none was found by a fault other
--- than out of memory; and out of memory is no scan.
+-- The scan by the result of a search for a program: by the program, if one was found; else row by
+-- row. Out of memory is no scan.
 abbrev pub scan_by : Result Certified Fault → Result Scan Fault
 scan_by (Ok certified) = Ok (Program certified)
 scan_by (Err fault) = if is_memory fault then Err fault else Ok Rows
 
--- the bytes of a program file, where one is given
+-- the bytes of a program file, if one is given
 abbrev pub given_file : Option (Bor (List ℕ)) → Option (List ℕ)
 given_file program = option_map (λ file. file.now) program
 
--- a program file, where there is one, is accepted
+-- a program file, if there is one, is accepted
 abbrev pub IsUsable : Option (List ℕ) → List Column → Cond → Type 0
 IsUsable (Some file) columns cond = (program : ProgramShape) × (certificate : CertificateShape)
     × Certifies columns cond file program certificate
 IsUsable None columns cond = Unit {0}
 
--- only a program file has a fault
+-- only a program file has an error
 abbrev pub IsScanFault : Option (List ℕ) → List Column → Cond → Fault → Type 0
 IsScanFault (Some file) columns cond fault = IsFileFault columns cond file fault
 IsScanFault None columns cond fault = ⊥
@@ -58,7 +59,7 @@ IsScanFault None columns cond fault = ⊥
 abbrev pub run_over : ProgramShape → List Column → List (List Value) → State
 run_over program columns group = end_state columns (lanes_of columns group) program
 
--- the loads and the skips of a scan over a group of rows: none, where it's row by row
+-- the loads of a scan over a group of rows: 0, if it's row by row
 abbrev pub loads_in : List Column → Scan → List (List Value) → ℕ
 loads_in columns (Program certified) group = (run_over certified.program columns group).loads
 loads_in columns Rows group = 0

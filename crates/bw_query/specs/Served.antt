@@ -1,4 +1,4 @@
--- How a query over a table's rows is served.
+-- How a query over a table's rows is served: its scan statistics.
 use Rattle.std.specs.Prelude.{◌≡◌, ◌⊎◌, ℕ, List, Option, Some, None}
 use Rattle.std.specs.List.{sum_by}
 use Rattle.bw_model.specs.declared.column.Column.{Column}
@@ -10,7 +10,7 @@ use Rattle.bw_model.specs.Row.{Value}
 use Rattle.bw_program.specs.Program.{ProgramShape}
 use Rattle.bw_cert_text.specs.CertificateShape.{CertificateShape}
 use Rattle.bw_cert.specs.Valid.{Valid}
-use Rattle.bw_cert.specs.Judged.{Certifies}
+use Rattle.bw_cert.specs.FileVerdict.{Certifies}
 use Rattle.bw_query.specs.declared.scan.Scan.{Scan}
 use Rattle.bw_query.specs.declared.scan.Scan.TheVariants.{Program, Rows}
 use Rattle.bw_report.specs.declared.served.By.{By}
@@ -19,7 +19,8 @@ use Rattle.bw_query.specs.declared.served.Scanned.{Scanned}
 use Rattle.bw_query.specs.Scan.{run_over}
 use Rattle.bw_query.specs.TableAnswer.{group_count}
 
--- by a program, with the machine's counts of its runs over the groups of the rows, all together
+-- by a program: the loads and skips are the sums of the machine's counts over the groups of the
+-- rows
 pub record ByProgram (program : ProgramShape) (columns : List Column) (rows : List (List Value))
     (served : Served) : Type 0 where
   pub by : served.by ≡ By.Program
@@ -28,14 +29,14 @@ pub record ByProgram (program : ProgramShape) (columns : List Column) (rows : Li
   pub skips : served.skips ≡ sum_by (λ group. (run_over program columns group).skips)
       (groups_of rows)
 
--- row by row, with no load and no skip
+-- row by row: no load and no skip
 pub record ByRows (served : Served) : Type 0 where
   pub by : served.by ≡ By.Rows
   pub loads : served.loads ≡ 0
   pub skips : served.skips ≡ 0
 
--- By the program of a program file, where there is one; its certificate is valid for the condition. Else by some
--- program that with some certificate is, or row by row.
+-- With a program file: by its program, whose certificate is valid for the condition. Else by some
+-- program that with some certificate is valid, or row by row.
 abbrev pub IsServedBy : Option (List ℕ) → List Column → Cond → List (List Value) → Served → Type 0
 IsServedBy (Some file) columns cond rows served =
     (program : ProgramShape) × (certificate : CertificateShape)
@@ -47,19 +48,19 @@ IsServedBy None columns cond rows served =
     × ByProgram program columns rows served)
     ⊎ ByRows served
 
--- over the groups of a table's rows
+-- the scan statistics of a query over the groups of a table's rows
 pub record IsServed (file : Option (List ℕ)) (schema : Schema) (query : Query)
     (rows : List (List Value))
     (served : Served) : Type 0 where
   pub segments : served.segments ≡ group_count rows
   pub how : IsServedBy file schema.columns.items query.cond rows served
 
--- who finds the rows
+-- what selects the rows of a scan
 abbrev pub finder_of : Scan → By
 finder_of (Program certified) = By.Program
 finder_of Rows = By.Rows
 
--- what is reported of a scan
+-- the scan statistics that are reported
 abbrev pub report_of : Scan → Scanned → Served
 report_of scan scanned = record {
   by = finder_of scan;

@@ -3,14 +3,14 @@ use Rattle.std.specs.Prelude.{ℕ, min, List}
 use Rattle.std.specs.List.{sum_by}
 use Rattle.bw_model.specs.Row.{Value}
 use Rattle.bw_memory.specs.declared.table.MemoryTable.{MemoryTable}
-use Rattle.bw_memory.specs.Kept.{groups_kept}
+use Rattle.bw_memory.specs.StoredSegments.{stored_groups}
 use Rattle.bw_memory.specs.MemoryTable.{schema_of}
 use Rattle.bw_query.specs.declared.scan.Scan.{Scan}
 use Rattle.bw_query.specs.Scan.{loads_in}
 
 -- the groups of rows of the first 32 segments, or of all if there are fewer
 abbrev pub trial_groups : MemoryTable → List (List (List Value))
-trial_groups table = groups_kept table.layout (schema_of table).columns.items table.rows
+trial_groups table = stored_groups table.layout (schema_of table).columns.items table.rows
     (min table.segments 32) table.columns.items
 
 -- the loads of a scan over them, all together

@@ -1,13 +1,15 @@
 //! Runs queries over a table in memory.
-ghost use Rattle.std.specs.Prelude.{◌≡◌, ◌-◌, ◌^◌, ◌<◌, ℕ, List, None, Result, Ok, false, IsTrue, IfOk, IfErr};
+ghost use Rattle.std.specs.Prelude.{◌≡◌, ◌-◌, ◌^◌, ◌<◌, ℕ, List, None, Result, Ok, false, IsTrue};
+ghost use Rattle.std.specs.Prelude.{IfOk, IfErr};
 ghost use Rattle.bw_model.specs.declared.fault.Fault.{Fault};
 ghost use Rattle.bw_model.specs.declared.query.Query.{Query};
 ghost use Rattle.bw_model.specs.Fault.{is_memory};
 ghost use Rattle.bw_io.specs.Sink.{WriteOutcome, is_write_fault, none_aside};
 ghost use Rattle.bw_memory.specs.MemoryTable.{rows_of, schema_of};
-ghost use Rattle.bw_query.specs.Among.{IsServedAmong};
+ghost use Rattle.bw_query.specs.ProgramChoice.{IsServedAmong};
 ghost use Rattle.bw_query.specs.AnswerText.{text_in};
-ghost use Rattle.bw_query.specs.MemoryAnswer.{AnswersRows, IsMemoryAnswer, RowsText, is_output_fault};
+ghost use Rattle.bw_query.specs.MemoryAnswer.{AnswersRows, IsMemoryAnswer, RowsText};
+ghost use Rattle.bw_query.specs.MemoryAnswer.{is_output_fault};
 ghost use Rattle.bw_query.specs.ProgramCache.{Serves, files_of};
 ghost use Rattle.bw_query.specs.Scan.{given_file};
 ghost use Rattle.bw_query.specs.Served.{IsServed};
@@ -15,7 +17,7 @@ ghost use Rattle.bw_query.specs.TableAnswer.{by_statement};
 
 use crate::memory_text::memory_text;
 use crate::program_cache::ProgramCache;
-use crate::served::served_by;
+use crate::served::report_of;
 use crate::table_calls::{AnswerText, prepare};
 use bw_io::{Sink, write_whole};
 use bw_memory::MemoryTable;
@@ -52,20 +54,20 @@ pub fn answer_in_memory<K: Sink>(
         × IsServed (given_file program.entry) (schema_of table.now) found.query
         (rows_of table.now) served) }
 
-    // Where the statement spells a query, and the program file is accepted for its condition, it's only the sink or
-    // memory that can fail.
+    // If the statement spells a query, and the program file is accepted for its condition, only the
+    // sink or memory can fail.
     ensures accepted { (query : Query)
         → by_statement (given_file program.entry) sql.now (schema_of table.now) (Ok query)
         → IfErr result (λ fault. IsTrue (is_output_fault fault)) }
 {
-    let answered = answered_in_memory(alloc, table, sql, program)?;
+    let answered = run_in_memory(alloc, table, sql, program)?;
     write_whole(sink, &answered.text)?;
     Ok(answered.served)
 }
 
 /// Returns the text of the result of a statement over a table in memory. Errors are those of
 /// [`answer_in_memory`], without the sink's.
-fn answered_in_memory(
+fn run_in_memory(
     alloc: Global,
     table: &MemoryTable,
     sql: &[u8],
@@ -86,7 +88,7 @@ fn answered_in_memory(
     let prepared = prepare(alloc, table.schema(), sql, program)?;
     match memory_text(alloc, table, &prepared.query, &prepared.scan) {
         Ok(found) => Ok(AnswerText {
-            served: served_by(&prepared.scan, found.scanned),
+            served: report_of(&prepared.scan, found.scanned),
             text: found.text,
         }),
         Err(fault) => Err(fault),
@@ -129,14 +131,14 @@ pub fn answer_with_programs<K: Sink>(
     ensures serves { Serves (schema_of table.now).columns.items programs.new }
     ensures files { files_of programs.new ≡ files_of programs.old }
 {
-    let answered = answered_with_programs(alloc, table, sql, programs)?;
+    let answered = run_with_programs(alloc, table, sql, programs)?;
     write_whole(sink, &answered.text)?;
     Ok(answered.served)
 }
 
 /// Returns the text of the answer to a statement over the rows of a table in memory. Errors are
 /// those of [`answer_with_programs`], without the sink's.
-fn answered_with_programs(
+fn run_with_programs(
     alloc: Global,
     table: &MemoryTable,
     sql: &[u8],
@@ -162,7 +164,7 @@ fn answered_with_programs(
     let scan = programs.scan(number);
     match memory_text(alloc, table, &query, scan) {
         Ok(found) => Ok(AnswerText {
-            served: served_by(scan, found.scanned),
+            served: report_of(scan, found.scanned),
             text: found.text,
         }),
         Err(fault) => Err(fault),

@@ -1,5 +1,6 @@
 //! The text of a result over a table in memory, one segment at a time.
-ghost use Rattle.std.specs.Prelude.{◌≡◌, ◌+◌, ◌<◌, ◌≤◌, true, IsTrue, IfOk, IfErr, OnOk, length, vec_len};
+ghost use Rattle.std.specs.Prelude.{◌≡◌, ◌+◌, ◌<◌, ◌≤◌, true, IsTrue, IfOk, IfErr, OnOk, length};
+ghost use Rattle.std.specs.Prelude.{vec_len};
 ghost use Rattle.std.specs.List.{list_all};
 ghost use Rattle.bw_model.specs.Column.{names_of};
 ghost use Rattle.bw_model.specs.Fault.{no_memory};
@@ -7,9 +8,10 @@ ghost use Rattle.bw_model.specs.Limits.{most_rows};
 ghost use Rattle.bw_model.specs.Total.{item_within};
 ghost use Rattle.bw_sql.specs.Items.{AreOfOneKind};
 ghost use Rattle.bw_answer.specs.Answer.{csv_text, meaning};
-ghost use Rattle.bw_answer.specs.AreOver.{CountsRows};
-ghost use Rattle.bw_answer.specs.Over.{GoesOver, asked_by};
-ghost use Rattle.bw_memory.specs.MemoryTable.{groups_in, meaning_numbered, rows_of, schema_of, segments_in};
+ghost use Rattle.bw_answer.specs.TextAndTotals.{CountsRows};
+ghost use Rattle.bw_answer.specs.Progress.{GoesOver, query_in};
+ghost use Rattle.bw_memory.specs.MemoryTable.{groups_in, meaning_numbered, rows_of, schema_of};
+ghost use Rattle.bw_memory.specs.MemoryTable.{segments_in};
 ghost use Rattle.bw_query.specs.Scan.{IsFor, loads_in, skips_in};
 ghost use Rattle.bw_query.specs.TableText.{IsScanOf};
 
@@ -61,7 +63,7 @@ fn take_segments(
 ) -> Result<Scanned, Fault>
     requires none { answer.old.rows ≡ 0 }
     requires width { answer.old.width ≡ length (schema_of table.now).columns.items }
-    requires scan { IsFor (schema_of table.now).columns.items (asked_by answer.old).cond scan.now }
+    requires scan { IsFor (schema_of table.now).columns.items (query_in answer.old).cond scan.now }
     ensures covers { OnOk result (GoesOver answer.old (rows_of table.now) answer.new) }
     ensures counts { IfOk result (λ scanned.
         IsScanOf (schema_of table.now).columns.items scan.now (groups_in table.now) scanned) }
@@ -92,8 +94,8 @@ fn take_numbered(
     answer: &mut Answer<'_>,
 ) -> Result<Counts, Fault>
     requires number { number < segments_in table.now }
-    requires scan { IsFor (schema_of table.now).columns.items (asked_by answer.old).cond scan.now }
-    requires counts { counts ≡ true → CountsRows (asked_by answer.old) }
+    requires scan { IsFor (schema_of table.now).columns.items (query_in answer.old).cond scan.now }
+    requires counts { counts ≡ true → CountsRows (query_in answer.old) }
     requires width { answer.old.width ≡ length (schema_of table.now).columns.items }
     requires capacity { answer.old.rows + length (meaning_numbered table.now number).rows
         ≤ most_rows }

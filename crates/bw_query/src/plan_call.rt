@@ -1,5 +1,6 @@
 //! Writes program files by the planner.
-ghost use Rattle.std.specs.Prelude.{◌≡◌, ◌-◌, ◌^◌, ◌<◌, ℕ, List, Result, false, length, IfOk, IfErr, IsTrue};
+ghost use Rattle.std.specs.Prelude.{◌≡◌, ◌-◌, ◌^◌, ◌<◌, ℕ, List, Result, false, length, IfOk};
+ghost use Rattle.std.specs.Prelude.{IfErr, IsTrue};
 ghost use Rattle.bw_model.specs.FaultTable.{NO_PROGRAM};
 ghost use Rattle.bw_model.specs.declared.fault.Fault.{Fault};
 ghost use Rattle.bw_model.specs.Cond.{names_within};
@@ -8,7 +9,7 @@ ghost use Rattle.bw_program.specs.Program.{ProgramShape, fits};
 ghost use Rattle.bw_cert_text.specs.CertificateFields.{certificate_fields};
 ghost use Rattle.bw_cert_text.specs.CertificateShape.{CertificateShape};
 ghost use Rattle.bw_cert_text.specs.Columns.{has_columns};
-ghost use Rattle.bw_cert.specs.Judged.{Certifies};
+ghost use Rattle.bw_cert.specs.FileVerdict.{Certifies};
 ghost use Rattle.bw_io.specs.Sink.{WriteOutcome, none_aside};
 ghost use Rattle.bw_query.specs.Plan.{IsPlanned, IsPrinted};
 
@@ -54,7 +55,7 @@ fn plan_of(alloc: Global, schema: &Schema, cond: &Cond) -> Result<Vec<u8>, Fault
         × Certifies schema.now.columns.items cond.now file.items program certificate) }
     ensures fault { IfErr result (λ fault. is_memory fault ≡ false → fault ≡ nowhere NO_PROGRAM) }
 {
-    let file = proposed_file(alloc, schema, cond)?;
+    let file = propose_file(alloc, schema, cond)?;
     match certify(alloc, schema, cond, &file) {
         Ok(_) => Ok(file),
         Err(fault) => Err(unplanned_unless_memory(fault)),
@@ -62,7 +63,7 @@ fn plan_of(alloc: Global, schema: &Schema, cond: &Cond) -> Result<Vec<u8>, Fault
 }
 
 /// Returns the program file of a candidate program for a condition, which isn't checked yet.
-fn proposed_file(alloc: Global, schema: &Schema, cond: &Cond) -> Result<Vec<u8>, Fault>
+fn propose_file(alloc: Global, schema: &Schema, cond: &Cond) -> Result<Vec<u8>, Fault>
     requires { IsTrue (names_within (length schema.now.columns.items) cond.now) }
     ensures printed { IfOk result (λ file. IsPrinted schema.now.columns.items file.items) }
     ensures fault { IfErr result (λ fault. is_memory fault ≡ false → fault ≡ nowhere NO_PROGRAM) }

@@ -2,17 +2,17 @@
 ghost use Rattle.std.specs.Prelude.{◌≤◌, length};
 
 use crate::file_text::read_file;
-use crate::scan::{Scan, certificates_are_for_equal_conditions, choose};
+use crate::scan::{Scan, certificates_serve_equal_conditions, choose};
 use bw_memory::MemoryTable;
 use bw_model::{Cond, Fault, Schema};
 use std::alloc::Global;
 
 /// The most conditions whose scans are kept.
-const MAX_KEPT: usize = 64;
+const MAX_SCANS: usize = 64;
 
 /// A condition, and who finds its rows.
 #[derive(Drop)]
-pub(crate) struct KeptScan {
+pub(crate) struct CachedScan {
     pub(crate) cond: Cond,
     pub(crate) scan: Scan,
 }
@@ -30,7 +30,7 @@ pub struct RejectedFile {
 #[derive(Drop)]
 pub struct ProgramCache {
     pub(crate) files: Vec<Vec<u8>>,
-    pub(crate) kept: Vec<KeptScan>,
+    pub(crate) kept: Vec<CachedScan>,
     ghost within_limit: { length kept.items ≤ 64 },
 }
 
@@ -40,10 +40,11 @@ impl ProgramCache {
     ghost use Rattle.bw_model.specs.declared.cond.Cond.{Cond};
     ghost use Rattle.bw_model.specs.Cond.{names_within};
     ghost use Rattle.bw_model.specs.Fault.{is_memory};
-    ghost use Rattle.bw_cert.specs.Judged.{is_file_fault};
+    ghost use Rattle.bw_cert.specs.FileVerdict.{is_file_fault};
     ghost use Rattle.bw_memory.specs.MemoryTable.{schema_of};
-    ghost use Rattle.bw_query.specs.Among.{IsChosenAmong, IsFileRead, texts_of};
-    ghost use Rattle.bw_query.specs.ProgramCache.{HasScan, IsForEqual, IsRejection, Serves, files_of};
+    ghost use Rattle.bw_query.specs.ProgramChoice.{IsChosenAmong, IsFileRead, texts_of};
+    ghost use Rattle.bw_query.specs.ProgramCache.{HasScan, IsForEqual, IsRejection, Serves};
+    ghost use Rattle.bw_query.specs.ProgramCache.{files_of};
     ghost use Rattle.bw_query.specs.Scan.{IsFor};
 
     /// Returns a cache of these program files, which keeps no scan yet.
@@ -97,7 +98,7 @@ impl ProgramCache {
         ensures files { files_of self.new ≡ files_of self.old }
         ensures only_oom { IfErr result (λ fault. IsTrue (is_memory fault)) }
     {
-        certificates_are_for_equal_conditions();
+        certificates_serve_equal_conditions();
         match self.find(cond) {
             Some(number) => Ok(number),
             None => self.add(alloc, table, cond),
@@ -138,12 +139,12 @@ impl ProgramCache {
         ensures files { files_of self.new ≡ files_of self.old }
         ensures only_oom { IfErr result (λ fault. IsTrue (is_memory fault)) }
     {
-        certificates_are_for_equal_conditions();
+        certificates_serve_equal_conditions();
         let scan = choose(alloc, table, cond, &self.files)?;
         let same = cond.copy(alloc)?;
         self.drop_oldest();
         let number = self.kept.len();
-        self.kept.push(KeptScan { cond: same, scan })?;
+        self.kept.push(CachedScan { cond: same, scan })?;
         Ok(number)
     }
 
@@ -154,7 +155,7 @@ impl ProgramCache {
             → Serves columns self.new }
         ensures files { files_of self.new ≡ files_of self.old }
     {
-        if self.kept.len() >= MAX_KEPT {
+        if self.kept.len() >= MAX_SCANS {
             let _oldest = self.kept.remove(0);
         }
     }

@@ -7,18 +7,18 @@ ghost use Rattle.bw_model.specs.CondTree.{tree_of};
 ghost use Rattle.bw_model.specs.Fault.{is_memory};
 ghost use Rattle.bw_program.specs.Program.{ProgramShape};
 ghost use Rattle.bw_cert_text.specs.CertificateShape.{CertificateShape};
-ghost use Rattle.bw_cert.specs.Judged.{is_file_fault};
+ghost use Rattle.bw_cert.specs.FileVerdict.{is_file_fault};
 ghost use Rattle.bw_cert.specs.Valid.{Valid};
 ghost use Rattle.bw_memory.specs.MemoryTable.{schema_of};
 ghost use Rattle.bw_cert.specs.declared.certified.Certified.{Certified};
 ghost use Rattle.bw_model.specs.declared.fault.Fault.{Fault};
 ghost use Rattle.bw_query.specs.declared.scan.Scan.TheVariants.{Program};
-ghost use Rattle.bw_query.specs.Among.{IsChosenAmong, IsYield, texts_of};
+ghost use Rattle.bw_query.specs.ProgramChoice.{IsChosenAmong, IsYield, texts_of};
 ghost use Rattle.bw_query.specs.Scan.{IsFor, IsChosen, IsScanFault, IsUsable, given_file, scan_by};
 
 use crate::trial::plan_for_table;
 use bw_cert::{
-    Certified, certificates_are_judged_by_what_they_say, certify, check,
+    Certified, certificates_are_checked_by_their_fields, certify, check,
     valid_exactly_where_checked,
 };
 use bw_memory::MemoryTable;
@@ -53,7 +53,7 @@ pub(crate) fn scan_for(
     ensures fault { IfErr result (λ fault. is_memory fault ≡ false
         → IsScanFault (given_file program.entry) schema.now.columns.items cond.now fault) }
     ensures code { IfErr result (λ fault. IsTrue (is_file_fault fault)) }
-    // A program file that is accepted for a condition of the same tree is refused only where memory runs out.
+    // If the program file is accepted for a condition of the same tree, only memory can fail.
     ensures accepted { (same : Cond) → tree_of same ≡ tree_of cond.now
         → IsUsable (given_file program.entry) schema.now.columns.items same
         → IfErr result (λ fault. IsTrue (is_memory fault)) }
@@ -81,7 +81,7 @@ pub(crate) fn choose(
 {
     let schema = table.schema();
     for number in 0..files.len() {
-        match certified_by(alloc, schema, cond, &files[number])? {
+        match certify_by_file(alloc, schema, cond, &files[number])? {
             Some(certified) => return Ok(Scan::Program(certified)),
             None => {}
         }
@@ -90,19 +90,19 @@ pub(crate) fn choose(
 }
 
 /// A law: a certificate that is valid for a condition is valid for each equal one.
-pub(crate) fn certificates_are_for_equal_conditions()
+pub(crate) fn certificates_serve_equal_conditions()
     ensures { (columns : List Column) (cond same : Cond) (program : ProgramShape)
         (certificate : CertificateShape)
         → tree_of cond ≡ tree_of same → Valid columns cond program certificate
         → Valid columns same program certificate }
 {
     valid_exactly_where_checked();
-    certificates_are_judged_by_what_they_say();
+    certificates_are_checked_by_their_fields();
 }
 
 /// Returns the program of a program file, if it's accepted for a condition. Errors: 801 if memory
 /// is refused.
-fn certified_by(
+fn certify_by_file(
     alloc: Global,
     schema: &Schema,
     cond: &Cond,
@@ -139,12 +139,17 @@ pub(crate) fn plan_and_certify(
     ensures only_oom { IfErr result (λ fault. IsTrue (is_memory fault)) }
     ensures found { (found : Result Certified Fault) × (result ≡ scan_by found) }
 {
-    scan_by(accepted(alloc, schema, cond, order))
+    scan_by(certify_plan(alloc, schema, cond, order))
 }
 
 /// Returns the planner's program, which the checker has accepted. Errors: 651, the planner's; 601
 /// to 610, the checker's; 801 if memory is refused.
-fn accepted(alloc: Global, schema: &Schema, cond: &Cond, order: &Cond) -> Result<Certified, Fault>
+fn certify_plan(
+    alloc: Global,
+    schema: &Schema,
+    cond: &Cond,
+    order: &Cond,
+) -> Result<Certified, Fault>
     requires { IsTrue (names_within (length schema.now.columns.items) cond.now) }
     ensures certified { IfOk result
         (λ certified. IsFor schema.now.columns.items cond.now (Program certified)) }

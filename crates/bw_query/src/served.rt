@@ -15,7 +15,7 @@ pub(crate) struct Scanned {
 }
 
 /// Returns what is reported of a scan.
-pub(crate) fn served_by(scan: &Scan, scanned: Scanned) -> Served
+pub(crate) fn report_of(scan: &Scan, scanned: Scanned) -> Served
     ensures { result ≡ report_of scan.now scanned }
 {
     Served {

@@ -1,12 +1,13 @@
 //! Runs queries over a table file.
-ghost use Rattle.std.specs.Prelude.{◌≡◌, ◌-◌, ◌^◌, ◌<◌, ◌≤◌, ℕ, List, Option, Result, Ok, Err, None, Some, false, length, vec_len, IsTrue, IfOk, IfErr, OnOk};
+ghost use Rattle.std.specs.Prelude.{◌≡◌, ◌-◌, ◌^◌, ◌<◌, ◌≤◌, ℕ, List, Option, Result, Ok, Err};
+ghost use Rattle.std.specs.Prelude.{None, Some, false, length, vec_len, IsTrue, IfOk, IfErr, OnOk};
 ghost use Rattle.std.specs.Io.KnownBytes.{Appends};
 ghost use Rattle.std.specs.List.{list_all};
 ghost use Rattle.bw_model.specs.declared.fault.Fault.{Fault};
 ghost use Rattle.bw_model.specs.declared.query.Query.{Query};
 ghost use Rattle.bw_model.specs.declared.schema.Schema.{Schema};
 ghost use Rattle.bw_model.specs.Total.{item_within};
-ghost use Rattle.bw_sql.specs.Asked.{QueryShape};
+ghost use Rattle.bw_sql.specs.QueryShape.{QueryShape};
 ghost use Rattle.bw_sql.specs.Items.{AreOfOneKind};
 ghost use Rattle.bw_sql.specs.Statement.{Spells};
 ghost use Rattle.bw_model.specs.Fault.{no_memory, is_memory};
@@ -21,10 +22,11 @@ ghost use Rattle.bw_io.specs.Source.{TellsFailure, is_read_fault};
 ghost use Rattle.bw_query.specs.AnswerText.{bytes_in, text_in};
 ghost use Rattle.bw_query.specs.Scan.{IsChosen, IsFor, given_file};
 ghost use Rattle.bw_query.specs.Served.{IsServed};
-ghost use Rattle.bw_query.specs.TableAnswer.{AnswersFile, Began, IsEveryRow, TableGave, TableText, by_dump, by_statement, is_no_verdict};
+ghost use Rattle.bw_query.specs.TableAnswer.{AnswersFile, HasReadHeader, IsEveryRow, IsTableResult};
+ghost use Rattle.bw_query.specs.TableAnswer.{TableText, by_dump, by_statement, is_no_verdict};
 
 use crate::scan::{Scan, scan_for};
-use crate::served::served_by;
+use crate::served::report_of;
 use crate::table_text::table_text;
 use bw_file::{TableReader, a_file_is_read_whole};
 use bw_io::{Sink, Source, write_whole};
@@ -56,7 +58,7 @@ pub fn answer<S: Source, K: Sink>(
     requires table { S.failures table.old < 2 ^ 64 - 1 }
     requires sink { K.failures sink.old < 2 ^ 64 - 1 }
     ensures answer { (offset : ℕ) × (given : Result (List ℕ) Fault)
-        × TableGave (by_statement (given_file program.entry) sql.now)
+        × IsTableResult (by_statement (given_file program.entry) sql.now)
         (state (S.to_come table.old) 0 (S.failures table.old))
         (state (S.to_come table.new) offset (S.failures table.new)) given
         × WriteOutcome none_aside (K.taken sink.old) (K.taken sink.new) (K.failures sink.old)
@@ -68,9 +70,9 @@ pub fn answer<S: Source, K: Sink>(
         × Appends (K.taken sink.old) (K.taken sink.new) text
         × IsServed (given_file program.entry) found.schema found.query found.rows served) }
 
-    // Where the bytes to come are known: they were a table file's, and the answer is over its rows; and where they are,
-    // the statement spells a query, and the program file is accepted for its condition, it's only a device or memory
-    // that can fail.
+    // If the unread bytes are known, a success shows that they are a table file's, and the result
+    // is over its rows. If they are one's, the statement spells a query, and the program file is
+    // accepted for its condition, only a device or memory can fail.
     ensures file { (bytes : List ℕ) → S.to_come table.old ≡ Some bytes → IfOk result (λ served.
         (file : AnswersFile (by_statement (given_file program.entry) sql.now) bytes
         (K.taken sink.old) (K.taken sink.new))
@@ -82,7 +84,7 @@ pub fn answer<S: Source, K: Sink>(
         → IfErr result (λ fault. IsTrue (is_no_verdict fault)) }
     ensures table { TellsFailure (S.failures table.old) (S.failures table.new) result }
 {
-    let answered = answered(alloc, table, sql, program)?;
+    let answered = run_statement(alloc, table, sql, program)?;
     write_whole(sink, &answered.text)?;
     Ok(answered.served)
 }
@@ -96,14 +98,14 @@ pub(crate) struct AnswerText {
 
 /// Returns the text of the result of a statement over a table file, once the last segment was
 /// validated and the file has ended. Errors are those of [`answer`], without the sink's.
-fn answered<S: Source>(
+fn run_statement<S: Source>(
     alloc: Global,
     table: &mut S,
     sql: &[u8],
     program: Option<&[u8]>,
 ) -> Result<AnswerText, Fault>
     requires { S.failures table.old < 2 ^ 64 - 1 }
-    ensures answer { (offset : ℕ) × TableGave (by_statement (given_file program.entry) sql.now)
+    ensures answer { (offset : ℕ) × IsTableResult (by_statement (given_file program.entry) sql.now)
         (state (S.to_come table.old) 0 (S.failures table.old))
         (state (S.to_come table.new) offset (S.failures table.new)) (text_in result) }
     ensures served { IfOk result (λ answered. (offset : ℕ)
@@ -120,11 +122,11 @@ fn answered<S: Source>(
 {
     a_file_is_read_whole();
     let mut reader = TableReader::begin(alloc, table)?;
-    answered_after_header(alloc, &mut reader, table, sql, program)
+    run_after_header(alloc, &mut reader, table, sql, program)
 }
 
-/// Returns the same of a table file of which only the header was read.
-fn answered_after_header<S: Source>(
+/// Returns the same for a table file of which only the header was read.
+fn run_after_header<S: Source>(
     alloc: Global,
     reader: &mut TableReader,
     table: &mut S,
@@ -134,19 +136,22 @@ fn answered_after_header<S: Source>(
     requires counter_fits { S.failures table.old < 2 ^ 64 - 1 }
     requires fresh { (rows_given reader.old ≡ 0) × (final_result reader.old ≡ None) }
     ensures answer { (start : State)
-        → Began start (state (S.to_come table.old) (bytes_taken reader.old) (S.failures table.old))
-        reader.old → TableGave (by_statement (given_file program.entry) sql.now) start
+        → HasReadHeader start
+        (state (S.to_come table.old) (bytes_taken reader.old) (S.failures table.old))
+        reader.old → IsTableResult (by_statement (given_file program.entry) sql.now) start
         (state (S.to_come table.new) (bytes_taken reader.new) (S.failures table.new))
         (text_in result) }
     ensures served { IfOk result (λ answered. (start : State)
-        → Began start (state (S.to_come table.old) (bytes_taken reader.old) (S.failures table.old))
+        → HasReadHeader start
+        (state (S.to_come table.old) (bytes_taken reader.old) (S.failures table.old))
         reader.old → (found : TableText (by_statement (given_file program.entry) sql.now) start
         (state (S.to_come table.new) (bytes_taken reader.new) (S.failures table.new))
         answered.text.items)
         × IsServed (given_file program.entry) found.schema found.query found.rows answered.served) }
     ensures accepted { (start : State) (bytes : List ℕ) (layout : Layout) (schema : Schema)
         (rows : List (List Value)) (query : Query)
-        → Began start (state (S.to_come table.old) (bytes_taken reader.old) (S.failures table.old))
+        → HasReadHeader start
+        (state (S.to_come table.old) (bytes_taken reader.old) (S.failures table.old))
         reader.old → start.known ≡ Some bytes → IsFileBytes bytes layout schema rows
         → by_statement (given_file program.entry) sql.now schema (Ok query)
         → IfErr result (λ fault. IsTrue (is_no_verdict fault)) }
@@ -156,7 +161,7 @@ fn answered_after_header<S: Source>(
     let prepared = prepare(alloc, reader.schema(), sql, program)?;
     match table_text(alloc, reader, table, &prepared.query, &prepared.scan) {
         Ok(found) => Ok(AnswerText {
-            served: served_by(&prepared.scan, found.scanned),
+            served: report_of(&prepared.scan, found.scanned),
             text: found.text,
         }),
         Err(fault) => Err(fault),
@@ -194,8 +199,8 @@ pub(crate) fn prepare(
         → by_statement (given_file program.entry) sql.now schema.now (Err fault)) }
     ensures fault { IfErr result (λ fault. is_write_fault fault ≡ false) }
     ensures unread { IfErr result (λ fault. is_read_fault fault ≡ false) }
-    // A statement that spells a query under a schema of the same shape, with a program file that is accepted for its
-    // condition, is refused only where memory runs out.
+    // If a statement spells a query under a schema of the same shape, and the program file is
+    // accepted for its condition, only memory can fail.
     ensures accepted { (other : Schema) (query : Query) → schema_shape schema.now
         ≡ schema_shape other → by_statement (given_file program.entry) sql.now other (Ok query)
         → IfErr result (λ fault. IsTrue (is_memory fault)) }
@@ -216,12 +221,12 @@ pub fn dump<S: Source, K: Sink>(alloc: Global, table: &mut S, sink: &mut K) -> R
     requires table { S.failures table.old < 2 ^ 64 - 1 }
     requires sink { K.failures sink.old < 2 ^ 64 - 1 }
     ensures answer { (offset : ℕ) × (given : Result (List ℕ) Fault)
-        × TableGave by_dump (state (S.to_come table.old) 0 (S.failures table.old))
+        × IsTableResult by_dump (state (S.to_come table.old) 0 (S.failures table.old))
         (state (S.to_come table.new) offset (S.failures table.new)) given
         × WriteOutcome none_aside (K.taken sink.old) (K.taken sink.new) (K.failures sink.old)
         (K.failures sink.new) given result }
 
-    // Where the bytes to come are known, as of [`answer`].
+    // The same of the unread bytes as for [`answer`].
     ensures file { (bytes : List ℕ) → S.to_come table.old ≡ Some bytes
         → OnOk result (AnswersFile by_dump bytes (K.taken sink.old) (K.taken sink.new)) }
     ensures accepted { (bytes : List ℕ) (layout : Layout) (schema : Schema)
@@ -230,16 +235,16 @@ pub fn dump<S: Source, K: Sink>(alloc: Global, table: &mut S, sink: &mut K) -> R
         → IfErr result (λ fault. IsTrue (is_no_verdict fault)) }
     ensures table { TellsFailure (S.failures table.old) (S.failures table.new) result }
 {
-    let text = dumped(alloc, table)?;
+    let text = dump_rows(alloc, table)?;
     write_whole(sink, &text)
 }
 
 /// Returns the text of all rows of a table file, once the last segment was validated and the file
 /// has ended. Errors are those of [`dump`], without the sink's.
-fn dumped<S: Source>(alloc: Global, table: &mut S) -> Result<Vec<u8>, Fault>
+fn dump_rows<S: Source>(alloc: Global, table: &mut S) -> Result<Vec<u8>, Fault>
     requires { S.failures table.old < 2 ^ 64 - 1 }
     ensures answer { (offset : ℕ)
-        × TableGave by_dump (state (S.to_come table.old) 0 (S.failures table.old))
+        × IsTableResult by_dump (state (S.to_come table.old) 0 (S.failures table.old))
         (state (S.to_come table.new) offset (S.failures table.new)) (bytes_in result) }
     ensures text { IfOk result (λ text. (offset : ℕ) × TableText by_dump
         (state (S.to_come table.old) 0 (S.failures table.old))
@@ -252,11 +257,11 @@ fn dumped<S: Source>(alloc: Global, table: &mut S) -> Result<Vec<u8>, Fault>
 {
     a_file_is_read_whole();
     let mut reader = TableReader::begin(alloc, table)?;
-    dumped_after_header(alloc, &mut reader, table)
+    dump_after_header(alloc, &mut reader, table)
 }
 
-/// The same of a table file whose header was read, and no segment.
-fn dumped_after_header<S: Source>(
+/// Returns the same for a table file of which only the header was read.
+fn dump_after_header<S: Source>(
     alloc: Global,
     reader: &mut TableReader,
     table: &mut S,
@@ -264,17 +269,20 @@ fn dumped_after_header<S: Source>(
     requires counter_fits { S.failures table.old < 2 ^ 64 - 1 }
     requires fresh { (rows_given reader.old ≡ 0) × (final_result reader.old ≡ None) }
     ensures answer { (start : State)
-        → Began start (state (S.to_come table.old) (bytes_taken reader.old) (S.failures table.old))
-        reader.old → TableGave by_dump start
+        → HasReadHeader start
+        (state (S.to_come table.old) (bytes_taken reader.old) (S.failures table.old))
+        reader.old → IsTableResult by_dump start
         (state (S.to_come table.new) (bytes_taken reader.new) (S.failures table.new))
         (bytes_in result) }
     ensures text { IfOk result (λ text. (start : State)
-        → Began start (state (S.to_come table.old) (bytes_taken reader.old) (S.failures table.old))
+        → HasReadHeader start
+        (state (S.to_come table.old) (bytes_taken reader.old) (S.failures table.old))
         reader.old → TableText by_dump start
         (state (S.to_come table.new) (bytes_taken reader.new) (S.failures table.new)) text.items) }
     ensures accepted { (start : State) (bytes : List ℕ) (layout : Layout) (schema : Schema)
         (rows : List (List Value))
-        → Began start (state (S.to_come table.old) (bytes_taken reader.old) (S.failures table.old))
+        → HasReadHeader start
+        (state (S.to_come table.old) (bytes_taken reader.old) (S.failures table.old))
         reader.old → start.known ≡ Some bytes → IsFileBytes bytes layout schema rows
         → IfErr result (λ fault. IsTrue (is_no_verdict fault)) }
     ensures fault { IfErr result (λ fault. is_write_fault fault ≡ false) }

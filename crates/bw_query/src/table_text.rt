@@ -1,5 +1,6 @@
 //! The text of a result over a table file, one segment at a time.
-ghost use Rattle.std.specs.Prelude.{◌≡◌, ◌+◌, ◌-◌, ◌^◌, ◌<◌, ◌≤◌, ◌++◌, ℕ, List, [], None, false, true, IsTrue, IfOk, IfErr, OnOk, length, vec_len};
+ghost use Rattle.std.specs.Prelude.{◌≡◌, ◌+◌, ◌-◌, ◌^◌, ◌<◌, ◌≤◌, ◌++◌, ℕ, List, [], None, false};
+ghost use Rattle.std.specs.Prelude.{true, IsTrue, IfOk, IfErr, OnOk, length, vec_len};
 ghost use Rattle.std.specs.List.{list_all};
 ghost use Rattle.bw_model.specs.Column.{names_of};
 ghost use Rattle.bw_model.specs.Fault.{no_memory};
@@ -7,15 +8,16 @@ ghost use Rattle.bw_model.specs.Limits.{most_rows};
 ghost use Rattle.bw_model.specs.Total.{item_within};
 ghost use Rattle.bw_model.specs.declared.query.Query.{Query};
 ghost use Rattle.bw_sql.specs.Items.{AreOfOneKind};
-ghost use Rattle.bw_answer.specs.AreOver.{CountsRows};
-ghost use Rattle.bw_answer.specs.Over.{GoesOver, IsOver, asked_by};
+ghost use Rattle.bw_answer.specs.TextAndTotals.{CountsRows};
+ghost use Rattle.bw_answer.specs.Progress.{GoesOver, IsOver, query_in};
 ghost use Rattle.bw_answer.specs.declared.answer.Answer.{Answer};
 ghost use Rattle.bw_io.specs.Sink.{is_write_fault};
 ghost use Rattle.bw_file.specs.AnySegment.{any_meaning};
 ghost use Rattle.bw_file.specs.Reading.{State, state};
-ghost use Rattle.bw_file.specs.TableReader.{schema_in, bytes_taken, rows_given, final_result, ReadProgress, AnswersFault};
+ghost use Rattle.bw_file.specs.TableReader.{schema_in, bytes_taken, rows_given, final_result};
+ghost use Rattle.bw_file.specs.TableReader.{ReadProgress, AnswersFault};
 ghost use Rattle.bw_query.specs.Scan.{IsFor, loads_in, skips_in};
-ghost use Rattle.bw_query.specs.TableText.{TextOver, TookAll};
+ghost use Rattle.bw_query.specs.TableText.{TextOver, HasConsumedAll};
 
 use crate::scan::Scan;
 use crate::served::Scanned;
@@ -106,8 +108,8 @@ fn take_rows<S: Source>(
     requires fresh { (rows_given reader.old ≡ 0) × (final_result reader.old ≡ None) }
     requires none { answer.old.rows ≡ 0 }
     requires width { answer.old.width ≡ length (schema_in reader.old).columns.items }
-    requires scan { IsFor (schema_in reader.old).columns.items (asked_by answer.old).cond scan.now }
-    ensures took { IfOk result (λ scanned. TookAll
+    requires scan { IsFor (schema_in reader.old).columns.items (query_in answer.old).cond scan.now }
+    ensures took { IfOk result (λ scanned. HasConsumedAll
         (state (S.to_come source.old) (bytes_taken reader.old) (S.failures source.old))
         (state (S.to_come source.new) (bytes_taken reader.new) (S.failures source.new))
         reader.old scan.now answer.old answer.new scanned) }
@@ -145,8 +147,8 @@ fn take_either(
     counts: bool,
     answer: &mut Answer<'_>,
 ) -> Result<Counts, Fault>
-    requires scan { IsFor (any_meaning segment.now).columns (asked_by answer.old).cond scan.now }
-    requires counts { counts ≡ true → CountsRows (asked_by answer.old) }
+    requires scan { IsFor (any_meaning segment.now).columns (query_in answer.old).cond scan.now }
+    requires counts { counts ≡ true → CountsRows (query_in answer.old) }
     requires width { answer.old.width ≡ length (any_meaning segment.now).columns }
     requires capacity { answer.old.rows + length (any_meaning segment.now).rows ≤ most_rows }
     ensures covers { OnOk result (GoesOver answer.old (any_meaning segment.now).rows answer.new) }
@@ -173,8 +175,8 @@ pub(crate) fn take_segment<S: Segment>(
     counts: bool,
     answer: &mut Answer<'_>,
 ) -> Result<Counts, Fault>
-    requires scan { IsFor (S.meaning segment.now).columns (asked_by answer.old).cond scan.now }
-    requires counts { counts ≡ true → CountsRows (asked_by answer.old) }
+    requires scan { IsFor (S.meaning segment.now).columns (query_in answer.old).cond scan.now }
+    requires counts { counts ≡ true → CountsRows (query_in answer.old) }
     requires width { answer.old.width ≡ length (S.meaning segment.now).columns }
     requires capacity { answer.old.rows + length (S.meaning segment.now).rows ≤ most_rows }
     ensures covers { OnOk result (GoesOver answer.old (S.meaning segment.now).rows answer.new) }
@@ -190,9 +192,9 @@ pub(crate) fn take_segment<S: Segment>(
 {
     match scan {
         Scan::Program(certified) => {
-            let (picked, counts) = certified.run_segment(segment);
+            let (selected, counts) = certified.run_segment(segment);
             certified.condition().same_meaning(&answer.query().cond);
-            answer.take_picked(segment, &picked)?;
+            answer.take_selected(segment, &selected)?;
             Ok(counts)
         }
         Scan::Rows => {
@@ -205,7 +207,7 @@ pub(crate) fn take_segment<S: Segment>(
 /// Consumes the rows of a segment that match one by one, or only their number if nothing else is
 /// needed.
 fn take_by_rows<S: Segment>(segment: &S, counts: bool, answer: &mut Answer<'_>) -> Result<(), Fault>
-    requires counts { counts ≡ true → CountsRows (asked_by answer.old) }
+    requires counts { counts ≡ true → CountsRows (query_in answer.old) }
     requires width { answer.old.width ≡ length (S.meaning segment.now).columns }
     requires capacity { answer.old.rows + length (S.meaning segment.now).rows ≤ most_rows }
     ensures covers { OnOk result (GoesOver answer.old (S.meaning segment.now).rows answer.new) }

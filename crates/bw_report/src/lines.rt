@@ -2,7 +2,8 @@
 ghost use Rattle.std.specs.Prelude.{◌≡◌, ◌+◌, ◌-◌, ◌^◌, ◌<◌, ◌≤◌, ◌++◌, length};
 ghost use Rattle.std.specs.Fmt.InlineText.{inline_text};
 ghost use Rattle.bw_model.specs.Fault.{fault_line, place_text};
-ghost use Rattle.bw_report.specs.Lines.{status_of, IsWritten, accepted_line, by_text, stats_line, with_count};
+ghost use Rattle.bw_report.specs.Lines.{status_of, IsWritten, accepted_line, by_text, stats_line};
+ghost use Rattle.bw_report.specs.Lines.{with_count};
 ghost use Rattle.bw_io.specs.Sink.{GoesOut};
 
 use crate::accepted::Accepted;

@@ -1,7 +1,11 @@
 -- Truth values in lanes, worked out one after another.
-use Rattle.std.proofs.Common.{◌≡◌, ◌∙◌, refl, sym, ap, ◌⊎◌, inl, inr, ℕ, zero, suc, ◌+◌, ◌-◌, ◌<◌, ◌≤◌, leb, Bool, true, false, ◌&&◌, List, [], ◌∷◌, ◌++◌, None, length, length-append, map, replicate, get_or, arith}
+use Rattle.std.proofs.Common.{◌≡◌, ◌∙◌, refl, sym, ap, ◌⊎◌, inl, inr, ℕ, zero, suc, ◌+◌, ◌-◌, ◌<◌}
+use Rattle.std.proofs.Common.{◌≤◌, leb, Bool, true, false, ◌&&◌, List, [], ◌∷◌, ◌++◌, None, length}
+use Rattle.std.proofs.Common.{length-append, map, replicate, get_or, arith}
 use Rattle.std.proofs.lemmas.Bool.Decides.{leb_tells}
-use Rattle.std.proofs.lemmas.List.{ext_get_or, get_or-append-add, get_or_past, get_or-map, get_or_append_left, get_or-replicate, length-map, length-replicate}
+use Rattle.std.proofs.lemmas.List.{ext_get_or, get_or-append-add, get_or_past, get_or-map}
+use Rattle.std.proofs.lemmas.List.{get_or_append_left, get_or-replicate, length-map}
+use Rattle.std.proofs.lemmas.List.{length-replicate}
 use Rattle.std.specs.List.{list_all}
 use Rattle.bw_model.specs.Column.{admits_values}
 use Rattle.bw_model.specs.declared.column.Column.{Column}
@@ -14,10 +18,10 @@ same_at a zero i = refl
 same_at a (suc count) zero = refl
 same_at a (suc count) (suc i) = same_at a count i
 
--- a lane is 1 where a row is kept, and 0 everywhere else
+-- a lane is 1 if its row matches, and else 0
 pub record Marks (lanes : List Bool) (rows : List (List Value)) (keeps : List Value → Bool) : Type 0 where
   pub all : length lanes ≡ 512
-  pub few : length rows ≤ 512
+  pub within_limit : length rows ≤ 512
   pub kept : (lane : ℕ) → lane < length rows → get_or lanes lane false ≡ keeps (get_or rows lane [])
   pub past : (lane : ℕ) → length rows ≤ lane → lane < 512 → get_or lanes lane false ≡ false
 
@@ -38,10 +42,10 @@ lane_at lanes rows keeps marks i within (inr below) =
 pub marked : (lanes : List Bool) (rows : List (List Value)) (keeps : List Value → Bool) → Marks lanes rows keeps → lanes ≡ map keeps rows ++ replicate (512 - length rows) false
 marked lanes rows keeps marks =
     ext_get_or false lanes (map keeps rows ++ replicate (512 - length rows) false)
-    (omega (arith, length-append (map keeps rows) (replicate (512 - length rows) false), length-map rows keeps, length-replicate (512 - length rows) false, marks.all, marks.few))
+    (omega (arith, length-append (map keeps rows) (replicate (512 - length rows) false), length-map rows keeps, length-replicate (512 - length rows) false, marks.all, marks.within_limit))
     (λ i within. lane_at lanes rows keeps marks i (omega (arith, marks.all, within)) (leb_tells (length rows) i))
 
--- the lanes of the first rows, so many
+-- the lanes of the first rows, this many
 pub first_lane : (count rest lane : ℕ) → lane < count → get_or (replicate count true ++ replicate rest false) lane false ≡ true
 first_lane count rest lane within =
     get_or_append_left (replicate count true) (replicate rest false) false lane (omega (arith, length-replicate count true, within)) ∙ get_or-replicate count lane true false within

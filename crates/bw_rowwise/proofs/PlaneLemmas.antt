@@ -1,5 +1,6 @@
 -- The lanes of planes that are joined.
-use Rattle.std.proofs.Common.{◌≡◌, ◌∙◌, ap, ℕ, ◌<◌, Bool, false, not, ◌&&◌, ◌||◌, List, map, length, get_or, arith}
+use Rattle.std.proofs.Common.{◌≡◌, ◌∙◌, ap, ℕ, ◌<◌, Bool, false, not, ◌&&◌, ◌||◌, List, map, length}
+use Rattle.std.proofs.Common.{get_or, arith}
 use Rattle.std.proofs.lemmas.List.{get_or-map}
 use Rattle.std.proofs.lemmas.Simd.{get_or-zip2, length-zip2}
 use lib.Lanes.{zip2}

@@ -1,19 +1,27 @@
 -- The truth of each kind of prepared condition.
-use Rattle.std.proofs.Common.{◌≡◌, ◌∙◌, ◌<◌, ◌+◌, ℕ, zero, suc, arith, List, [], ◌∷◌, ◌++◌, get_or, length, map, take, Vec, Box, Global, sym, ap}
+use Rattle.std.proofs.Common.{◌≡◌, ◌∙◌, ◌<◌, ◌+◌, ℕ, zero, suc, arith, List, [], ◌∷◌, ◌++◌, get_or}
+use Rattle.std.proofs.Common.{length, map, take, Vec, Box, Global, sym, ap}
 use Rattle.bw_model.specs.declared.cond.Truth.{Truth}
 use Rattle.bw_model.specs.declared.cond.Truth.TheVariants.{Yes}
 use Rattle.bw_model.specs.declared.cond.Op.{Op}
 use Rattle.bw_model.specs.declared.cond.Operand.{Operand}
 use Rattle.bw_model.specs.Cond.{operand_value}
 use Rattle.bw_model.specs.Row.{Value}
-use Rattle.bw_model.specs.Truth.{all_of, in_list, any_of, between, compare_values, greatest, is_null, is_truth, least, negation, truth_from}
+use Rattle.bw_model.specs.Truth.{all_of, in_list, any_of, between, compare_values, greatest}
+use Rattle.bw_model.specs.Truth.{is_null, is_truth, least, negation, truth_from}
 use Rattle.bw_rowwise.specs.declared.numbers.Numbers.{Numbers}
 use Rattle.bw_rowwise.specs.declared.prepared.Prepared.{Prepared, Prepared-F, fold-roll-Prepared}
-use Rattle.bw_rowwise.specs.declared.prepared.Prepared.TheVariants.{Always, Cmp, Between, Among, IsNull, And, Or, Not, Test, rolls-Always, rolls-Cmp, rolls-Between, rolls-Among, rolls-IsNull, rolls-And, rolls-Or, rolls-Not, rolls-Test}
+use Rattle.bw_rowwise.specs.declared.prepared.Prepared.TheVariants.{Always, Cmp, Between, Among}
+use Rattle.bw_rowwise.specs.declared.prepared.Prepared.TheVariants.{IsNull, And, Or, Not, Test}
+use Rattle.bw_rowwise.specs.declared.prepared.Prepared.TheVariants.{rolls-Always, rolls-Cmp}
+use Rattle.bw_rowwise.specs.declared.prepared.Prepared.TheVariants.{rolls-Between, rolls-Among}
+use Rattle.bw_rowwise.specs.declared.prepared.Prepared.TheVariants.{rolls-IsNull, rolls-And}
+use Rattle.bw_rowwise.specs.declared.prepared.Prepared.TheVariants.{rolls-Or, rolls-Not, rolls-Test}
 use Rattle.bw_rowwise.specs.Numbers.{among_numbers}
 use Rattle.bw_rowwise.specs.Prepared.{prepared_step, prepared_truth, Absorbs, JoinAlike}
 use Rattle.bw_rowwise.proofs.LogicLemmas.{greatest_assoc, least_assoc}
-use Rattle.bw_rowwise.proofs.TruthLemmas.{all_more, all_pushed, any_more, any_pushed, greatest-first, least-first}
+use Rattle.bw_rowwise.proofs.TruthLemmas.{all_more, all_pushed, any_more, any_pushed}
+use Rattle.bw_rowwise.proofs.TruthLemmas.{greatest-first, least-first}
 
 pub truth-Always : (row : List Value) → prepared_truth row Always ≡ Yes
 unfolding prepared_truth

@@ -1,10 +1,13 @@
 -- Truth values told by two bits: whether one is TRUE, and whether it isn't FALSE.
-use Rattle.std.proofs.Common.{◌≡◌, ◌∙◌, refl, sym, ap, ℕ, ℤ, ◌+◌, ◌<◌, List, [], ◌∷◌, ◌++◌, map, take, drop, length, get_or, Bool, true, false, not, cond, ◌&&◌, ◌||◌, Some, None}
+use Rattle.std.proofs.Common.{◌≡◌, ◌∙◌, refl, sym, ap, ℕ, ℤ, ◌+◌, ◌<◌, List, [], ◌∷◌, ◌++◌, map}
+use Rattle.std.proofs.Common.{take, drop, length, get_or, Bool, true, false, not, cond, ◌&&◌, ◌||◌}
+use Rattle.std.proofs.Common.{Some, None}
 use Rattle.std.proofs.lemmas.List.{map-append, take_more, take-append-drop}
 use Rattle.bw_model.specs.declared.cond.Op.{Op}
 use Rattle.bw_model.specs.declared.cond.Truth.{Truth}
 use Rattle.bw_model.specs.declared.cond.Truth.TheVariants.{No, Unknown, Yes}
-use Rattle.bw_model.specs.Truth.{all_of, any_of, compare_values, greatest, holds, is_truth, least, negation, truth_from}
+use Rattle.bw_model.specs.Truth.{all_of, any_of, compare_values, greatest, holds, is_truth, least}
+use Rattle.bw_model.specs.Truth.{negation, truth_from}
 use Rattle.bw_rowwise.proofs.LogicLemmas.{greatest_assoc, least_assoc}
 use Rattle.bw_rowwise.specs.Lanes.{AreTruths}
 use Rattle.bw_rowwise.specs.declared.truths.Truths.{Truths}
@@ -70,7 +73,7 @@ pub from_maybe : (b : Bool) → b ≡ not (is_truth (truth_from b) No)
 from_maybe true = refl
 from_maybe false = refl
 
--- a comparison is TRUE where it holds and no value is null, and isn't FALSE where it holds or a
+-- a comparison is TRUE if it holds and no value is null, and isn't FALSE if it holds or a
 -- value is null
 pub compared_yes : (op : Op) (p q : Bool) (m n : ℤ) → (holds op m n && not (p || q)) ≡ is_truth (compare_values op (cond p None (Some m)) (cond q None (Some n))) Yes
 compared_yes op true q m n = off (holds op m n)
@@ -106,7 +109,7 @@ compared_maybe op false false m n = off (holds op m n)
     off true = refl
     off false = refl
 
--- the same where the second side is a number
+-- the same if the second side is a number
 pub compared_one_yes : (op : Op) (p : Bool) (m n : ℤ) → (holds op m n && not p) ≡ is_truth (compare_values op (cond p None (Some m)) (Some n)) Yes
 compared_one_yes op true m n = off (holds op m n)
   where

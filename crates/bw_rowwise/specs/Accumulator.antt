@@ -1,5 +1,6 @@
 -- The result of an accumulator, by the rows that were added.
-use Rattle.std.specs.Prelude.{ℕ, ◌+◌, ℤ, pos, ◌*◌, ◌^◌, ◌≤ℤ◌, neg_ℤ, List, Option, Some, None, length}
+use Rattle.std.specs.Prelude.{ℕ, ◌+◌, ℤ, pos, ◌*◌, ◌^◌, ◌≤ℤ◌, neg_ℤ, List, Option, Some, None}
+use Rattle.std.specs.Prelude.{length}
 use Rattle.std.specs.Option.{ForSome, option_map}
 use Rattle.bw_model.specs.declared.query.Item.{Item}
 use Rattle.bw_model.specs.declared.query.Item.TheVariants.{Plain, CountAll, Count, Sum, Min, Max}

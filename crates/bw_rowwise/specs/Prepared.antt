@@ -6,10 +6,12 @@ use Rattle.bw_model.specs.declared.cond.Truth.{Truth}
 use Rattle.bw_model.specs.declared.cond.Truth.TheVariants.{Yes}
 use Rattle.bw_model.specs.Cond.{operand_value, truth_of}
 use Rattle.bw_model.specs.Row.{Value}
-use Rattle.bw_model.specs.Truth.{all_of, in_list, any_of, between, compare_values, greatest, is_null, is_truth, least, negation, truth_from}
+use Rattle.bw_model.specs.Truth.{all_of, in_list, any_of, between, compare_values, greatest}
+use Rattle.bw_model.specs.Truth.{is_null, is_truth, least, negation, truth_from}
 use Rattle.bw_rowwise.specs.Numbers.{among_numbers}
 use Rattle.bw_rowwise.specs.declared.prepared.Prepared.{Prepared, Prepared-F, fold-Prepared}
-use Rattle.bw_rowwise.specs.declared.prepared.Prepared.TheOpen.{Always, Cmp, Between, Among, IsNull, And, Or, Not, Test}
+use Rattle.bw_rowwise.specs.declared.prepared.Prepared.TheOpen.{Always, Cmp, Between, Among, IsNull}
+use Rattle.bw_rowwise.specs.declared.prepared.Prepared.TheOpen.{And, Or, Not, Test}
 
 -- the truth of a prepared condition on a row, from that of its parts
 abbrev pub prepared_step : List Value → Prepared-F Truth → Truth

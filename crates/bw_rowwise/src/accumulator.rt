@@ -1,10 +1,12 @@
 //! The total of rows that come one at a time, or as a list.
-ghost use Rattle.std.specs.Prelude.{◌≡◌, ◌+◌, ◌<◌, ◌≤◌, List, [], ◌∷◌, ◌++◌, length, map, All, IsTrue};
+ghost use Rattle.std.specs.Prelude.{◌≡◌, ◌+◌, ◌<◌, ◌≤◌, List, [], ◌∷◌, ◌++◌, length, map, All};
+ghost use Rattle.std.specs.Prelude.{IsTrue};
 ghost use Rattle.bw_model.specs.Limits.{most_rows};
 ghost use Rattle.bw_model.specs.declared.query.Item.TheVariants.{CountAll};
 ghost use Rattle.bw_model.specs.Row.{Value, values_of};
 ghost use Rattle.bw_model.specs.Total.{total, is_aggregate, item_within};
-ghost use Rattle.bw_rowwise.specs.Accumulator.{tally_of, tally_with, tally_joined, count_rows, IsTotalOfRows};
+ghost use Rattle.bw_rowwise.specs.Accumulator.{tally_of, tally_with, tally_joined, count_rows};
+ghost use Rattle.bw_rowwise.specs.Accumulator.{IsTotalOfRows};
 
 use crate::total::{answer_with, combine_totals};
 use bw_model::{Item, Row, totals_join};

@@ -40,12 +40,12 @@ impl ColumnLanes {
     }
 
     /// Returns the truth of a comparison with other values in each lane.
-    pub fn compared(&self, op: Op, other: &ColumnLanes) -> Truths
+    pub fn compare(&self, op: Op, other: &ColumnLanes) -> Truths
         ensures { AreTruths result
             (λ lane. compare_values op (value_at self.now lane) (value_at other.now lane)) }
     {
         let none = either_lanes(&self.none, &other.none);
-        let holds = holding(op, &self.keys, &other.keys);
+        let holds = lanes_holding(op, &self.keys, &other.keys);
         Truths {
             yes: both_lanes(&holds, &other_lanes(&none)),
             maybe: either_lanes(&holds, &none),
@@ -53,11 +53,11 @@ impl ColumnLanes {
     }
 
     /// Returns the truth of a comparison with a number in each lane.
-    pub fn compared_with(&self, op: Op, n: i64) -> Truths
+    pub fn compare_with(&self, op: Op, n: i64) -> Truths
         ensures { AreTruths result (λ lane. compare_values op (value_at self.now lane) (Some n)) }
     {
         let keys = [key(n); LANES];
-        let holds = holding(op, &self.keys, &keys);
+        let holds = lanes_holding(op, &self.keys, &keys);
         Truths {
             yes: both_lanes(&holds, &other_lanes(&self.none)),
             maybe: either_lanes(&holds, &self.none),
@@ -103,7 +103,7 @@ impl ColumnLanes {
 }
 
 /// Returns the lanes in which a comparison is true of the numbers of two keys.
-fn holding(op: Op, xs: &[u64; LANES], ys: &[u64; LANES]) -> Plane
+fn lanes_holding(op: Op, xs: &[u64; LANES], ys: &[u64; LANES]) -> Plane
     ensures { (lane : ℕ) → lane < 512 → slice_index_or (lanes_of_words result) lane false
         ≡ holds op (number_of_key (slice_index xs.now lane))
         (number_of_key (slice_index ys.now lane)) }

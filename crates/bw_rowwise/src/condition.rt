@@ -36,7 +36,7 @@ pub fn truth(cond: &Cond, row: &Row) -> Truth
 
 /// Returns whether a condition is the one that matches every row.
 #[tactic(auto, using(bw_model::proofs::CondLemmas::truths))]
-pub fn keeps_all(cond: &Cond) -> bool
+pub fn matches_all(cond: &Cond) -> bool
     ensures { result ≡ true → (values : List Value) → IsTrue (is_match cond.now values) }
 {
     matches!(cond, Cond::Always)

@@ -1,5 +1,6 @@
 //! A condition that filters the rows of segments.
-ghost use Rattle.std.specs.Prelude.{◌≡◌, ◌-◌, ◌++◌, false, length, map, replicate, IfOk, IsOkUnless};
+ghost use Rattle.std.specs.Prelude.{◌≡◌, ◌-◌, ◌++◌, false, length, map, replicate, IfOk};
+ghost use Rattle.std.specs.Prelude.{IsOkUnless};
 ghost use Rattle.bw_lanes.specs.Lanes.{lanes_of_words};
 ghost use Rattle.bw_model.specs.Fault.{no_memory};
 ghost use Rattle.bw_model.specs.Groups.{group_size};
@@ -55,12 +56,12 @@ impl Filter {
     /// Returns the rows of a segment on which the condition is TRUE: neither FALSE nor UNKNOWN will
     /// do. Lane i is row i's, and 0 past the last row. Each column that the condition names is
     /// unpacked once.
-    pub fn rows_kept<S: Segment>(&mut self, segment: &S) -> Selection
+    pub fn matching_lanes<S: Segment>(&mut self, segment: &S) -> Selection
         ensures kept { lanes_of_words result
             ≡ map (λ row. is_truth (prepared_truth row self.old) Yes) (S.meaning segment.now).rows
             ++ replicate (group_size - length (S.meaning segment.now).rows) false }
         ensures same { self.new ≡ self.old }
     {
-        self.cond.rows_kept(segment, &mut self.unpacked)
+        self.cond.matching_lanes(segment, &mut self.unpacked)
     }
 }

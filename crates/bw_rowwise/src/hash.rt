@@ -55,8 +55,8 @@ fn add_cond(hasher: &mut FoldHasher, cond: &Cond, left: u32) -> u32 {
     left
 }
 
-/// Adds AND or OR, and at most `left` predicates and connectives of its parts. Returns how many more
-/// may be added.
+/// Adds AND or OR, and at most `left` predicates and connectives of its parts. Returns how many
+/// more may be added.
 #[cycle(add_cond)]
 fn add_parts(hasher: &mut FoldHasher, kind: u8, parts: &[Cond], left: u32) -> u32 {
     hasher.write_u8(kind);

@@ -4,7 +4,8 @@ ghost use Rattle.bw_lanes.specs.Lanes.{lanes_of_words};
 ghost use Rattle.bw_model.specs.Cond.{operand_value};
 ghost use Rattle.bw_model.specs.Groups.{group_size};
 ghost use Rattle.bw_model.specs.Row.{value_in};
-ghost use Rattle.bw_model.specs.Truth.{all_of, in_list, any_of, between, compare_values, greatest, is_null, is_truth, truth_from};
+ghost use Rattle.bw_model.specs.Truth.{all_of, in_list, any_of, between, compare_values, greatest};
+ghost use Rattle.bw_model.specs.Truth.{is_null, is_truth, truth_from};
 ghost use Rattle.bw_model.specs.declared.cond.Truth.TheVariants.{Yes};
 ghost use Rattle.bw_rowwise.specs.Lanes.{AreTruths, AreUnpacked, lanes_in, value_at};
 ghost use Rattle.bw_rowwise.specs.Numbers.{among_numbers};
@@ -23,7 +24,11 @@ impl Prepared {
     /// Returns the rows of a segment on which the condition is TRUE: neither FALSE nor UNKNOWN will
     /// do. Lane i is row i's, and 0 past the last row. The columns for which `unpacked` has space
     /// are unpacked once.
-    pub(crate) fn rows_kept<S: Segment>(&self, segment: &S, unpacked: &mut Unpacked) -> Selection
+    pub(crate) fn matching_lanes<S: Segment>(
+        &self,
+        segment: &S,
+        unpacked: &mut Unpacked,
+    ) -> Selection
         ensures { lanes_of_words result
             ≡ map (λ row. is_truth (prepared_truth row self.now) Yes) (S.meaning segment.now).rows
             ++ replicate (group_size - length (S.meaning segment.now).rows) false }
@@ -43,14 +48,14 @@ fn truths<S: Segment>(cond: &Prepared, segment: &S, unpacked: &Unpacked) -> Trut
 {
     match cond {
         Prepared::Always => Truths::all(Truth::Yes),
-        Prepared::Cmp(op, x, y) => compared(*op, *x, *y, segment, unpacked),
+        Prepared::Cmp(op, x, y) => compare(*op, *x, *y, segment, unpacked),
         Prepared::Between(x, y, z) => between(*x, *y, *z, segment, unpacked),
         Prepared::Among(x, numbers, others) => among(*x, numbers, others, segment, unpacked),
-        Prepared::IsNull(x) => null_tested(*x, segment, unpacked),
+        Prepared::IsNull(x) => test_null(*x, segment, unpacked),
         Prepared::And(parts) => all_of(parts, segment, unpacked),
         Prepared::Or(parts) => any_of(parts, segment, unpacked),
         Prepared::Not(part) => truths(part, segment, unpacked).opposite(),
-        Prepared::Test(part, wanted) => truths(part, segment, unpacked).tested(*wanted),
+        Prepared::Test(part, wanted) => truths(part, segment, unpacked).test(*wanted),
     }
 }
 
@@ -91,7 +96,7 @@ fn any_of<S: Segment>(parts: &[Prepared], segment: &S, unpacked: &Unpacked) -> T
 }
 
 /// Returns in each lane whether an operand is null.
-fn null_tested<S: Segment>(x: Operand, segment: &S, unpacked: &Unpacked) -> Truths
+fn test_null<S: Segment>(x: Operand, segment: &S, unpacked: &Unpacked) -> Truths
     requires { AreUnpacked (S.meaning segment.now).rows unpacked.now }
     ensures { AreTruths result
         (λ lane. truth_from (is_null
@@ -106,7 +111,7 @@ fn null_tested<S: Segment>(x: Operand, segment: &S, unpacked: &Unpacked) -> Trut
 }
 
 /// Returns the truth of a comparison in each lane.
-fn compared<S: Segment>(op: Op, x: Operand, y: Operand, segment: &S, unpacked: &Unpacked) -> Truths
+fn compare<S: Segment>(op: Op, x: Operand, y: Operand, segment: &S, unpacked: &Unpacked) -> Truths
     requires { AreUnpacked (S.meaning segment.now).rows unpacked.now }
     ensures { AreTruths result
         (λ lane. compare_values op (operand_value (row_at (S.meaning segment.now).rows lane) x)
@@ -114,17 +119,17 @@ fn compared<S: Segment>(op: Op, x: Operand, y: Operand, segment: &S, unpacked: &
 {
     match (x, y) {
         (Operand::Col(column), Operand::Lit(n)) => {
-            column_compared(op, column, n, segment, unpacked)
+            compare_column(op, column, n, segment, unpacked)
         }
         (Operand::Col(left), Operand::Col(right)) => {
-            columns_compared(op, left, right, segment, unpacked)
+            compare_columns(op, left, right, segment, unpacked)
         }
-        _ => sides_compared(op, x, y, segment, unpacked),
+        _ => compare_sides(op, x, y, segment, unpacked),
     }
 }
 
 /// Returns the truth of a comparison of two columns in each lane.
-fn columns_compared<S: Segment>(
+fn compare_columns<S: Segment>(
     op: Op,
     left: usize,
     right: usize,
@@ -137,13 +142,13 @@ fn columns_compared<S: Segment>(
         (value_in (row_at (S.meaning segment.now).rows lane) right)) }
 {
     match (unpacked.find(left), unpacked.find(right)) {
-        (Some(x), Some(y)) => x.compared(op, y),
-        _ => column_lanes(left, segment).compared(op, &column_lanes(right, segment)),
+        (Some(x), Some(y)) => x.compare(op, y),
+        _ => column_lanes(left, segment).compare(op, &column_lanes(right, segment)),
     }
 }
 
 /// Returns the truth of a comparison of any operands in each lane.
-fn sides_compared<S: Segment>(
+fn compare_sides<S: Segment>(
     op: Op,
     x: Operand,
     y: Operand,
@@ -157,11 +162,11 @@ fn sides_compared<S: Segment>(
 {
     let left = side_of(x, segment, unpacked);
     let right = side_of(y, segment, unpacked);
-    left.lanes().compared(op, right.lanes())
+    left.lanes().compare(op, right.lanes())
 }
 
 /// Returns the truth of a comparison of a column with a number in each lane.
-fn column_compared<S: Segment>(
+fn compare_column<S: Segment>(
     op: Op,
     column: usize,
     n: i64,
@@ -174,8 +179,8 @@ fn column_compared<S: Segment>(
         (Some n)) }
 {
     match unpacked.find(column) {
-        Some(lanes) => lanes.compared_with(op, n),
-        None => column_lanes(column, segment).compared_with(op, n),
+        Some(lanes) => lanes.compare_with(op, n),
+        None => column_lanes(column, segment).compare_with(op, n),
     }
 }
 
@@ -193,8 +198,8 @@ fn between<S: Segment>(
         (operand_value (row_at (S.meaning segment.now).rows lane) y)
         (operand_value (row_at (S.meaning segment.now).rows lane) z)) }
 {
-    let least = compared(Op::Ge, x, y, segment, unpacked);
-    least.both(&compared(Op::Le, x, z, segment, unpacked))
+    let least = compare(Op::Ge, x, y, segment, unpacked);
+    least.both(&compare(Op::Le, x, z, segment, unpacked))
 }
 
 /// Returns in each lane whether an operand is one of these numbers or of these other operands, as
@@ -231,7 +236,7 @@ fn among_others<S: Segment>(
 {
     let mut greatest = Truths::all(Truth::No);
     for other in others {
-        greatest = greatest.either(&compared(Op::Eq, x, *other, segment, unpacked));
+        greatest = greatest.either(&compare(Op::Eq, x, *other, segment, unpacked));
     }
     greatest
 }

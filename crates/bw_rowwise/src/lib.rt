@@ -33,7 +33,7 @@ mod truths;
 mod unpacked;
 
 pub use accumulator::{Accumulator, aggregate};
-pub use condition::{keeps_all, select, truth};
+pub use condition::{matches_all, select, truth};
 pub use filter::Filter;
 pub use numbers::Numbers;
 pub use prepared::Prepared;

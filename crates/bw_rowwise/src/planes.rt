@@ -1,5 +1,6 @@
 //! Planes by their lanes.
-ghost use Rattle.std.specs.Prelude.{◌≡◌, ◌<◌, ◌&&◌, ◌||◌, ℕ, Bool, false, length, not, slice_index_or};
+ghost use Rattle.std.specs.Prelude.{◌≡◌, ◌<◌, ◌&&◌, ◌||◌, ℕ, Bool, false, length, not};
+ghost use Rattle.std.specs.Prelude.{slice_index_or};
 ghost use Rattle.bw_lanes.specs.Lanes.{lanes_of_words};
 
 use bw_lanes::{LANES, Plane, and, mask, not, or};

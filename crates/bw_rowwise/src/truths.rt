@@ -1,5 +1,6 @@
 //! The truth of a condition in 512 lanes, one for each row, as two planes.
-ghost use Rattle.std.specs.Prelude.{◌≡◌, ◌≤◌, ◌<◌, ◌-◌, ◌++◌, ℕ, List, Bool, [], false, true, length, map, replicate, slice_index_or};
+ghost use Rattle.std.specs.Prelude.{◌≡◌, ◌≤◌, ◌<◌, ◌-◌, ◌++◌, ℕ, List, Bool, [], false, true};
+ghost use Rattle.std.specs.Prelude.{length, map, replicate, slice_index_or};
 ghost use Rattle.bw_lanes.specs.Lanes.{lanes_of_words};
 ghost use Rattle.bw_model.specs.Groups.{group_size};
 ghost use Rattle.bw_model.specs.Row.{Value};
@@ -77,7 +78,7 @@ impl Truths {
     }
 
     /// Returns whether each lane has a truth value.
-    pub fn tested(&self, wanted: Truth) -> Truths
+    pub fn test(&self, wanted: Truth) -> Truths
         ensures { (f : ℕ → Truth) → AreTruths self.now f
             → AreTruths result (λ lane. truth_from (is_truth (f lane) wanted)) }
     {

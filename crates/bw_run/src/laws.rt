@@ -1,9 +1,11 @@
 //! Laws of the segment machine: where a run goes, and the bits of its registers at the places that
 //! it reaches.
-ghost use Rattle.std.specs.Prelude.{◌≡◌, ◌<◌, ◌≤◌, false, ℕ, IsTrue, List, Some, length, replicate, slice_get};
+ghost use Rattle.std.specs.Prelude.{◌≡◌, ◌<◌, ◌≤◌, false, ℕ, IsTrue, List, Some, length, replicate};
+ghost use Rattle.std.specs.Prelude.{slice_get};
 ghost use Rattle.bw_model.specs.declared.column.Column.{Column};
 ghost use Rattle.bw_model.specs.Variable.{Assignment};
-ghost use Rattle.bw_program.specs.Machine.{FallsThrough, Reaches, SkipsTo, State, end_state, start, step};
+ghost use Rattle.bw_program.specs.Machine.{FallsThrough, Reaches, SkipsTo, State, end_state, start};
+ghost use Rattle.bw_program.specs.Machine.{step};
 ghost use Rattle.bw_program.specs.Program.{ProgramShape, is_program};
 ghost use Rattle.bw_program.specs.declared.instr.Instr.{Instr};
 ghost use Rattle.bw_run.specs.Registers.{bits_written, written_by};

@@ -1,5 +1,6 @@
 -- The columns of names, one more at a time.
-use Rattle.std.proofs.Common.{◌≡◌, ◌∙◌, refl, sym, ap, ℕ, suc, ◌+◌, ◌<◌, ◌≤◌, List, [], ◌∷◌, ◌++◌, length, map, take, drop, get_or, add-one, Ok, Err}
+use Rattle.std.proofs.Common.{◌≡◌, ◌∙◌, refl, sym, ap, ℕ, suc, ◌+◌, ◌<◌, ◌≤◌, List, [], ◌∷◌, ◌++◌}
+use Rattle.std.proofs.Common.{length, map, take, drop, get_or, add-one, Ok, Err}
 use Rattle.std.proofs.lemmas.List.{append-nil, drop_all, take_more}
 use Rattle.std.proofs.Math.Seq.{drop-cons}
 use Rattle.bw_model.specs.declared.column.Column.{Column}
@@ -7,9 +8,9 @@ use Rattle.bw_model.specs.declared.fault.Fault.{Fault}
 use Rattle.bw_model.specs.Column.{names_of}
 use Rattle.bw_model.specs.SchemaText.{ColumnShape, column_shape}
 use Rattle.bw_csv.proofs.FieldLemmas.{after, after-cons}
-use Rattle.bw_schemas.specs.declared.seen.ColumnStats.{ColumnStats}
-use Rattle.bw_schemas.specs.Inferred.{check_bounds, ranged_column}
-use Rattle.bw_schemas.specs.Seen.{column_from_stats, columns_from_stats}
+use Rattle.bw_schemas.specs.declared.column_stats.ColumnStats.{ColumnStats}
+use Rattle.bw_schemas.specs.InferredSchema.{check_bounds, ranged_column}
+use Rattle.bw_schemas.specs.ColumnStats.{column_from_stats, columns_from_stats}
 
 abbrev columns_at : List (List ℕ) → List ColumnStats → ℕ → List ColumnShape
 columns_at names seen i = columns_from_stats (drop i names) (drop i seen)

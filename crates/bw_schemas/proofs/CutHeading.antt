@@ -1,6 +1,8 @@
--- Of a heading of more than 64 fields the first 64, and that there is one more, say which fault it
+-- Of a heading of more than 64 fields the first 64, and that there is one more, say which error it
 -- has.
-use Rattle.std.proofs.Common.{◌≡◌, ◌∙◌, sym, ap, subst, refl, ℕ, ◌+◌, ◌≤◌, Bool, true, false, not, List, [], ◌∷◌, ◌++◌, length, map, nat_le, Result, Ok, Err, arith, inl, inr, length-append}
+use Rattle.std.proofs.Common.{◌≡◌, ◌∙◌, sym, ap, subst, refl, ℕ, ◌+◌, ◌≤◌, Bool, true, false, not}
+use Rattle.std.proofs.Common.{List, [], ◌∷◌, ◌++◌, length, map, nat_le, Result, Ok, Err, arith, inl}
+use Rattle.std.proofs.Common.{inr, length-append}
 use Rattle.std.specs.Prelude.{IfErr}
 use Rattle.std.specs.List.{list_any}
 use Rattle.std.proofs.lemmas.Bool.{le-leb}
@@ -13,9 +15,9 @@ use Rattle.bw_csv.specs.Fields.{IsCutAfter, IsCutRecord}
 use Rattle.bw_csv.specs.Rows.{Stops, StopsAfter, is_reader_fault, without_blanks}
 use Rattle.bw_schemas.specs.Heading.{heading_names, names_from}
 use Rattle.bw_schemas.specs.Infer.{StopsInferring}
-use Rattle.bw_schemas.specs.Inferred.{infer_schema, inferred_after}
+use Rattle.bw_schemas.specs.InferredSchema.{infer_schema, inferred_after}
 
--- two results are the same fault
+-- two results are the same error
 abbrev BothRefused : Result (List (List ℕ)) Fault → Result (List (List ℕ)) Fault → Type 0
 BothRefused r s = (fault : Fault) × (r ≡ Err fault) × (s ≡ Err fault)
 
@@ -56,7 +58,7 @@ pub same_inferred : (table text cut : List ℕ) → IsCutAfter 64 (records_of te
 same_inferred table text cut (inl same) = ap (λ (records : List (List (List ℕ))). inferred_after table records) same
 same_inferred table text cut (inr is) = inferred_cut table (records_of text) (records_of cut) is
 
--- and the reader's own error stands where it would
+-- and the reader's own error is at the same place
 abbrev StopsIn : List (List (List ℕ)) → Fault → Type 0
 StopsIn records fault = Stops (λ heading more own. (names : List (List ℕ)) × (heading_names heading ≡ Ok names)
     × StopsAfter (bare_rows (length names)) more own) records fault

@@ -1,5 +1,7 @@
 -- The schema that is inferred from a text is exact for it.
-use Rattle.std.proofs.Common.{◌≡◌, ◌∙◌, refl, sym, ap, subst, ℕ, ℤ, zero, suc, ◌+◌, ◌<◌, ◌≤ℤ◌, Bool, true, false, not, int_le, All, List, [], ◌∷◌, length, map, drop, get_or, Option, Some, None, Result, Ok, arith, rules}
+use Rattle.std.proofs.Common.{◌≡◌, ◌∙◌, refl, sym, ap, subst, ℕ, ℤ, zero, suc, ◌+◌, ◌<◌, ◌≤ℤ◌, Bool}
+use Rattle.std.proofs.Common.{true, false, not, int_le, All, List, [], ◌∷◌, length, map, drop}
+use Rattle.std.proofs.Common.{get_or, Option, Some, None, Result, Ok, arith, rules}
 use Rattle.std.specs.Prelude.{◌&&◌, ◌||◌}
 use Rattle.std.specs.Char.{to_ascii_lowercase}
 use Rattle.std.specs.List.{list_all}
@@ -15,7 +17,8 @@ use Rattle.bw_model.specs.declared.schema.Schema.{Schema}
 use Rattle.bw_model.specs.Column.{admits_value, admits_values, names_of}
 use Rattle.bw_model.specs.Fault.{at_record, ◌>>=◌}
 use Rattle.bw_model.specs.Row.{Value, value_in}
-use Rattle.bw_model.specs.SchemaText.{ColumnShape, SchemaShape, column_shape, schema_shape, shape, is_range}
+use Rattle.bw_model.specs.SchemaText.{ColumnShape, SchemaShape, column_shape, schema_shape, shape}
+use Rattle.bw_model.specs.SchemaText.{is_range}
 use Rattle.bw_text.specs.Text.{same_text}
 use Rattle.bw_model.specs.Total.{combine_totals, total}
 use Rattle.bw_model.specs.Truth.{is_null}
@@ -24,7 +27,9 @@ use Rattle.bw_csv.specs.Bare.{bare_rows, records_of}
 use Rattle.bw_csv.specs.Rows.{is_heading, rows_after, without_blanks}
 use Rattle.bw_csv.proofs.BareLemmas.{both, bound, passed, rows_are, rows_wide}
 use Rattle.bw_schemas.specs.Heading.{heading_names}
-use Rattle.bw_schemas.specs.Inferred.{column_over, columns_over, has_null, infer_schema, inferred_after, or_zero, check_bounds, ranged_column, schema_over, table_of, IsExact, IsNarrowest}
+use Rattle.bw_schemas.specs.InferredSchema.{column_over, columns_over, has_null, infer_schema}
+use Rattle.bw_schemas.specs.InferredSchema.{inferred_after, or_zero, check_bounds, ranged_column}
+use Rattle.bw_schemas.specs.InferredSchema.{schema_over, table_of, IsExact, IsNarrowest}
 use Rattle.bw_schemas.proofs.HeadingLemmas.{heading_is}
 use Rattle.bw_schemas.proofs.NarrowLemmas.{greatest_of_one, least_of_one}
 
@@ -169,7 +174,7 @@ narrow_at (column ∷ columns) rows i (name ∷ names) e (suc k) n d same h =
     let rest = tails (column_shape column) (column_over rows i name) (map column_shape columns) (columns_over rows (suc i) names) e in
     narrow_at columns rows (suc i) names rest k n d (omega arith) (omega arith)
 
--- columns that aren't refused are what they were
+-- columns that aren't rejected are what they were
 ranged_is : (columns found : List ColumnShape) → check_bounds columns ≡ Ok found → columns ≡ found
 unfolding check_bounds
 ranged_is [] found e = cc e

@@ -1,5 +1,7 @@
 -- The comments after a schema's text say nothing, and are short.
-use Rattle.std.proofs.Common.{◌≡◌, ◌∙◌, refl, sym, ap, subst, ℕ, ◌+◌, ◌*◌, ◌/◌, ◌^◌, ◌<◌, ◌≤◌, true, List, [], ◌∷◌, ◌++◌, length, append_assoc, length-append, codes, arith}
+use Rattle.std.proofs.Common.{◌≡◌, ◌∙◌, refl, sym, ap, subst, ℕ, ◌+◌, ◌*◌, ◌/◌, ◌^◌, ◌<◌, ◌≤◌, true}
+use Rattle.std.proofs.Common.{List, [], ◌∷◌, ◌++◌, length, append_assoc, length-append, codes}
+use Rattle.std.proofs.Common.{arith}
 use Rattle.std.specs.Fmt.{decimal}
 use Rattle.std.specs.List.{list_all}
 use Rattle.std.proofs.lemmas.List.{append-nil}
@@ -11,12 +13,13 @@ use Rattle.bw_file.specs.declared.layout.Layout.{Layout}
 use Rattle.bw_file.specs.declared.layout.Layout.TheVariants.{Planes, Slices}
 use Rattle.bw_file.specs.Blocks.{segment_size}
 use Rattle.bw_file.specs.FileBytes.{header_bytes}
-use Rattle.bw_schemas.specs.Printed.{AreComments, schema_text}
+use Rattle.bw_schemas.specs.PrintedSchema.{AreComments, schema_text}
 use Rattle.bw_schemas.proofs.PrintedBounds.{natural_plain, natural_short}
-use Rattle.bw_text.specs.Printed.{is_plain_word, spaced}
+use Rattle.bw_text.specs.Printing.{is_plain_word, spaced}
 use Rattle.bw_text.proofs.SpacedWords.{line_skipped}
 use Rattle.bw_schemas.proofs.PrintedText.{no_comments}
-use Rattle.bw_schemas.specs.Info.{comment, facts_text, file_size, info_text, layout_word, segment_count}
+use Rattle.bw_schemas.specs.Info.{comment, facts_text, file_size, info_text, layout_word}
+use Rattle.bw_schemas.specs.Info.{segment_count}
 
 -- a comment line in front of comments
 comment_more : (word value rest : List ℕ) → is_plain_word word ≡ true → is_plain_word value ≡ true → AreComments rest → AreComments (comment word value ++ rest)
@@ -39,13 +42,13 @@ layout_short Slices = omega arith
 -- numbers that 64 bits hold
 pub record AreSmall (version : ℕ) (layout : Layout) (schema : Schema) (rows : ℕ) : Type 0 where
   pub told : version < 2 ^ 64
-  pub few : rows < 2 ^ 32
+  pub within_limit : rows < 2 ^ 32
   pub size : file_size version layout schema rows < 2 ^ 64
 
 pub facts_are_comments : (version : ℕ) (layout : Layout) (schema : Schema) (rows : ℕ) → AreSmall version layout schema rows → AreComments (facts_text version layout schema rows)
 facts_are_comments version layout schema rows small =
-    comment_more (codes "rows") (decimal rows) _ refl (natural_plain rows (omega (arith, small.few)))
-    (comment_more (codes "segments") (decimal (segment_count rows)) _ refl (natural_plain (segment_count rows) (omega (arith, small.few)))
+    comment_more (codes "rows") (decimal rows) _ refl (natural_plain rows (omega (arith, small.within_limit)))
+    (comment_more (codes "segments") (decimal (segment_count rows)) _ refl (natural_plain (segment_count rows) (omega (arith, small.within_limit)))
     (comment_more (codes "layout") (layout_word layout) _ refl (layout_plain layout)
     (comment_more (codes "version") (decimal version) _ refl (natural_plain version small.told)
     (comment_last (codes "bytes") (decimal (file_size version layout schema rows)) refl (natural_plain (file_size version layout schema rows) small.size)))))
@@ -53,8 +56,8 @@ facts_are_comments version layout schema rows small =
 pub facts_short : (version : ℕ) (layout : Layout) (schema : Schema) (rows : ℕ) → AreSmall version layout schema rows → length (facts_text version layout schema rows) ≤ 4096
 unfolding spaced
 facts_short version layout schema rows small =
-    let a = natural_short rows (omega (arith, small.few)) in
-    let b = natural_short (segment_count rows) (omega (arith, small.few)) in
+    let a = natural_short rows (omega (arith, small.within_limit)) in
+    let b = natural_short (segment_count rows) (omega (arith, small.within_limit)) in
     let c = layout_short layout in
     let d = natural_short version small.told in
     let e = natural_short (file_size version layout schema rows) small.size in
@@ -94,7 +97,7 @@ pub sizes_small : (version : ℕ) (layout : Layout) (schema : Schema) (rows head
     → head + (count + 511) / 512 * size ≡ file_size version layout schema rows → AreSmall version layout schema rows
 sizes_small version layout schema rows head count size told few short small same is =
     let product : (count + 511) / 512 * size ≤ (count + 511) / 512 * 266240 = mul-le-mul_left ((count + 511) / 512) small in
-    record { told = omega arith; few = few; size = omega (arith, is, product) }
+    record { told = omega arith; within_limit = few; size = omega (arith, is, product) }
 
 -- the text spells the schema, whose text it begins with
 pub spelled_by : (version : ℕ) (layout : Layout) (schema : Schema) (rows : ℕ) (s text : List ℕ) → AreSmall version layout schema rows → s ≡ schema_text (schema_shape schema)

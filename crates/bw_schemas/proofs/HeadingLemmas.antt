@@ -1,5 +1,7 @@
 -- The names of a heading, one more at a time.
-use Rattle.std.proofs.Common.{◌≡◌, ◌∙◌, refl, sym, ℕ, ◌+◌, ◌<◌, ◌≤◌, Bool, true, false, not, List, [], ◌∷◌, ◌++◌, length, map, drop, get_or, add-one, append_assoc, nat_le, Result, Ok, Err, arith}
+use Rattle.std.proofs.Common.{◌≡◌, ◌∙◌, refl, sym, ℕ, ◌+◌, ◌<◌, ◌≤◌, Bool, true, false, not, List}
+use Rattle.std.proofs.Common.{[], ◌∷◌, ◌++◌, length, map, drop, get_or, add-one, append_assoc}
+use Rattle.std.proofs.Common.{nat_le, Result, Ok, Err, arith}
 use Rattle.std.specs.Prelude.{◌==◌}
 use Rattle.std.specs.List.{list_any}
 use Rattle.std.proofs.lemmas.Bool.{eqb-true, le-leb, lt-leb}
@@ -20,7 +22,7 @@ names_at fields i = map without_blanks (drop i fields)
 name_there : (fields : List (List ℕ)) (i : ℕ) (name : List ℕ) → i < length fields → name ≡ without_blanks (get_or fields i []) → names_at fields i ≡ name ∷ names_at fields (i + 1)
 name_there fields i name h e = rw (e, add-one, drop-cons fields i [] h) refl
 
--- a fault at a name
+-- an error at a name
 pub too_many : (before fields : List (List ℕ)) (i : ℕ) (name : List ℕ) → i < length fields → name ≡ without_blanks (get_or fields i []) → 64 ≤ length before
     → names_from before (names_at fields i) ≡ Err (at_record 105 0)
 unfolding names_from

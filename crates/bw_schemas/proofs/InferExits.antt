@@ -1,5 +1,5 @@
 -- Where a call that infers a schema ends: at the table's name, at the CSV, at the schema, or when
--- the text goes out.
+-- the text is written.
 use Rattle.std.proofs.Common.{◌≡◌, ℕ, List, not, true, false, Result, Ok, Err, refl, sym, subst}
 use Rattle.bw_model.specs.declared.fault.Fault.{Fault}
 use Rattle.bw_model.specs.Fault.{nowhere, refused_if}
@@ -27,7 +27,7 @@ name_exit table P W named p w =
 text_from : (table : List ℕ) (csv : Arrival) (given : Given) → is_name table ≡ true → IsMadeOf (inferred_text table) csv given → IsTextFrom table csv given
 text_from table csv given named made = subst (λ b. IsMadeAfter (refused_if (not b) (nowhere 102) (Ok table)) inferred_text csv given) (sym named) made
 
--- the CSV didn't come whole, or it did
+-- the CSV wasn't read completely, or it did
 pub csv_exit : (table : List ℕ) (P : Arrival → Type 0) (W : Given → Type 0) (csv : Arrival) (fault : Fault) → is_name table ≡ true → P csv → IsMadeOf {A = List ℕ} Ok csv (Err fault) → W (Err fault)
     → Ends table P W
 csv_exit table P W csv fault named p made w = (csv, Err fault, p, text_from table csv (Err fault) named (made_of_none (inferred_text table) csv fault made), w)

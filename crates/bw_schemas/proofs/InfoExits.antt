@@ -1,5 +1,6 @@
--- Where a call that tells a header ends: at the header, or when the text goes out.
-use Rattle.std.proofs.Common.{◌≡◌, ◌∙◌, ◌+◌, refl, sym, ap, subst, ℕ, Bool, true, false, ◌||◌, List, [], length, Option, Result, Ok, Err, arith}
+-- Where a call that reports a header ends: at the header, or when the text is written.
+use Rattle.std.proofs.Common.{◌≡◌, ◌∙◌, ◌+◌, refl, sym, ap, subst, ℕ, Bool, true, false, ◌||◌, List}
+use Rattle.std.proofs.Common.{[], length, Option, Result, Ok, Err, arith}
 use Rattle.std.specs.Prelude.{OnOk}
 use Rattle.std.specs.Io.KnownBytes.{Appends}
 use Rattle.bw_model.specs.declared.fault.Fault.{Fault}
@@ -14,19 +15,21 @@ use Rattle.bw_file.specs.declared.layout.Layout.{Layout}
 use Rattle.bw_file.specs.declared.table_reader.TableReader.{TableReader}
 use Rattle.bw_file.specs.FileBytes.{IsFileBytes}
 use Rattle.bw_file.specs.Reading.{State, Fails, GoesOn, give}
-use Rattle.bw_file.specs.TableReader.{GaveFirst, header_stated, layout_in, rows_stated, schema_in, version_in}
+use Rattle.bw_file.specs.TableReader.{ReturnsFirst, header_stated, layout_in, rows_stated}
+use Rattle.bw_file.specs.TableReader.{schema_in}
+use Rattle.bw_file.specs.TableReader.{version_in}
 use Rattle.bw_file.specs.TableReading.{IsTableFault, header, is_table_fault}
 use Rattle.bw_model.proofs.SameColumns.{columns_same}
-use Rattle.bw_schemas.specs.Info.{InfoGave, TellsFile, info_text, is_no_verdict}
+use Rattle.bw_schemas.specs.Info.{IsInfoResult, TellsFile, info_text, is_no_verdict}
 use Rattle.bw_schemas.proofs.SizeLemmas.{file_sized}
 
 abbrev Given : Type 0
 Given = Result (List ℕ) Fault
 
 abbrev pub Ends : State → (ℕ → State) → (Given → Type 0) → Type 0
-Ends start now W = (offset : ℕ) × (given : Given) × InfoGave start (now offset) given × W given
+Ends start now W = (offset : ℕ) × (given : Given) × IsInfoResult start (now offset) given × W given
 
--- the header was refused
+-- the header was rejected
 pub header_exit : (start : State) (now : ℕ → State) (W : Given → Type 0) (fault : Fault) → ((offset : ℕ) × Fails header start (now offset) fault) → W (Err fault) → Ends start now W
 header_exit start now W fault fails w =
     let given : Given = Err fault in
@@ -66,7 +69,7 @@ text_exit start now offset W reader text read is spelled w =
       w,
     )
 
--- a fault of a table file was answered, or out of memory, and nothing was written
+-- an error of a table file was answered, or out of memory, and nothing was written
 pub refused_table : (old : Option (List ℕ)) (count : ℕ) (fault : Fault) → IsTableFault fault → WriteOutcome {T = Unit {0}} none_aside old old count count (Err fault) (Err fault)
 refused_table old count fault is =
     wrote_nothing (Unit {0}) none_aside old count fault (Err fault) (no_write_fault is_table_fault fault is refl) (λ _. refl)
@@ -84,7 +87,7 @@ text_same version l m s t n o p q r =
 
 -- a table file's header was reported
 pub told_file : (reader : TableReader) (bytes : List ℕ) (layout : Layout) (schema : Schema) (rows : List (List Value)) (text : List ℕ) → IsFileBytes bytes layout schema rows
-    → GaveFirst reader [] layout schema rows → text ≡ info_text (version_in reader) (layout_in reader) (schema_in reader) (rows_stated reader)
+    → ReturnsFirst reader [] layout schema rows → text ≡ info_text (version_in reader) (layout_in reader) (schema_in reader) (rows_stated reader)
     → (old new : Option (List ℕ)) (before after : ℕ) (result : Result (Unit {0}) Fault) → GoesOut old new before after text result → OnOk result (TellsFile bytes layout schema rows old new)
 told_file reader bytes layout schema rows text file gave is old new before after (Ok x) goes =
     let version = version_in reader in

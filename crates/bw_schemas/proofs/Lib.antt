@@ -5,7 +5,7 @@ pub mod CutHeading
 pub mod ExactLemmas
 pub mod HeadingLemmas
 pub mod NarrowLemmas
-pub mod SeenLemmas
+pub mod ColumnStatsLemmas
 pub mod FactLemmas
 pub mod InferExits
 pub mod InfoExits

@@ -1,5 +1,7 @@
 -- What is seen of columns while rows go by is what all rows have in them.
-use Rattle.std.proofs.Common.{◌≡◌, ◌∙◌, refl, sym, ap, ℕ, ℤ, zero, suc, Bool, true, false, List, [], ◌∷◌, ◌++◌, length, drop, get_or, replicate, append_assoc, Option, Some, None, Result, Ok, Err}
+use Rattle.std.proofs.Common.{◌≡◌, ◌∙◌, refl, sym, ap, ℕ, ℤ, zero, suc, Bool, true, false, List, []}
+use Rattle.std.proofs.Common.{◌∷◌, ◌++◌, length, drop, get_or, replicate, append_assoc, Option}
+use Rattle.std.proofs.Common.{Some, None, Result, Ok, Err}
 use Rattle.std.specs.Prelude.{◌||◌}
 use Rattle.std.proofs.lemmas.List.{append-nil}
 use Rattle.std.proofs.lemmas.List.Folds.{list_any-append}
@@ -13,11 +15,13 @@ use Rattle.bw_model.specs.Total.{combine_totals, total}
 use Rattle.bw_model.specs.Truth.{is_null}
 use Rattle.bw_model.proofs.TotalLemmas.{total_append}
 use Rattle.bw_csv.specs.Bare.{bare_rows}
-use Rattle.bw_schemas.specs.declared.seen.ColumnStats.{ColumnStats}
-use Rattle.bw_schemas.specs.Inferred.{column_over, columns_over, has_null, check_bounds}
-use Rattle.bw_schemas.specs.Seen.{columns_after, columns_from_stats, greater, lesser, no_stats, column_stats, stats_in, with_records, with_rows, with_value, with_values}
+use Rattle.bw_schemas.specs.declared.column_stats.ColumnStats.{ColumnStats}
+use Rattle.bw_schemas.specs.InferredSchema.{column_over, columns_over, has_null, check_bounds}
+use Rattle.bw_schemas.specs.ColumnStats.{columns_after, columns_from_stats, greater, lesser}
+use Rattle.bw_schemas.specs.ColumnStats.{no_stats, column_stats, stats_in, with_records, with_rows}
+use Rattle.bw_schemas.specs.ColumnStats.{with_value, with_values}
 
--- what the rows have in so many columns from this one on
+-- what the rows have in this many columns from this one on
 unfoldable seen_from : List (List Value) → ℕ → ℕ → List ColumnStats
 seen_from rows column zero = []
 seen_from rows column (suc count) = stats_in rows column ∷ seen_from rows (suc column) count
@@ -114,7 +118,7 @@ by_rows : (names : List (List ℕ)) (rows : Result (List (List Value)) Fault)
 by_rows names (Ok rows) = ap check_bounds (sym (columns_by_rows names rows))
 by_rows names (Err fault) = refl
 
--- the columns after a heading, by what was seen, or by the fault before that
+-- the columns after a heading, by what was seen, or by the error before that
 pub after_seen : (names : List (List ℕ)) (more : List (List (List ℕ))) (width : ℕ) (found : Result (List ColumnStats) Fault)
     → width ≡ length names → with_records (replicate width no_stats) width 1 more ≡ found
     → columns_after names more ≡ (found >>= λ columns. check_bounds (columns_from_stats names columns))

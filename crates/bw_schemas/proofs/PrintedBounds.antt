@@ -1,5 +1,6 @@
 -- Bounds in decimal spell themselves.
-use Rattle.std.proofs.Common.{◌≡◌, refl, ap, ◌-ℤ◌, ℕ, ℤ, pos, negsuc, FitsSigned, suc, ◌^◌, ◌<◌, ◌≤◌, true, List, [], ◌∷◌, length, Some, arith, w64}
+use Rattle.std.proofs.Common.{◌≡◌, refl, ap, ◌-ℤ◌, ℕ, ℤ, pos, negsuc, FitsSigned, suc, ◌^◌, ◌<◌}
+use Rattle.std.proofs.Common.{◌≤◌, true, List, [], ◌∷◌, length, Some, arith, w64}
 use Rattle.std.specs.Char.{is_ascii_digit}
 use Rattle.std.specs.Fmt.{decimal, signed_decimal}
 use Rattle.std.specs.List.{list_all}
@@ -10,12 +11,12 @@ use Rattle.bw_text.specs.Number as number
 use Rattle.bw_model.specs.SchemaText.{bound_of}
 use Rattle.bw_model.proofs.BitsLemmas.{both}
 use Rattle.bw_text.proofs.DecimalLemmas.{Spells, decimal_spells, plain_digits, plain_number}
-use Rattle.bw_text.specs.Printed.{is_plain_word}
+use Rattle.bw_text.specs.Printing.{is_plain_word}
 
 -- a bound without a sign begins with a digit, and with one it doesn't
 positive_spells : (n : ℕ) (digits : List ℕ) → n < 2 ^ 63 → Spells n digits → bound_of digits ≡ Some (pos n)
 unfolding bound_of number.number_of
-positive_spells n [] lt spells = absurd (omega (arith, spells.some))
+positive_spells n [] lt spells = absurd (omega (arith, spells.nonempty))
 positive_spells n (d ∷ digits) lt spells =
     let here = both (is_ascii_digit d) (list_all is_ascii_digit digits) spells.all in
     let low = both _ _ here.0 in
@@ -27,7 +28,7 @@ below_zero n = omega (arith, ints)
 
 negative_spells : (n : ℕ) (digits : List ℕ) → suc n ≤ 2 ^ 63 → Spells (suc n) digits → bound_of (45 ∷ digits) ≡ Some (negsuc n)
 unfolding bound_of number.number_of
-negative_spells n [] le spells = absurd (omega (arith, spells.some))
+negative_spells n [] le spells = absurd (omega (arith, spells.nonempty))
 negative_spells n (d ∷ digits) le spells = rw (spells.all, spells.value, le-leb (suc n) (2 ^ 63) le) (ap Some (below_zero n))
 
 pub bound_spelled : (z : ℤ) → FitsSigned w64 z → bound_of (signed_decimal z) ≡ Some z

@@ -1,5 +1,8 @@
 -- The text of a schema spells it.
-use Rattle.std.proofs.Common.{◌≡◌, ◌∙◌, refl, sym, ap, subst, ℕ, ℤ, pos, ◌+◌, ◌*◌, ◌^◌, ◌<◌, ◌≤◌, ◌≤ℤ◌, ◌<ℤ◌, ◌-ℤ◌, Bool, true, false, not, ◌&&◌, All, List, [], ◌∷◌, ◌++◌, length, map, drop, get_or, add-one, Some, nat_le, int_le, int_lt, append_assoc, length-append, arith, rules}
+use Rattle.std.proofs.Common.{◌≡◌, ◌∙◌, refl, sym, ap, subst, ℕ, ℤ, pos, ◌+◌, ◌*◌, ◌^◌, ◌<◌, ◌≤◌}
+use Rattle.std.proofs.Common.{◌≤ℤ◌, ◌<ℤ◌, ◌-ℤ◌, Bool, true, false, not, ◌&&◌, All, List, [], ◌∷◌}
+use Rattle.std.proofs.Common.{◌++◌, length, map, drop, get_or, add-one, Some, nat_le, int_le}
+use Rattle.std.proofs.Common.{int_lt, append_assoc, length-append, arith, rules}
 use Rattle.std.specs.Fmt.{signed_decimal}
 use Rattle.std.specs.List.{list_all, AllZip}
 use Rattle.std.proofs.lemmas.Bool.{leb-true}
@@ -14,10 +17,13 @@ use Rattle.bw_model.specs.Limits.{longest_name}
 use Rattle.bw_text.specs.Lines.{NumberedWords, cut_lines, numbered, numbered_from}
 use Rattle.bw_model.specs.Name.{is_name, are_apart}
 use Rattle.bw_model.specs.Schema.{IsColumn, IsSchema}
-use Rattle.bw_model.specs.SchemaText.{shape, shape_names, column_shape, schema_shape, column_words, table_words, is_range, SpellsColumn, SpellsSchema, IsSchemaText}
+use Rattle.bw_model.specs.SchemaText.{shape, shape_names, column_shape, schema_shape, column_words}
+use Rattle.bw_model.specs.SchemaText.{table_words, is_range, SpellsColumn, SpellsSchema}
+use Rattle.bw_model.specs.SchemaText.{IsSchemaText}
 use Rattle.bw_text.specs.Text.{same_text, is_word}
-use Rattle.bw_schemas.specs.Printed.{AreComments, column_line, columns_text, schema_text, table_line}
-use Rattle.bw_text.specs.Printed.{is_plain_word, line_text, spaced}
+use Rattle.bw_schemas.specs.PrintedSchema.{AreComments, column_line, columns_text, schema_text}
+use Rattle.bw_schemas.specs.PrintedSchema.{table_line}
+use Rattle.bw_text.specs.Printing.{is_plain_word, line_text, spaced}
 use Rattle.bw_model.proofs.BitsLemmas.{both}
 use Rattle.bw_text.proofs.SpacedWords.{line_said, plain_word}
 use Rattle.bw_schemas.proofs.PrintedBounds.{bound_spelled, bound_plain, bound_length}

@@ -1,5 +1,6 @@
 -- How long the header of a table file is, and the whole file.
-use Rattle.std.proofs.Common.{◌≡◌, ◌∙◌, sym, ap, subst, ℕ, ◌+◌, ◌*◌, ◌≤◌, All, true, List, [], ◌∷◌, ◌++◌, length, length-append, inl, inr, arith}
+use Rattle.std.proofs.Common.{◌≡◌, ◌∙◌, sym, ap, subst, ℕ, ◌+◌, ◌*◌, ◌≤◌, All, true, List, [], ◌∷◌}
+use Rattle.std.proofs.Common.{◌++◌, length, length-append, inl, inr, arith}
 use Rattle.std.specs.List.{flat_map, list_all}
 use Rattle.std.proofs.lemmas.List.{append-nil}
 use Rattle.std.proofs.lemmas.List.Elements.{All-nil, All-cons, All-head, All-tail}
@@ -16,7 +17,8 @@ use Rattle.bw_segment.proofs.BytesLemmas.{length-text}
 use Rattle.bw_file.specs.declared.layout.Layout.{Layout}
 use Rattle.bw_file.specs.declared.table_reader.TableReader.{TableReader}
 use Rattle.bw_file.specs.Blocks.{form_of, segment_size, segment_bytes}
-use Rattle.bw_file.specs.FileBytes.{AreRows, IsFileBytes, front_bytes, header_bytes, segments_bytes, bytes_of_version, version_for}
+use Rattle.bw_file.specs.FileBytes.{AreRows, IsFileBytes, front_bytes, header_bytes, segments_bytes}
+use Rattle.bw_file.specs.FileBytes.{bytes_of_version, version_for}
 use Rattle.bw_file.specs.Reading.{State, GoesOn, give, tail}
 use Rattle.bw_file.specs.TableReader.{header_stated, layout_in, rows_stated, schema_in, version_in}
 use Rattle.bw_file.specs.TableReading.{header}
@@ -38,7 +40,7 @@ header_taken start now reader first read =
     let same : bytes ≡ head_bytes h = sym (append-nil bytes) ∙ takes.0.parts ∙ append-nil (head_bytes h) in
     let size : length bytes ≡ length (head_bytes h) = ap length same in
     let shaped = ap length (head_is (version_in reader) (rows_stated reader) (layout_in reader) (schema_in reader)) in
-    omega (arith, read.took.counted, size, shaped, first)
+    omega (arith, read.took.advanced, size, shaped, first)
 
 -- the sizes of groups, and what is said of each of them
 abbrev HasSize : List (List Value) → Type 0
@@ -62,7 +64,7 @@ groups_sized : (layout : Layout) (columns : List Column) (groups : List (List (L
 groups_sized layout columns [] sized admitted = omega arith
 groups_sized layout columns (group ∷ groups) sized admitted =
     let size = All-head HasSize group groups sized in
-    let is : IsGroup (group_under columns group) = record { some = size.0; few = size.1; admitted = All-head (Admits columns) group groups admitted } in
+    let is : IsGroup (group_under columns group) = record { nonempty = size.0; within_limit = size.1; admitted = All-head (Admits columns) group groups admitted } in
     let first : length (segment_bytes layout columns group) ≡ segment_size layout columns = length-text (form_of layout) (is_packing layout) (group_under columns group) is in
     let rest = groups_sized layout columns groups (All-tail HasSize group groups sized) (All-tail (Admits columns) group groups admitted) in
     omega (arith, length-append (segment_bytes layout columns group) (flat_map (segment_bytes layout columns) groups), first, rest)

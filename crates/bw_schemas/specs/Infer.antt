@@ -1,5 +1,6 @@
 -- The expected text of a call that infers a schema, by what the CSV's source yielded.
-use Rattle.std.specs.Prelude.{◌≡◌, ◌||◌, ◌&&◌, Bool, ℕ, List, length, nat_le, not, Option, Result, Ok}
+use Rattle.std.specs.Prelude.{◌≡◌, ◌||◌, ◌&&◌, Bool, ℕ, List, length, nat_le, not, Option, Result}
+use Rattle.std.specs.Prelude.{Ok}
 use Rattle.std.specs.Io.KnownBytes.{Appends}
 use Rattle.bw_model.specs.FaultTable.{SCHEMA_NAME, COLUMN_COUNT}
 use Rattle.bw_model.specs.declared.fault.Fault.{Fault}
@@ -11,9 +12,9 @@ use Rattle.bw_io.specs.Source.{Arrival}
 use Rattle.bw_csv.specs.Bare.{bare_rows, records_of}
 use Rattle.bw_csv.specs.Input.{IsMadeAfter}
 use Rattle.bw_csv.specs.Rows.{Stops, StopsAfter, is_rows_fault}
-use Rattle.bw_schemas.specs.Printed.{schema_text}
+use Rattle.bw_schemas.specs.PrintedSchema.{schema_text}
 use Rattle.bw_schemas.specs.Heading.{heading_names}
-use Rattle.bw_schemas.specs.Inferred.{infer_schema, IsExact}
+use Rattle.bw_schemas.specs.InferredSchema.{infer_schema, IsExact}
 
 -- the text of the schema that is inferred from a CSV text, or the CSV text's first error
 abbrev pub inferred_text : List ℕ → List ℕ → Result (List ℕ) Fault

@@ -1,5 +1,6 @@
 -- The header of a table file, as text.
-use Rattle.std.specs.Prelude.{◌≡◌, ℕ, ◌+◌, ◌*◌, ◌/◌, ◌||◌, Bool, List, [], ◌∷◌, ◌++◌, length, codes, Option, Result, Ok, Err}
+use Rattle.std.specs.Prelude.{◌≡◌, ℕ, ◌+◌, ◌*◌, ◌/◌, ◌||◌, Bool, List, [], ◌∷◌, ◌++◌, length, codes}
+use Rattle.std.specs.Prelude.{Option, Result, Ok, Err}
 use Rattle.std.specs.Fmt.{decimal}
 use Rattle.std.specs.Io.KnownBytes.{Appends}
 use Rattle.bw_model.specs.declared.fault.Fault.{Fault}
@@ -14,8 +15,8 @@ use Rattle.bw_file.specs.Blocks.{segment_size}
 use Rattle.bw_file.specs.FileBytes.{header_bytes}
 use Rattle.bw_file.specs.Reading.{State, GoesOn, Fails, give}
 use Rattle.bw_file.specs.TableReading.{HeaderShape, header}
-use Rattle.bw_text.specs.Printed.{line_text}
-use Rattle.bw_schemas.specs.Printed.{schema_text}
+use Rattle.bw_text.specs.Printing.{line_text}
+use Rattle.bw_schemas.specs.PrintedSchema.{schema_text}
 
 -- the number of segments of this many rows
 abbrev pub segment_count : ℕ → ℕ
@@ -66,7 +67,7 @@ IsInfo start now (Ok text) = TellsHeader start now text
 IsInfo start now (Err fault) = Fails header start now fault
 
 -- so it is, by what a source yielded, whose failures rose if and only if the error is a failed read
-pub record InfoGave (start now : State) (given : Result (List ℕ) Fault) : Type 0 where
+pub record IsInfoResult (start now : State) (given : Result (List ℕ) Fault) : Type 0 where
   pub failures : TellsFailure start.failures now.failures given
   pub info : IsInfo start now given
 

@@ -1,6 +1,6 @@
-pub mod Printed
+pub mod PrintedSchema
 pub mod Heading
 pub mod Infer
-pub mod Inferred
-pub mod Seen
+pub mod InferredSchema
+pub mod ColumnStats
 pub mod Info

@@ -1,19 +1,20 @@
 //! The columns of a schema, from the statistics of their values.
-ghost use Rattle.std.specs.Prelude.{◌≡◌, ◌≤ℤ◌, ◌<ℤ◌, ◌-ℤ◌, ◌^◌, pos, length, map, true, false, IfOk, IfErr, IsTrue};
+ghost use Rattle.std.specs.Prelude.{◌≡◌, ◌≤ℤ◌, ◌<ℤ◌, ◌-ℤ◌, ◌^◌, pos, length, map, true, false};
+ghost use Rattle.std.specs.Prelude.{IfOk, IfErr, IsTrue};
 ghost use Rattle.bw_model.specs.Column.{names_of};
 ghost use Rattle.bw_model.specs.SchemaText.{column_shape, is_range};
 ghost use Rattle.bw_csv.specs.Rows.{MatchesUnlessExempt, is_reader_fault};
 ghost use Rattle.bw_schemas.specs.Infer.{is_inferring_fault};
-ghost use Rattle.bw_schemas.specs.Inferred.{or_zero, check_bounds, ranged_column};
-ghost use Rattle.bw_schemas.specs.Seen.{column_from_stats, columns_from_stats};
+ghost use Rattle.bw_schemas.specs.InferredSchema.{or_zero, check_bounds, ranged_column};
+ghost use Rattle.bw_schemas.specs.ColumnStats.{column_from_stats, columns_from_stats};
 
-use crate::seen::ColumnStats;
+use crate::column_stats::ColumnStats;
 use bw_model::{Column, Fault, Name, code};
 use std::alloc::Global;
 
 /// Returns the columns of these names. Errors: 103, at record 0, if bounds are 2^63 or more apart;
 /// 801 if memory is refused.
-pub(crate) fn columns_seen(
+pub(crate) fn columns_from_stats(
     alloc: Global,
     names: &[Name],
     seen: &[ColumnStats],
@@ -27,14 +28,14 @@ pub(crate) fn columns_seen(
 {
     let mut columns: Vec<Column> = Vec::new(alloc);
     for i in 0..names.len() {
-        let column = column_seen(alloc, &names[i], &seen[i])?;
+        let column = column_from_stats(alloc, &names[i], &seen[i])?;
         columns.push(column)?;
     }
     Ok(columns)
 }
 
 /// Returns the column of this name.
-fn column_seen(alloc: Global, name: &Name, seen: &ColumnStats) -> Result<Column, Fault>
+fn column_from_stats(alloc: Global, name: &Name, seen: &ColumnStats) -> Result<Column, Fault>
     ensures column { MatchesUnlessExempt column_shape result
         (ranged_column (column_from_stats name.now seen.now)) }
     ensures name { IfOk result (λ column. column.name ≡ name.now) }

@@ -1,12 +1,14 @@
 //! A schema text written from a CSV text.
-ghost use Rattle.std.specs.Prelude.{◌≡◌, ◌+◌, ◌-◌, ◌^◌, ◌<◌, ℕ, List, Result, true, false, IfOk, IfErr, IsTrue, OnOk};
+ghost use Rattle.std.specs.Prelude.{◌≡◌, ◌+◌, ◌-◌, ◌^◌, ◌<◌, ℕ, List, Result, true, false, IfOk};
+ghost use Rattle.std.specs.Prelude.{IfErr, IsTrue, OnOk};
 ghost use Rattle.bw_model.specs.declared.fault.Fault.{Fault};
 ghost use Rattle.bw_model.specs.Limits.{longest_csv};
 ghost use Rattle.bw_model.specs.Name.{is_name};
 ghost use Rattle.bw_io.specs.Sink.{WriteOutcome};
 ghost use Rattle.bw_io.specs.Source.{Arrival, Whole, ReadOutcome, SourceEffect};
 ghost use Rattle.bw_csv.specs.Rows.{is_exempt, is_reader_fault, MatchesUnlessExempt};
-ghost use Rattle.bw_schemas.specs.Infer.{inferred_text, is_inferring_fault, InfersExactly, IsTextFrom, SpellsExactly, StopsInferring};
+ghost use Rattle.bw_schemas.specs.Infer.{inferred_text, is_inferring_fault, InfersExactly};
+ghost use Rattle.bw_schemas.specs.Infer.{IsTextFrom, SpellsExactly, StopsInferring};
 
 use crate::print::print_schema;
 use crate::schema::{infer_schema, inferred_schemas_are_exact};

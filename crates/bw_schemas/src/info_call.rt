@@ -1,5 +1,6 @@
 //! The header of a table file, written as text.
-ghost use Rattle.std.specs.Prelude.{◌≡◌, ◌-◌, ◌^◌, ◌<◌, ℕ, List, Result, Some, length, IfErr, IsTrue, OnOk};
+ghost use Rattle.std.specs.Prelude.{◌≡◌, ◌-◌, ◌^◌, ◌<◌, ℕ, List, Result, Some, length, IfErr};
+ghost use Rattle.std.specs.Prelude.{IsTrue, OnOk};
 ghost use Rattle.bw_model.specs.declared.fault.Fault.{Fault};
 ghost use Rattle.bw_model.specs.declared.schema.Schema.{Schema};
 ghost use Rattle.bw_model.specs.Groups.{groups_of};
@@ -9,7 +10,8 @@ ghost use Rattle.bw_io.specs.Source.{TellsFailure};
 ghost use Rattle.bw_file.specs.declared.layout.Layout.{Layout};
 ghost use Rattle.bw_file.specs.FileBytes.{AreRows, IsFileBytes, bytes_of_version};
 ghost use Rattle.bw_file.specs.Reading.{state};
-ghost use Rattle.bw_schemas.specs.Info.{InfoGave, TellsFile, file_size, is_no_verdict, segment_count};
+ghost use Rattle.bw_schemas.specs.Info.{IsInfoResult, TellsFile, file_size, is_no_verdict};
+ghost use Rattle.bw_schemas.specs.Info.{segment_count};
 
 use crate::text::info_text;
 use bw_file::{TableReader, a_file_is_read_whole};
@@ -30,7 +32,7 @@ pub fn info<S: Source, K: Sink>(alloc: Global, table: &mut S, sink: &mut K) -> R
     requires table { S.failures table.old < 2 ^ 64 - 1 }
     requires sink { K.failures sink.old < 2 ^ 64 - 1 }
     ensures info { (offset : ℕ) × (given : Result (List ℕ) Fault)
-        × InfoGave (state (S.to_come table.old) 0 (S.failures table.old))
+        × IsInfoResult (state (S.to_come table.old) 0 (S.failures table.old))
         (state (S.to_come table.new) offset (S.failures table.new)) given
         × WriteOutcome none_aside (K.taken sink.old) (K.taken sink.new) (K.failures sink.old)
         (K.failures sink.new) given result }

@@ -8,17 +8,17 @@
 //! spells the table's schema, and then the header's other numbers as comment lines, so all of it is
 //! a schema text.
 //!
-//! Read `specs/Printed.antt`, `specs/Inferred.antt` and `specs/Info.antt` first, then `print.rt`,
-//! `infer_call.rt` and `info_call.rt`.
+//! Read `specs/PrintedSchema.antt`, `specs/InferredSchema.antt` and `specs/Info.antt` first, then
+//! `print.rt`, `infer_call.rt` and `info_call.rt`.
 #![tactic(auto)]
 
+mod column_stats;
 mod columns;
 mod heading;
 mod infer_call;
 mod info_call;
 mod print;
 mod schema;
-mod seen;
 mod text;
 
 pub use infer_call::infer;

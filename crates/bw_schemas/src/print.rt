@@ -2,8 +2,9 @@
 ghost use Rattle.std.specs.Prelude.{◌≡◌, ◌++◌, ◌≤◌, ℕ, List, IfOk, IsOkUnless, OnOk, length};
 ghost use Rattle.bw_model.specs.Fault.{no_memory};
 ghost use Rattle.bw_model.specs.SchemaText.{column_shape, schema_shape, IsSchemaText};
-ghost use Rattle.bw_schemas.specs.Printed.{AreComments, column_line, most_comments, schema_text, table_line};
-ghost use Rattle.bw_text.specs.Printed.{line_text};
+ghost use Rattle.bw_schemas.specs.PrintedSchema.{AreComments, column_line, most_comments};
+ghost use Rattle.bw_schemas.specs.PrintedSchema.{schema_text, table_line};
+ghost use Rattle.bw_text.specs.Printing.{line_text};
 
 use bw_model::{Column, Fault, Name, Schema};
 use bw_text::{Piece, push_line};

@@ -1,5 +1,6 @@
 //! The schema that is inferred from a CSV text.
-ghost use Rattle.std.specs.Prelude.{◌≡◌, ℕ, List, Ok, true, length, map, replicate, IfErr, IfOk, OnOk, IsTrue};
+ghost use Rattle.std.specs.Prelude.{◌≡◌, ℕ, List, Ok, true, length, map, replicate, IfErr, IfOk};
+ghost use Rattle.std.specs.Prelude.{OnOk, IsTrue};
 ghost use Rattle.bw_model.specs.declared.schema.Schema.{Schema};
 ghost use Rattle.bw_model.specs.Limits.{most_rows};
 ghost use Rattle.bw_model.specs.Name.{is_name};
@@ -10,12 +11,12 @@ ghost use Rattle.bw_csv.specs.Records.{IsOpen, remaining_records, fields_in};
 ghost use Rattle.bw_csv.specs.Bare.{bare_rows};
 ghost use Rattle.bw_csv.specs.Rows.{MatchesUnlessExempt, is_reader_fault, StopsAfter};
 ghost use Rattle.bw_schemas.specs.Infer.{is_inferring_fault, StopsInferring};
-ghost use Rattle.bw_schemas.specs.Inferred.{infer_schema, IsExact};
-ghost use Rattle.bw_schemas.specs.Seen.{columns_after, no_stats, with_records};
+ghost use Rattle.bw_schemas.specs.InferredSchema.{infer_schema, IsExact};
+ghost use Rattle.bw_schemas.specs.ColumnStats.{columns_after, no_stats, with_records};
 
-use crate::columns::columns_seen;
+use crate::column_stats::{ColumnStats, take_values};
+use crate::columns::columns_from_stats;
 use crate::heading::heading_names;
-use crate::seen::{ColumnStats, take_values};
 use bw_csv::{Records, read_bare_row, without_more_fields};
 use bw_model::{Column, Fault, MAX_COLUMNS, Name, Row, Schema, code};
 use std::alloc::{AllocError, Global};
@@ -40,7 +41,7 @@ pub(crate) fn infer_schema(alloc: Global, table: &[u8], text: &[u8]) -> Result<S
 }
 
 /// Returns the same for a text whose heading is read completely.
-#[tactic(auto, unfolding(crate::specs::Inferred::inferred_after))]
+#[tactic(auto, unfolding(crate::specs::InferredSchema::inferred_after))]
 fn schema_of(alloc: Global, table: &[u8], text: &[u8]) -> Result<Schema, Fault>
     requires { IsTrue (is_name table.now) }
     ensures schema { MatchesUnlessExempt schema_shape result (infer_schema table.now text.now) }
@@ -75,13 +76,13 @@ fn columns_after(
     ensures reader { IfErr result (λ fault. is_reader_fault fault ≡ true
         → StopsAfter (bare_rows (length names.now)) (remaining_records records.old) fault) }
 {
-    let seen = rows_seen(alloc, records, names.len())?;
-    columns_seen(alloc, names, &seen)
+    let seen = stats_of_rows(alloc, records, names.len())?;
+    columns_from_stats(alloc, names, &seen)
 }
 
 /// Returns the statistics of `width` columns, over the rows of the unread records, the first of
 /// which has number 1.
-fn rows_seen(
+fn stats_of_rows(
     alloc: Global,
     records: &mut Records<'_>,
     width: usize,
@@ -97,13 +98,13 @@ fn rows_seen(
     let mut row = Row {
         values: Vec::with_capacity(alloc, width)?,
     };
-    let mut seen = nothing_seen(alloc, width)?;
+    let mut seen = empty_stats(alloc, width)?;
     take_rows(records, &mut row, &mut seen)?;
     Ok(seen)
 }
 
 /// Returns `width` columns without a value yet.
-fn nothing_seen(alloc: Global, width: usize) -> Result<Vec<ColumnStats>, AllocError>
+fn empty_stats(alloc: Global, width: usize) -> Result<Vec<ColumnStats>, AllocError>
     ensures { IfOk result (λ columns. columns.items ≡ replicate width no_stats) }
 {
     let mut columns = Vec::new(alloc);

@@ -3,9 +3,10 @@ ghost use Rattle.std.specs.Prelude.{◌≡◌, ◌++◌, ◌≤◌, IfOk, IsOkUn
 ghost use Rattle.bw_model.specs.Fault.{no_memory};
 ghost use Rattle.bw_model.specs.SchemaText.{IsSchemaText, schema_shape};
 ghost use Rattle.bw_file.specs.FileBytes.{header_bytes};
-ghost use Rattle.bw_file.specs.TableReader.{bytes_taken, layout_in, rows_stated, schema_in, version_in};
+ghost use Rattle.bw_file.specs.TableReader.{bytes_taken, layout_in, rows_stated, schema_in};
+ghost use Rattle.bw_file.specs.TableReader.{version_in};
 ghost use Rattle.bw_schemas.specs.Info.{comment, info_text, layout_word};
-ghost use Rattle.bw_text.specs.Printed.{piece_text};
+ghost use Rattle.bw_text.specs.Printing.{piece_text};
 
 use crate::print::print_schema;
 use bw_file::{Layout, TableReader};

@@ -1,9 +1,11 @@
 -- Codes made of their bytes, from the most significant down, in many lanes at once.
-use Rattle.std.proofs.Common.{◌≡◌, ◌∙◌, sym, ap, ap₂, ℕ, suc, ◌+◌, ◌-◌, ◌*◌, ◌/◌, ◌%◌, ◌^◌, ◌<◌, ◌≤◌, List, [], ◌∷◌, map, refl, bit_or, arith, div-one, mod-eq_of_lt, pow_mono, shr_lt}
+use Rattle.std.proofs.Common.{◌≡◌, ◌∙◌, sym, ap, ap₂, ℕ, suc, ◌+◌, ◌-◌, ◌*◌, ◌/◌, ◌%◌, ◌^◌, ◌<◌}
+use Rattle.std.proofs.Common.{◌≤◌, List, [], ◌∷◌, map, refl, bit_or, arith, div-one, mod-eq_of_lt}
+use Rattle.std.proofs.Common.{pow_mono, shr_lt}
 use Rattle.std.specs.List.{AllByRecursion}
 use Rattle.std.proofs.lemmas.Nat.{shr-shr, shr_le, or_shifted}
 use lib.Lanes.{zip2}
-use Rattle.bw_model.specs.Stored.{byte_of}
+use Rattle.bw_model.specs.StoredCodes.{byte_of}
 
 -- a code with a byte shifted into it
 abbrev pub with_byte : ℕ → ℕ → ℕ

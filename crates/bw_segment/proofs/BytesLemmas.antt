@@ -1,13 +1,17 @@
--- The bytes of a group: its blocks, which are without fault, and the rows that they spell.
-use Rattle.std.proofs.Common.{◌≡◌, ◌∙◌, refl, sym, ap, ap₂, ℕ, zero, suc, ◌+◌, ◌-◌, ◌<◌, ◌≤◌, ◌^◌, Bool, true, false, cond, List, [], ◌∷◌, ◌++◌, map, length, take, drop, get_or, replicate, length-append, None, inl, inr, arith, ext_get_or}
+-- The bytes of a group: its blocks, which are without error, and the rows that they spell.
+use Rattle.std.proofs.Common.{◌≡◌, ◌∙◌, refl, sym, ap, ap₂, ℕ, zero, suc, ◌+◌, ◌-◌, ◌<◌, ◌≤◌, ◌^◌}
+use Rattle.std.proofs.Common.{Bool, true, false, cond, List, [], ◌∷◌, ◌++◌, map, length, take, drop}
+use Rattle.std.proofs.Common.{get_or, replicate, length-append, None, inl, inr, arith, ext_get_or}
 use Rattle.std.specs.List.{range_with_len, list_all, All}
 use Rattle.std.proofs.Math.Seq.{drop-append_seam, take-append_seam}
 use Rattle.std.proofs.Math.ListN.{get_or-append}
 use Rattle.std.proofs.lemmas.Bool.{cases_lt}
-use Rattle.std.proofs.lemmas.List.{length-map, length-replicate, get_or-map, replicate-append-replicate}
+use Rattle.std.proofs.lemmas.List.{length-map, length-replicate, get_or-map}
+use Rattle.std.proofs.lemmas.List.{replicate-append-replicate}
 use Rattle.std.proofs.lemmas.List.Elements.{All-append, All-get_or, All-map, All-replicate}
 use Rattle.std.proofs.lemmas.List.Sums.{AllPass-from_list_all}
-use Rattle.std.proofs.lemmas.List.FromFn.{fill_by_all, length-map-range_with_len, get_or-map-range_with_len}
+use Rattle.std.proofs.lemmas.List.FromFn.{fill_by_all, length-map-range_with_len}
+use Rattle.std.proofs.lemmas.List.FromFn.{get_or-map-range_with_len}
 use Rattle.bw_lanes.specs.Lanes.{bytes_of_lanes, lanes_of_bytes}
 use Rattle.bw_lanes.proofs.StoredLemmas.{lanes_of_bytes_of_lanes, length-bytes_of_lanes}
 use Rattle.bw_model.specs.declared.column.Column.{Column}
@@ -15,11 +19,13 @@ use Rattle.bw_model.specs.Row.{Value, value_in}
 use Rattle.bw_model.specs.Code.{width_at, span_at}
 use Rattle.bw_model.specs.Column.{admits_values}
 use Rattle.bw_model.specs.Groups.{group_size}
-use Rattle.bw_model.specs.Stored.{stored_at}
+use Rattle.bw_model.specs.StoredCodes.{stored_at}
 use Rattle.bw_model.specs.Truth.{is_null}
 use Rattle.bw_model.specs.Variable.{is_nullable}
 use Rattle.bw_model.proofs.BitsLemmas.{both}
-use Rattle.bw_segment.specs.Packing.{Packing, IsPacking, null_size, block_size, segment_size, block_bytes, segment_bytes, block_at, block_nulls, block_codes, value_held, value_in_block, rows_spelled}
+use Rattle.bw_segment.specs.Packing.{Packing, IsPacking, null_size, block_size, segment_size}
+use Rattle.bw_segment.specs.Packing.{block_bytes, segment_bytes, block_at, block_nulls, block_codes}
+use Rattle.bw_segment.specs.Packing.{value_held, value_in_block, rows_spelled}
 use Rattle.bw_segment.specs.BlockFault.{padding_fault, row_fault, lanes_fault, block_fault, IsSound}
 use Rattle.bw_segment.specs.Meaning.{Meaning, IsGroup, stored_codes, null_bits}
 use Rattle.bw_segment.proofs.FaultLemmas.{first_none, row_clear, lanes_none, of_rows}
@@ -88,7 +94,7 @@ module _ (packing : Packing) (law : IsPacking packing) (meaning : Meaning) (grou
 
   few_rows : length rows ≤ 512
   unfolding group_size
-  few_rows = group.few
+  few_rows = group.within_limit
 
   pub row_admitted : (row : ℕ) → row < length rows → admits_values columns (get_or rows row []) ≡ true
   row_admitted row lt = All-get_or (λ values. admits_values columns values ≡ true) rows row [] lt (AllPass-from_list_all (admits_values columns) rows group.admitted)

@@ -1,5 +1,6 @@
 -- The codes of a column's rows, one after the other.
-use Rattle.std.proofs.Common.{◌≡◌, ◌∙◌, refl, ap, ℕ, zero, suc, ◌<◌, ◌≤◌, true, List, [], ◌∷◌, map, length, get_or, None, arith}
+use Rattle.std.proofs.Common.{◌≡◌, ◌∙◌, refl, ap, ℕ, zero, suc, ◌<◌, ◌≤◌, true, List, [], ◌∷◌, map}
+use Rattle.std.proofs.Common.{length, get_or, None, arith}
 use Rattle.std.specs.List.{list_all}
 use Rattle.std.proofs.lemmas.List.{length-map, get_or_read}
 use Rattle.bw_model.specs.declared.column.Column.{Column}
@@ -28,7 +29,7 @@ length_admitted (column ∷ columns) (value ∷ values) admitted =
 
 pub few_rows : (schema : Schema) (rows : List Row) → IsGroup (meaning_of schema rows) → length rows ≤ 512
 unfolding group_size
-few_rows schema rows group = omega (arith, group.few, length-map rows values_of)
+few_rows schema rows group = omega (arith, group.within_limit, length-map rows values_of)
 
 -- the value that is read in a column
 pub value_read : (values : List Value) (col : ℕ) (value : Value) → col < length values → value ≡ get_or values col value → value ≡ value_in values col

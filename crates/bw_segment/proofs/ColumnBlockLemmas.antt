@@ -1,19 +1,25 @@
 -- Blocks that are kept column by column, put together to segments.
-use Rattle.std.proofs.Common.{◌≡◌, ◌≢◌, ◌∙◌, refl, sym, ap, ap₂, subst, ℕ, ◌+◌, ◌-◌, ◌*◌, ◌<◌, ◌≤◌, true, ◌&&◌, leb, ltb, List, [], ◌++◌, flat_map, map, set, get_or, length, take, drop, slice_range, length-append, length-drop, length-take, length-set, inl, inr, arith}
+use Rattle.std.proofs.Common.{◌≡◌, ◌≢◌, ◌∙◌, refl, sym, ap, ap₂, subst, ℕ, ◌+◌, ◌-◌, ◌*◌, ◌<◌, ◌≤◌}
+use Rattle.std.proofs.Common.{true, ◌&&◌, leb, ltb, List, [], ◌++◌, flat_map, map, set, get_or}
+use Rattle.std.proofs.Common.{length, take, drop, slice_range, length-append, length-drop}
+use Rattle.std.proofs.Common.{length-take, length-set, inl, inr, arith}
 use Rattle.std.specs.List.{range_with_len}
 use Rattle.std.specs.Str.{bytes_eq}
 use Rattle.std.proofs.lemmas.Bool.{and_from, and_parts, cases_lt, le-leb, leb-true, lt-ltb}
 use Rattle.std.proofs.lemmas.Bool.Decides.{Decides-ltb}
-use Rattle.std.proofs.lemmas.List.{get_or-map, get_or-set_other, get_or-set_same, length-map, map-set}
+use Rattle.std.proofs.lemmas.List.{get_or-map, get_or-set_other, get_or-set_same, length-map}
+use Rattle.std.proofs.lemmas.List.{map-set}
 use Rattle.std.proofs.lemmas.List.FromFn.{get_or-map-range_with_len, length-map-range_with_len}
 use Rattle.std.proofs.Math.Seq.{map-set_same}
 use Rattle.std.proofs.lemmas.Nat.{mul-le}
 use Rattle.std.proofs.lemmas.Slice.Eq.{bytes_eq-Decides}
 use Rattle.bw_model.specs.declared.column.Column.{Column}
 use Rattle.bw_segment.specs.declared.column_blocks.ColumnBlocks.{ColumnBlocks}
-use Rattle.bw_segment.specs.ColumnBlocks.{KeepBlocks, block_numbered, block_start, bytes_kept, segment_numbered, size_kept, stands_numbered}
+use Rattle.bw_segment.specs.ColumnBlocks.{StoresBlocks, block_numbered, block_start, bytes_kept}
+use Rattle.bw_segment.specs.ColumnBlocks.{segment_numbered, size_kept, stands_numbered}
 use Rattle.bw_segment.specs.Packing.{Packing, block_at, block_size, bytes_before, segment_size}
-use Rattle.bw_segment.proofs.LayoutLemmas.{block_of_joined, cuts_are_all, length-blocks, piece_kept, piece_last}
+use Rattle.bw_segment.proofs.LayoutLemmas.{block_of_joined, cuts_are_all, length-blocks, piece_kept}
+use Rattle.bw_segment.proofs.LayoutLemmas.{piece_last}
 use Rattle.bw_segment.proofs.PackedLemmas.{slice_is_block}
 use Rattle.bw_segment.proofs.SoundLemmas.{same_in_range}
 
@@ -27,7 +33,7 @@ no_bytes col = []
 -- columns without a block
 pub none_kept : (packing : Packing) (columns : List Column) (kept : List ColumnBlocks) (count : ℕ) → count ≡ length columns
     → map (λ (blocks : ColumnBlocks). blocks.size) kept ≡ map (block_size packing columns) (range_with_len 0 count)
-    → map items kept ≡ map no_bytes (range_with_len 0 count) → KeepBlocks packing columns 0 kept
+    → map items kept ≡ map no_bytes (range_with_len 0 count) → StoresBlocks packing columns 0 kept
 none_kept packing columns kept count all sizes none = record {
   all = sym (length-map kept items) ∙ ap length none ∙ length-map-range_with_len no_bytes 0 count ∙ all;
   sizes = λ col lt. ap (λ (l : List ℕ). get_or l col 0) sizes ∙ get_or-map-range_with_len (block_size packing columns) 0 count col col 0 (omega arith) (omega arith);
@@ -43,7 +49,7 @@ size_read kept col d lt = get_or-map (λ (blocks : ColumnBlocks). blocks.size) k
 pub bytes_read : (kept : List ColumnBlocks) (col : ℕ) (d : ColumnBlocks) → col < length kept → bytes_kept kept col ≡ (get_or kept col d).bytes.items
 bytes_read kept col d lt = get_or-map (λ (blocks : ColumnBlocks). blocks.bytes.items) kept col d [] lt
 
--- a block that stands where it is looked for
+-- a block that is at its place
 module _ (kept : List ColumnBlocks) (number col start end : ℕ) (stands : stands_numbered kept number col start end ≡ true) where
   abbrev place : ℕ
   place = block_start kept number col
@@ -79,8 +85,8 @@ module _ (kept : List ColumnBlocks) (number col start end : ℕ) (stands : stand
     block_read =
         ap₂ (λ (l : List ℕ) (size : ℕ). slice_range l (number * size) (number * size + size)) (sym (bytes_read kept col d is_column)) (sym (size_read kept col d is_column)) ∙ is_there
 
--- the segment of a number among so many
-module _ (packing : Packing) (columns : List Column) (count : ℕ) (kept : List ColumnBlocks) (keep : KeepBlocks packing columns count kept) (number : ℕ) (there : number < count) where
+-- the segment of a number among this many
+module _ (packing : Packing) (columns : List Column) (count : ℕ) (kept : List ColumnBlocks) (keep : StoresBlocks packing columns count kept) (number : ℕ) (there : number < count) where
   abbrev block : ℕ → List ℕ
   block = block_numbered kept number
 
@@ -116,7 +122,7 @@ module _ (packing : Packing) (columns : List Column) (count : ℕ) (kept : List 
       and_from _ _ (and_from _ _ (lt-ltb _ _ there) (le-leb _ _ (room col lt)))
       ((bytes_eq-Decides _ _).1 (slice_is_block packing columns (segment_numbered kept number) col ∙ block_of_segment col lt))
 
--- Each of the first columns, so many, has a block more than before, and the others are as they
+-- Each of the first columns, this many, has a block more than before, and the others are as they
 -- were.
 pub record HaveMore (old new : List ColumnBlocks) (block : ℕ → List ℕ) (count : ℕ) : Type 0 where
   pub all : length new ≡ length old
@@ -156,10 +162,10 @@ pub all_more : (old new : List ColumnBlocks) (block : ℕ → List ℕ) (most co
 all_more old new block most count same more = subst (HaveMore old new block) same more
 
 -- a segment more
-module _ (packing : Packing) (columns : List Column) (count : ℕ) (old new : List ColumnBlocks) (bytes : List ℕ) (keep : KeepBlocks packing columns count old)
+module _ (packing : Packing) (columns : List Column) (count : ℕ) (old new : List ColumnBlocks) (bytes : List ℕ) (keep : StoresBlocks packing columns count old)
     (long : length bytes ≡ segment_size packing columns) (length-at : (col : ℕ) → col < length columns → length (block_at packing columns col bytes) ≡ block_size packing columns col)
     (more : HaveMore old new (λ col. block_at packing columns col bytes) (length columns)) where
-  pub keep_more : KeepBlocks packing columns (count + 1) new
+  pub keep_more : StoresBlocks packing columns (count + 1) new
   keep_more = record {
     all = more.all ∙ keep.all;
     sizes = λ col lt. more.sizes col ∙ keep.sizes col lt;

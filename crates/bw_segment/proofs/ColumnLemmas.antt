@@ -1,10 +1,14 @@
 -- Rows that are kept column by column.
-use Rattle.std.proofs.Common.{◌≡◌, ◌∙◌, sym, ap, ap₂, subst, ℕ, suc, ◌+◌, ◌-◌, ◌<◌, refl, cond, Bool, true, false, not, None, Some, is_some, List, [], ◌∷◌, ◌++◌, map, length, take, drop, set, replicate, append_assoc, length-append, get_or, get_or-set_same, get_or-set_other, below_more, arith}
-use Rattle.std.proofs.lemmas.List.{set-append_right, length-map, map-append, map-set, take-append-le, take_all}
+use Rattle.std.proofs.Common.{◌≡◌, ◌∙◌, sym, ap, ap₂, subst, ℕ, suc, ◌+◌, ◌-◌, ◌<◌, refl, cond}
+use Rattle.std.proofs.Common.{Bool, true, false, not, None, Some, is_some, List, [], ◌∷◌, ◌++◌, map}
+use Rattle.std.proofs.Common.{length, take, drop, set, replicate, append_assoc, length-append}
+use Rattle.std.proofs.Common.{get_or, get_or-set_same, get_or-set_other, below_more, arith}
+use Rattle.std.proofs.lemmas.List.{set-append_right, length-map, map-append, map-set}
+use Rattle.std.proofs.lemmas.List.{take-append-le, take_all}
 use Rattle.bw_model.specs.declared.column.Column.{Column}
 use Rattle.bw_model.specs.Row.{Value, value_in}
 use Rattle.bw_model.specs.Groups.{group_size}
-use Rattle.bw_model.specs.Stored.{stored_at}
+use Rattle.bw_model.specs.StoredCodes.{stored_at}
 use Rattle.bw_model.specs.Truth.{is_null}
 use Rattle.bw_segment.specs.declared.columns.ColumnCodes.{ColumnCodes}
 use Rattle.bw_segment.specs.Columns.{kept_at, KeepRows}

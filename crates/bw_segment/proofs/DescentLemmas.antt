@@ -1,5 +1,7 @@
 -- The least and the greatest of numbers, found from the top digit down.
-use Rattle.std.proofs.Common.{◌≡◌, ◌∙◌, refl, sym, ap, ap₂, subst, ◌⊎◌, inl, inr, ℕ, suc, ◌+◌, ◌*◌, ◌/◌, ◌^◌, ◌<◌, min, max, Bool, true, false, not, cond, List, [], ◌∷◌, filter, fold, Some, None, add-one, shr-shr, pow_pos, arith}
+use Rattle.std.proofs.Common.{◌≡◌, ◌∙◌, refl, sym, ap, ap₂, subst, ◌⊎◌, inl, inr, ℕ, suc, ◌+◌, ◌*◌}
+use Rattle.std.proofs.Common.{◌/◌, ◌^◌, ◌<◌, min, max, Bool, true, false, not, cond, List, [], ◌∷◌}
+use Rattle.std.proofs.Common.{filter, fold, Some, None, add-one, shr-shr, pow_pos, arith}
 use Rattle.std.specs.List.{reduce, AllByRecursion}
 use Rattle.std.specs.Int.{bit_at}
 use Rattle.std.proofs.Math.Nat.{div-mul-le_self, div-eq_of_lt}
@@ -10,7 +12,7 @@ use Rattle.std.proofs.lemmas.Bool.Decides.{nat_tests}
 use Rattle.std.proofs.lemmas.Grind.{pow_more}
 use Rattle.bw_model.specs.Code.{has_bit}
 use Rattle.bw_model.proofs.BitsLemmas.{bit_worth}
-use Rattle.bw_segment.proofs.PickedLemmas.{is_none}
+use Rattle.bw_segment.proofs.SelectedLemmas.{is_none}
 
 -- what passes a test
 pub all_kept : (P Q : ℕ → Type 0) (test : ℕ → Bool) → ((x : ℕ) → P x → test x ≡ true → Q x) → (xs : List ℕ) → AllByRecursion P xs → AllByRecursion Q (filter test xs)
@@ -46,7 +48,7 @@ of_both P g a b pa pb = elim (one_of g a b) [ inl is ↦ subst P (sym is) pa | i
 abbrev pub Chooses : Bool → (ℕ → Bool) → (ℕ → Type 0) → Type 0
 Chooses g test P = (a b : ℕ) → P a → P b → test a ≡ true → test b ≡ false → (choice g a b ≡ a) × (choice g b a ≡ a)
 
--- so where one passes, those that fail make no difference
+-- so if one passes, those that fail make no difference
 one_kept : (f : ℕ → ℕ → ℕ) (test : ℕ → Bool) (a : ℕ) → is_none (filter test (a ∷ [])) ≡ false → reduce f (filter test (a ∷ [])) ≡ Some a
 one_kept f test a some = grind arith
 
@@ -106,7 +108,7 @@ chooses false bit head a b pa pb ta tb =
 -- The numbers that are left have the same top bits, those from `bit` on, which spell `head` in so
 -- many places, and what is chosen among them is what is chosen among all.
 pub record IsDescended (g : Bool) (all left : List ℕ) (bit places head : ℕ) : Type 0 where
-  pub some : is_none left ≡ false
+  pub nonempty : is_none left ≡ false
   pub heads : AllByRecursion (λ n. n / 2 ^ bit ≡ head) left
   pub chosen : reduce (choice g) left ≡ reduce (choice g) all
   pub small : head < 2 ^ places
@@ -114,18 +116,18 @@ pub record IsDescended (g : Bool) (all left : List ℕ) (bit places head : ℕ) 
 next_small : (head places : ℕ) (b : Bool) → head < 2 ^ places → 2 * head + cond b 1 0 < 2 ^ (places + 1)
 next_small head places b lt = grind (arith, nat_tests, pow_more 2 places, lt)
 
--- one bit further down: those with the bit that is sought are left, or all where none has it
+-- one bit further down: those with the bit that is sought are left, or all if none has it
 pub next_descended : (g : Bool) (all left : List ℕ) (bit places head : ℕ) (some : Bool) → is_none (filter (sought g bit) left) ≡ not some
     → IsDescended g all left (suc bit) places head
     → IsDescended g all (cond some (filter (sought g bit) left) left) bit (places + 1) (2 * head + cond (cond some g (not g)) 1 0)
 next_descended g all left bit places head true found so_far = record {
-  some = found;
+  nonempty = found;
   heads = all_kept (λ n. n / 2 ^ suc bit ≡ head) (λ n. n / 2 ^ bit ≡ 2 * head + cond g 1 0) (sought g bit) (λ n. head_of g n bit head true) left so_far.heads;
   chosen = reduce_kept g (sought g bit) (λ n. n / 2 ^ suc bit ≡ head) (chooses g bit head) left so_far.heads found ∙ so_far.chosen;
   small = next_small head places g so_far.small;
 }
 next_descended g all left bit places head false none so_far = record {
-  some = so_far.some;
+  nonempty = so_far.nonempty;
   heads = all_fail (λ n. n / 2 ^ suc bit ≡ head) (λ n. n / 2 ^ bit ≡ 2 * head + cond (not g) 1 0) (sought g bit) (λ n. head_of g n bit head false) left so_far.heads none;
   chosen = so_far.chosen;
   small = next_small head places (not g) so_far.small;
@@ -134,14 +136,14 @@ next_descended g all left bit places head false none so_far = record {
 -- before the first bit nothing is known, and after the last one all that are left are the same
 -- number
 pub descent_begins : (g : Bool) (all : List ℕ) (width : ℕ) → AllByRecursion (λ n. n < 2 ^ width) all → is_none all ≡ false → IsDescended g all all width 0 0
-descent_begins g all width small some = record { some = some; heads = each all small; chosen = refl; small = omega arith }
+descent_begins g all width small some = record { nonempty = some; heads = each all small; chosen = refl; small = omega arith }
   where
     each : (ns : List ℕ) → AllByRecursion (λ n. n < 2 ^ width) ns → AllByRecursion (λ n. n / 2 ^ width ≡ 0) ns
     each [] small = tt
     each (n ∷ ns) small = (div-eq_of_lt small.0, each ns small.1)
 
 pub descent_ends : (g : Bool) (all left : List ℕ) (places head : ℕ) → IsDescended g all left 0 places head → Some head ≡ reduce (choice g) all
-descent_ends g all [] places head so_far = let some = so_far.some in cc
+descent_ends g all [] places head so_far = let some = so_far.nonempty in cc
 descent_ends g all (n ∷ left) places head so_far = sym (ap Some (fold_same g head n left so_far.heads)) ∙ so_far.chosen
 
 pub none_chosen : (f : ℕ → ℕ → ℕ) (all : List ℕ) → is_none all ≡ true → None ≡ reduce f all

@@ -1,5 +1,8 @@
--- The first fault of lanes, from planes that tell of them.
-use Rattle.std.proofs.Common.{◌≡◌, ◌∙◌, refl, sym, ap, ap₂, ℕ, zero, suc, ◌+◌, ◌-◌, ◌<◌, ◌≤◌, Bool, true, false, not, cond, ltb, ◌==◌, ◌&&◌, ◌||◌, List, [], ◌∷◌, ◌++◌, map, length, get_or, replicate, length-append, Option, Some, None, ◌⊎◌, inl, inr, arith}
+-- The first error of lanes, from planes that tell of them.
+use Rattle.std.proofs.Common.{◌≡◌, ◌∙◌, refl, sym, ap, ap₂, ℕ, zero, suc, ◌+◌, ◌-◌, ◌<◌, ◌≤◌, Bool}
+use Rattle.std.proofs.Common.{true, false, not, cond, ltb, ◌==◌, ◌&&◌, ◌||◌, List, [], ◌∷◌, ◌++◌}
+use Rattle.std.proofs.Common.{map, length, get_or, replicate, length-append, Option, Some, None}
+use Rattle.std.proofs.Common.{◌⊎◌, inl, inr, arith}
 use Rattle.std.specs.List.{list_all, list_any}
 use Rattle.std.proofs.lemmas.Bool.{cases_lt, le-ltb, lt-ltb, or_parts}
 use Rattle.std.proofs.lemmas.Bool.Decides.{nat_tests}
@@ -11,7 +14,8 @@ use Rattle.bw_model.proofs.BitsLemmas.{both}
 use lib.Lanes.{zip2}
 use Rattle.bw_model.specs.Groups.{group_size}
 use Rattle.bw_model.specs.Selection.{selected_items}
-use Rattle.bw_segment.specs.BlockFault.{or_else, padding_fault, row_fault, first_fault, lanes_fault, TellsCodes}
+use Rattle.bw_segment.specs.BlockFault.{or_else, padding_fault, row_fault, first_fault, lanes_fault}
+use Rattle.bw_segment.specs.BlockFault.{TellsCodes}
 
 pub first_none : (fault : ℕ → Option ℕ) (n : ℕ) → ((row : ℕ) → row < n → fault row ≡ None) → first_fault fault n ≡ None
 first_none fault zero none = refl
@@ -27,7 +31,7 @@ first_none_at fault (suc n) row none lt =
     let parts = none_of_first (first_fault fault n) (fault n) none in
     elim (cases_lt row n) [ inl before ↦ first_none_at fault n row parts.0 before | inr not_before ↦ ap fault {x = row} {y = n} (omega arith) ∙ parts.1 ]
 
--- a row's fault, where none before it has one
+-- a row's error, if none before it has one
 first_stays : (fault : ℕ → Option ℕ) (n row x : ℕ) → first_fault fault row ≡ None → fault row ≡ Some x → row < n → first_fault fault n ≡ Some x
 first_stays fault zero row x none here lt = absurd (omega arith)
 first_stays fault (suc n) row x none here lt = elim (cases_lt row n) [
@@ -35,7 +39,7 @@ first_stays fault (suc n) row x none here lt = elim (cases_lt row n) [
   | inr not_before ↦ ap (λ f. or_else f (fault n)) (ap (first_fault fault) {x = n} {y = row} (omega arith) ∙ none) ∙ ap fault {x = n} {y = row} (omega arith) ∙ here
 ]
 
--- where each fault is the same
+-- if each error is the same
 either_is : (x : ℕ) (a b : Option ℕ) → (a ≡ None) ⊎ (a ≡ Some x) → (b ≡ None) ⊎ (b ≡ Some x) → (or_else a b ≡ None) ⊎ (or_else a b ≡ Some x)
 either_is x a b first second = grind arith
 
@@ -49,7 +53,7 @@ first_same fault x n row each here lt = elim (first_is fault x n each) [
   | inr some ↦ some
 ]
 
--- what stands in a lane that is without fault
+-- what stands in a lane that is without error
 pub padding_none : (null : Bool) (code : ℕ) → padding_fault null code ≡ None → (null ≡ false) × (code ≡ 0)
 padding_none null code none = (grind (arith, nat_tests), grind (arith, nat_tests))
 
@@ -60,7 +64,7 @@ pub row_clear : (span : ℕ) (null : Bool) (code : ℕ) → (null ≡ true → c
 row_clear span null code zero_of within = grind (arith, nat_tests, zero_of)
 
 module _ (span count : ℕ) (nulls : List Bool) (codes : List ℕ) where
-  -- the faults of padding rows, and of rows
+  -- the errors of padding rows, and of rows
   abbrev pub paddings : ℕ → Option ℕ
   paddings row = padding_fault (get_or nulls (count + row) false) (get_or codes (count + row) 0)
 
@@ -77,7 +81,7 @@ module _ (span count : ℕ) (nulls : List Bool) (codes : List ℕ) where
       ap (λ f. or_else f (first_fault of_rows count)) (first_same paddings 308 (512 - count) (row - count) (λ row. grind (arith, nat_tests))
       (ap (λ k. padding_fault (get_or nulls k false) (get_or codes k 0)) {x = count + (row - count)} {y = row} (omega arith) ∙ here) (omega arith))
 
-  -- lanes that are without fault
+  -- lanes that are without error
   pub lanes_none_at : lanes_fault span count nulls codes ≡ None
       → ((row : ℕ) → count ≤ row → row < 512 → padding_fault (get_or nulls row false) (get_or codes row 0) ≡ None) × ((row : ℕ) → row < count → of_rows row ≡ None)
   unfolding lanes_fault group_size
@@ -89,7 +93,7 @@ module _ (span count : ℕ) (nulls : List Bool) (codes : List ℕ) where
         λ row lt. first_none_at of_rows count row parts.1 lt,
       )
 
--- a lane that is 1, where not all are 0
+-- a lane that is 1, if not all are 0
 one_somewhere : (lanes : List Bool) → list_all not lanes ≡ false → (row : ℕ) × (row < length lanes) × (get_or lanes row false ≡ true)
 one_somewhere [] all = cc
 one_somewhere (true ∷ lanes) all = (0, omega arith, refl)
@@ -158,7 +162,7 @@ module _ (span count : ℕ) (nulls used above : List Bool) (codes : List ℕ) (f
   abbrev pub with_code : List Bool
   with_code = zip2 (λ x y. x && y) nulls used
 
-  -- a row's fault, by its bits in two planes
+  -- a row's error, by its bits in two planes
   pub row_is : (row : ℕ) → row < 512 → (coded over : Bool) → get_or with_code row false ≡ coded → get_or above row false ≡ over
       → of_rows span count nulls codes row ≡ cond coded (Some 307) (cond over (Some 306) None)
   unfolding group_size
@@ -193,7 +197,7 @@ module _ (span count : ℕ) (nulls used above : List Bool) (codes : List ℕ) (f
       let parts = or_parts (get_or with_code row false) (get_or above row false) none in
       row_is row (omega arith) false false parts.0 parts.1)
 
--- planes that tell which codes aren't 0, where that is asked
+-- planes that say which codes aren't 0, if that is asked
 pub tells_nothing : (count : ℕ) (nulls used : List Bool) (codes : List ℕ) → count ≡ 512 → list_all not nulls ≡ true → TellsCodes count nulls codes used
 unfolding group_size
 tells_nothing count nulls used codes whole none = record {

@@ -1,5 +1,7 @@
--- First bytes of blocks that stand apart, where a block is added.
-use Rattle.std.proofs.Common.{◌≡◌, ◌∙◌, sym, ap, ℕ, ◌+◌, ◌-◌, ◌*◌, ◌≤◌, List, ◌++◌, Bool, true, false, cond, length, take, drop, length-append, length-take, Option, Some, None, slice_range, replicate, inl, inr, arith}
+-- First bytes of blocks that are apart, if a block is added.
+use Rattle.std.proofs.Common.{◌≡◌, ◌∙◌, sym, ap, ℕ, ◌+◌, ◌-◌, ◌*◌, ◌≤◌, List, ◌++◌, Bool, true}
+use Rattle.std.proofs.Common.{false, cond, length, take, drop, length-append, length-take, Option}
+use Rattle.std.proofs.Common.{Some, None, slice_range, replicate, inl, inr, arith}
 use Rattle.std.specs.Prelude.{IfSome}
 use Rattle.std.proofs.lemmas.Bool.{cases_lt}
 use Rattle.std.proofs.lemmas.List.{take_all}

@@ -1,5 +1,7 @@
 -- The lanes of a group: those of its rows and then those of zeros.
-use Rattle.std.proofs.Common.{◌≡◌, ◌∙◌, refl, sym, ap, ap₂, ℕ, zero, suc, ◌+◌, ◌-◌, ◌*◌, ◌%◌, ◌^◌, ◌<◌, Bool, true, false, cond, ◌==◌, List, [], ◌∷◌, ◌++◌, map, length, replicate, Some, ◌/◌, arith}
+use Rattle.std.proofs.Common.{◌≡◌, ◌∙◌, refl, sym, ap, ap₂, ℕ, zero, suc, ◌+◌, ◌-◌, ◌*◌, ◌%◌, ◌^◌}
+use Rattle.std.proofs.Common.{◌<◌, Bool, true, false, cond, ◌==◌, List, [], ◌∷◌, ◌++◌, map, length}
+use Rattle.std.proofs.Common.{replicate, Some, ◌/◌, arith}
 use Rattle.std.specs.List.{list_all}
 use Rattle.std.proofs.Math.Nat.{zero-div}
 use Rattle.std.specs.Int.{bit_at}
@@ -13,13 +15,15 @@ use Rattle.bw_model.specs.Row.{Value, value_in}
 use Rattle.bw_model.specs.Column.{admits_values}
 use Rattle.bw_model.specs.Code.{width_at, slices_at, has_bit}
 use Rattle.bw_model.specs.Groups.{group_size, lanes_of}
-use Rattle.bw_model.specs.Stored.{stored_at, byte_of, byte_spelled, bits_in_slice, no_bits}
+use Rattle.bw_model.specs.StoredCodes.{stored_at, byte_of, byte_spelled, bits_in_slice, no_bits}
 use Rattle.bw_model.specs.Truth.{is_null}
-use Rattle.bw_model.specs.Variable.{Assignment, first_variable, null_variable, bit_variable, assignment_of, bits_of}
+use Rattle.bw_model.specs.Variable.{Assignment, first_variable, null_variable, bit_variable}
+use Rattle.bw_model.specs.Variable.{assignment_of, bits_of}
 use Rattle.bw_model.proofs.BitsLemmas.{both}
 use Rattle.bw_model.proofs.PlaceLemmas.{code_bit_at, null_bit_at_variable}
-use Rattle.bw_model.proofs.StoredLemmas.{byte_of_bits, spelled_zero}
-use Rattle.bw_segment.specs.Meaning.{Meaning, IsGroup, variable_lanes, byte_lanes, stored_codes, code_lanes, null_bits}
+use Rattle.bw_model.proofs.StoredCodeLemmas.{byte_of_bits, spelled_zero}
+use Rattle.bw_segment.specs.Meaning.{Meaning, IsGroup, variable_lanes, byte_lanes, stored_codes}
+use Rattle.bw_segment.specs.Meaning.{code_lanes, null_bits}
 
 map-replicate : {A B : Type 0} (f : A → B) (count : ℕ) (x : A) → map f (replicate count x) ≡ replicate count (f x)
 map-replicate f zero x = refl
@@ -92,6 +96,6 @@ bit_of_byte code bit =
     let part = code / 2 ^ (8 * (bit / 8)) in
     ap (λ k. k == 1) (bit_of_low 8 part (bit % 8) (omega arith) ∙ ap (λ k. k % 2) (shr-shr code (8 * (bit / 8)) (bit % 8) ∙ ap (λ k. code / 2 ^ k) {y = bit} (omega arith)))
 
--- a bit of codes, in the bytes where it stands
+-- a bit of codes, in the bytes that have it
 pub bits_of_bytes : (codes : List ℕ) (bit : ℕ) → map (λ byte. bit_at byte (bit % 8) == 1) (map (byte_of (bit / 8)) codes) ≡ map (λ code. has_bit code bit) codes
 bits_of_bytes codes bit = map-map (λ byte. bit_at byte (bit % 8) == 1) (byte_of (bit / 8)) codes ∙ (λ i. map (λ code. bit_of_byte code bit i) codes)

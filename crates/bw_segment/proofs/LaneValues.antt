@@ -1,15 +1,17 @@
 -- The values of a column in the lanes of a group, by its nulls and its codes.
-use Rattle.std.proofs.Common.{◌≡◌, ◌∙◌, refl, sym, ap, ap₂, ℕ, zero, suc, ℤ, ◌+◌, ◌-◌, ◌<◌, ◌≤◌, pos, Bool, true, false, not, cond, ◌==◌, ◌||◌, List, [], ◌∷◌, ◌++◌, map, length, replicate, get_or, Some, None, All, arith}
+use Rattle.std.proofs.Common.{◌≡◌, ◌∙◌, refl, sym, ap, ap₂, ℕ, zero, suc, ℤ, ◌+◌, ◌-◌, ◌<◌, ◌≤◌}
+use Rattle.std.proofs.Common.{pos, Bool, true, false, not, cond, ◌==◌, ◌||◌, List, [], ◌∷◌, ◌++◌}
+use Rattle.std.proofs.Common.{map, length, replicate, get_or, Some, None, All, arith}
 use Rattle.std.specs.List.{list_all}
 use Rattle.std.proofs.lemmas.List.{get_or-map, get_or-replicate}
 use lib.Lanes.{zip2}
-use Rattle.bw_lanes.specs.Picked.{as_byte}
+use Rattle.bw_lanes.specs.Selected.{as_byte}
 use Rattle.bw_model.specs.declared.column.Column.{Column}
 use Rattle.bw_model.specs.Row.{Value, value_in}
 use Rattle.bw_model.specs.Code.{span_of, value_of_code, value_at}
 use Rattle.bw_model.specs.Column.{admits_values}
 use Rattle.bw_model.specs.Groups.{group_size}
-use Rattle.bw_model.specs.Stored.{stored_at}
+use Rattle.bw_model.specs.StoredCodes.{stored_at}
 use Rattle.bw_model.specs.Truth.{is_null}
 use Rattle.bw_model.proofs.BitsLemmas.{both}
 use Rattle.bw_segment.specs.Packing.{value_held}
@@ -73,6 +75,6 @@ module _ (meaning : Meaning) (col lane : ℕ) (column : Column) (group : IsGroup
   pub put_in_lane : cond (get_or (map as_byte empty) lane 0 == 0) (Some (value_of_code column code)) None ≡ value_in (get_or meaning.rows lane []) col
   put_in_lane = chosen empty lane (value_of_code column code) ∙ value_here
 
-  -- where no lane is without one
+  -- if no lane is without one
   pub put_in_full : list_all not empty ≡ true → Some (value_of_code column code) ≡ value_in (get_or meaning.rows lane []) col
   put_in_full none = ap {B = Value} (λ null. cond null None (Some (value_of_code column code))) (sym (zero_everywhere empty lane none)) ∙ value_here

@@ -1,9 +1,12 @@
 -- Segments as bytes: blocks that are put together and cut out again, and the rows that they spell.
-use Rattle.std.proofs.Common.{◌≡◌, ◌∙◌, sym, ap, ℕ, zero, suc, ◌+◌, ◌-◌, ◌<◌, ◌≤◌, List, ◌++◌, flat_map, length, take, drop, length-append, append_assoc, append-nil, add-one, add-zero, None, inl, inr, arith}
+use Rattle.std.proofs.Common.{◌≡◌, ◌∙◌, sym, ap, ℕ, zero, suc, ◌+◌, ◌-◌, ◌<◌, ◌≤◌, List, ◌++◌}
+use Rattle.std.proofs.Common.{flat_map, length, take, drop, length-append, append_assoc, append-nil}
+use Rattle.std.proofs.Common.{add-one, add-zero, None, inl, inr, arith}
 use Rattle.std.specs.List.{range_with_len}
 use Rattle.std.proofs.Math.Seq.{drop-append_seam, take-append_seam, drop-append-add, drop-drop}
 use Rattle.std.proofs.lemmas.Bool.{cases_lt}
-use Rattle.std.proofs.lemmas.List.{take_all, take-append-drop, drop-take, take-take, drop-append-le, take-append-le, drop_all, length-drop}
+use Rattle.std.proofs.lemmas.List.{take_all, take-append-drop, drop-take, take-take, drop-append-le}
+use Rattle.std.proofs.lemmas.List.{take-append-le, drop_all, length-drop}
 use Rattle.bw_model.specs.declared.column.Column.{Column}
 use Rattle.bw_segment.specs.Packing.{Packing, block_size, bytes_before, segment_size, block_at}
 use Rattle.bw_segment.specs.BlockFault.{block_fault, AreSound}

@@ -1,5 +1,7 @@
 -- What the blocks of a segment hold.
-use Rattle.std.proofs.Common.{◌≡◌, ◌∙◌, sym, ap, ap₂, subst, ℕ, ◌+◌, ◌-◌, ◌^◌, ◌<◌, ◌≤◌, Bool, false, List, [], map, length, take, drop, slice_range, get_or, All, add-one, leb, ◌&&◌, refl, arith}
+use Rattle.std.proofs.Common.{◌≡◌, ◌∙◌, sym, ap, ap₂, subst, ℕ, ◌+◌, ◌-◌, ◌^◌, ◌<◌, ◌≤◌, Bool}
+use Rattle.std.proofs.Common.{false, List, [], map, length, take, drop, slice_range, get_or, All}
+use Rattle.std.proofs.Common.{add-one, leb, ◌&&◌, refl, arith}
 use Rattle.std.proofs.lemmas.List.{take_all, length-drop, length-map}
 use Rattle.std.proofs.lemmas.Bool.{le-leb}
 use Rattle.std.proofs.lemmas.Simd.{map-map}
@@ -8,16 +10,20 @@ use Rattle.bw_model.specs.declared.row.Row.{Row}
 use Rattle.bw_model.specs.Code.{width_at, slices_at, span_at}
 use Rattle.bw_model.specs.Groups.{group_size}
 use Rattle.bw_model.specs.Row.{Value, value_in, values_of}
-use Rattle.bw_model.specs.Stored.{byte_of}
+use Rattle.bw_model.specs.StoredCodes.{byte_of}
 use Rattle.bw_segment.specs.declared.placement.Placement.{Placement}
 use Rattle.bw_segment.specs.BlockFault.{IsSound}
-use Rattle.bw_segment.specs.Meaning.{Meaning, IsGroup, byte_lanes, code_lanes, null_bits, meaning_of}
+use Rattle.bw_segment.specs.Meaning.{Meaning, IsGroup, byte_lanes, code_lanes, null_bits}
+use Rattle.bw_segment.specs.Meaning.{meaning_of}
 use Rattle.bw_segment.specs.Packed.{HoldBlocks, IsPacked}
-use Rattle.bw_segment.specs.Packing.{Packing, IsPacking, bytes_before, block_at, block_codes, block_nulls, block_size, meaning_spelled, null_size, rows_spelled, segment_bytes, value_held}
+use Rattle.bw_segment.specs.Packing.{Packing, IsPacking, bytes_before, block_at, block_codes}
+use Rattle.bw_segment.specs.Packing.{block_nulls, block_size, meaning_spelled, null_size}
+use Rattle.bw_segment.specs.Packing.{rows_spelled, segment_bytes, value_held}
 use Rattle.bw_segment.proofs.LaneLemmas.{bytes_in_lanes}
 use Rattle.bw_segment.proofs.LayoutLemmas.{before_in_order}
 use Rattle.bw_segment.proofs.SoundLemmas.{length-rows_spelled, length-cut, nulls_again, codes_again}
-use Rattle.bw_segment.proofs.BytesLemmas.{small_codes, null_of_row, code_of_row, row_admitted, text_is_sound, rows_of_bytes}
+use Rattle.bw_segment.proofs.BytesLemmas.{small_codes, null_of_row, code_of_row, row_admitted}
+use Rattle.bw_segment.proofs.BytesLemmas.{text_is_sound, rows_of_bytes}
 use Rattle.bw_segment.proofs.ValueLemmas.{held_admitted, stored_within}
 
 -- a block that is cut out from its start to its end
@@ -38,7 +44,7 @@ module _ {packing : Packing} {placement : Placement} {count : ℕ} {bytes : List
   block col = block_at packing columns col bytes
 
   pub few : count ≤ group_size
-  few = omega (arith, packed.group.few, length-rows_spelled packing columns count bytes)
+  few = omega (arith, packed.group.within_limit, length-rows_spelled packing columns count bytes)
 
   pub ruleset counted = (few, length-rows_spelled)
 
@@ -83,7 +89,7 @@ module _ {packing : Packing} {placement : Placement} {count : ℕ} {bytes : List
   module _ (col row : ℕ) (there : col < length columns) (lt : row < length meaning.rows) where
     pub row_below : row < 512
     unfolding group_size
-    row_below = omega (arith, lt, packed.group.few)
+    row_below = omega (arith, lt, packed.group.within_limit)
 
     pub code_within : get_or (code_lanes meaning col) row 0 ≤ span_at columns col
     code_within = omega (arith, code_of_row packing packed.law meaning packed.group col row lt, stored_within columns col (value_in (get_or meaning.rows row []) col) there)
@@ -93,7 +99,7 @@ module _ {packing : Packing} {placement : Placement} {count : ℕ} {bytes : List
         ap₂ (value_held columns col) (null_of_row packing packed.law meaning packed.group col row lt) (code_of_row packing packed.law meaning packed.group col row lt)
         ∙ held_admitted columns (get_or meaning.rows row []) col (row_admitted packing packed.law meaning packed.group row lt) there
 
--- blocks without fault stand one after the other in one piece
+-- blocks without error stand one after the other in one piece
 pub held_in_one_piece : (packing : Packing) (columns : List Column) (count : ℕ) (bytes : List ℕ) → IsSound packing columns count bytes
     → HoldBlocks (λ column start end. leb start end && leb end (length bytes)) packing columns
 held_in_one_piece packing columns count bytes sound = λ column lt.

@@ -1,5 +1,7 @@
--- Bytes whose blocks are without fault are the bytes of the rows that they spell.
-use Rattle.std.proofs.Common.{◌≡◌, ◌∙◌, refl, sym, ap, ap₂, ℕ, zero, suc, ◌+◌, ◌<◌, ◌≤◌, ◌^◌, Bool, true, false, cond, List, [], ◌∷◌, ◌++◌, map, flat_map, length, take, drop, get_or, replicate, None, inl, inr, arith}
+-- Bytes whose blocks are without error are the bytes of the rows that they spell.
+use Rattle.std.proofs.Common.{◌≡◌, ◌∙◌, refl, sym, ap, ap₂, ℕ, zero, suc, ◌+◌, ◌<◌, ◌≤◌, ◌^◌, Bool}
+use Rattle.std.proofs.Common.{true, false, cond, List, [], ◌∷◌, ◌++◌, map, flat_map, length, take}
+use Rattle.std.proofs.Common.{drop, get_or, replicate, None, inl, inr, arith}
 use Rattle.std.specs.List.{range_with_len, All}
 use Rattle.std.proofs.lemmas.List.{take-append-drop, length-take, length-drop, length-replicate}
 use Rattle.std.proofs.lemmas.List.Elements.{All-take, All-drop}
@@ -15,14 +17,17 @@ use Rattle.bw_model.specs.Row.{Value, value_in}
 use Rattle.bw_model.specs.Code.{width_at, span_at}
 use Rattle.bw_model.specs.Column.{admits_values}
 use Rattle.bw_model.specs.Groups.{group_size}
-use Rattle.bw_model.specs.Stored.{stored_at}
+use Rattle.bw_model.specs.StoredCodes.{stored_at}
 use Rattle.bw_model.specs.Truth.{is_null}
 use Rattle.bw_model.specs.Variable.{is_nullable}
-use Rattle.bw_segment.specs.Packing.{Packing, IsPacking, null_size, block_size, bytes_before, block_bytes, segment_bytes, block_at, block_nulls, block_codes, value_held, value_in_block, rows_spelled}
+use Rattle.bw_segment.specs.Packing.{Packing, IsPacking, null_size, block_size, bytes_before}
+use Rattle.bw_segment.specs.Packing.{block_bytes, segment_bytes, block_at, block_nulls, block_codes}
+use Rattle.bw_segment.specs.Packing.{value_held, value_in_block, rows_spelled}
 use Rattle.bw_segment.specs.BlockFault.{padding_fault, block_fault, IsSound}
 use Rattle.bw_segment.specs.Meaning.{IsGroup, stored_codes, null_bits}
 use Rattle.bw_segment.proofs.FaultLemmas.{padding_none, row_none, lanes_none_at, of_rows}
-use Rattle.bw_segment.proofs.ValueLemmas.{admits_at, is_null_held, stored_held, held_is_admitted, admitted_by_column}
+use Rattle.bw_segment.proofs.ValueLemmas.{admits_at, is_null_held, stored_held, held_is_admitted}
+use Rattle.bw_segment.proofs.ValueLemmas.{admitted_by_column}
 use Rattle.bw_segment.proofs.LayoutLemmas.{before_in_order, cuts_are_all}
 use Rattle.bw_segment.proofs.BytesLemmas.{get_or-same, padded_is}
 
@@ -89,8 +94,8 @@ module _ (packing : Packing) (law : IsPacking packing) (columns : List Column) (
   spelled_group name some =
       let long = length-rows_spelled packing columns count bytes in
       record {
-        some = omega (arith, some, long);
-        few = omega (arith, few, long);
+        nonempty = omega (arith, some, long);
+        within_limit = omega (arith, few, long);
         admitted = list_all-from_AllPass (admits_values columns) (map values (range_with_len 0 count)) (λ row d lt.
             let there : row < count = omega (arith, lt, length-map-range_with_len values 0 count) in
             ap (admits_values columns) (get_or-map-range_with_len values 0 count row row d there (omega arith)) ∙ row_is_admitted row there);

@@ -1,13 +1,16 @@
 -- Values of a column, and the null bits and codes that they are kept as.
-use Rattle.std.proofs.Common.{◌≡◌, ◌∙◌, refl, sym, ap, ℕ, zero, suc, ◌<◌, ◌≤◌, ◌-ℤ◌, int_le, unsigned_abs, Bool, true, false, cond, ◌&&◌, List, [], ◌∷◌, map, length, get_or, unwrap_or, Some, None, arith}
+use Rattle.std.proofs.Common.{◌≡◌, ◌∙◌, refl, sym, ap, ℕ, zero, suc, ◌<◌, ◌≤◌, ◌-ℤ◌, int_le}
+use Rattle.std.proofs.Common.{unsigned_abs, Bool, true, false, cond, ◌&&◌, List, [], ◌∷◌, map}
+use Rattle.std.proofs.Common.{length, get_or, unwrap_or, Some, None, arith}
 use Rattle.bw_model.specs.declared.column.Column.{Column}
 use Rattle.bw_model.specs.Row.{Value, value_in}
 use Rattle.bw_model.specs.Code.{span_of, span_at, stored_code, value_of_code}
 use Rattle.bw_model.specs.Column.{admits_value, admits_values}
-use Rattle.bw_model.specs.Stored.{stored_at}
+use Rattle.bw_model.specs.StoredCodes.{stored_at}
 use Rattle.bw_model.specs.Truth.{is_null}
 use Rattle.bw_model.specs.Variable.{is_nullable}
-use Rattle.bw_model.proofs.BitsLemmas.{both, given, code_in_span, value_of_distance, code_of-value_of_code}
+use Rattle.bw_model.proofs.BitsLemmas.{both, given, code_in_span, value_of_distance}
+use Rattle.bw_model.proofs.BitsLemmas.{code_of-value_of_code}
 use Rattle.bw_segment.specs.Packing.{value_held}
 
 -- a null is admitted by a nullable column alone
@@ -79,7 +82,7 @@ held_is_admitted (c ∷ columns) zero false code lt nullable within =
 held_is_admitted (c ∷ columns) (suc col) true code lt nullable within = held_is_admitted columns col true code (omega arith) nullable within
 held_is_admitted (c ∷ columns) (suc col) false code lt nullable within = held_is_admitted columns col false code (omega arith) nullable within
 
--- values are admitted where each is by its column
+-- values are admitted if each is by its column
 pub admitted_by_column : (columns : List Column) (values : List Value) → length values ≡ length columns → ((col : ℕ) → col < length columns → admits_at columns col (value_in values col) ≡ true)
     → admits_values columns values ≡ true
 admitted_by_column [] [] same each = refl

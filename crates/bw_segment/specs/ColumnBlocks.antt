@@ -1,5 +1,6 @@
 -- The blocks of a table, stored by columns: those of each column back to back.
-use Rattle.std.specs.Prelude.{◌≡◌, ℕ, ◌+◌, ◌*◌, ◌<◌, Bool, ◌&&◌, nat_le, nat_lt, List, [], length, map, slice_index, slice_index_or, slice_range}
+use Rattle.std.specs.Prelude.{◌≡◌, ℕ, ◌+◌, ◌*◌, ◌<◌, Bool, ◌&&◌, nat_le, nat_lt, List, [], length}
+use Rattle.std.specs.Prelude.{map, slice_index, slice_index_or, slice_range}
 use Rattle.std.specs.List.{flat_map, range_with_len}
 use Rattle.std.specs.Str.{bytes_eq}
 use Rattle.bw_model.specs.declared.column.Column.{Column}
@@ -38,7 +39,7 @@ stands_numbered kept number column start end =
     (block_numbered kept number column)
 
 -- each column has the blocks of `count` segments
-pub record KeepBlocks (packing : Packing) (columns : List Column) (count : ℕ)
+pub record StoresBlocks (packing : Packing) (columns : List Column) (count : ℕ)
     (kept : List ColumnBlocks) : Type 0 where
   pub all : length kept ≡ length columns
   pub sizes : (column : ℕ) → column < length columns → size_kept kept column

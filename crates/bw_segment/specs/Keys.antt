@@ -1,5 +1,6 @@
 -- Numbers as keys, which have no sign and are ordered as the numbers are.
-use Rattle.std.specs.Prelude.{ℕ, ℤ, ◌^◌, ◌-ℤ◌, pos, Bool, false, List, Some, None, if◌then◌else◌, slice_index, slice_index_or}
+use Rattle.std.specs.Prelude.{ℕ, ℤ, ◌^◌, ◌-ℤ◌, pos, Bool, false, List, Some, None, if◌then◌else◌}
+use Rattle.std.specs.Prelude.{slice_index, slice_index_or}
 use Rattle.bw_model.specs.Row.{Value}
 
 -- the number of a key: the key of -2^63 is 0

@@ -6,4 +6,4 @@ pub mod Keys
 pub mod Meaning
 pub mod Packed
 pub mod Packing
-pub mod Picked
+pub mod Selected

@@ -1,11 +1,12 @@
 -- The meaning of a segment: a table's name and columns, and 1 to 512 rows that the columns admit.
-use Rattle.std.specs.Prelude.{◌≡◌, ℕ, ◌≤◌, Bool, true, false, List, ◌++◌, ◌-◌, length, map, replicate}
+use Rattle.std.specs.Prelude.{◌≡◌, ℕ, ◌≤◌, Bool, true, false, List, ◌++◌, ◌-◌, length, map}
+use Rattle.std.specs.Prelude.{replicate}
 use Rattle.std.specs.List.{list_all}
 use Rattle.bw_model.specs.declared.column.Column.{Column}
 use Rattle.bw_model.specs.Row.{Value, value_in, values_of}
 use Rattle.bw_model.specs.Column.{admits_values}
 use Rattle.bw_model.specs.Groups.{group_size, lanes_of}
-use Rattle.bw_model.specs.Stored.{stored_at, byte_spelled}
+use Rattle.bw_model.specs.StoredCodes.{stored_at, byte_spelled}
 use Rattle.bw_model.specs.Truth.{is_null}
 use Rattle.bw_model.specs.declared.row.Row.{Row}
 use Rattle.bw_model.specs.declared.schema.Schema.{Schema}
@@ -17,8 +18,8 @@ pub record Meaning : Type 0 where
 
 -- the rows are those of one group, each admitted by the columns
 pub record IsGroup (meaning : Meaning) : Type 0 where
-  pub some : 1 ≤ length meaning.rows
-  pub few : length meaning.rows ≤ group_size
+  pub nonempty : 1 ≤ length meaning.rows
+  pub within_limit : length meaning.rows ≤ group_size
   pub admitted : list_all (admits_values meaning.columns) meaning.rows ≡ true
 
 -- the bit of a variable in each of the group's 512 lanes

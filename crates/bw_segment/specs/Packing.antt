@@ -1,6 +1,8 @@
 -- Segments as bytes: one block for each column. A block has the column's null plane, in 64 bytes,
 -- if it is nullable, and then its codes, in one of two layouts.
-use Rattle.std.specs.Prelude.{◌≡◌, ℕ, zero, suc, ◌+◌, ◌<◌, ◌^◌, Bool, false, List, [], ◌++◌, length, map, take, drop, replicate, slice_index, slice_index_or, Some, None, if◌then◌else◌, All}
+use Rattle.std.specs.Prelude.{◌≡◌, ℕ, zero, suc, ◌+◌, ◌<◌, ◌^◌, Bool, false, List, [], ◌++◌, length}
+use Rattle.std.specs.Prelude.{map, take, drop, replicate, slice_index, slice_index_or, Some, None}
+use Rattle.std.specs.Prelude.{if◌then◌else◌, All}
 use Rattle.std.specs.List.{flat_map, range_with_len}
 use Rattle.bw_lanes.specs.Lanes.{bytes_of_lanes, lanes_of_bytes}
 use Rattle.bw_model.specs.declared.column.Column.{Column}

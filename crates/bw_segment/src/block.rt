@@ -1,5 +1,6 @@
 //! The parts of a column's block, and the first error of its lanes.
-ghost use Rattle.std.specs.Prelude.{◌≡◌, ◌^◌, ◌≤◌, ◌<◌, ◌||◌, true, false, ℕ, List, length, map, drop, nat_lt, slice_index_or};
+ghost use Rattle.std.specs.Prelude.{◌≡◌, ◌^◌, ◌≤◌, ◌<◌, ◌||◌, true, false, ℕ, List, length, map};
+ghost use Rattle.std.specs.Prelude.{drop, nat_lt, slice_index_or};
 ghost use Rattle.bw_lanes.specs.Lanes.{lanes_of_words};
 ghost use Rattle.bw_model.specs.Code.{span_at};
 ghost use Rattle.bw_model.specs.Groups.{group_size};

@@ -1,5 +1,6 @@
 //! The bytes of a segment, and the place of each column's block among them.
-ghost use Rattle.std.specs.Prelude.{◌≡◌, ◌&&◌, Bool, IfSome, IsTrue, ℕ, List, length, nat_le, slice_range, take};
+ghost use Rattle.std.specs.Prelude.{◌≡◌, ◌&&◌, Bool, IfSome, IsTrue, ℕ, List, length, nat_le};
+ghost use Rattle.std.specs.Prelude.{slice_range, take};
 ghost use Rattle.bw_io.specs.Shared.{bytes_in};
 
 use bw_io::SharedBytes;

@@ -1,7 +1,8 @@
 //! The bytes of one column's codes, from which both layouts are built, and codes made of bytes.
-ghost use Rattle.std.specs.Prelude.{◌≡◌, ◌<◌, ◌≤◌, ◌+◌, ◌*◌, ◌%◌, ◌^◌, ℕ, [], length, map, slice_index_or};
+ghost use Rattle.std.specs.Prelude.{◌≡◌, ◌<◌, ◌≤◌, ◌+◌, ◌*◌, ◌%◌, ◌^◌, ℕ, [], length, map};
+ghost use Rattle.std.specs.Prelude.{slice_index_or};
 ghost use lib.Lanes.{zip2};
-ghost use Rattle.bw_model.specs.Stored.{byte_of};
+ghost use Rattle.bw_model.specs.StoredCodes.{byte_of};
 
 use bw_lanes::LANES;
 

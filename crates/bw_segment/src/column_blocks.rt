@@ -17,7 +17,8 @@ pub struct ColumnBlocks {
 }
 
 impl ColumnBlocks {
-    ghost use Rattle.std.specs.Prelude.{◌≡◌, ◌+◌, ◌*◌, ◌≤◌, ◌++◌, [], IfSome, IsTrue, OnOk, IsOkUnless, drop, length, take};
+    ghost use Rattle.std.specs.Prelude.{◌≡◌, ◌+◌, ◌*◌, ◌≤◌, ◌++◌, [], IfSome, IsTrue, OnOk};
+    ghost use Rattle.std.specs.Prelude.{IsOkUnless, drop, length, take};
     ghost use Rattle.bw_model.specs.Fault.{no_memory};
     ghost use Rattle.bw_segment.specs.Fronts.{HasFronts};
 

@@ -1,9 +1,10 @@
 //! A law of groups: the content of their lanes.
 ghost use Rattle.std.specs.Prelude.{◌≡◌, ◌<◌, ℕ, Some, length, map};
 ghost use Rattle.bw_model.specs.Code.{width_at, slices_at, has_bit};
-ghost use Rattle.bw_model.specs.Stored.{byte_of};
+ghost use Rattle.bw_model.specs.StoredCodes.{byte_of};
 ghost use Rattle.bw_model.specs.Variable.{null_variable, bit_variable};
-ghost use Rattle.bw_segment.specs.Meaning.{Meaning, IsGroup, variable_lanes, byte_lanes, code_lanes, null_bits};
+ghost use Rattle.bw_segment.specs.Meaning.{Meaning, IsGroup, variable_lanes, byte_lanes};
+ghost use Rattle.bw_segment.specs.Meaning.{code_lanes, null_bits};
 
 /// A law: the bits and bytes in a group's lanes are those of its stored codes, and its nulls.
 pub fn lanes_hold_codes()

@@ -1,13 +1,15 @@
 //! How a layout packs the codes of one column of a segment.
-ghost use Rattle.std.specs.Prelude.{◌*◌, All, ◌≡◌, true, false, ◌==◌, ◌^◌, ◌<◌, ◌≤◌, ◌++◌, ℕ, length, map, max, min, nat_lt, not, slice_index, sum, IfSome, IsOkUnless, OnOk};
+ghost use Rattle.std.specs.Prelude.{◌*◌, All, ◌≡◌, true, false, ◌==◌, ◌^◌, ◌<◌, ◌≤◌, ◌++◌, ℕ};
+ghost use Rattle.std.specs.Prelude.{length, map, max, min, nat_lt, not, slice_index, sum, IfSome};
+ghost use Rattle.std.specs.Prelude.{IsOkUnless, OnOk};
 ghost use Rattle.std.specs.List.{list_any, reduce};
 ghost use Rattle.bw_lanes.specs.Lanes.{lanes_of_words};
 ghost use Rattle.bw_model.specs.Code.{has_bit};
 ghost use Rattle.bw_model.specs.Fault.{no_memory};
 ghost use Rattle.bw_model.specs.Selection.{selected_items};
-ghost use Rattle.bw_model.specs.Stored.{byte_of};
+ghost use Rattle.bw_model.specs.StoredCodes.{byte_of};
 ghost use Rattle.bw_segment.specs.Packing.{Packing, IsPacking};
-ghost use Rattle.bw_segment.specs.Picked.{is_beyond};
+ghost use Rattle.bw_segment.specs.Selected.{is_beyond};
 
 use bw_lanes::{LANES, Plane, Selection};
 use bw_model::Fault;

@@ -29,9 +29,8 @@ mod build;
 mod codes;
 mod column_blocks;
 mod columns;
-mod few;
+mod extremes;
 mod group;
-mod judge;
 mod lanes;
 mod layout;
 mod numbered_blocks;
@@ -40,6 +39,7 @@ mod packing;
 mod place;
 mod placement;
 mod segment;
+mod validation;
 mod values;
 
 pub use block::fault_of_lanes;

@@ -4,7 +4,7 @@ ghost use Rattle.bw_io.specs.Shared.{bytes_in};
 ghost use Rattle.bw_model.specs.Fault.{no_memory};
 ghost use Rattle.bw_model.specs.Groups.{group_size};
 ghost use Rattle.bw_segment.specs.BlockFault.{IsSound};
-ghost use Rattle.bw_segment.specs.ColumnBlocks.{KeepBlocks, segment_numbered};
+ghost use Rattle.bw_segment.specs.ColumnBlocks.{StoresBlocks, segment_numbered};
 ghost use Rattle.bw_segment.specs.Packing.{meaning_spelled};
 ghost use Rattle.bw_segment.specs.Packed.{IsPlaced};
 
@@ -28,7 +28,7 @@ pub fn no_blocks<L: CodeLayout>(
     placement: &Placement,
 ) -> Result<Vec<ColumnBlocks>, Fault>
     ensures keep { IfOk result
-        (λ kept. KeepBlocks L.packing placement.now.schema.columns.items 0 kept.items) }
+        (λ kept. StoresBlocks L.packing placement.now.schema.columns.items 0 kept.items) }
     ensures only_oom { IsOkUnless result no_memory }
 {
     let mut kept = Vec::with_capacity(alloc, placement.schema.columns.len())?;
@@ -48,14 +48,14 @@ pub fn push_blocks<L: CodeLayout>(
 ) -> Result<(), Fault>
     requires { length kept.old ≡ length segment.now.placement.value.schema.columns.items }
     ensures keep { OnOk result ((count : ℕ)
-        → KeepBlocks L.packing segment.now.placement.value.schema.columns.items count kept.old
-        → KeepBlocks L.packing segment.now.placement.value.schema.columns.items
+        → StoresBlocks L.packing segment.now.placement.value.schema.columns.items count kept.old
+        → StoresBlocks L.packing segment.now.placement.value.schema.columns.items
         (count + 1) kept.new) }
     ensures last { OnOk result ((count : ℕ)
-        → KeepBlocks L.packing segment.now.placement.value.schema.columns.items count kept.old
+        → StoresBlocks L.packing segment.now.placement.value.schema.columns.items count kept.old
         → segment_numbered kept.new count ≡ bytes_in segment.now.bytes) }
     ensures others { OnOk result ((count number : ℕ)
-        → KeepBlocks L.packing segment.now.placement.value.schema.columns.items count kept.old
+        → StoresBlocks L.packing segment.now.placement.value.schema.columns.items count kept.old
         → number < count → segment_numbered kept.new number ≡ segment_numbered kept.old number) }
     ensures only_oom { IsOkUnless result no_memory }
 {
@@ -107,7 +107,7 @@ impl<'a, L: CodeLayout> PackedSegment<L, NumberedBlocks<'a>> {
         requires nonempty { 1 ≤ rows }
         requires within_limit { rows ≤ group_size }
         requires kept { (count : ℕ) × (number < count)
-            × KeepBlocks L.packing placement.value.schema.columns.items count columns.now }
+            × StoresBlocks L.packing placement.value.schema.columns.items count columns.now }
         requires sound { IsSound L.packing placement.value.schema.columns.items rows
             (segment_numbered columns.now number) }
         ensures means { ⟦<PackedSegment<L, NumberedBlocks<'a>> as Segment>⟧.meaning result

@@ -3,11 +3,12 @@ ghost use Rattle.std.specs.Prelude.{◌≡◌, ◌≤◌, length};
 ghost use Rattle.bw_io.specs.Shared.{bytes_in};
 ghost use Rattle.bw_model.specs.Groups.{group_size};
 ghost use Rattle.bw_segment.specs.BlockFault.{IsSound};
-ghost use Rattle.bw_segment.specs.Packing.{block_size, meaning_spelled, segment_size, segment_bytes};
+ghost use Rattle.bw_segment.specs.Packing.{block_size, meaning_spelled, segment_size};
+ghost use Rattle.bw_segment.specs.Packing.{segment_bytes};
 ghost use Rattle.bw_segment.specs.Packed.{HoldBlocks, IsPacked, IsPlaced};
 
 use crate::blocks::Blocks;
-use crate::few::{are_few, greatest_in, least_in};
+use crate::extremes::{are_few, greatest_in, least_in};
 use crate::layout::CodeLayout;
 use crate::placement::Placement;
 use crate::segment::Segment;
@@ -45,7 +46,7 @@ impl<L: CodeLayout, B: Blocks> Segment for PackedSegment<L, B> {
         self.rows
     }
 
-    #[tactic(auto, unfolding(crate::specs::Picked::bit_lanes))]
+    #[tactic(auto, unfolding(crate::specs::Selected::bit_lanes))]
     #[inline(always)]
     fn bit(&self, col: usize, bit: u32) -> Plane {
         let (width, codes) = self.column_codes(col);
@@ -72,25 +73,25 @@ impl<L: CodeLayout, B: Blocks> Segment for PackedSegment<L, B> {
         L::byte_eq(width, codes, slice, c)
     }
 
-    #[tactic(auto, unfolding(crate::specs::Picked::codes_in))]
+    #[tactic(auto, unfolding(crate::specs::Selected::codes_in))]
     fn sum_of_codes(&self, col: usize, rows: &Selection) -> u128 {
         let (width, codes) = self.column_codes(col);
         L::sum(width, codes, rows)
     }
 
-    #[tactic(auto, unfolding(crate::specs::Picked::codes_in))]
+    #[tactic(auto, unfolding(crate::specs::Selected::codes_in))]
     fn min_code(&self, col: usize, rows: &Selection) -> Option<u64> {
         let (width, codes) = self.column_codes(col);
         least_in::<L>(width, codes, rows)
     }
 
-    #[tactic(auto, unfolding(crate::specs::Picked::codes_in))]
+    #[tactic(auto, unfolding(crate::specs::Selected::codes_in))]
     fn max_code(&self, col: usize, rows: &Selection) -> Option<u64> {
         let (width, codes) = self.column_codes(col);
         greatest_in::<L>(width, codes, rows)
     }
 
-    #[tactic(auto, unfolding(crate::specs::Picked::codes_in))]
+    #[tactic(auto, unfolding(crate::specs::Selected::codes_in))]
     fn none_beyond(&self, col: usize, rows: &Selection, other: u64, greatest: bool) -> bool {
         let (width, codes) = self.column_codes(col);
         are_few(rows) && L::none_beyond(width, codes, rows, other, greatest)

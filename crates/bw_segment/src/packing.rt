@@ -3,7 +3,9 @@ ghost use Rattle.std.specs.Prelude.{◌≡◌, ◌<◌, ◌≤◌, ◌^◌, ◌+
 ghost use Rattle.bw_model.specs.declared.column.Column.{Column};
 ghost use Rattle.bw_model.specs.Groups.{group_size};
 ghost use Rattle.bw_segment.specs.BlockFault.{block_fault, AreSound, IsSound};
-ghost use Rattle.bw_segment.specs.Packing.{Packing, IsPacking, block_size, bytes_before, segment_size, block_at, block_bytes, segment_bytes, rows_spelled};
+ghost use Rattle.bw_segment.specs.Packing.{Packing, IsPacking, block_size, bytes_before};
+ghost use Rattle.bw_segment.specs.Packing.{segment_size, block_at, block_bytes, segment_bytes};
+ghost use Rattle.bw_segment.specs.Packing.{rows_spelled};
 ghost use Rattle.bw_segment.specs.Meaning.{Meaning, IsGroup};
 
 /// A law: bytes whose blocks are valid are the bytes of the rows that they spell, which are a

@@ -1,13 +1,15 @@
 //! The queries of a segment, in either layout.
-ghost use Rattle.std.specs.Prelude.{◌≡◌, ◌^◌, ◌<◌, ◌≤◌, ◌==◌, length, map, max, min, nat_lt, slice_index_or, sum, [], IfSome, Some, true, false};
+ghost use Rattle.std.specs.Prelude.{◌≡◌, ◌^◌, ◌<◌, ◌≤◌, ◌==◌, length, map, max, min, nat_lt};
+ghost use Rattle.std.specs.Prelude.{slice_index_or, sum, [], IfSome, Some, true, false};
 ghost use Rattle.std.specs.List.{list_any, reduce};
 ghost use Rattle.bw_lanes.specs.Lanes.{lanes_of_words};
 ghost use Rattle.bw_model.specs.Code.{slices_at, width_at};
 ghost use Rattle.bw_model.specs.Groups.{group_size};
 ghost use Rattle.bw_model.specs.Row.{value_in};
 ghost use Rattle.bw_model.specs.Variable.{bit_variable, null_variable, variables_of};
-ghost use Rattle.bw_segment.specs.Meaning.{Meaning, IsGroup, variable_lanes, byte_lanes, code_lanes, null_bits};
-ghost use Rattle.bw_segment.specs.Picked.{bit_lanes, codes_in, is_beyond};
+ghost use Rattle.bw_segment.specs.Meaning.{Meaning, IsGroup, variable_lanes, byte_lanes};
+ghost use Rattle.bw_segment.specs.Meaning.{code_lanes, null_bits};
+ghost use Rattle.bw_segment.specs.Selected.{bit_lanes, codes_in, is_beyond};
 
 use bw_lanes::{LANES, Plane, Selection};
 use bw_model::{Schema, Value};

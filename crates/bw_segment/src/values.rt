@@ -1,5 +1,7 @@
 //! The values of a column in all 512 lanes of a group at once.
-ghost use Rattle.std.specs.Prelude.{◌≡◌, ◌==◌, ◌<◌, ◌≤◌, ◌^◌, ◌-◌, ◌+ℤ◌, ◌-ℤ◌, ◌<ℤ◌, ◌≤ℤ◌, ℕ, true, [], ◌++◌, Some, None, All, length, map, pos, replicate, slice_index, slice_index_or, unsigned_abs, if◌then◌else◌};
+ghost use Rattle.std.specs.Prelude.{◌≡◌, ◌==◌, ◌<◌, ◌≤◌, ◌^◌, ◌-◌, ◌+ℤ◌, ◌-ℤ◌, ◌<ℤ◌, ◌≤ℤ◌, ℕ, true};
+ghost use Rattle.std.specs.Prelude.{[], ◌++◌, Some, None, All, length, map, pos, replicate};
+ghost use Rattle.std.specs.Prelude.{slice_index, slice_index_or, unsigned_abs, if◌then◌else◌};
 ghost use Rattle.bw_lanes.specs.Lanes.{lanes_of_words};
 ghost use Rattle.bw_model.specs.Code.{span_of, value_of_code};
 ghost use Rattle.bw_model.specs.Row.{value_in};

@@ -1,51 +1,55 @@
--- The reader finds where a statement ends: what it knows of the last line of the bytes so far says whether the next one ends it.
-use Rattle.std.proofs.Common.{◌≡◌, refl, sym, ap, ◌∙◌, subst, ℕ, Bool, true, false, List, [], ◌∷◌, ◌++◌, arith}
+-- The reader finds the end of a statement: its state after the bytes so far decides whether the
+-- next one ends it.
+use Rattle.std.proofs.Common.{◌≡◌, refl, sym, ap, ◌∙◌, subst, ℕ, Bool, true, false, List, [], ◌∷◌}
+use Rattle.std.proofs.Common.{◌++◌, arith}
 use Rattle.std.proofs.lemmas.Bool.Decides.{nat_tests}
 use Rattle.std.specs.Prelude.{◌==◌, ◌&&◌, ◌||◌, not, if◌then◌else◌}
 use Rattle.std.specs.List.{list_all}
-use Rattle.bw_session.specs.declared.standing.Standing.{Standing}
-use Rattle.bw_session.specs.declared.standing.Standing.TheVariants.{Blank, Text, Dash, Comment, Ended}
-use Rattle.bw_session.specs.Standing.{after, is_ended, standing_after}
-use Rattle.bw_session.specs.Statements.{IsOpen, ends_statement, has_comment, is_blank, last_line, line_from}
+use Rattle.bw_session.specs.declared.statement_state.StatementState.{StatementState}
+use Rattle.bw_session.specs.declared.statement_state.StatementState.TheVariants.{Blank, Text, Dash}
+use Rattle.bw_session.specs.declared.statement_state.StatementState.TheVariants.{Comment, Ended}
+use Rattle.bw_session.specs.StatementState.{after, is_ended, statement_state_after}
+use Rattle.bw_session.specs.Statements.{IsOpen, ends_statement, has_comment, is_blank, last_line}
+use Rattle.bw_session.specs.Statements.{line_from}
 
 pub true_is_not_false : true ≡ false → ⊥
 true_is_not_false p = cc
 
-pub standing_after-snoc : (standing : Standing) (bytes : List ℕ) (byte : ℕ)
-    → standing_after standing (bytes ++ byte ∷ []) ≡ after (standing_after standing bytes) byte
-unfolding standing_after
-standing_after-snoc standing [] byte = refl
-standing_after-snoc standing (first ∷ rest) byte = standing_after-snoc (after standing first) rest byte
+pub statement_state_after-snoc : (standing : StatementState) (bytes : List ℕ) (byte : ℕ)
+    → statement_state_after standing (bytes ++ byte ∷ []) ≡ after (statement_state_after standing bytes) byte
+unfolding statement_state_after
+statement_state_after-snoc standing [] byte = refl
+statement_state_after-snoc standing (first ∷ rest) byte = statement_state_after-snoc (after standing first) rest byte
 
-standing_after-mid : (standing : Standing) (bytes : List ℕ) (byte : ℕ) (rest : List ℕ)
-    → standing_after standing (bytes ++ byte ∷ rest) ≡ standing_after (after (standing_after standing bytes) byte) rest
-unfolding standing_after
-standing_after-mid standing [] byte rest = refl
-standing_after-mid standing (first ∷ bytes) byte rest = standing_after-mid (after standing first) bytes byte rest
+statement_state_after-mid : (standing : StatementState) (bytes : List ℕ) (byte : ℕ) (rest : List ℕ)
+    → statement_state_after standing (bytes ++ byte ∷ rest) ≡ statement_state_after (after (statement_state_after standing bytes) byte) rest
+unfolding statement_state_after
+statement_state_after-mid standing [] byte rest = refl
+statement_state_after-mid standing (first ∷ bytes) byte rest = statement_state_after-mid (after standing first) bytes byte rest
 
 -- what has ended has ended for good
-not_before : (standing : Standing) (byte : ℕ) → is_ended (after standing byte) ≡ false → is_ended standing ≡ false
+not_before : (standing : StatementState) (byte : ℕ) → is_ended (after standing byte) ≡ false → is_ended standing ≡ false
 not_before Blank byte goes = refl
 not_before Text byte goes = refl
 not_before Dash byte goes = refl
 not_before Comment byte goes = refl
 not_before Ended byte goes = goes
 
-not_before_all : (standing : Standing) (bytes : List ℕ) → is_ended (standing_after standing bytes) ≡ false
+not_before_all : (standing : StatementState) (bytes : List ℕ) → is_ended (statement_state_after standing bytes) ≡ false
     → is_ended standing ≡ false
-unfolding standing_after
+unfolding statement_state_after
 not_before_all standing [] goes = goes
 not_before_all standing (byte ∷ rest) goes = not_before standing byte (not_before_all (after standing byte) rest goes)
 
-abbrev is_at_blank : Standing → Bool
+abbrev is_at_blank : StatementState → Bool
 is_at_blank Blank = true
 is_at_blank _ = false
 
-abbrev is_in_comment : Standing → Bool
+abbrev is_in_comment : StatementState → Bool
 is_in_comment Comment = true
 is_in_comment _ = false
 
-abbrev is_at_dash : Standing → Bool
+abbrev is_at_dash : StatementState → Bool
 is_at_dash Dash = true
 is_at_dash _ = false
 
@@ -54,8 +58,9 @@ ends_in_dash [] = false
 ends_in_dash (byte ∷ []) = byte == 45
 ends_in_dash (first ∷ second ∷ rest) = ends_in_dash (second ∷ rest)
 
--- a standing says of the last line whether it's blank, has a comment, and ends in a dash that may begin one
-record Tracks (line : List ℕ) (standing : Standing) : Type 0 where
+-- a state says of the last line whether it's blank, has a comment, and ends in a dash that may
+-- begin one
+record Tracks (line : List ℕ) (standing : StatementState) : Type 0 where
   blank : list_all is_blank line ≡ is_at_blank standing
   comment : has_comment line ≡ is_in_comment standing
   dash : is_in_comment standing ≡ false → ends_in_dash line ≡ is_at_dash standing
@@ -94,14 +99,15 @@ comment-snoc (first ∷ second ∷ rest) byte =
     by_test true x y z e = refl
     by_test false x y z e = e
 
--- where a text goes on, by whether its next byte is an LF, a ; or a dash, and in a blank line by whether it is blank, too
-abbrev text_on : Bool → Bool → Bool → Standing
+-- if a text continues, by whether its next byte is an LF, a ; or a dash, and in a blank line by
+-- whether it is blank, too
+abbrev text_on : Bool → Bool → Bool → StatementState
 text_on lf end dash = if lf then Blank else if end then Ended else if dash then Dash else Text
 
-abbrev blank_on : Bool → Bool → Bool → Bool → Standing
+abbrev blank_on : Bool → Bool → Bool → Bool → StatementState
 blank_on lf blank end dash = if lf then Ended else if blank then Blank else text_on lf end dash
 
-abbrev dash_on : Bool → Bool → Bool → Standing
+abbrev dash_on : Bool → Bool → Bool → StatementState
 dash_on lf end dash = if dash then Comment else text_on lf end dash
 
 -- no byte is two of these
@@ -121,7 +127,7 @@ dash_no_end : (byte : ℕ) → (byte == 45) ≡ true → (byte == 59) ≡ false
 dash_no_end byte e = grind (arith, nat_tests)
 
 -- what a standing says after one more byte of the line
-abbrev Says : (blank comment dash : Bool) → Standing → Type 0
+abbrev Says : (blank comment dash : Bool) → StatementState → Type 0
 Says blank comment dash now =
     (blank ≡ is_at_blank now) × (comment ≡ is_in_comment now) × (is_in_comment now ≡ false → dash ≡ is_at_dash now)
 
@@ -143,7 +149,7 @@ at_dash true false goes = absurd (true_is_not_false goes)
 at_dash false false goes = (refl, refl, λ _. refl)
 
 -- a line that isn't in a comment gets one more byte
-grows : (line : List ℕ) (byte : ℕ) (standing now : Standing) → Tracks line standing → is_in_comment standing ≡ false
+grows : (line : List ℕ) (byte : ℕ) (standing now : StatementState) → Tracks line standing → is_in_comment standing ≡ false
     → Says (is_at_blank standing && is_blank byte) (is_at_dash standing && (byte == 45)) (byte == 45) now
     → Tracks (line ++ byte ∷ []) now
 grows line byte standing now tracks outside says = record {
@@ -153,7 +159,7 @@ grows line byte standing now tracks outside says = record {
   dash = λ comment. ends-snoc line byte ∙ says.2 comment;
 }
 
-step : (line : List ℕ) (byte : ℕ) (standing : Standing) → Tracks line standing → (byte == 10) ≡ false
+step : (line : List ℕ) (byte : ℕ) (standing : StatementState) → Tracks line standing → (byte == 10) ≡ false
     → is_ended (after standing byte) ≡ false → Tracks (line ++ byte ∷ []) (after standing byte)
 step line byte Blank tracks inside goes =
     let goes : is_ended (blank_on false (is_blank byte) (byte == 59) (byte == 45)) ≡ false = rw inside at goes in
@@ -172,7 +178,7 @@ step line byte Comment tracks inside goes = rw inside (record {
 step line byte Ended tracks inside goes = absurd (true_is_not_false goes)
 
 -- an LF that ends no statement begins a blank line
-after_lf : (standing : Standing) (byte : ℕ) → (byte == 10) ≡ true → is_ended (after standing byte) ≡ false
+after_lf : (standing : StatementState) (byte : ℕ) → (byte == 10) ≡ true → is_ended (after standing byte) ≡ false
     → after standing byte ≡ Blank
 after_lf Blank byte lf goes = absurd (true_is_not_false (rw lf at goes))
 after_lf Text byte lf goes = rw lf refl
@@ -184,9 +190,9 @@ begins : Tracks [] Blank
 unfolding has_comment
 begins = record { blank = refl; comment = refl; dash = λ _. refl }
 
-tracks_all : (line : List ℕ) (standing : Standing) (text : List ℕ) → Tracks line standing
-    → is_ended (standing_after standing text) ≡ false → Tracks (line_from line text) (standing_after standing text)
-unfolding standing_after line_from
+tracks_all : (line : List ℕ) (standing : StatementState) (text : List ℕ) → Tracks line standing
+    → is_ended (statement_state_after standing text) ≡ false → Tracks (line_from line text) (statement_state_after standing text)
+unfolding statement_state_after line_from
 tracks_all line standing [] tracks goes = tracks
 tracks_all line standing (byte ∷ rest) tracks goes =
     by_test (byte == 10) refl (λ line standing. tracks_all line standing rest)
@@ -194,9 +200,9 @@ tracks_all line standing (byte ∷ rest) tracks goes =
     next : is_ended (after standing byte) ≡ false
     next = not_before_all (after standing byte) rest goes
 
-    by_test : (lf : Bool) → (byte == 10) ≡ lf → ((line : List ℕ) (standing : Standing) → Tracks line standing
-        → is_ended (standing_after standing rest) ≡ false → Tracks (line_from line rest) (standing_after standing rest))
-        → Tracks (if lf then line_from [] rest else line_from (line ++ byte ∷ []) rest) (standing_after (after standing byte) rest)
+    by_test : (lf : Bool) → (byte == 10) ≡ lf → ((line : List ℕ) (standing : StatementState) → Tracks line standing
+        → is_ended (statement_state_after standing rest) ≡ false → Tracks (line_from line rest) (statement_state_after standing rest))
+        → Tracks (if lf then line_from [] rest else line_from (line ++ byte ∷ []) rest) (statement_state_after (after standing byte) rest)
     by_test true lf all =
         let blank : Blank ≡ after standing byte = sym (after_lf standing byte lf next) in
         all [] (after standing byte) (subst (Tracks []) blank begins) goes
@@ -233,7 +239,7 @@ ends_at_comment true false = refl
 ends_at_comment false true = refl
 ends_at_comment false false = refl
 
-ends_by : (standing : Standing) (byte : ℕ) → is_ended standing ≡ false
+ends_by : (standing : StatementState) (byte : ℕ) → is_ended standing ≡ false
     → (((byte == 59) && not (is_in_comment standing)) || ((byte == 10) && is_at_blank standing)) ≡ is_ended (after standing byte)
 ends_by Blank byte goes = ends_at_blank (byte == 10) (is_blank byte) (byte == 59) (byte == 45) (lf_no_end byte) (blank_no_end byte)
 ends_by Text byte goes = ends_at_text (byte == 10) (byte == 59) (byte == 45) (lf_no_end byte)
@@ -241,26 +247,26 @@ ends_by Dash byte goes = ends_at_dash (byte == 10) (byte == 59) (byte == 45) (lf
 ends_by Comment byte goes = ends_at_comment (byte == 10) (byte == 59)
 ends_by Ended byte goes = absurd (true_is_not_false goes)
 
--- the next byte ends the statement just where the reader's standing says so
-ends_as_read : (front : List ℕ) (byte : ℕ) → is_ended (standing_after Blank front) ≡ false
-    → ends_statement front byte ≡ is_ended (after (standing_after Blank front) byte)
+-- the next byte ends the statement if and only if the reader's state says so
+ends_as_read : (front : List ℕ) (byte : ℕ) → is_ended (statement_state_after Blank front) ≡ false
+    → ends_statement front byte ≡ is_ended (after (statement_state_after Blank front) byte)
 ends_as_read front byte goes =
-    let tracks : Tracks (last_line front) (standing_after Blank front) = tracks_all [] Blank front begins goes in
+    let tracks : Tracks (last_line front) (statement_state_after Blank front) = tracks_all [] Blank front begins goes in
     ap (λ c. ((byte == 59) && not c) || ((byte == 10) && list_all is_blank (last_line front))) tracks.comment
-    ∙ ap (λ b. ((byte == 59) && not (is_in_comment (standing_after Blank front))) || ((byte == 10) && b)) tracks.blank
-    ∙ ends_by (standing_after Blank front) byte goes
+    ∙ ap (λ b. ((byte == 59) && not (is_in_comment (statement_state_after Blank front))) || ((byte == 10) && b)) tracks.blank
+    ∙ ends_by (statement_state_after Blank front) byte goes
 
-pub opened : (bytes : List ℕ) → is_ended (standing_after Blank bytes) ≡ false → IsOpen bytes
+pub opened : (bytes : List ℕ) → is_ended (statement_state_after Blank bytes) ≡ false → IsOpen bytes
 opened bytes goes front rest byte cut =
-    let whole : is_ended (standing_after (after (standing_after Blank front) byte) rest) ≡ false =
-    ap is_ended (sym (ap (standing_after Blank) cut ∙ standing_after-mid Blank front byte rest)) ∙ goes in
-    let next : is_ended (after (standing_after Blank front) byte) ≡ false = not_before_all _ rest whole in
-    ends_as_read front byte (not_before (standing_after Blank front) byte next) ∙ next
+    let whole : is_ended (statement_state_after (after (statement_state_after Blank front) byte) rest) ≡ false =
+    ap is_ended (sym (ap (statement_state_after Blank) cut ∙ statement_state_after-mid Blank front byte rest)) ∙ goes in
+    let next : is_ended (after (statement_state_after Blank front) byte) ≡ false = not_before_all _ rest whole in
+    ends_as_read front byte (not_before (statement_state_after Blank front) byte next) ∙ next
 
-pub ended_by : (front : List ℕ) (byte : ℕ) → is_ended (standing_after Blank front) ≡ false
-    → is_ended (after (standing_after Blank front) byte) ≡ true → ends_statement front byte ≡ true
+pub ended_by : (front : List ℕ) (byte : ℕ) → is_ended (statement_state_after Blank front) ≡ false
+    → is_ended (after (statement_state_after Blank front) byte) ≡ true → ends_statement front byte ≡ true
 ended_by front byte goes ended = ends_as_read front byte goes ∙ ended
 
 pub none_opened : IsOpen []
-unfolding standing_after
+unfolding statement_state_after
 none_opened = opened [] refl

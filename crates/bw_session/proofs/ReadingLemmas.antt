@@ -1,22 +1,26 @@
 -- One more byte of a statement.
-use Rattle.std.proofs.Common.{◌≡◌, refl, sym, ap, ◌∙◌, subst, ℕ, ◌+◌, ◌≤◌, ◌<◌, Bool, true, false, List, [], ◌∷◌, ◌++◌, Option, None, Some, Result, Ok, Err, length, take, arith, append-nil, length-append, length-take, take_all}
+use Rattle.std.proofs.Common.{◌≡◌, refl, sym, ap, ◌∙◌, subst, ℕ, ◌+◌, ◌≤◌, ◌<◌, Bool, true, false}
+use Rattle.std.proofs.Common.{List, [], ◌∷◌, ◌++◌, Option, None, Some, Result, Ok, Err, length}
+use Rattle.std.proofs.Common.{take, arith, append-nil, length-append, length-take, take_all}
 use Rattle.std.proofs.lemmas.List.{take-append-le}
 use Rattle.std.proofs.lemmas.Bool.{ltb-true, ltb-false}
 use Rattle.std.proofs.KnownBytes.{Consumes-nil, Consumes-trans}
 use Rattle.std.specs.Io.KnownBytes.{Keeps}
 use Rattle.std.specs.Prelude.{IfErr, ltb, if◌then◌else◌}
 use Rattle.std.specs.Io.KnownBytes.{Consumes, IsAtEnd}
-use Rattle.bw_session.specs.declared.standing.Standing.{Standing}
-use Rattle.bw_session.specs.declared.standing.Standing.TheVariants.{Blank}
-use Rattle.bw_session.specs.Standing.{after, is_ended, standing_after}
+use Rattle.bw_session.specs.declared.statement_state.StatementState.{StatementState}
+use Rattle.bw_session.specs.declared.statement_state.StatementState.TheVariants.{Blank}
+use Rattle.bw_session.specs.StatementState.{after, is_ended, statement_state_after}
 use Rattle.bw_session.specs.Statements.{IsOpen}
-use Rattle.bw_session.proofs.CutLemmas.{ended_by, opened, standing_after-snoc, true_is_not_false}
-use Rattle.bw_session.specs.Reading.{Reads, TookBeginning, TookStatement, most_kept, with_byte}
+use Rattle.bw_session.proofs.CutLemmas.{ended_by, opened, statement_state_after-snoc}
+use Rattle.bw_session.proofs.CutLemmas.{true_is_not_false}
+use Rattle.bw_session.specs.Reading.{Reads, HasReadBeginning, HasReadStatement, most_stored}
+use Rattle.bw_session.specs.Reading.{with_byte}
 
 no_bool : {A : Type 0} → true ≡ false → A
 no_bool p = absurd (true_is_not_false p)
 
--- what is kept of bytes, where another comes
+-- the stored bytes, if one more is read
 kept_or_all : (most : ℕ) (bytes : List ℕ) (byte : ℕ) (fits : Bool) → ltb (length (take most bytes)) most ≡ fits
     → (if fits then take most bytes ++ byte ∷ [] else take most bytes) ≡ take most (bytes ++ byte ∷ [])
 kept_or_all most bytes byte true fits =
@@ -30,16 +34,16 @@ kept_or_all most bytes byte false full =
     let many : most ≤ length bytes = omega (arith, simp length-take at long) in
     sym (take-append-le most bytes (byte ∷ []) many)
 
-pub kept_more : (bytes : List ℕ) (byte : ℕ) → with_byte (take most_kept bytes) byte ≡ take most_kept (bytes ++ byte ∷ [])
-kept_more bytes byte = kept_or_all most_kept bytes byte _ refl
+pub kept_more : (bytes : List ℕ) (byte : ℕ) → with_byte (take most_stored bytes) byte ≡ take most_stored (bytes ++ byte ∷ [])
+kept_more bytes byte = kept_or_all most_stored bytes byte _ refl
 
-is_open : (old now : Option (List ℕ)) (statement : List ℕ) (standing : Standing) → (so_far : Reads old now statement standing)
-    → is_ended (standing_after Blank so_far.bytes) ≡ false
+is_open : (old now : Option (List ℕ)) (statement : List ℕ) (standing : StatementState) → (so_far : Reads old now statement standing)
+    → is_ended (statement_state_after Blank so_far.bytes) ≡ false
 is_open old now statement standing so_far = ap is_ended so_far.stands ∙ so_far.opened
 
 -- nothing came yet
 pub begun : (known : Option (List ℕ)) (statement : List ℕ) → statement ≡ [] → Reads known known statement Blank
-unfolding standing_after
+unfolding statement_state_after
 begun known statement none = record {
   bytes = [];
   came = Consumes-nil known;
@@ -49,21 +53,21 @@ begun known statement none = record {
 }
 
 -- a byte came, and no statement ended with it
-pub more : (old before now : Option (List ℕ)) (statement : List ℕ) (standing : Standing) (byte : ℕ)
+pub more : (old before now : Option (List ℕ)) (statement : List ℕ) (standing : StatementState) (byte : ℕ)
     → Reads old before statement standing → Consumes before now (byte ∷ []) → is_ended (after standing byte) ≡ false
     → Reads old now (with_byte statement byte) (after standing byte)
 more old before now statement standing byte so_far came goes_on = record {
   bytes = so_far.bytes ++ byte ∷ [];
   came = Consumes-trans old before now so_far.bytes (byte ∷ []) so_far.came came;
   kept = ap (λ kept. with_byte kept byte) so_far.kept ∙ kept_more so_far.bytes byte;
-  stands = standing_after-snoc Blank so_far.bytes byte ∙ ap (λ now. after now byte) so_far.stands;
+  stands = statement_state_after-snoc Blank so_far.bytes byte ∙ ap (λ now. after now byte) so_far.stands;
   opened = goes_on;
 }
 
 -- a byte came, and the statement ended with it
-pub whole : (old before now : Option (List ℕ)) (statement : List ℕ) (standing : Standing) (byte : ℕ)
+pub whole : (old before now : Option (List ℕ)) (statement : List ℕ) (standing : StatementState) (byte : ℕ)
     → Reads old before statement standing → Consumes before now (byte ∷ []) → is_ended (after standing byte) ≡ true
-    → TookStatement old now (with_byte statement byte) true
+    → HasReadStatement old now (with_byte statement byte) true
 whole old before now statement standing byte so_far came end = record {
   bytes = so_far.bytes ++ byte ∷ [];
   came = Consumes-trans old before now so_far.bytes (byte ∷ []) so_far.came came;
@@ -80,13 +84,13 @@ whole old before now statement standing byte so_far came end = record {
 }
 
 -- the source ended
-pub ended : (old before now : Option (List ℕ)) (statement : List ℕ) (standing : Standing)
+pub ended : (old before now : Option (List ℕ)) (statement : List ℕ) (standing : StatementState)
     → Reads old before statement standing → Consumes before now [] → IsAtEnd now
-    → TookStatement old now statement false
+    → HasReadStatement old now statement false
 ended old before now statement standing so_far came end = record {
   bytes = so_far.bytes ++ [];
   came = Consumes-trans old before now so_far.bytes [] so_far.came came;
-  kept = so_far.kept ∙ ap (take most_kept) (sym (append-nil so_far.bytes));
+  kept = so_far.kept ∙ ap (take most_stored) (sym (append-nil so_far.bytes));
   whole = λ (p : false ≡ true). no_bool (sym p);
   last = λ _. subst IsOpen (sym (append-nil so_far.bytes)) (opened so_far.bytes (is_open _ _ _ _ so_far));
   end = λ _. end;
@@ -99,8 +103,8 @@ keeps_as_none (Some bytes) None kept = absurd kept
 keeps_as_none (Some bytes) (Some others) kept = sym kept
 
 -- no more of a statement came
-pub no_more : (old before now : Option (List ℕ)) (statement : List ℕ) (standing : Standing)
-    → Reads old before statement standing → Consumes before now [] → TookBeginning old now
+pub no_more : (old before now : Option (List ℕ)) (statement : List ℕ) (standing : StatementState)
+    → Reads old before statement standing → Consumes before now [] → HasReadBeginning old now
 no_more old before now statement standing so_far same = record {
   bytes = so_far.bytes ++ [];
   came = Consumes-trans old before now so_far.bytes [] so_far.came same;
@@ -114,14 +118,14 @@ no_more old before now statement standing so_far same = record {
 }
 
 -- a read failed
-pub unread : (old before now : Option (List ℕ)) (statement : List ℕ) (standing : Standing)
-    → Reads old before statement standing → Keeps before now → TookBeginning old now
+pub unread : (old before now : Option (List ℕ)) (statement : List ℕ) (standing : StatementState)
+    → Reads old before statement standing → Keeps before now → HasReadBeginning old now
 unread old before now statement standing so_far kept =
     no_more old before now statement standing so_far (keeps_as_none before now kept)
 
 -- one byte more came, and no more
-pub one_more : (old before now : Option (List ℕ)) (statement : List ℕ) (standing : Standing) (byte : ℕ)
-    → Reads old before statement standing → Consumes before now (byte ∷ []) → TookBeginning old now
+pub one_more : (old before now : Option (List ℕ)) (statement : List ℕ) (standing : StatementState) (byte : ℕ)
+    → Reads old before statement standing → Consumes before now (byte ∷ []) → HasReadBeginning old now
 one_more old before now statement standing byte so_far came = record {
   bytes = so_far.bytes ++ byte ∷ [];
   came = Consumes-trans old before now so_far.bytes (byte ∷ []) so_far.came came;
@@ -134,7 +138,7 @@ one_more old before now statement standing byte so_far came = record {
   };
 }
 
--- what holds in any case holds of a fault
+-- what holds in any case holds of an error
 pub of_any : {A E : Type 0} (P : Type 0) (result : Result A E) → P → IfErr result (λ fault. P)
 of_any P (Ok x) holds = tt
 of_any P (Err fault) holds = holds

@@ -1,5 +1,7 @@
 -- One statement more of a session, and how it ends.
-use Rattle.std.proofs.Common.{◌≡◌, refl, sym, ap, ◌∙◌, subst, ℕ, ◌+◌, Bool, true, false, List, [], ◌++◌, Option, None, length, arith, append-nil, length-append, IsTrue, inl, inr}
+use Rattle.std.proofs.Common.{◌≡◌, refl, sym, ap, ◌∙◌, subst, ℕ, ◌+◌, Bool, true, false, List, []}
+use Rattle.std.proofs.Common.{◌++◌, Option, None, length, arith, append-nil, length-append, IsTrue}
+use Rattle.std.proofs.Common.{inl, inr}
 use Rattle.std.proofs.Math.Seq.{take-append-add}
 use Rattle.std.proofs.KnownBytes.{Appends-nil, Appends-trans, Consumes-nil, Consumes-trans}
 use Rattle.std.specs.Io.KnownBytes.{Appends, Consumes}
@@ -11,9 +13,12 @@ use Rattle.bw_model.specs.Row.{Value}
 use Rattle.bw_io.specs.Sink.{TookPart, is_write_fault}
 use Rattle.bw_io.specs.Source.{failed_reads, is_input_fault}
 use Rattle.bw_io.proofs.SinkLemmas.{no_write_fault}
-use Rattle.bw_session.specs.Reading.{TookBeginning, TookStatement}
+use Rattle.bw_session.specs.Reading.{HasReadBeginning, HasReadStatement}
 use Rattle.std.specs.Prelude.{if◌then◌else◌}
-use Rattle.bw_session.specs.Session.{CameWhole, Ended, IsOutput, SoFar, Stopped, WroteOutput, WrotePart, begun, failed_writes, first_of, more, reading, whole, writing}
+use Rattle.bw_session.specs.Session.{IsComplete, Ended, IsOutput, RanSoFar, IsStopped}
+use Rattle.bw_session.specs.Session.{HasWrittenOutput, HasWrittenPart, begun, failed_writes}
+use Rattle.bw_session.specs.Session.{first_of, more}
+use Rattle.bw_session.specs.Session.{reading, whole, writing}
 use Rattle.bw_session.proofs.CutLemmas.{none_opened}
 use Rattle.bw_session.proofs.KeptLemmas.{kept_output}
 
@@ -21,7 +26,7 @@ true_is_not_false : true ≡ false → ⊥
 true_is_not_false p = cc
 
 pub begins : (schema : Schema) (rows : List (List Value)) (known taken : Option (List ℕ))
-    → SoFar schema rows known known taken taken None
+    → RanSoFar schema rows known known taken taken None
 begins schema rows known taken = record {
   text = [];
   output = [];
@@ -32,15 +37,15 @@ begins schema rows known taken = record {
 
 -- what a statement's kept bytes are answered by, all its bytes are
 of_all : (schema : Schema) (rows : List (List Value)) (old new : Option (List ℕ)) (statement : List ℕ) (goes_on : Bool)
-    (fault : Option Fault) (out : List ℕ) → (took : TookStatement old new statement goes_on)
+    (fault : Option Fault) (out : List ℕ) → (took : HasReadStatement old new statement goes_on)
     → IsOutput schema rows statement fault out → IsOutput schema rows took.bytes fault out
 of_all schema rows old new statement goes_on fault out took is =
     kept_output schema rows took.bytes fault out (subst (λ kept. IsOutput schema rows kept fault out) took.kept is)
 
 pub goes_on : (schema : Schema) (rows : List (List Value)) (old before now taken_old taken_before taken_now : Option (List ℕ))
-    (statement : List ℕ) (first fault : Option Fault) → SoFar schema rows old before taken_old taken_before first
-    → TookStatement before now statement true → WroteOutput schema rows statement taken_before taken_now fault
-    → SoFar schema rows old now taken_old taken_now (first_of first fault)
+    (statement : List ℕ) (first fault : Option Fault) → RanSoFar schema rows old before taken_old taken_before first
+    → HasReadStatement before now statement true → HasWrittenOutput schema rows statement taken_before taken_now fault
+    → RanSoFar schema rows old now taken_old taken_now (first_of first fault)
 goes_on schema rows old before now taken_old taken_before taken_now statement first fault so_far took wrote = record {
   text = so_far.text ++ took.bytes;
   output = so_far.output ++ wrote.out;
@@ -51,8 +56,8 @@ goes_on schema rows old before now taken_old taken_before taken_now statement fi
 }
 
 pub ends : (schema : Schema) (rows : List (List Value)) (old before now taken_old taken_before taken_now : Option (List ℕ))
-    (statement : List ℕ) (first fault : Option Fault) → SoFar schema rows old before taken_old taken_before first
-    → TookStatement before now statement false → WroteOutput schema rows statement taken_before taken_now fault
+    (statement : List ℕ) (first fault : Option Fault) → RanSoFar schema rows old before taken_old taken_before first
+    → HasReadStatement before now statement false → HasWrittenOutput schema rows statement taken_before taken_now fault
     → Ended schema rows old now taken_old taken_now (first_of first fault)
 ends schema rows old before now taken_old taken_before taken_now statement first fault so_far took wrote = record {
   text = so_far.text ++ took.bytes;
@@ -66,27 +71,27 @@ ends schema rows old before now taken_old taken_before taken_now statement first
 
 -- it ended before the next statement had come
 pub stops : (schema : Schema) (rows : List (List Value)) (old now taken_old taken_now : Option (List ℕ))
-    (first : Option Fault) (fault : Fault) → SoFar schema rows old now taken_old taken_now first
-    → IsTrue (is_input_fault fault) → Stopped schema rows old now taken_old taken_now fault
+    (first : Option Fault) (fault : Fault) → RanSoFar schema rows old now taken_old taken_now first
+    → IsTrue (is_input_fault fault) → IsStopped schema rows old now taken_old taken_now fault
 stops schema rows old now taken_old taken_now first fault so_far input =
     reading so_far.text [] so_far.output input so_far.answered (subst (Consumes old now) (sym (append-nil so_far.text)) so_far.came)
     (record { front = []; rest = []; is = refl; short = omega arith; opened = none_opened }) so_far.went
 
 -- it ended while the next statement came
 pub stops_reading : (schema : Schema) (rows : List (List Value)) (old before now taken_old taken_now : Option (List ℕ))
-    (first : Option Fault) (fault : Fault) → SoFar schema rows old before taken_old taken_now first
-    → IsTrue (is_input_fault fault) → TookBeginning before now → Stopped schema rows old now taken_old taken_now fault
+    (first : Option Fault) (fault : Fault) → RanSoFar schema rows old before taken_old taken_now first
+    → IsTrue (is_input_fault fault) → HasReadBeginning before now → IsStopped schema rows old now taken_old taken_now fault
 stops_reading schema rows old before now taken_old taken_now first fault so_far input took =
     reading so_far.text took.bytes so_far.output input so_far.answered
     (Consumes-trans old before now so_far.text took.bytes so_far.came took.came) took.begun so_far.went
 
 -- what came is a statement, with what ends it or up to the end of the source
-came_whole : (old new : Option (List ℕ)) (statement : List ℕ) (goes_on : Bool) → (took : TookStatement old new statement goes_on)
-    → CameWhole new took.bytes
+came_whole : (old new : Option (List ℕ)) (statement : List ℕ) (goes_on : Bool) → (took : HasReadStatement old new statement goes_on)
+    → IsComplete new took.bytes
 came_whole old new statement true took = inl (took.whole refl)
 came_whole old new statement false took = inr (took.last refl, took.end refl)
 
--- a text went out, and then a part of what follows it
+-- a text was written, and then a part of what follows it
 part_after : (old mid new : Option (List ℕ)) (text rest : List ℕ) → Appends old mid text → TookPart mid new rest
     → TookPart old new (text ++ rest)
 part_after old mid new text rest went part = (
@@ -98,11 +103,11 @@ part_after old mid new text rest went part = (
 -- it ended by a failed write
 pub stops_writing : (schema : Schema) (rows : List (List Value)) (old before now taken_old taken_before taken_now : Option (List ℕ))
     (statement sql : List ℕ) (goes : Bool) (first : Option Fault) (fault : Fault)
-    → SoFar schema rows old before taken_old taken_before first → TookStatement before now statement goes
-    → WrotePart schema rows sql taken_before taken_now → sql ≡ statement → fault ≡ nowhere WRITE_FAILED
-    → Stopped schema rows old now taken_old taken_now fault
+    → RanSoFar schema rows old before taken_old taken_before first → HasReadStatement before now statement goes
+    → HasWrittenPart schema rows sql taken_before taken_now → sql ≡ statement → fault ≡ nowhere WRITE_FAILED
+    → IsStopped schema rows old now taken_old taken_now fault
 stops_writing schema rows old before now taken_old taken_before taken_now statement sql goes first fault so_far took wrote same failed =
-    subst (Stopped schema rows old now taken_old taken_now) (sym failed)
+    subst (IsStopped schema rows old now taken_old taken_now) (sym failed)
     (writing so_far.text took.bytes so_far.output wrote.out so_far.answered
     (Consumes-trans old before now so_far.text took.bytes so_far.came took.came)
     (came_whole before now statement goes took)
@@ -113,27 +118,27 @@ stops_writing schema rows old before now taken_old taken_before taken_now statem
 -- what is read and written once more, as the loop has it
 pub goes_on_as : (schema : Schema) (rows : List (List Value)) (old before now taken_old taken_before taken_now : Option (List ℕ))
     (statement sql : List ℕ) (first fault result : Option Fault) (goes : Bool)
-    → SoFar schema rows old before taken_old taken_before first → TookStatement before now statement goes → goes ≡ true
-    → WroteOutput schema rows sql taken_before taken_now fault → sql ≡ statement → result ≡ first_of first fault
-    → SoFar schema rows old now taken_old taken_now result
+    → RanSoFar schema rows old before taken_old taken_before first → HasReadStatement before now statement goes → goes ≡ true
+    → HasWrittenOutput schema rows sql taken_before taken_now fault → sql ≡ statement → result ≡ first_of first fault
+    → RanSoFar schema rows old now taken_old taken_now result
 goes_on_as schema rows old before now taken_old taken_before taken_now statement sql first fault result goes so_far took on wrote same is =
-    subst (SoFar schema rows old now taken_old taken_now) (sym is)
+    subst (RanSoFar schema rows old now taken_old taken_now) (sym is)
     (goes_on schema rows old before now taken_old taken_before taken_now statement first fault so_far
-    (subst (TookStatement before now statement) on took)
-    (subst (λ text. WroteOutput schema rows text taken_before taken_now fault) same wrote))
+    (subst (HasReadStatement before now statement) on took)
+    (subst (λ text. HasWrittenOutput schema rows text taken_before taken_now fault) same wrote))
 
 pub ends_as : (schema : Schema) (rows : List (List Value)) (old before now taken_old taken_before taken_now : Option (List ℕ))
     (statement sql : List ℕ) (first fault result : Option Fault) (goes : Bool)
-    → SoFar schema rows old before taken_old taken_before first → TookStatement before now statement goes → goes ≡ false
-    → WroteOutput schema rows sql taken_before taken_now fault → sql ≡ statement → result ≡ first_of first fault
+    → RanSoFar schema rows old before taken_old taken_before first → HasReadStatement before now statement goes → goes ≡ false
+    → HasWrittenOutput schema rows sql taken_before taken_now fault → sql ≡ statement → result ≡ first_of first fault
     → Ended schema rows old now taken_old taken_now result
 ends_as schema rows old before now taken_old taken_before taken_now statement sql first fault result goes so_far took off wrote same is =
     subst (Ended schema rows old now taken_old taken_now) (sym is)
     (ends schema rows old before now taken_old taken_before taken_now statement first fault so_far
-    (subst (TookStatement before now statement) off took)
-    (subst (λ text. WroteOutput schema rows text taken_before taken_now fault) same wrote))
+    (subst (HasReadStatement before now statement) off took)
+    (subst (λ text. HasWrittenOutput schema rows text taken_before taken_now fault) same wrote))
 
--- a fault that isn't that of a failed write counts for none
+-- an error that isn't that of a failed write counts for none
 pub no_writes : (fault : Fault) (before after : ℕ) → is_write_fault fault ≡ false → after ≡ before
     → after ≡ before + failed_writes fault
 no_writes fault before after other same =
@@ -151,6 +156,6 @@ no_reads fault before after failed same =
     let none : failed_reads fault ≡ 0 = ap failed_reads failed in
     omega (arith, same, none)
 
--- a fault of an input is no failed write
+-- an error of an input is no failed write
 pub input_alone : (fault : Fault) → IsTrue (is_input_fault fault) → is_write_fault fault ≡ false
 input_alone fault input = no_write_fault is_input_fault fault input refl

@@ -1,5 +1,7 @@
--- What goes out for one statement: an answer or nothing, and then an LF.
-use Rattle.std.proofs.Common.{◌≡◌, refl, sym, ap, ◌∙◌, subst, ℕ, ◌+◌, Bool, true, false, List, [], ◌∷◌, ◌++◌, Option, Some, None, Result, Ok, Err, length, arith, length-append, inl, inr}
+-- What is written for one statement: an answer or nothing, and then an LF.
+use Rattle.std.proofs.Common.{◌≡◌, refl, sym, ap, ◌∙◌, subst, ℕ, ◌+◌, Bool, true, false, List, []}
+use Rattle.std.proofs.Common.{◌∷◌, ◌++◌, Option, Some, None, Result, Ok, Err, length, arith}
+use Rattle.std.proofs.Common.{length-append, inl, inr}
 use Rattle.std.proofs.lemmas.List.{take-append-le}
 use Rattle.std.proofs.Math.Seq.{take-append-add}
 use Rattle.std.proofs.KnownBytes.{Appends-nil, Appends-trans}
@@ -8,7 +10,8 @@ use Rattle.std.specs.Io.KnownBytes.{Appends}
 use Rattle.bw_model.specs.declared.fault.Fault.{Fault}
 use Rattle.bw_model.specs.declared.schema.Schema.{Schema}
 use Rattle.bw_model.specs.Row.{Value}
-use Rattle.bw_io.specs.Sink.{TookPart, WriteOutcome, beginning, everything, is_write_fault, none_aside, nothing}
+use Rattle.bw_io.specs.Sink.{TookPart, WriteOutcome, beginning, everything, is_write_fault}
+use Rattle.bw_io.specs.Sink.{none_aside, nothing}
 use Rattle.bw_query.specs.MemoryAnswer.{IsMemoryAnswer, RowsText}
 use Rattle.bw_query.specs.TableAnswer.{by_statement}
 use Rattle.bw_sql.specs.Statement.{IsReadAs}
@@ -22,7 +25,7 @@ true_is_not_false p = cc
 pub asks_something : (sql : List ℕ) (test : Bool) → (IsTrue test ↔ AsksNothing sql) → test ≡ false → AsksNothing sql → ⊥
 asks_something sql test says fails asks = true_is_not_false (sym (says.1 asks) ∙ fails)
 
--- a text went out, and then a part of what follows it
+-- a text was written, and then a part of what follows it
 part_after : (old mid new : Option (List ℕ)) (text more : List ℕ) → Appends old mid text → TookPart mid new more
     → TookPart old new (text ++ more)
 part_after old mid new text more went part = (
@@ -31,7 +34,7 @@ part_after old mid new text more went part = (
   subst (Appends old new) (sym (take-append-add text more part.0)) (Appends-trans old mid new text _ went part.2),
 )
 
--- a part of a text went out, which more was to follow
+-- a part of a text was written, which more was to follow
 part_before : (old new : Option (List ℕ)) (text more : List ℕ) → TookPart old new text → TookPart old new (text ++ more)
 part_before old new text more part = (
   part.0,
@@ -45,7 +48,7 @@ answer_line : (schema : Schema) (rows : List (List Value)) (sql text : List ℕ)
 answer_line schema rows sql text found =
     subst (λ line. IsOutput schema rows sql None (line ++ 10 ∷ [])) (sym found.is) (answer found.query found.asked.0)
 
--- the fault of a statement, answered without a program file
+-- the error of a statement, answered without a program file
 statement_fault : (schema : Schema) (sql : List ℕ) (fault : Fault) → by_statement None sql schema (Err fault)
     → IsReadAs schema sql (Err fault)
 statement_fault schema sql fault (inl refused) = refused
@@ -96,7 +99,7 @@ answer_failed T schema rows sql old new before after given _ is (beginning text 
 answer_failed T schema rows sql old new before after given fault is (nothing other gave same count) write =
     absurd (true_is_not_false (sym write ∙ other))
 
--- an LF follows a refusal
+-- an LF follows a rejection
 pub refused : (T : Type 0) (schema : Schema) (rows : List (List Value)) (sql : List ℕ)
     (old mid new : Option (List ℕ)) (before between after : ℕ) (given : Result (List ℕ) Fault) (fault : Fault)
     (result : Result (Option Fault) Fault) → (AsksNothing sql → ⊥)

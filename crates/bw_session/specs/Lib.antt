@@ -1,4 +1,4 @@
 pub mod Reading
 pub mod Session
-pub mod Standing
+pub mod StatementState
 pub mod Statements

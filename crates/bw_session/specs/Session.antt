@@ -1,5 +1,6 @@
--- What a session writes: for each statement its answer and an LF, or an LF alone, or nothing.
-use Rattle.std.specs.Prelude.{◌≡◌, ℕ, ◌+◌, Bool, true, false, List, [], ◌∷◌, ◌++◌, length, ◌≤◌, ◌⊎◌, IsTrue, if◌then◌else◌, Option, Some, None, Result, Ok, Err}
+-- What a session writes for each statement: its result and an LF, an LF, or nothing.
+use Rattle.std.specs.Prelude.{◌≡◌, ℕ, ◌+◌, Bool, true, false, List, [], ◌∷◌, ◌++◌, length, ◌≤◌, ◌⊎◌}
+use Rattle.std.specs.Prelude.{IsTrue, if◌then◌else◌, Option, Some, None, Result, Ok, Err}
 use Rattle.std.specs.Io.KnownBytes.{Appends, Consumes, IsAtEnd}
 use Rattle.bw_model.specs.declared.fault.Fault.{Fault}
 use Rattle.bw_model.specs.declared.query.Query.{Query}
@@ -16,13 +17,13 @@ use Rattle.bw_io.specs.Sink.{TookPart, is_write_fault}
 use Rattle.bw_io.specs.Source.{failed_reads, is_input_fault}
 use Rattle.bw_session.specs.Statements.{IsBegun, IsOpen, IsWhole}
 
--- a statement asks for nothing: it isn't too long, and has nothing but blanks, line ends and comments
+-- a statement is empty: it isn't too long, and has only spaces, tabs, line ends and comments
 abbrev pub AsksNothing : List ℕ → Type 0
 AsksNothing sql = (length sql ≤ longest_statement) × HasNoToken sql
 
--- What a statement over rows is answered by, and its fault if it is refused. One that asks for nothing writes nothing. One
--- that spells a query writes the CSV text of its meaning, and an LF. One that is refused writes an LF alone; where memory
--- runs out any statement may be.
+-- What a session writes for a statement over rows, and the statement's error if it is rejected. An
+-- empty statement writes nothing. One that spells a query writes the CSV text of its meaning and an
+-- LF. One that is rejected writes an LF. Out of memory may reject any statement.
 pub data IsOutput (schema : Schema) (rows : List (List Value)) (sql : List ℕ) : Option Fault
     → List ℕ → Type 0 where
   nothing : AsksNothing sql → IsOutput schema rows sql None []
@@ -33,33 +34,33 @@ pub data IsOutput (schema : Schema) (rows : List (List Value)) (sql : List ℕ) 
       → (is_memory fault ≡ false → IsReadAs schema sql (Err fault))
       → IsOutput schema rows sql (Some fault) (10 ∷ [])
 
--- what a statement is answered by went out
-pub record WroteOutput (schema : Schema) (rows : List (List Value)) (sql : List ℕ)
+-- the sink consumed what a statement writes
+pub record HasWrittenOutput (schema : Schema) (rows : List (List Value)) (sql : List ℕ)
     (old new : Option (List ℕ))
     (fault : Option Fault) : Type 0 where
   pub out : List ℕ
   pub is : IsOutput schema rows sql fault out
   pub went : Appends old new out
 
--- a part of it went out
-pub record WrotePart (schema : Schema) (rows : List (List Value)) (sql : List ℕ)
+-- the sink consumed a prefix of it
+pub record HasWrittenPart (schema : Schema) (rows : List (List Value)) (sql : List ℕ)
     (old new : Option (List ℕ)) : Type 0 where
   pub out : List ℕ
   pub fault : Option Fault
   pub is : IsOutput schema rows sql fault out
   pub went : TookPart old new out
 
--- how many writes failed in a call that refuses by this fault: one, if it is that of a failed write, and else none
+-- the number of writes that failed in a call with this error: 1 for a failed write, else 0
 abbrev pub failed_writes : Fault → ℕ
 failed_writes fault = if is_write_fault fault then 1 else 0
 
--- the first of two faults, if there is one
+-- the first of two errors, if there is one
 abbrev pub first_of : Option Fault → Option Fault → Option Fault
 first_of (Some fault) other = Some fault
 first_of None other = other
 
--- A text is statements one after another, each with what ends it, and what they are answered by follows one another too;
--- so does their first fault.
+-- A text is statements, one after another, each with what ends it. This is what they write, one
+-- after another, and the first of their errors.
 pub data AreAnswered (schema : Schema) (rows : List (List Value)) : List ℕ → Option Fault → List ℕ
     → Type 0 where
   begun : AreAnswered schema rows [] None []
@@ -67,15 +68,15 @@ pub data AreAnswered (schema : Schema) (rows : List (List Value)) : List ℕ →
       AreAnswered schema rows text first output → IsWhole sql → IsOutput schema rows sql fault out
       → AreAnswered schema rows (text ++ sql) (first_of first fault) (output ++ out)
 
--- A whole text is answered: its statements, and then what is left after the last one that ends.
+-- A whole text: its statements, and then what is left after the last one that ends.
 pub data IsAnswered (schema : Schema) (rows : List (List Value)) : List ℕ → Option Fault → List ℕ
     → Type 0 where
   whole : {text output : List ℕ} {first : Option Fault} (sql out : List ℕ) (fault : Option Fault) →
       AreAnswered schema rows text first output → IsOpen sql → IsOutput schema rows sql fault out
       → IsAnswered schema rows (text ++ sql) (first_of first fault) (output ++ out)
 
--- What went on so far in a session: a text came, and what its statements are answered by went out.
-pub record SoFar (schema : Schema) (rows : List (List Value))
+-- A session so far: the source yielded a text, and the sink consumed what its statements write.
+pub record RanSoFar (schema : Schema) (rows : List (List Value))
     (old now taken_old taken_now : Option (List ℕ))
     (first : Option Fault) : Type 0 where
   pub text : List ℕ
@@ -84,7 +85,8 @@ pub record SoFar (schema : Schema) (rows : List (List Value))
   pub went : Appends taken_old taken_now output
   pub answered : AreAnswered schema rows text first output
 
--- A session over all of a source: its text came, and what it is answered by went out.
+-- A session over all of a source, whose text it consumed. The sink consumed what the text's
+-- statements write.
 pub record Ended (schema : Schema) (rows : List (List Value))
     (old new taken_old taken_new : Option (List ℕ))
     (first : Option Fault) : Type 0 where
@@ -95,27 +97,28 @@ pub record Ended (schema : Schema) (rows : List (List Value))
   pub went : Appends taken_old taken_new output
   pub answered : IsAnswered schema rows text first output
 
--- a statement came whole: with what ends it, or up to the end of the source
-abbrev pub CameWhole : Option (List ℕ) → List ℕ → Type 0
-CameWhole new sql = IsWhole sql ⊎ (IsOpen sql × IsAtEnd new)
+-- a statement was read completely: with what ends it, or up to the end of the source
+abbrev pub IsComplete : Option (List ℕ) → List ℕ → Type 0
+IsComplete new sql = IsWhole sql ⊎ (IsOpen sql × IsAtEnd new)
 
--- A session that ended early, by this fault. A text came, whose statements are answered. Then a read failed, or memory ran
--- out, before the next statement had come whole; or it came whole, and a write failed after a part of what it is answered by.
-pub data Stopped (schema : Schema) (rows : List (List Value))
+-- A session that ended early, by this error. The sink consumed what the statements of a text write.
+-- Then a read failed, or memory ran out, before the next statement was read completely; or a write
+-- failed, after a prefix of what that statement writes.
+pub data IsStopped (schema : Schema) (rows : List (List Value))
     (old new taken_old taken_new : Option (List ℕ))
     : Fault → Type 0 where
   reading : {fault : Fault} {first : Option Fault} (text begun output : List ℕ)
       → IsTrue (is_input_fault fault)
       → AreAnswered schema rows text first output → Consumes old new (text ++ begun) → IsBegun begun
-      → Appends taken_old taken_new output → Stopped schema rows old new taken_old taken_new fault
+      → Appends taken_old taken_new output → IsStopped schema rows old new taken_old taken_new fault
   writing : {first refused : Option Fault} (text sql output out : List ℕ)
       → AreAnswered schema rows text first output
-      → Consumes old new (text ++ sql) → CameWhole new sql → IsOutput schema rows sql refused out
+      → Consumes old new (text ++ sql) → IsComplete new sql → IsOutput schema rows sql refused out
       → TookPart taken_old taken_new (output ++ out)
-      → Stopped schema rows old new taken_old taken_new (nowhere WRITE_FAILED)
+      → IsStopped schema rows old new taken_old taken_new (nowhere WRITE_FAILED)
 
--- A session answered all statements of its source, and gives their first fault; or it ended early. The counts of failures
--- rise by one where a failed read or write ended it, and else stay.
+-- A session ran all statements of its source, and returned the first of their errors; or it ended
+-- early. The counts of failures rise by one if a failed read or write ended it, and else stay.
 abbrev pub Answers : Schema → List (List Value) → (old new taken_old taken_new : Option (List ℕ))
     → (reads_before reads_after writes_before writes_after : ℕ) → Result (Option Fault) Fault
     → Type 0
@@ -125,19 +128,19 @@ Answers schema rows old new taken_old taken_new reads_before reads_after writes_
     × (reads_after ≡ reads_before) × (writes_after ≡ writes_before)
 Answers schema rows old new taken_old taken_new reads_before reads_after writes_before writes_after
     (Err fault) =
-    Stopped schema rows old new taken_old taken_new fault
+    IsStopped schema rows old new taken_old taken_new fault
     × (reads_after ≡ reads_before + failed_reads fault)
     × (writes_after ≡ writes_before + failed_writes fault)
 
--- one statement is answered, or a write failed
+-- one statement was run, or a write failed
 abbrev pub AnswersOne : Schema → List (List Value) → List ℕ → (old new : Option (List ℕ))
     → (before after : ℕ) → Result (Option Fault) Fault → Type 0
 AnswersOne schema rows sql old new before after (Ok fault) =
-    WroteOutput schema rows sql old new fault × (after ≡ before)
+    HasWrittenOutput schema rows sql old new fault × (after ≡ before)
 AnswersOne schema rows sql old new before after (Err fault) =
-    (fault ≡ nowhere WRITE_FAILED) × WrotePart schema rows sql old new × (after ≡ before + 1)
+    (fault ≡ nowhere WRITE_FAILED) × HasWrittenPart schema rows sql old new × (after ≡ before + 1)
 
--- an LF went out, and this is given; or a write failed
+-- an LF was written, and this is returned; or a write failed
 abbrev pub EndsLine : (old new : Option (List ℕ)) → (before after : ℕ) → Option Fault
     → Result (Option Fault) Fault → Type 0
 EndsLine old new before after refused (Ok fault) =

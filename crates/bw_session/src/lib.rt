@@ -4,7 +4,7 @@
 mod listener;
 mod reading;
 mod session;
-mod standing;
+mod statement_state;
 
 pub use listener::Listener;
 pub use session::answer_statements;

@@ -4,9 +4,10 @@ ghost use Rattle.std.specs.Io.KnownBytes.{Keeps};
 ghost use Rattle.bw_model.specs.FaultTable.{READ_FAILED};
 ghost use Rattle.bw_model.specs.Fault.{nowhere};
 ghost use Rattle.bw_io.specs.Source.{TellsFailure, is_input_fault};
-ghost use Rattle.bw_session.specs.Reading.{TookBeginning, TookByte, TookStatement, with_byte};
+ghost use Rattle.bw_session.specs.Reading.{HasReadBeginning, HasReadByte, HasReadStatement};
+ghost use Rattle.bw_session.specs.Reading.{with_byte};
 
-use crate::standing::Standing;
+use crate::statement_state::StatementState;
 use bw_io::{Failed, Source};
 use bw_model::{Fault, code};
 use std::alloc::AllocError;
@@ -26,19 +27,19 @@ pub(crate) fn next_statement<S: Source>(
 ) -> Result<bool, Fault>
     requires { S.failures source.old < 2 ^ 64 - 1 }
     ensures statement { IfOk result
-        (TookStatement (S.to_come source.old) (S.to_come source.new) statement.new.items) }
+        (HasReadStatement (S.to_come source.old) (S.to_come source.new) statement.new.items) }
     ensures failed { TellsFailure (S.failures source.old) (S.failures source.new) result }
     ensures fault { IfErr result (λ fault. IsTrue (is_input_fault fault)) }
     ensures begun { IfErr result
-        (λ _. TookBeginning (S.to_come source.old) (S.to_come source.new)) }
+        (λ _. HasReadBeginning (S.to_come source.old) (S.to_come source.new)) }
 {
     statement.clear();
-    let mut standing = Standing::Blank;
+    let mut standing = StatementState::Blank;
     for _ in 0..u64::MAX {
         let Some(byte) = read_byte(source)? else {
             return Ok(false);
         };
-        keep_byte(statement, byte)?;
+        store_byte(statement, byte)?;
         standing = standing.after(byte);
         if standing.is_ended() {
             return Ok(true);
@@ -50,7 +51,7 @@ pub(crate) fn next_statement<S: Source>(
 /// Reads one byte. Returns None at the end of the source.
 fn read_byte<S: Source>(source: &mut S) -> Result<Option<u8>, Fault>
     requires { S.failures source.old < 2 ^ 64 - 1 }
-    ensures byte { IfOk result (TookByte (S.to_come source.old) (S.to_come source.new)) }
+    ensures byte { IfOk result (HasReadByte (S.to_come source.old) (S.to_come source.new)) }
     ensures failed { TellsFailure (S.failures source.old) (S.failures source.new) result }
     ensures fault { IfErr result (λ fault. fault ≡ nowhere READ_FAILED) }
     ensures same { IfErr result (λ _. Keeps (S.to_come source.old) (S.to_come source.new)) }
@@ -64,7 +65,7 @@ fn read_byte<S: Source>(source: &mut S) -> Result<Option<u8>, Fault>
 }
 
 /// Stores a byte of a statement, unless it already has one more than it may.
-fn keep_byte(statement: &mut Vec<u8>, byte: u8) -> Result<(), AllocError>
+fn store_byte(statement: &mut Vec<u8>, byte: u8) -> Result<(), AllocError>
     ensures { OnOk result (statement.new.items ≡ with_byte statement.old.items byte) }
 {
     if statement.len() <= MAX_LEN {

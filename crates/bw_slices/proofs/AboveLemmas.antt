@@ -1,6 +1,10 @@
 -- Which codes are above a number, from the least significant byte up, and whether one is or isn't
 -- 0.
-use Rattle.std.proofs.Common.{◌≡◌, ◌∙◌, refl, sym, ap, ap₂, ℕ, suc, ◌+◌, ◌-◌, ◌*◌, ◌/◌, ◌%◌, ◌^◌, ◌<◌, ◌≤◌, max, Bool, false, not, cond, ltb, eqb, ◌==◌, ◌&&◌, ◌||◌, List, [], ◌∷◌, ◌++◌, map, length, take, drop, get_or, replicate, bit_or, w8, w64, Fits, arith, mod-eq_of_lt, mod-lt, mul-le-mul_right, suc-mul, le-ltb}
+use Rattle.std.proofs.Common.{◌≡◌, ◌∙◌, refl, sym, ap, ap₂, ℕ, suc, ◌+◌, ◌-◌, ◌*◌, ◌/◌, ◌%◌, ◌^◌}
+use Rattle.std.proofs.Common.{◌<◌, ◌≤◌, max, Bool, false, not, cond, ltb, eqb, ◌==◌, ◌&&◌, ◌||◌}
+use Rattle.std.proofs.Common.{List, [], ◌∷◌, ◌++◌, map, length, take, drop, get_or, replicate}
+use Rattle.std.proofs.Common.{bit_or, w8, w64, Fits, arith, mod-eq_of_lt, mod-lt, mul-le-mul_right}
+use Rattle.std.proofs.Common.{suc-mul, le-ltb}
 use Rattle.std.specs.Int.{bit_not}
 use Rattle.std.specs.List.{list_any, range_with_len}
 use Rattle.std.proofs.Math.Bool.{or-false, or_assoc}
@@ -15,15 +19,17 @@ use Rattle.bw_lanes.specs.Lanes.{bits_from_least, are_zero}
 use Rattle.bw_lanes.proofs.AnyLemmas.{any_mapped}
 use Rattle.bw_lanes.proofs.BitLemmas.{bits_of_not, same_on_range}
 use Rattle.bw_lanes.proofs.ByteLemmas.{compared, part_by_rows}
-use Rattle.bw_lanes.proofs.PickedLemmas.{greater_computed, kept_computed}
-use Rattle.bw_lanes.proofs.WordLemmas.{either_is_zero, mapped_right, before_and_part, part_is, words_made}
+use Rattle.bw_lanes.proofs.SelectedLemmas.{greater_computed, kept_computed}
+use Rattle.bw_lanes.proofs.WordLemmas.{either_is_zero, mapped_right, before_and_part, part_is}
+use Rattle.bw_lanes.proofs.WordLemmas.{words_made}
 use Rattle.bw_model.specs.Groups.{group_size}
 use Rattle.bw_model.specs.Selection.{selected_items}
-use Rattle.bw_model.specs.Stored.{byte_of}
+use Rattle.bw_model.specs.StoredCodes.{byte_of}
 use Rattle.bw_segment.proofs.LowLemmas.{above_ones}
-use Rattle.bw_segment.proofs.PickedLemmas.{any_picked}
+use Rattle.bw_segment.proofs.SelectedLemmas.{any_selected}
 use Rattle.bw_slices.specs.Slices.{number_from, slices_codes}
-use Rattle.bw_slices.proofs.KeptLemmas.{bytes_in, byte_of_number, number_of_front, length-slices_codes}
+use Rattle.bw_slices.proofs.KeptLemmas.{bytes_in, byte_of_number, number_of_front}
+use Rattle.bw_slices.proofs.KeptLemmas.{length-slices_codes}
 use Rattle.bw_slices.proofs.CodeLemmas.{code_in_lane, number_below, used_is}
 
 -- a byte that isn't 0
@@ -88,7 +94,7 @@ next_computed found bytes c here there fit lc =
     ∙ zip2_splat less (map (λ b. max b c) bytes) 64 c (length-map bytes (λ b. max b c) ∙ there) ∙ map-map (λ a. less a c) (λ b. max b c) bytes in
     (λ i. map set (zip2 bit_or (rest i) (kept_computed found bytes c there i))) ∙ next_lanes c found bytes lc fit
 
--- numbers are in order by their highest byte, and where that is the same, by what is below it
+-- numbers are in order by their highest byte, and if that is the same, by what is below it
 ordered : (c b cs bs p y x : ℕ) → x < p → y < p → (c < b → cs + p ≤ bs) → (b < c → bs + p ≤ cs) → (b ≡ c → bs ≡ cs) → (ltb c b || ((b == c) && ltb y x)) ≡ ltb (cs + y) (bs + x)
 ordered c b cs bs p y x lx ly less more same = grind (arith, nat_tests)
 
@@ -103,7 +109,7 @@ next_row most n bit =
     ordered c b (c * p) (b * p) p (most % p) (n % p) (mod-lt n (pow_pos bit)) (mod-lt most (pow_pos bit)) (above_by c b p) (above_by b c p) (λ e. ap (λ k. k * p) e)
     ∙ sym (ap₂ ltb (mod-pow-add most 8 bit) (mod-pow-add n 8 bit))
 
--- whether the code of a row is above the number, as far as so many lowest bytes tell
+-- whether the code of a row is above the number, as far as this many lowest bytes tell
 abbrev pub above_in : List ℕ → ℕ → ℕ → ℕ → ℕ → Bool
 above_in bytes slices most low row = ltb (most % 2 ^ (8 * low)) (number_from (bytes_in bytes row) slices % 2 ^ (8 * low))
 
@@ -170,6 +176,6 @@ pub used_any : (bytes : List ℕ) (lanes : List Bool) (count : ℕ) → list_any
 used_any bytes lanes count =
     let rows = range_with_len 0 512 in
     ap (list_any (λ lane. lane)) (sym (mapped_right (λ x y. x && y) (λ row. not (are_zero bytes row count)) lanes rows) ∙ ap (zip2 (λ x y. x && y) lanes) (sym (map-map not (λ row. are_zero bytes row count) rows) ∙ used_is bytes count))
-    ∙ any_picked set lanes (slices_codes count bytes)
+    ∙ any_selected set lanes (slices_codes count bytes)
 
 pub ruleset above_steps = (words_made, part_is, length-slices_codes)

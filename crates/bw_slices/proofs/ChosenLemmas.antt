@@ -1,13 +1,16 @@
 -- The greatest and the least of numbers, byte by byte from the most significant down.
-use Rattle.std.proofs.Common.{◌≡◌, ◌∙◌, refl, sym, ap, subst, ◌⊎◌, inl, inr, ℕ, ◌+◌, ◌*◌, ◌/◌, ◌%◌, ◌^◌, ◌<◌, Bool, true, false, cond, ◌==◌, List, [], ◌∷◌, map, filter, Some, arith, fold, pow_pos}
+use Rattle.std.proofs.Common.{◌≡◌, ◌∙◌, refl, sym, ap, subst, ◌⊎◌, inl, inr, ℕ, ◌+◌, ◌*◌, ◌/◌, ◌%◌}
+use Rattle.std.proofs.Common.{◌^◌, ◌<◌, Bool, true, false, cond, ◌==◌, List, [], ◌∷◌, map, filter}
+use Rattle.std.proofs.Common.{Some, arith, fold, pow_pos}
 use Rattle.std.specs.List.{reduce, AllByRecursion}
 use Rattle.std.proofs.lemmas.Bool.{eqb-true, eqb-false, eq-eqb}
 use Rattle.std.proofs.lemmas.Bool.Decides.{nat_tests}
-use Rattle.bw_lanes.specs.Picked.{bytes_picked}
+use Rattle.bw_lanes.specs.Selected.{bytes_selected}
 use Rattle.bw_model.specs.Selection.{selected_items}
-use Rattle.bw_segment.proofs.PickedLemmas.{is_none}
-use Rattle.bw_segment.proofs.DescentLemmas.{choice, one_of, of_both, Chooses, IsDescended, descended_as, all_kept, reduce_kept, below}
-use Rattle.bw_model.specs.Stored.{byte_of}
+use Rattle.bw_segment.proofs.SelectedLemmas.{is_none}
+use Rattle.bw_segment.proofs.DescentLemmas.{choice, one_of, of_both, Chooses, IsDescended}
+use Rattle.bw_segment.proofs.DescentLemmas.{descended_as, all_kept, reduce_kept, below}
+use Rattle.bw_model.specs.StoredCodes.{byte_of}
 use Rattle.bw_slices.proofs.KeptLemmas.{next_byte}
 use Rattle.bw_slices.proofs.CodeLemmas.{next_small}
 
@@ -30,13 +33,13 @@ pub chosen_below : (g : Bool) (k code : ℕ) (ns : List ℕ) → AllByRecursion 
 chosen_below g k code [] small is = cc
 chosen_below g k code (n ∷ ns) small is = let same : code ≡ fold (choice g) n ns = cc in omega (arith, same, chosen_has (λ n. n < k) g n ns small.0 small.1)
 
--- the bytes that are picked are those of the numbers that are picked
-pub chosen_picked : (g : Bool) (bit a : ℕ) (lanes : List Bool) (ns : List ℕ) → a < 256 → fold (choice g) a (bytes_picked (blank g) lanes (map (λ n. n / 2 ^ bit % 256) ns)) ≡ fold (choice g) a (map (λ n. n / 2 ^ bit % 256) (selected_items lanes ns))
-chosen_picked g bit a [] ns small = refl
-chosen_picked g bit a (lane ∷ lanes) [] small = refl
-chosen_picked g bit a (true ∷ lanes) (n ∷ ns) small = chosen_picked g bit (choice g a (n / 2 ^ bit % 256)) lanes ns (of_both (λ k. k < 256) g a (n / 2 ^ bit % 256) small (omega arith))
-chosen_picked g bit a (false ∷ lanes) (n ∷ ns) small =
-    ap (λ k. fold (choice g) k (bytes_picked (blank g) lanes (map (λ n. n / 2 ^ bit % 256) ns))) (unchanged g a small).0 ∙ chosen_picked g bit a lanes ns small
+-- the bytes that are selected are those of the numbers that are selected
+pub chosen_selected : (g : Bool) (bit a : ℕ) (lanes : List Bool) (ns : List ℕ) → a < 256 → fold (choice g) a (bytes_selected (blank g) lanes (map (λ n. n / 2 ^ bit % 256) ns)) ≡ fold (choice g) a (map (λ n. n / 2 ^ bit % 256) (selected_items lanes ns))
+chosen_selected g bit a [] ns small = refl
+chosen_selected g bit a (lane ∷ lanes) [] small = refl
+chosen_selected g bit a (true ∷ lanes) (n ∷ ns) small = chosen_selected g bit (choice g a (n / 2 ^ bit % 256)) lanes ns (of_both (λ k. k < 256) g a (n / 2 ^ bit % 256) small (omega arith))
+chosen_selected g bit a (false ∷ lanes) (n ∷ ns) small =
+    ap (λ k. fold (choice g) k (bytes_selected (blank g) lanes (map (λ n. n / 2 ^ bit % 256) ns))) (unchanged g a small).0 ∙ chosen_selected g bit a lanes ns small
 
 -- The byte c is chosen among those of numbers: some number has it, and none has one that were
 -- chosen before it.
@@ -94,10 +97,10 @@ next_byte_chosen : (g : Bool) (all left : List ℕ) (bit places head byte : ℕ)
     → IsDescended g all left (bit + 8) places head → IsDescended g all (filter (λ n. n / 2 ^ bit % 256 == byte) left) bit (places + 8) (256 * head + byte)
 next_byte_chosen g all left bit places head byte fits is so_far =
     let digit = λ (n : ℕ). n / 2 ^ bit % 256 in
-    let some = found g digit byte left (λ n. omega arith) is so_far.some in
+    let some = found g digit byte left (λ n. omega arith) is so_far.nonempty in
     let both = both_hold (λ n. n / 2 ^ (bit + 8) ≡ head) (λ n. choice g byte (digit n) ≡ byte) left so_far.heads (chosen_first g digit byte (blank g) left is).1 in
     record {
-      some = some;
+      nonempty = some;
       heads = all_kept (λ n. (n / 2 ^ (bit + 8) ≡ head) × (choice g byte (digit n) ≡ byte)) (λ n. n / 2 ^ bit ≡ 256 * head + byte) (λ n. digit n == byte)
           (λ n before has. let same = before.0 in omega (arith, next_byte n bit, same, eqb-true (digit n) byte has)) left both;
       chosen = reduce_kept g (λ n. digit n == byte) (λ n. (n / 2 ^ (bit + 8) ≡ head) × (choice g byte (digit n) ≡ byte)) (chooses g bit head byte) left both some ∙ so_far.chosen;

@@ -1,24 +1,32 @@
 -- The codes that slices spell: how large they are, what the lanes tell of them, and sums of those
 -- that lanes pick.
-use Rattle.std.proofs.Common.{◌≡◌, ◌∙◌, refl, sym, ap, ap₂, ℕ, zero, suc, ◌+◌, ◌-◌, ◌*◌, ◌^◌, ◌<◌, ◌≤◌, Bool, not, eqb, ◌==◌, ◌&&◌, List, [], ◌∷◌, map, length, get_or, ◌/◌, Fits, w8, w64, arith, ◌%◌, true, false, sum, sum_by, inl, inr, cond, take, drop, set, length-set, bit_and, All, pow_mono, length-take, get_or-set_same, get_or-set_other, add-one}
+use Rattle.std.proofs.Common.{◌≡◌, ◌∙◌, refl, sym, ap, ap₂, ℕ, zero, suc, ◌+◌, ◌-◌, ◌*◌, ◌^◌, ◌<◌}
+use Rattle.std.proofs.Common.{◌≤◌, Bool, not, eqb, ◌==◌, ◌&&◌, List, [], ◌∷◌, map, length, get_or}
+use Rattle.std.proofs.Common.{◌/◌, Fits, w8, w64, arith, ◌%◌, true, false, sum, sum_by, inl, inr}
+use Rattle.std.proofs.Common.{cond, take, drop, set, length-set, bit_and, All, pow_mono}
+use Rattle.std.proofs.Common.{length-take, get_or-set_same, get_or-set_other, add-one}
 use Rattle.std.specs.List.{range_with_len, list_all, AllByRecursion}
 use Rattle.std.proofs.lemmas.Bool.Decides.{nat_tests}
-use Rattle.std.proofs.lemmas.List.FromFn.{get_or-map-range_with_len, fill_by_all, length-map-range_with_len}
+use Rattle.std.proofs.lemmas.List.FromFn.{get_or-map-range_with_len, fill_by_all}
+use Rattle.std.proofs.lemmas.List.FromFn.{length-map-range_with_len}
 use Rattle.std.proofs.lemmas.Nat.{pow-add, and_le_l}
 use Rattle.std.proofs.lemmas.Simd.{map-map}
 use lib.Lanes.{zip2}
 use Rattle.bw_lanes.specs.Lanes.{lanes_of_words, are_zero, bits_from_least}
-use Rattle.bw_lanes.proofs.WordLemmas.{length-lanes_of_words, zero_bits, no_lanes, lanes_more, length-first, before_and_part, part_is}
+use Rattle.bw_lanes.proofs.WordLemmas.{length-lanes_of_words, zero_bits, no_lanes, lanes_more}
+use Rattle.bw_lanes.proofs.WordLemmas.{length-first, before_and_part, part_is}
 use Rattle.bw_model.specs.Groups.{group_size}
 use Rattle.bw_model.specs.Selection.{selected_items}
-use Rattle.bw_segment.proofs.PickedLemmas.{all_picked, is_none, none_picked, word_more, words_summed}
-use Rattle.bw_segment.proofs.ByteLemmas.{with_byte, codes_from, top_byte, byte_more as byte_below, codes_whole}
+use Rattle.bw_segment.proofs.SelectedLemmas.{all_selected, is_none, none_selected, word_more}
+use Rattle.bw_segment.proofs.SelectedLemmas.{words_summed}
+use Rattle.bw_segment.proofs.ByteLemmas.{with_byte, codes_from, top_byte, byte_more as byte_below}
+use Rattle.bw_segment.proofs.ByteLemmas.{codes_whole}
 use Rattle.bw_slices.specs.Slices.{number_from, slices_codes}
 use Rattle.bw_slices.proofs.KeptLemmas.{bytes_in, length-slices_codes, next_byte}
 use Rattle.std.proofs.Math.Nat.{div-eq_of_lt, mul-le-mul_right}
 use Rattle.std.proofs.lemmas.List.Sums.{sum_by-cons}
-use Rattle.bw_lanes.specs.Picked.{bytes_picked}
-use Rattle.bw_model.specs.Stored.{byte_of}
+use Rattle.bw_lanes.specs.Selected.{bytes_selected}
+use Rattle.bw_model.specs.StoredCodes.{byte_of}
 use Rattle.std.specs.Int.{bit_at, bit_not}
 use Rattle.std.proofs.lemmas.Bool.{cases_eq, cases_lt, eq-eqb}
 use Rattle.std.proofs.lemmas.List.Elements.{All-take, All-drop}
@@ -40,7 +48,7 @@ number_below byte zero small = omega arith
 number_below byte (suc count) small =
     let more : 8 * suc count ≡ 8 * count + 8 = omega arith in rw more (next_small _ _ (8 * count) (number_below byte count small) (small count))
 
--- so many bytes spell a number of so many
+-- this many bytes spell a number of this many
 pub codes_below : (bytes : List ℕ) (count : ℕ) → ((at : ℕ) → get_or bytes at 0 < 256) → AllByRecursion (λ code. code < 2 ^ (8 * count)) (slices_codes count bytes)
 unfolding slices_codes
 codes_below bytes count small = each (range_with_len 0 group_size)
@@ -60,7 +68,7 @@ pub code_in_lane : (bytes : List ℕ) (count lane : ℕ) → lane < 512 → numb
 unfolding slices_codes group_size
 code_in_lane bytes count lane lt = sym (get_or-map-range_with_len (λ row. number_from (bytes_in bytes row) count) 0 512 lane lane 0 lt (omega arith))
 
--- the number that the first bytes, so many, of a lane spell
+-- the number that the first bytes, this many, of a lane spell
 unfoldable pub front_code : ℕ → ℕ → List ℕ → ℕ
 front_code place lane bytes = number_from (bytes_in bytes lane) place
 
@@ -97,21 +105,21 @@ used_is bytes count =
     let rows = range_with_len 0 512 in
     map-map not (λ row. are_zero bytes row count) rows ∙ (λ i. map (λ row. not (zero_is bytes row count i)) rows) ∙ sym (map-map (λ code. not (code == 0)) (λ row. number_from (bytes_in bytes row) count) rows)
 
--- no code is left where no lane is 1
+-- no code is left if no lane is 1
 pub none_left : (bytes words : List ℕ) (count : ℕ) → length words ≡ 8 → list_all not (lanes_of_words words) ≡ is_none (selected_items (lanes_of_words words) (slices_codes count bytes))
-none_left bytes words count eight = none_picked (lanes_of_words words) (slices_codes count bytes) (omega (arith, length-slices_codes count bytes, length-lanes_of_words words))
+none_left bytes words count eight = none_selected (lanes_of_words words) (slices_codes count bytes) (omega (arith, length-slices_codes count bytes, length-lanes_of_words words))
 
 pub ruleset of_bytes = (map-map)
 
 pub within_slices : (n width slices : ℕ) → slices ≡ (width + 7) / 8 → n < 2 ^ width → n < 2 ^ (8 * slices)
 within_slices n width slices all small = let wide = pow_mono {i = width} {j = 8 * slices} (omega arith) in omega arith
 
--- the bytes that are picked are those of the numbers that are picked
-pub sum_picked : (f : ℕ → ℕ) (lanes : List Bool) (ns : List ℕ) → sum (bytes_picked 0 lanes (map f ns)) ≡ sum_by f (selected_items lanes ns)
-sum_picked f [] ns = refl
-sum_picked f (lane ∷ lanes) [] = refl
-sum_picked f (true ∷ lanes) (n ∷ ns) = sum_by-cons (λ k. k) (f n) (bytes_picked 0 lanes (map f ns)) ∙ ap (λ k. f n + k) (sum_picked f lanes ns) ∙ sym (sum_by-cons f n (selected_items lanes ns))
-sum_picked f (false ∷ lanes) (n ∷ ns) = sum_by-cons (λ k. k) 0 (bytes_picked 0 lanes (map f ns)) ∙ omega (arith, sum_picked f lanes ns)
+-- the bytes that are selected are those of the numbers that are selected
+pub sum_selected : (f : ℕ → ℕ) (lanes : List Bool) (ns : List ℕ) → sum (bytes_selected 0 lanes (map f ns)) ≡ sum_by f (selected_items lanes ns)
+sum_selected f [] ns = refl
+sum_selected f (lane ∷ lanes) [] = refl
+sum_selected f (true ∷ lanes) (n ∷ ns) = sum_by-cons (λ k. k) (f n) (bytes_selected 0 lanes (map f ns)) ∙ ap (λ k. f n + k) (sum_selected f lanes ns) ∙ sym (sum_by-cons f n (selected_items lanes ns))
+sum_selected f (false ∷ lanes) (n ∷ ns) = sum_by-cons (λ k. k) 0 (bytes_selected 0 lanes (map f ns)) ∙ omega (arith, sum_selected f lanes ns)
 
 sum_next : (bit : ℕ) (ns : List ℕ) → sum_by (λ n. n / 2 ^ bit) ns ≡ 256 * sum_by (λ n. n / 2 ^ (bit + 8)) ns + sum_by (λ n. n / 2 ^ bit % 256) ns
 sum_next bit [] = refl
@@ -138,7 +146,7 @@ pub sum_small : (width most : ℕ) (lanes : List Bool) (ns : List ℕ) → width
 sum_small width most lanes ns few long small =
     omega (arith, small_sums lanes ns (all_within width 63 ns few small), mul-le-mul_right {m = length ns} {n = most} (2 ^ 63) long)
 
--- the sum of the numbers that the first bytes, so many, of the codes in some lanes spell
+-- the sum of the numbers that the first bytes, this many, of the codes in some lanes spell
 unfoldable pub high_sum : ℕ → ℕ → List Bool → List ℕ → ℕ
 high_sum width place lanes bytes = sum_by (λ n. n / 2 ^ (8 * ((width + 7) / 8 - place))) (selected_items lanes (slices_codes ((width + 7) / 8) bytes))
 
@@ -146,10 +154,10 @@ pub high_none : (width : ℕ) (lanes : List Bool) (bytes : List ℕ) → All (λ
 unfolding high_sum
 high_none width lanes bytes small =
     let codes = slices_codes ((width + 7) / 8) bytes in
-    sym (sum_of_high _ _ (all_picked _ lanes codes (all_within width (8 * ((width + 7) / 8 - 0)) codes (omega arith) small)))
+    sym (sum_of_high _ _ (all_selected _ lanes codes (all_within width (8 * ((width + 7) / 8 - 0)) codes (omega arith) small)))
 
 pub high_more : (width place : ℕ) (lanes : List Bool) (bytes : List ℕ) → place < (width + 7) / 8
-    → high_sum width (place + 1) lanes bytes ≡ 256 * high_sum width place lanes bytes + sum (bytes_picked 0 lanes (map (byte_of ((width + 7) / 8 - 1 - place)) (slices_codes ((width + 7) / 8) bytes)))
+    → high_sum width (place + 1) lanes bytes ≡ 256 * high_sum width place lanes bytes + sum (bytes_selected 0 lanes (map (byte_of ((width + 7) / 8 - 1 - place)) (slices_codes ((width + 7) / 8) bytes)))
 unfolding high_sum
 high_more width place lanes bytes lt =
     let slice = (width + 7) / 8 - 1 - place in
@@ -157,7 +165,7 @@ high_more width place lanes bytes lt =
     let next : 8 * ((width + 7) / 8 - (place + 1)) ≡ 8 * slice = omega arith in
     let above : 8 * slice + 8 ≡ 8 * ((width + 7) / 8 - place) = omega arith in
     ap (λ bit. sum_by (λ n. n / 2 ^ bit) (selected_items lanes codes)) next ∙ sum_next (8 * slice) (selected_items lanes codes)
-    ∙ ap₂ (λ bit part. 256 * sum_by (λ n. n / 2 ^ bit) (selected_items lanes codes) + part) above (sym (sum_picked (byte_of slice) lanes codes))
+    ∙ ap₂ (λ bit part. 256 * sum_by (λ n. n / 2 ^ bit) (selected_items lanes codes) + part) above (sym (sum_selected (byte_of slice) lanes codes))
 
 pub high_whole : (width place : ℕ) (lanes : List Bool) (bytes : List ℕ) → (width + 7) / 8 ≤ place → high_sum width place lanes bytes ≡ sum (selected_items lanes (slices_codes ((width + 7) / 8) bytes))
 unfolding high_sum
@@ -173,8 +181,8 @@ next_power place = let next : 8 * (place + 1) ≡ 8 * place + 8 = omega arith in
 pub ruleset sum_steps = (high_none, high_more, high_whole, all_summed, next_power)
 
 -- 64 of some codes
-pub picked_small : (lanes : List Bool) (first width : ℕ) (codes : List ℕ) → width ≤ 63 → All (λ code. code < 2 ^ width) codes → sum (selected_items lanes (take 64 (drop first codes))) ≤ 2 ^ 69
-picked_small lanes first width codes few small =
+pub selected_small : (lanes : List Bool) (first width : ℕ) (codes : List ℕ) → width ≤ 63 → All (λ code. code < 2 ^ width) codes → sum (selected_items lanes (take 64 (drop first codes))) ≤ 2 ^ 69
+selected_small lanes first width codes few small =
     sum_small width 64 lanes (take 64 (drop first codes)) few (omega (arith, length-take 64 (drop first codes))) (All-take (λ code. code < 2 ^ width) 64 (drop first codes) (All-drop (λ code. code < 2 ^ width) first codes small))
 
 first_item : (lane : Bool) (lanes : List Bool) (item : ℕ) (items : List ℕ) → sum (selected_items (lane ∷ lanes) (item ∷ items)) ≡ cond lane item 0 + sum (selected_items lanes items)

@@ -1,12 +1,14 @@
 -- The highest bytes of codes in few lanes, which tell that none of these codes is beyond another.
-use Rattle.std.proofs.Common.{◌≡◌, ◌∙◌, refl, ap, ℕ, suc, ◌+◌, ◌*◌, ◌/◌, ◌^◌, ◌<◌, ◌≤◌, Bool, true, false, not, ◌||◌, List, [], ◌∷◌, length, get_or, arith, inl, inr, mod-eq_of_lt, le-ltb, ltb-true, pow_pos}
+use Rattle.std.proofs.Common.{◌≡◌, ◌∙◌, refl, ap, ℕ, suc, ◌+◌, ◌*◌, ◌/◌, ◌^◌, ◌<◌, ◌≤◌, Bool, true}
+use Rattle.std.proofs.Common.{false, not, ◌||◌, List, [], ◌∷◌, length, get_or, arith, inl, inr}
+use Rattle.std.proofs.Common.{mod-eq_of_lt, le-ltb, ltb-true, pow_pos}
 use Rattle.std.specs.List.{list_any}
 use Rattle.std.proofs.lemmas.Bool.{cases_lt}
 use Rattle.std.proofs.lemmas.List.{get_or_past}
 use Rattle.bw_lanes.specs.Last.{AreClear, IsLast}
 use Rattle.bw_model.specs.Selection.{selected_items}
-use Rattle.bw_model.specs.Stored.{byte_of}
-use Rattle.bw_segment.specs.Picked.{is_beyond}
+use Rattle.bw_model.specs.StoredCodes.{byte_of}
+use Rattle.bw_segment.specs.Selected.{is_beyond}
 use Rattle.bw_segment.proofs.DescentLemmas.{below}
 use Rattle.bw_segment.proofs.LowLemmas.{without_ones}
 

@@ -2,7 +2,7 @@
 -- of 512 bytes, one for each lane.
 use Rattle.std.specs.Prelude.{ℕ, zero, suc, ◌+◌, ◌*◌, ◌/◌, List, [], ◌++◌, map, slice_index}
 use Rattle.std.specs.List.{range_with_len}
-use Rattle.bw_model.specs.Stored.{byte_of}
+use Rattle.bw_model.specs.StoredCodes.{byte_of}
 use Rattle.bw_model.specs.Groups.{group_size}
 use Rattle.bw_segment.specs.Packing.{Packing}
 

@@ -3,9 +3,9 @@ ghost use Rattle.bw_slices.specs.Slices.{slice_packing};
 
 use crate::above::above;
 use crate::any::{is_any_above, is_any_used};
-use crate::chosen::chosen_code;
-use crate::few::{none_near, sum_of_few};
+use crate::extremes::chosen_code;
 use crate::read::{slice_of, slices_in};
+use crate::sparse_sum::{none_near, sum_of_few};
 use bw_lanes::{
     LANES, Plane, Selection, bytes_bit, bytes_eq, bytes_lt, bytes_none, bytes_of_plane, count, not,
     sum_in,

@@ -20,10 +20,10 @@
 
 mod above;
 mod any;
-mod chosen;
-mod few;
+mod extremes;
 mod layout;
 mod read;
+mod sparse_sum;
 
 use bw_segment::PackedSegment;
 pub use layout::Slices;

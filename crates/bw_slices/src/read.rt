@@ -1,6 +1,6 @@
 //! Slices among the bytes of codes.
 ghost use Rattle.std.specs.Prelude.{◌≡◌, ◌+◌, ◌*◌, ◌/◌, ◌<◌, ◌≤◌, length, map};
-ghost use Rattle.bw_model.specs.Stored.{byte_of};
+ghost use Rattle.bw_model.specs.StoredCodes.{byte_of};
 ghost use Rattle.bw_slices.specs.Slices.{slices_codes};
 
 use bw_lanes::LANES;

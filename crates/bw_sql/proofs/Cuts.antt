@@ -1,5 +1,7 @@
 -- How a text is cut: which piece is the longest, step by step, in one way, and each text.
-use Rattle.std.proofs.Common.{◌==◌, ◌≡◌, ℕ, suc, ◌≤◌, Bool, true, false, List, [], ◌∷◌, ◌++◌, length, take, drop, refl, sym, ◌∙◌, ap, subst, arith, zero, ◌+◌, ◌-◌, ◌<◌, if◌then◌else◌, Option, Some, None, append_assoc}
+use Rattle.std.proofs.Common.{◌==◌, ◌≡◌, ℕ, suc, ◌≤◌, Bool, true, false, List, [], ◌∷◌, ◌++◌}
+use Rattle.std.proofs.Common.{length, take, drop, refl, sym, ◌∙◌, ap, subst, arith, zero, ◌+◌, ◌-◌}
+use Rattle.std.proofs.Common.{◌<◌, if◌then◌else◌, Option, Some, None, append_assoc}
 use Rattle.std.specs.List.{list_all, prefix_len, take_while}
 use Rattle.std.specs.Char.{is_ascii_digit}
 use Rattle.std.proofs.lemmas.Bool.{both_ways, and_parts, and_from, eqb-true}
@@ -8,10 +10,13 @@ use Rattle.std.proofs.lemmas.List.{take-append-drop, length-append, map-append}
 use Rattle.std.proofs.lemmas.List.Sums.{take_while-cons}
 use Rattle.bw_text.specs.Keyword.{keyword_of}
 use Rattle.bw_text.specs.Text.{begins_word, goes_on_in_word, is_word}
-use Rattle.bw_sql.specs.Piece.{Piece, Gap, Token, IsPiece, IsDelimiter, IsLongest, IsLongestDelimiter, BeginsNoPiece, BeginsNoDelimiter, is_blank, is_in_comment, begins_comment, BeginsNone, IsLongestOf}
+use Rattle.bw_sql.specs.Piece.{Piece, Gap, Token, IsPiece, IsDelimiter, IsLongest}
+use Rattle.bw_sql.specs.Piece.{IsLongestDelimiter, BeginsNoPiece, BeginsNoDelimiter, is_blank}
+use Rattle.bw_sql.specs.Piece.{is_in_comment, begins_comment, BeginsNone, IsLongestOf}
 use Rattle.bw_sql.specs.Token.{Lexeme, Name, Digits, Reserved, Compare, Punct, word_lexeme}
 use Rattle.bw_sql.proofs.Cases.{bool_cases, option_cases}
-use Rattle.bw_sql.proofs.Spellings.{follows, is_run, known, NoLong, delimiter_of, found, is_gap, no_long_at_end, long_longest, short_longest, none_begins}
+use Rattle.bw_sql.proofs.Spellings.{follows, is_run, known, NoLong, delimiter_of, found, is_gap}
+use Rattle.bw_sql.proofs.Spellings.{no_long_at_end, long_longest, short_longest, none_begins}
 use Rattle.std.proofs.Math.Seq.{take-append_seam, drop-append_seam}
 use Rattle.std.specs.Option.{option_map}
 use Rattle.bw_text.specs.Number.{are_digits}
@@ -41,7 +46,7 @@ word_only c w = (grind (arith, nat_tests), grind (arith, nat_tests))
 pub digit_only : (c : ℕ) → is_ascii_digit c ≡ true → (is_blank c ≡ false) × (begins_word c ≡ false)
 digit_only c d = (grind (arith, nat_tests), grind (arith, nat_tests))
 
--- a piece goes on as its first byte says
+-- a piece continues as its first byte says
 word_run : (bytes : List ℕ) → is_word bytes ≡ true → is_run bytes ≡ true
 word_run [] h = cc
 word_run (c ∷ tail) h =
@@ -99,7 +104,7 @@ split p n text front back is f b = record {
 word_piece : (bytes : List ℕ) → is_word bytes ≡ true → IsPiece bytes (Token (word_lexeme bytes))
 word_piece bytes h = option_cases (keyword_of bytes) (λ e. rw e (refl, h, e)) (λ w e. rw e (h, e))
 
--- the front that passes is the longest piece, where it is one whose bytes may follow the first
+-- the front that passes is the longest piece, if it is one whose bytes may follow the first
 split_longest : (p : ℕ → Bool) (text : List ℕ) (c : ℕ) (rest front back : List ℕ) (piece : Piece) → text ≡ c ∷ rest → p c ≡ true →
     take_while (follows c) rest ≡ take_while p rest → Split p text front back →
     (front ≡ c ∷ take_while p rest → IsPiece front piece) → IsLongest text back piece
@@ -261,7 +266,7 @@ one_longest text rest after p q a b =
     let same = same_front a.front b.front rest after (sym a.cut ∙ b.cut) (omega arith) in
     (one_piece b.front p q (subst (λ bytes. IsPiece bytes p) same.0 a.is) b.is, same.0, same.1)
 
--- a cut is at its end where no piece begins, and else goes on after the longest
+-- a cut is at its end if no piece begins, and else continues after the longest
 abbrev end_of : ℕ → List ℕ → Option ℕ
 end_of at [] = None
 end_of at (c ∷ rest) = Some at
@@ -293,7 +298,7 @@ goes_on (token {at = at} {tokens = tokens} u b more) rest p a =
 pub true_is_not_false : true ≡ false → ⊥
 true_is_not_false p = cc
 
--- what is left after a gap has no token where the text has none
+-- what is left after a gap has no token if the text has none
 pub bare_after : (n : ℕ) (text rest : List ℕ) → length text ≤ n → (a : IsLongest text rest Gap)
     → IsCut (n - length text) text [] None → IsCut (n - length rest) rest [] None
 bare_after n text rest h a cut =
@@ -331,7 +336,7 @@ data First {A : Type 0} (Is : List ℕ → A → Type 0) (text : List ℕ) : Typ
   nothing : BeginsNone Is text → First Is text
   a_thing : (after : List ℕ) (x : A) → IsLongestOf Is text after x → First Is text
 
--- where some bytes aren't found they are none
+-- if some bytes aren't found, there are none
 unfound : (bytes : List ℕ) → delimiter_of bytes ≡ None → (t : Lexeme) → IsDelimiter bytes t → ⊥
 unfound bytes e t is = let f : Some t ≡ None = sym (known t bytes is).of ∙ e in cc
 

@@ -1,5 +1,8 @@
--- Where the machine stops, and that this is the first fault.
-use Rattle.std.proofs.Common.{◌≡◌, ℕ, ◌<◌, ◌≤◌, Bool, true, false, if◌then◌else◌, not, ◌&&◌, ◌==◌, nat_le, List, [], ◌∷◌, ◌++◌, length, Result, Ok, Err, refl, sym, ◌∙◌, ap, subst, arith, suc, ◌+◌, nat_lt, inl, inr, append_assoc, length-append}
+-- Where the machine stops, and that this is the first error.
+use Rattle.std.proofs.Common.{◌≡◌, ℕ, ◌<◌, ◌≤◌, Bool, true, false, if◌then◌else◌, not, ◌&&◌, ◌==◌}
+use Rattle.std.proofs.Common.{nat_le, List, [], ◌∷◌, ◌++◌, length, Result, Ok, Err, refl, sym, ◌∙◌}
+use Rattle.std.proofs.Common.{ap, subst, arith, suc, ◌+◌, nat_lt, inl, inr, append_assoc}
+use Rattle.std.proofs.Common.{length-append}
 use Rattle.std.proofs.lemmas.Bool.{and_parts, leb-true, ltb-true, ltb-false}
 use Rattle.std.proofs.lemmas.Bool.Decides.{nat_tests}
 use Rattle.std.proofs.Math.Bool.{or-true}
@@ -11,21 +14,24 @@ use Rattle.bw_sql.specs.declared.reader.Refusal.{Refusal}
 use Rattle.bw_sql.specs.declared.reader.Refusal.TheVariants.{Syntax, Literal}
 use Rattle.bw_sql.specs.declared.token.Mark.TheVariants as mark
 use Rattle.bw_sql.specs.Demand.{Demand, Fits, is_met, refusal}
-use Rattle.bw_sql.specs.Frontier.{asked_for, is_sign, Begins, Stands, IsFirst, at_token, at_sign, at_end}
+use Rattle.bw_sql.specs.Frontier.{asked_for, is_sign, Begins, Stands, IsFirst, at_token, at_sign}
+use Rattle.bw_sql.specs.Frontier.{at_end}
 use Rattle.bw_sql.specs.Reading.{Halt, same_keyword, ◌>>=◌, statement_at}
 use Rattle.bw_sql.specs.Refusal.{code_of}
 use Rattle.bw_sql.specs.Token.{Lexeme, Digits, Reserved, Punct}
 use Rattle.bw_sql.proofs.Cases.{bool_cases}
-use Rattle.bw_sql.proofs.Machine.{Symbol, AWord, AnArgument, PartTail, SignedDigits, Choice, Ask, Pass, Stop, decide, ask, step, left_at, proceed, run, all_may_end, AStatement}
+use Rattle.bw_sql.proofs.Machine.{Symbol, AWord, AnArgument, PartTail, SignedDigits, Choice, Ask}
+use Rattle.bw_sql.proofs.Machine.{Pass, Stop, decide, ask, step, left_at, proceed, run, all_may_end}
+use Rattle.bw_sql.proofs.Machine.{AStatement}
 use Rattle.bw_sql.proofs.Viable.{Path, here, there, path_viable}
 use Rattle.std.proofs.lemmas.List.{append-nil}
-use Rattle.bw_sql.specs.Asked.{QueryShape}
+use Rattle.bw_sql.specs.QueryShape.{QueryShape}
 use Rattle.bw_sql.specs.Grammar.{StatementIs}
 use Rattle.bw_sql.proofs.Runs.{statement_runs}
 use Rattle.bw_sql.proofs.Spelled.{Outcome, reads, excused, statement_read}
 
--- Demands are asked in the order of their numbers, at a sign nothing is asked and digits are to come, and a literal is
--- refused at its digits.
+-- Demands are asked in the order of their numbers, at a sign nothing is asked and digits are to
+-- come, and a literal is rejected at its digits.
 abbrev rising : ℕ → List Demand → Bool
 rising low [] = true
 rising low (d ∷ demands) = nat_le low (code_of (refusal d)) && rising (code_of (refusal d)) demands
@@ -101,7 +107,7 @@ least_code : (other : Refusal) → 402 ≤ code_of other
 least_code Syntax = omega arith
 least_code _ = omega arith
 
--- under the demands of a lower number the machine goes on
+-- under the demands of a lower number the machine continues
 module _ (schema : Schema) (other why : Refusal) (low : code_of other < code_of why) where
   -- a demand of a higher number isn't asked
   spared : (d : Demand) → code_of other < code_of (refusal d) → asked_for schema other d ≡ true
@@ -139,7 +145,7 @@ module _ (schema : Schema) (other why : Refusal) (low : code_of other < code_of 
         (next, f (asked_for schema other) ∙ ask_lower 402 demands next rises.0 (sym (f (is_met schema)) ∙ e))
   ]
 
--- what is refused is a sign, for the grammar, or digits, or no literal
+-- what is rejected is a sign, for the grammar, or digits, or no literal
 module _ (schema : Schema) (t : Lexeme) (why : Refusal) where
   abbrev Refuses : Type 0
   Refuses = (is_sign t ≡ true → why ≡ Syntax) × (why ≡ Literal → is_digits t ≡ true)
@@ -168,7 +174,7 @@ module _ (schema : Schema) (t : Lexeme) (why : Refusal) where
     | asks demands symbols below o f ↦ asked_refuses demands symbols below o (sym (f (is_met schema)) ∙ e)
   ]
 
--- after a sign digits are to come, and are refused as a literal
+-- after a sign digits are to come, and are rejected as a literal
 abbrev begins_signed : List Symbol → Bool
 begins_signed (SignedDigits is_negative ∷ below) = true
 begins_signed _ = false
@@ -202,7 +208,7 @@ module _ (schema : Schema) where
   path_split stack (x ∷ xs) ys last (there {next = next} e p) =
       let q = path_split next xs ys last p in (q.0, there e q.1, q.2)
 
-  -- digits that are refused after a sign are refused as a literal
+  -- digits that are rejected after a sign are rejected as a literal
   pub digits_stop : (stack : List Symbol) (front : List Lexeme) (u : Lexeme) (last : List Symbol) (digits : List ℕ) (why : Refusal) →
       Path (is_met schema) stack (front ++ u ∷ []) last → is_sign u ≡ true → step (is_met schema) last (Digits digits) ≡ Err why →
       why ≡ Literal
@@ -299,7 +305,7 @@ beyond : (tokens before after : List Lexeme) (t : Lexeme) → tokens ≡ before 
 beyond tokens before after t e = omega (arith, ap length e, length-append before (t ∷ after))
 
 module _ (schema : Schema) where
-  -- what is refused under the demands of the refusal's number isn't spelled under them
+  -- what is rejected under the demands of the rejection's number isn't spelled under them
   not_asked : (why : Refusal) (d : Demand) → refusal d ≡ why → is_met schema d ≡ false → asked_for schema why d ≡ true → ⊥
   not_asked why d e u m =
       let equal : (code_of why == code_of why) ≡ true = grind (arith, nat_tests) in let f = rw (e, equal, u) at m in cc
@@ -327,7 +333,7 @@ module _ (schema : Schema) where
       path_viable schema (asked_for schema other) (asked_for_weaker schema other) front part.0
       (path_weaker schema (asked_for schema other) (asked_for_weaker schema other) part.1)
 
--- where the tokens end, and no statement does
+-- at the end of the tokens, if no statement ends there
 module _ (schema : Schema) (tokens : List Lexeme) (last : List Symbol) (p : Path (is_met schema) (AStatement ∷ []) tokens last) where
   pub only_at_end : (other : Refusal) (at : ℕ) → Stands schema tokens other at → (at ≡ length tokens) × (other ≡ Syntax) ×
       ((query : QueryShape) → StatementIs schema.columns.items (asked_for schema Syntax) tokens query → ⊥)
@@ -364,7 +370,8 @@ module _ (schema : Schema) (tokens before after : List Lexeme) (t : Lexeme) (las
       path_viable schema (asked_for schema other) (asked_for_weaker schema other) (before ++ t ∷ []) onward.0
       (path_push t (path_weaker schema (asked_for schema other) (asked_for_weaker schema other) p) onward.1)
 
-  -- where another refusal stands: at the token or after it, or before it as that of a literal of which it has the digits
+  -- the place of another rejection: at the token or after it, or before it as that of a literal of
+  -- which it has the digits
   data Near (other : Refusal) (at : ℕ) : Type 0 where
     here_too : length before ≡ at → code_of why ≤ code_of other → Near other at
     after_it : length before < at → Near other at
@@ -438,7 +445,7 @@ module _ (schema : Schema) (tokens before after : List Lexeme) (t : Lexeme) (las
       moved : front ++ u ∷ Digits digits ∷ [] ≡ before ++ t ∷ []
       moved = rw (f, is) (sym (append_assoc front (u ∷ []) (Digits digits ∷ [])))
 
--- where a refusal stands
+-- the place of a rejection
 pub record FirstFault (schema : Schema) (tokens : List Lexeme) (halt : Halt) : Type 0 where
   pub place : ℕ
   pub first : IsFirst schema tokens halt.why place
@@ -456,7 +463,7 @@ module _ (schema : Schema) (tokens before after : List Lexeme) (t : Lexeme) (las
     last = λ h. absurd (omega (arith, beyond tokens before after t e));
   }
 
-  -- after a sign digits are refused as a literal
+  -- after a sign digits are rejected as a literal
   literal_alone : (why : Refusal) → step (is_met schema) last t ≡ Err why → (why ≡ Literal → ⊥) → Alone before t
   literal_alone why stop never front u digits s f g = never (digits_stop schema (AStatement ∷ []) front u last digits why
       (subst (λ ts. Path (is_met schema) (AStatement ∷ []) ts last) f p) s (rw g at stop))
@@ -489,7 +496,7 @@ pub ran_so : (schema : Schema) (tokens : List Lexeme) (r : Result QueryShape Hal
 ran_so schema tokens r e = subst (Ran schema false (AStatement ∷ []) tokens)
     (statement_runs schema tokens ∙ ap (λ r. r >>= λ q. Ok tt) e) (ran schema false (AStatement ∷ []) tokens)
 
--- what is refused is the first fault
+-- what is rejected is the first error
 pub first_fault : (schema : Schema) (tokens : List Lexeme) (halt : Halt) → statement_at schema tokens ≡ Err halt →
     FirstFault schema tokens halt
 first_fault schema tokens halt e = go e (ran_so schema tokens (Err halt) e) where

@@ -7,7 +7,7 @@ pub mod Runs
 pub mod SameNames
 pub mod Spellings
 pub mod Spelled
-pub mod StandingLemmas
+pub mod FaultPlaceLemmas
 pub mod Texts
 pub mod Viable
 pub mod Within

@@ -1,6 +1,8 @@
--- A machine of symbols of the grammar. A stack of symbols says what is to come; the uppermost symbol decides on
--- one token: it takes the token and gives way to other symbols, passes it on, or stops.
-use Rattle.std.proofs.Common.{ℕ, suc, Bool, true, false, if◌then◌else◌, ◌&&◌, List, [], ◌∷◌, ◌++◌, length, Option, Some, None, Result, Ok, Err}
+-- A machine of symbols of the grammar. A stack of symbols says what is to come; the uppermost
+-- symbol decides on one token: it takes the token and gives way to other symbols, passes it on, or
+-- stops.
+use Rattle.std.proofs.Common.{ℕ, suc, Bool, true, false, if◌then◌else◌, ◌&&◌, List, [], ◌∷◌, ◌++◌}
+use Rattle.std.proofs.Common.{length, Option, Some, None, Result, Ok, Err}
 use Rattle.bw_text.specs.declared.keyword.Keyword.{Keyword}
 use Rattle.bw_text.specs.declared.keyword.Keyword.TheVariants as word
 use Rattle.bw_model.specs.declared.schema.Schema.{Schema}
@@ -11,15 +13,17 @@ use Rattle.bw_sql.specs.declared.condition.Connective.TheVariants as connective
 use Rattle.bw_sql.specs.declared.items.Aggregate.{Aggregate}
 use Rattle.bw_sql.specs.declared.items.Aggregate.TheVariants as aggregate
 use Rattle.bw_sql.specs.declared.token.Mark.TheVariants as mark
-use Rattle.bw_sql.specs.Demand.{Demand, NamesTable, NamesColumn, Fits, OfOneKind, Depth, is_met, refusal}
+use Rattle.bw_sql.specs.Demand.{Demand, NamesTable, NamesColumn, Fits, OfOneKind, Depth, is_met}
+use Rattle.bw_sql.specs.Demand.{refusal}
 use Rattle.bw_sql.specs.Frontier.{is_sign}
 use Rattle.bw_sql.specs.Reading.{Halt, same_keyword}
 use Rattle.bw_sql.specs.Token.{Lexeme, Name, Digits, Reserved, Compare, Punct}
 
--- What is to come: a word, a bracket, an operand, the digits after a sign, what follows the first operand of a
--- predicate, its NOT or its IS, further operands or items; a factor or a primary inside of so many brackets and NOTs, what
--- may follow a primary, its IS, a truth value, further parts that a connective joins; the items, an item
--- after a first one of a kind, what stands in brackets; a table, a selection, the end, a statement.
+-- What is to come: a word, a bracket, an operand, the digits after a sign, what follows the first
+-- operand of a predicate, its NOT or its IS, further operands or items; a factor or a primary
+-- inside of this many brackets and NOTs, what may follow a primary, its IS, a truth value, further
+-- parts that a connective joins; the items, an item after a first one of a kind, what stands in
+-- brackets; a table, a selection, the end, a statement.
 pub data Symbol : Type 0 where
   AWord : Keyword → Symbol
   Opening : Symbol
@@ -45,7 +49,8 @@ pub data Symbol : Type 0 where
   AnEnd : Symbol
   AStatement : Symbol
 
--- A token is taken, and gives way to other symbols, if some demands are met; or it is passed on, or not taken.
+-- A token is taken, and gives way to other symbols, if some demands are met; or it is passed on, or
+-- not taken.
 pub data Choice : Type 0 where
   Ask : List Demand → List Symbol → Choice
   Pass : Choice
@@ -59,7 +64,7 @@ abbrev pub one_of : Option Bool → Symbol
 one_of None = AnOperand
 one_of (Some first) = AnItem first
 
--- a factor, or a term, and then what stands after it
+-- a factor, or a term, and then what follows it
 abbrev pub a_part : Connective → ℕ → List Symbol → List Symbol
 a_part connective.And depth after = AFactor depth ∷ after
 a_part connective.Or depth after = AFactor depth ∷ PartTail connective.And depth ∷ after
@@ -67,7 +72,7 @@ a_part connective.Or depth after = AFactor depth ∷ PartTail connective.And dep
 abbrev pub in_brackets : ℕ → List Symbol → List Symbol
 in_brackets depth after = a_part connective.Or depth (PartTail connective.Or depth ∷ Closing ∷ after)
 
--- an operand, and then what stands after it
+-- an operand, and then what follows it
 abbrev pub operand_choice : List Symbol → Lexeme → Choice
 operand_choice after (Reserved word.Null) = Take after
 operand_choice after (Name text) = Ask (NamesColumn text ∷ []) after
@@ -93,7 +98,7 @@ truth_choice (Reserved word.False) = Take []
 truth_choice (Reserved word.Unknown) = Take []
 truth_choice _ = Stop
 
--- an aggregate, where some demands are met
+-- an aggregate, if some demands are met
 abbrev pub of_aggregate : Aggregate → List Symbol → List Symbol
 of_aggregate kind after = Opening ∷ AnArgument kind ∷ Closing ∷ after
 
@@ -173,7 +178,8 @@ unfoldable pub step : (Demand → Bool) → List Symbol → Lexeme → Result (L
 step met [] t = Err Syntax
 step met (s ∷ stack) t = chosen met (decide s t) stack (step met stack t)
 
--- how many tokens are left where a token is refused, after a sign or not: a literal is refused at its sign
+-- how many tokens are left when a token is rejected, after a sign or not: a literal is rejected at
+-- its sign
 abbrev pub left_at : Refusal → Bool → ℕ → ℕ
 left_at Literal true after = suc (suc after)
 left_at _ _ after = suc after

@@ -1,5 +1,6 @@
 -- A loop that reads one thing after another reads what repeated gives.
-use Rattle.std.proofs.Common.{◌≡◌, ℕ, zero, suc, ◌<◌, ◌≤◌, List, [], ◌∷◌, ◌++◌, length, Option, Some, None, Result, Ok, Err, refl, sym, ◌∙◌, ap, arith, append_assoc}
+use Rattle.std.proofs.Common.{◌≡◌, ℕ, zero, suc, ◌<◌, ◌≤◌, List, [], ◌∷◌, ◌++◌, length, Option}
+use Rattle.std.proofs.Common.{Some, None, Result, Ok, Err, refl, sym, ◌∙◌, ap, arith, append_assoc}
 use Rattle.std.proofs.lemmas.List.{append-nil}
 use Rattle.bw_sql.specs.declared.reader.Stop.{Stop}
 use Rattle.bw_sql.specs.declared.reader.Stop.TheVariants.{Refused, OutOfMemory}
@@ -12,7 +13,7 @@ pub length-lexemes : (tokens : List Placed) → length (lexemes tokens) ≡ leng
 length-lexemes [] = refl
 length-lexemes (placed ∷ tokens) = ap suc (length-lexemes tokens)
 
--- what is left to read, of so many tokens at most, goes after what was read
+-- what is left to read, of this many tokens at most, goes after what was read
 pub record Repeats {A : Type 0} (after : List Lexeme → Option (List Lexeme)) (one : List Lexeme → Result (A × List Lexeme) Halt)
     (front : List A) (left : ℕ) (tokens : List Lexeme) (whole : Result (List A × List Lexeme) Halt) : Type 0 where
   pub fuel : ℕ
@@ -33,7 +34,7 @@ module _ {A : Type 0} {after : List Lexeme → Option (List Lexeme)} {one : List
     none zero = refl
     none (suc fuel) = rw e refl
 
-  -- where another comes
+  -- if another follows
   more : {next : List Lexeme} → after tokens ≡ Some next → 0 < left → (fuel : ℕ) × (left ≤ suc fuel) ×
       (whole ≡ with_front front (more_after (Some next) tokens one (repeated fuel after one)))
   unfolding repeated

@@ -1,5 +1,7 @@
 -- The machine, with all demands, stops where reading stops, and for the same reason.
-use Rattle.std.proofs.Common.{◌≡◌, ℕ, zero, suc, ◌+◌, ◌<◌, ◌≤◌, Bool, true, false, nat_le, List, [], ◌∷◌, ◌++◌, length, Option, Some, None, Result, Ok, Err, refl, sym, ◌∙◌, ap, arith}
+use Rattle.std.proofs.Common.{◌≡◌, ℕ, zero, suc, ◌+◌, ◌<◌, ◌≤◌, Bool, true, false, nat_le, List, []}
+use Rattle.std.proofs.Common.{◌∷◌, ◌++◌, length, Option, Some, None, Result, Ok, Err, refl, sym}
+use Rattle.std.proofs.Common.{◌∙◌, ap, arith}
 use Rattle.std.proofs.lemmas.Bool.Decides.{nat_tests}
 use Rattle.bw_model.specs.declared.cond.Operand.{Operand}
 use Rattle.bw_text.specs.declared.keyword.Keyword.{Keyword}
@@ -16,18 +18,31 @@ use Rattle.bw_sql.specs.declared.items.Aggregate.TheVariants as aggregate
 use Rattle.bw_sql.specs.declared.reader.Refusal.{Refusal}
 use Rattle.bw_sql.specs.declared.reader.Refusal.TheVariants.{Syntax, Literal}
 use Rattle.bw_sql.specs.declared.token.Mark.TheVariants as mark
-use Rattle.bw_sql.specs.Asked.{QueryShape}
+use Rattle.bw_sql.specs.QueryShape.{QueryShape}
 use Rattle.bw_model.specs.CondTree.{CondTree, CondTrees}
 use Rattle.bw_model.specs.Column.{column_named}
 use Rattle.bw_sql.specs.Demand.{Depth, is_met, meets}
 use Rattle.bw_sql.specs.Frontier.{is_sign}
 use Rattle.bw_sql.specs.Limits.{deepest_nesting}
-use Rattle.bw_sql.specs.Reading.{Halt, Nested, ◌>>=◌, more_items, same_keyword, after_keyword, after_mark, keyword_at, mark_at, name_at, digits_at, sign_at, literal_at, column_at, table_at, operand_at, repeated, with_front, operands_at, range_at, list_at, range_or_list_at, null_test_at, after_comparison, predicate_after, predicate_at, truth_value_at, truth_test_at, primary_in, test_in, factor_in, part_in, joined_in, series_at, series_after, term_in, condition_in, nested, selection_at, table_expression_at, end_at, after_aggregate, aggregated_at, argument_at, item_at, of_one_kind, next_item_at, items_at, statement_at}
+use Rattle.bw_sql.specs.Reading.{Halt, Nested, ◌>>=◌, more_items, same_keyword, after_keyword}
+use Rattle.bw_sql.specs.Reading.{after_mark, keyword_at, mark_at, name_at, digits_at, sign_at}
+use Rattle.bw_sql.specs.Reading.{literal_at, column_at, table_at, operand_at, repeated, with_front}
+use Rattle.bw_sql.specs.Reading.{operands_at, range_at, list_at, range_or_list_at, null_test_at}
+use Rattle.bw_sql.specs.Reading.{after_comparison, predicate_after, predicate_at, truth_value_at}
+use Rattle.bw_sql.specs.Reading.{truth_test_at, primary_in, test_in, factor_in, part_in, joined_in}
+use Rattle.bw_sql.specs.Reading.{series_at, series_after, term_in, condition_in, nested}
+use Rattle.bw_sql.specs.Reading.{selection_at, table_expression_at, end_at, after_aggregate}
+use Rattle.bw_sql.specs.Reading.{aggregated_at, argument_at, item_at, of_one_kind, next_item_at}
+use Rattle.bw_sql.specs.Reading.{items_at, statement_at}
 use Rattle.bw_sql.specs.Token.{Lexeme, Name, Digits, Reserved, Compare, Punct}
 use Rattle.bw_sql.specs.Words.{word_of, join_of}
 use Rattle.bw_sql.proofs.Cases.{bool_cases, option_cases}
 use Rattle.bw_sql.proofs.Spellings.{mark_is, word_is}
-use Rattle.bw_sql.proofs.Machine.{Symbol, Choice, AWord, Opening, Closing, AnOperand, PredicateTail, RangeTail, CommaTail, APrimary, TestTail, PartTail, ItemList, AnItem, AnArgument, ATable, ASelection, AnEnd, AStatement, a_part, one_of, of_aggregate, in_brackets, operand_choice, primary_choice, decide, may_end, all_may_end, ask, chosen, step, proceed, run}
+use Rattle.bw_sql.proofs.Machine.{Symbol, Choice, AWord, Opening, Closing, AnOperand, PredicateTail}
+use Rattle.bw_sql.proofs.Machine.{RangeTail, CommaTail, APrimary, TestTail, PartTail, ItemList}
+use Rattle.bw_sql.proofs.Machine.{AnItem, AnArgument, ATable, ASelection, AnEnd, AStatement, a_part}
+use Rattle.bw_sql.proofs.Machine.{one_of, of_aggregate, in_brackets, operand_choice, primary_choice}
+use Rattle.bw_sql.proofs.Machine.{decide, may_end, all_may_end, ask, chosen, step, proceed, run}
 
 assoc : {A B C : Type 0} (m : Result A Halt) (f : A → Result B Halt) (g : B → Result C Halt) →
     ((m >>= f) >>= g) ≡ (m >>= λ x. f x >>= g)
@@ -48,7 +63,8 @@ module _ (schema : Schema) where
   same_halt : (a b : Halt) → ◌≡◌ {A = Result (Unit {0}) Halt} (Err a) (Err b) → (a.why ≡ b.why) × (a.left ≡ b.left)
   same_halt a b e = let same : a ≡ b = cc in (ap (λ (h : Halt). h.why) same, ap (λ (h : Halt). h.left) same)
 
-  -- a refusal by the grammar is at one of the tokens, so a reader leaves no more of them than there were
+  -- a rejection by the grammar is at one of the tokens, so a reader leaves no more of them than
+  -- there were
   refused_within : (signed : Bool) (stack : List Symbol) (tokens : List Lexeme) (n : ℕ) →
       run schema signed stack tokens ≡ Err (record { why = Syntax; left = suc n }) → n < length tokens
   unfolding run

@@ -1,5 +1,7 @@
 -- What the grammar spells is read, unless a demand that isn't met was let pass.
-use Rattle.std.proofs.Common.{◌≡◌, ℕ, ℤ, ◌^◌, nat_le, nat_lt, zero, suc, ◌+◌, ◌≤◌, Bool, true, false, List, ◌∷◌, length, Some, None, is_some, Result, Ok, Err, refl, sym, ◌∙◌, ap, arith}
+use Rattle.std.proofs.Common.{◌≡◌, ℕ, ℤ, ◌^◌, nat_le, nat_lt, zero, suc, ◌+◌, ◌≤◌, Bool, true}
+use Rattle.std.proofs.Common.{false, List, ◌∷◌, length, Some, None, is_some, Result, Ok, Err, refl}
+use Rattle.std.proofs.Common.{sym, ◌∙◌, ap, arith}
 use Rattle.bw_model.specs.declared.column.Column.{Column}
 use Rattle.bw_model.specs.declared.cond.Operand.{Operand}
 use Rattle.bw_model.specs.declared.cond.Truth.{Truth}
@@ -14,19 +16,37 @@ use Rattle.bw_sql.specs.declared.items.Aggregate.TheVariants as kind
 use Rattle.bw_sql.specs.declared.reader.Refusal.TheVariants.{UnknownColumn, Literal}
 use Rattle.bw_sql.specs.declared.token.Mark.TheVariants as mark
 use Rattle.bw_text.specs.Text.{same_text}
-use Rattle.bw_sql.specs.Asked.{QueryShape}
+use Rattle.bw_sql.specs.QueryShape.{QueryShape}
 use Rattle.bw_model.specs.CondTree.{CondTree}
 use Rattle.bw_model.specs.Column.{column_named}
-use Rattle.bw_sql.specs.Demand.{Demand, NamesTable, NamesColumn, Fits, OfOneKind, Depth, column_number, column_or_first, is_met, meets, refusal, signed}
-use Rattle.bw_sql.specs.Grammar.{TruthIs, OperandIs, CommaList, RangeIs, ComparedIs, JoinedIs, MoreParts, PartIs, FactorIs, TestIs, PrimaryIs, ItemIs, NextItemIs, ItemsAre, SelectionIs, EndIs, StatementIs, IsQuery, true_word, null, column, unsigned, plus, minus, no_more, one_more, between, among, compared, comparison, range, not_range, is_null, is_not_null, parts, last_part, next_part, factor, term, test, not_test, tested, untested, is, is_not, predicate, bracket, plain, count_all, aggregate, next_item, star, items, all_rows, rows_where, bare, statement}
+use Rattle.bw_sql.specs.Demand.{Demand, NamesTable, NamesColumn, Fits, OfOneKind, Depth}
+use Rattle.bw_sql.specs.Demand.{column_number, column_or_first, is_met, meets, refusal, signed}
+use Rattle.bw_sql.specs.Grammar.{TruthIs, OperandIs, CommaList, RangeIs, ComparedIs, JoinedIs}
+use Rattle.bw_sql.specs.Grammar.{MoreParts, PartIs, FactorIs, TestIs, PrimaryIs, ItemIs, NextItemIs}
+use Rattle.bw_sql.specs.Grammar.{ItemsAre, SelectionIs, EndIs, StatementIs, IsQuery, true_word}
+use Rattle.bw_sql.specs.Grammar.{null, column, unsigned, plus, minus, no_more, one_more, between}
+use Rattle.bw_sql.specs.Grammar.{among, compared, comparison, range, not_range, is_null}
+use Rattle.bw_sql.specs.Grammar.{is_not_null, parts, last_part, next_part, factor, term, test}
+use Rattle.bw_sql.specs.Grammar.{not_test, tested, untested, is, is_not, predicate, bracket, plain}
+use Rattle.bw_sql.specs.Grammar.{count_all, aggregate, next_item, star, items, all_rows, rows_where}
+use Rattle.bw_sql.specs.Grammar.{bare, statement}
 use Rattle.bw_sql.specs.Limits.{deepest_nesting}
-use Rattle.bw_sql.specs.Reading.{Halt, ◌>>=◌, ok_or_refuse, begins_with_name, after_keyword, after_mark, keyword_at, mark_at, name_at, digits_at, sign_at, literal_at, column_at, table_at, operand_at, repeated, range_or_list_at, null_test_at, after_comparison, predicate_after, predicate_at, truth_value_at, truth_test_at, primary_in, test_in, factor_in, part_in, term_in, condition_in, joined_in, nested, selection_at, table_expression_at, end_at, after_aggregate, aggregated_at, item_at, of_one_kind, next_item_at, items_at, statement_at}
+use Rattle.bw_sql.specs.Reading.{Halt, ◌>>=◌, ok_or_refuse, begins_with_name, after_keyword}
+use Rattle.bw_sql.specs.Reading.{after_mark, keyword_at, mark_at, name_at, digits_at, sign_at}
+use Rattle.bw_sql.specs.Reading.{literal_at, column_at, table_at, operand_at, repeated}
+use Rattle.bw_sql.specs.Reading.{range_or_list_at, null_test_at, after_comparison, predicate_after}
+use Rattle.bw_sql.specs.Reading.{predicate_at, truth_value_at, truth_test_at, primary_in, test_in}
+use Rattle.bw_sql.specs.Reading.{factor_in, part_in, term_in, condition_in, joined_in, nested}
+use Rattle.bw_sql.specs.Reading.{selection_at, table_expression_at, end_at, after_aggregate}
+use Rattle.bw_sql.specs.Reading.{aggregated_at, item_at, of_one_kind, next_item_at, items_at}
+use Rattle.bw_sql.specs.Reading.{statement_at}
 use Rattle.bw_sql.specs.Token.{Lexeme, Name, Reserved}
 use Rattle.bw_sql.specs.Words.{word_of, aggregate_word, of_column}
 use Rattle.bw_sql.proofs.Cases.{bool_cases, option_cases}
 use Rattle.bw_sql.proofs.Runs.{level_runs, next_item_runs, operand_runs, part_runs, takes, too_deep}
 
--- What reading gives: what was spelled, or the refusal for a demand that isn't met and was let pass.
+-- What reading gives: what was spelled, or the rejection for a demand that isn't met and was let
+-- pass.
 pub data Outcome (schema : Schema) (met : Demand → Bool) {A : Type 0} (reading : Result A Halt) (x : A) : Type 0 where
   reads : reading ≡ Ok x → Outcome schema met reading x
   excused : (demand : Demand) (left : ℕ) → met demand ≡ true → is_met schema demand ≡ false →

@@ -1,5 +1,7 @@
--- Reserved words and delimiters, which are comparisons and marks: which bytes they are, and which is the longest.
-use Rattle.std.proofs.Common.{◌≡◌, ℕ, suc, ◌≤◌, Bool, true, false, if◌then◌else◌, List, [], ◌∷◌, ◌++◌, length, Option, Some, refl, sym, ◌∙◌, ap, subst, arith}
+-- Reserved words and delimiters, which are comparisons and marks: which bytes they are, and which
+-- is the longest.
+use Rattle.std.proofs.Common.{◌≡◌, ℕ, suc, ◌≤◌, Bool, true, false, if◌then◌else◌, List, [], ◌∷◌}
+use Rattle.std.proofs.Common.{◌++◌, length, Option, Some, refl, sym, ◌∙◌, ap, subst, arith}
 use Rattle.std.specs.Char.{is_ascii_digit}
 use Rattle.std.specs.List.{list_all}
 use Rattle.std.specs.Prelude.{find}
@@ -11,8 +13,11 @@ use Rattle.bw_model.specs.declared.cond.Op.TheVariants.{Eq, Ne, Lt, Gt, Le, Ge}
 use Rattle.bw_text.specs.Number.{are_digits}
 use Rattle.bw_text.specs.Text.{begins_word, goes_on_in_word, is_word, same_text}
 use Rattle.bw_sql.specs.declared.token.Mark.{Mark}
-use Rattle.bw_sql.specs.declared.token.Mark.TheVariants.{Open, Close, Comma, Star, Semicolon, Plus, Minus}
-use Rattle.bw_sql.specs.Piece.{IsDelimiter, IsLongestDelimiter, BeginsNoDelimiter, begins_comment, comparison_spelling, is_blank, is_in_comment, is_short_delimiter, is_long_delimiter, mark_spelling}
+use Rattle.bw_sql.specs.declared.token.Mark.TheVariants.{Open, Close, Comma, Star, Semicolon, Plus}
+use Rattle.bw_sql.specs.declared.token.Mark.TheVariants.{Minus}
+use Rattle.bw_sql.specs.Piece.{IsDelimiter, IsLongestDelimiter, BeginsNoDelimiter, begins_comment}
+use Rattle.bw_sql.specs.Piece.{comparison_spelling, is_blank, is_in_comment, is_short_delimiter}
+use Rattle.bw_sql.specs.Piece.{is_long_delimiter, mark_spelling}
 use Rattle.bw_sql.specs.Token.{Lexeme, Compare, Punct, Reserved}
 use Rattle.bw_sql.proofs.Cases.{bool_cases}
 use Rattle.bw_text.specs.declared.keyword.Keyword.{Keyword}

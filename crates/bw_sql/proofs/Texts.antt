@@ -1,5 +1,7 @@
--- What a text is read as, and that it spells it or is refused for it.
-use Rattle.std.proofs.Common.{◌≡◌, ℕ, ◌-◌, ◌<◌, ◌≤◌, ◌⊎◌, inl, inr, true, false, ◌==◌, List, [], ◌∷◌, length, Option, Some, None, Result, Ok, Err, IfErr, slice_get, refl, sym, ◌∙◌, ap, subst, arith}
+-- What a text is read as, and that it spells it or is rejected for it.
+use Rattle.std.proofs.Common.{◌≡◌, ℕ, ◌-◌, ◌<◌, ◌≤◌, ◌⊎◌, inl, inr, true, false, ◌==◌, List, []}
+use Rattle.std.proofs.Common.{◌∷◌, length, Option, Some, None, Result, Ok, Err, IfErr, slice_get}
+use Rattle.std.proofs.Common.{refl, sym, ◌∙◌, ap, subst, arith}
 use Rattle.std.specs.Prelude.{find}
 use Rattle.std.proofs.lemmas.List.{length-map}
 use Rattle.std.proofs.lemmas.Bool.{cases_lt}
@@ -9,24 +11,27 @@ use Rattle.bw_model.specs.declared.query.Query.{Query}
 use Rattle.bw_model.specs.declared.schema.Schema.{Schema}
 use Rattle.bw_model.specs.Fault.{at_byte, is_memory}
 use Rattle.bw_sql.specs.declared.reader.Refusal.{Refusal}
-use Rattle.bw_sql.specs.declared.reader.Refusal.TheVariants.{Syntax, UnknownTable, UnknownColumn, Literal, MixedItems, Nesting}
+use Rattle.bw_sql.specs.declared.reader.Refusal.TheVariants.{Syntax, UnknownTable, UnknownColumn}
+use Rattle.bw_sql.specs.declared.reader.Refusal.TheVariants.{Literal, MixedItems, Nesting}
 use Rattle.bw_sql.specs.declared.reader.Stop.{Stop}
 use Rattle.bw_sql.specs.declared.reader.Stop.TheVariants.{Refused, OutOfMemory}
 use Rattle.bw_sql.specs.declared.token.Placed.{Placed}
-use Rattle.bw_sql.specs.Asked.{QueryShape, query_shape}
+use Rattle.bw_sql.specs.QueryShape.{QueryShape, query_shape}
 use Rattle.bw_sql.specs.Cut.{IsCut, Spot, spots}
 use Rattle.bw_sql.specs.Demand.{is_met}
 use Rattle.bw_sql.specs.Frontier.{Stands, IsFirst, asked_for}
 use Rattle.bw_sql.specs.Grammar.{IsQuery}
-use Rattle.bw_sql.specs.Judged.{Answers, IsFaultOf, IsRead, fault_at, parse_verdict}
+use Rattle.bw_sql.specs.Verdict.{Answers, IsFaultOf, IsRead, fault_at, parse_verdict}
 use Rattle.bw_sql.specs.Limits.{longest_statement}
 use Rattle.bw_sql.specs.Reader.{Reads}
 use Rattle.bw_sql.specs.Reading.{Halt, statement_at}
 use Rattle.bw_sql.specs.Refusal.{code_of}
-use Rattle.bw_sql.specs.Statement.{IsFault, IsRefusal, SpellsOrFails, Parses, Spells, too_long, refused, token_refused, end_refused, byte_refused, tokens_of}
+use Rattle.bw_sql.specs.Statement.{IsFault, IsRefusal, SpellsOrFails, Parses, Spells, too_long}
+use Rattle.bw_sql.specs.Statement.{refused, token_refused, end_refused, byte_refused, tokens_of}
 use Rattle.bw_sql.specs.Token.{Lexeme, lexeme, lexemes}
 use Rattle.bw_sql.proofs.Cases.{bool_cases}
-use Rattle.bw_sql.proofs.Frontiers.{FirstFault, first_fault, only_at_end, asked_for_weaker, path_weaker, Ran, whole, ran_so}
+use Rattle.bw_sql.proofs.Frontiers.{FirstFault, first_fault, only_at_end, asked_for_weaker}
+use Rattle.bw_sql.proofs.Frontiers.{path_weaker, Ran, whole, ran_so}
 use Rattle.bw_sql.proofs.Machine.{Symbol, AStatement, all_may_end}
 use Rattle.bw_sql.proofs.Cuts.{cut_of_text, one_cut_of}
 use Rattle.bw_sql.proofs.Spelled.{query_read}
@@ -122,7 +127,7 @@ err_is_memory schema text (Ok query) exact q s = tt
 err_is_memory schema text (Err fault) exact q s = bool_cases (is_memory fault) (λ m. m)
     (λ m. absurd (not_refused schema text q fault s (exact s.short m)))
 
--- the first fault is one
+-- the first error is one
 refusal_of : ℕ → Option Refusal
 refusal_of n = find (λ why. code_of why == n) (Syntax ∷ UnknownTable ∷ UnknownColumn ∷ Literal ∷ MixedItems ∷ Nesting ∷ [])
 
@@ -151,7 +156,7 @@ past tokens place e = elim (slice_get_cases tokens place).1 [
 ]
 
 module _ (schema : Schema) (text : List ℕ) (tokens : List Spot) where
-  -- where all tokens are read no fault stands
+  -- if all tokens are read, there is no error
   none_stands : (q : QueryShape) → statement_at schema (tokens_of tokens) ≡ Ok q → (why : Refusal) (place : ℕ) →
       Stands schema (tokens_of tokens) why place → ⊥
   none_stands q e why place stands =
@@ -160,7 +165,7 @@ module _ (schema : Schema) (text : List ℕ) (tokens : List Spot) where
       (path_weaker schema (asked_for schema Syntax) (asked_for_weaker schema Syntax) p.1) p.2 in
       (only_at_end schema (tokens_of tokens) p.0 p.1 why place stands).2 query_shape.0 query_shape.1
 
-  -- a refusal, by its place among the tokens and after them
+  -- a rejection, by its place among the tokens and after them
   refused_at : (stop : Option ℕ) (why : Refusal) (place : ℕ) → IsCut 0 text tokens stop →
       IsFirst schema (tokens_of tokens) why place →
       (length tokens ≤ place → (place ≡ length tokens) × (why ≡ Syntax)) → (found : Option Spot) → slice_get tokens place ≡ found →
@@ -177,7 +182,7 @@ module _ (schema : Schema) (text : List ℕ) (tokens : List Spot) where
         | inr h ↦ omega (arith, past tokens place e, h.0)
       ])
 
-  -- where reading halts is the first fault
+  -- where reading halts is the first error
   halted_at : (stop : Option ℕ) (halt : Halt) → statement_at schema (tokens_of tokens) ≡ Err halt → (why : Refusal) (place : ℕ) →
       IsFirst schema (tokens_of tokens) why place →
       Err (fault_at (slice_get tokens place) stop (length text) why) ≡ parse_verdict tokens stop (length text) (Err halt)
@@ -207,7 +212,7 @@ module _ (schema : Schema) (text : List ℕ) (tokens : List Spot) where
           let same = length-map tokens (λ spot. spot.token) in
           (omega (arith, h, g.left, same), g.last (omega (arith, h, same)))
 
-  -- what has a fault is read as that fault
+  -- what has an error is read as that error
   first_read : (stop : Option ℕ) (why : Refusal) (place : ℕ) (found : Option Spot) → IsFirst schema (tokens_of tokens) why place →
       slice_get tokens place ≡ found → (reading : Result QueryShape Halt) → statement_at schema (tokens_of tokens) ≡ reading →
       Err (fault_at found stop (length text) why) ≡ parse_verdict tokens stop (length text) reading

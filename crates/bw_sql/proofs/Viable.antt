@@ -1,5 +1,7 @@
 -- What the machine has read can be completed to a statement.
-use Rattle.std.proofs.Common.{◌≡◌, ℕ, suc, ◌≤◌, Bool, true, false, List, [], ◌∷◌, ◌++◌, length, is_some, Some, None, if◌then◌else◌, Result, Ok, refl, sym, subst, arith}
+use Rattle.std.proofs.Common.{◌≡◌, ℕ, suc, ◌≤◌, Bool, true, false, List, [], ◌∷◌, ◌++◌, length}
+use Rattle.std.proofs.Common.{is_some, Some, None, if◌then◌else◌, Result, Ok, refl, sym, subst}
+use Rattle.std.proofs.Common.{arith}
 use Rattle.std.proofs.lemmas.Bool.{and_parts, lt-ltb}
 use Rattle.std.proofs.lemmas.List.{append-nil}
 use Rattle.std.specs.List.{position}
@@ -23,25 +25,42 @@ use Rattle.bw_sql.specs.declared.items.Aggregate.{Aggregate}
 use Rattle.bw_sql.specs.declared.items.Aggregate.TheVariants as aggregate
 use Rattle.bw_sql.specs.declared.reader.Refusal.{Refusal}
 use Rattle.bw_sql.specs.declared.token.Mark.TheVariants as mark
-use Rattle.bw_sql.specs.Asked.{QueryShape}
+use Rattle.bw_sql.specs.QueryShape.{QueryShape}
 use Rattle.bw_model.specs.CondTree.{CondTree, Always, Cmp, Between, IsNull, Test, Not, Among}
 use Rattle.bw_model.specs.Column.{column_named}
-use Rattle.bw_sql.specs.Demand.{Demand, NamesTable, NamesColumn, Fits, OfOneKind, Depth, every_column, is_met, meets}
+use Rattle.bw_sql.specs.Demand.{Demand, NamesTable, NamesColumn, Fits, OfOneKind, Depth}
+use Rattle.bw_sql.specs.Demand.{every_column, is_met, meets}
 use Rattle.bw_sql.specs.Frontier.{Viable}
-use Rattle.bw_sql.specs.Grammar.{TruthIs, OperandIs, CommaList, RangeIs, ComparedIs, TestedIs, MoreParts, FactorIs, PrimaryIs, ItemIs, NextItemIs, ItemsAre, SelectionIs, EndIs, StatementIs, true_word, false_word, unknown_word, null, column, unsigned, plus, minus, no_more, one_more, between, among, compared, comparison, range, not_range, is_null, is_not_null, parts, last_part, next_part, factor, term, test, not_test, tested, untested, is, is_not, predicate, bracket, plain, count_all, aggregate, next_item, star, items, all_rows, rows_where, bare, semicolon, statement}
+use Rattle.bw_sql.specs.Grammar.{TruthIs, OperandIs, CommaList, RangeIs, ComparedIs, TestedIs}
+use Rattle.bw_sql.specs.Grammar.{MoreParts, FactorIs, PrimaryIs, ItemIs, NextItemIs, ItemsAre}
+use Rattle.bw_sql.specs.Grammar.{SelectionIs, EndIs, StatementIs, true_word, false_word}
+use Rattle.bw_sql.specs.Grammar.{unknown_word, null, column, unsigned, plus, minus, no_more}
+use Rattle.bw_sql.specs.Grammar.{one_more, between, among, compared, comparison, range, not_range}
+use Rattle.bw_sql.specs.Grammar.{is_null, is_not_null, parts, last_part, next_part, factor, term}
+use Rattle.bw_sql.specs.Grammar.{test, not_test, tested, untested, is, is_not, predicate, bracket}
+use Rattle.bw_sql.specs.Grammar.{plain, count_all, aggregate, next_item, star, items, all_rows}
+use Rattle.bw_sql.specs.Grammar.{rows_where, bare, semicolon, statement}
 use Rattle.bw_sql.specs.Reading.{same_keyword}
 use Rattle.bw_sql.specs.Token.{Lexeme, Name, Digits, Reserved, Compare, Punct}
 use Rattle.bw_sql.specs.Words.{aggregate_word}
 use Rattle.bw_sql.proofs.Spellings.{word_same}
 use Rattle.bw_sql.proofs.Cases.{bool_cases}
-use Rattle.bw_sql.proofs.Machine.{Symbol, AWord, Opening, Closing, AnOperand, SignedDigits, PredicateTail, RangeTail, NullTail, NotNullTail, CommaTail, AFactor, APrimary, TestTail, TruthTail, NotTruthTail, PartTail, ItemList, AnItem, AnArgument, ATable, ASelection, AnEnd, AStatement, Choice, Ask, Take, Pass, Stop, of_aggregate, in_brackets, operand_choice, primary_choice, range_choice, truth_choice, aggregate_choice, decide, may_end, all_may_end, ask, chosen, step}
+use Rattle.bw_sql.proofs.Machine.{Symbol, AWord, Opening, Closing, AnOperand, SignedDigits}
+use Rattle.bw_sql.proofs.Machine.{PredicateTail, RangeTail, NullTail, NotNullTail, CommaTail}
+use Rattle.bw_sql.proofs.Machine.{AFactor, APrimary, TestTail, TruthTail, NotTruthTail, PartTail}
+use Rattle.bw_sql.proofs.Machine.{ItemList, AnItem, AnArgument, ATable, ASelection, AnEnd}
+use Rattle.bw_sql.proofs.Machine.{AStatement, Choice, Ask, Take, Pass, Stop, of_aggregate}
+use Rattle.bw_sql.proofs.Machine.{in_brackets, operand_choice, primary_choice, range_choice}
+use Rattle.bw_sql.proofs.Machine.{truth_choice, aggregate_choice, decide, may_end, all_may_end, ask}
+use Rattle.bw_sql.proofs.Machine.{chosen, step}
 
 -- a token, and the rest
 pub data IsToken (t : Lexeme) : List Lexeme → List Lexeme → Type 0 where
   here_is : {rest : List Lexeme} → IsToken t (t ∷ rest) rest
 
 module _ (columns : List Column) (met : Demand → Bool) where
-  -- the tokens that a symbol stands for, up to the rest: with what stands before it they make a whole
+  -- the tokens that a symbol stands for, up to the rest: with what stands before it they make a
+  -- whole
   abbrev pub Means : Symbol → List Lexeme → List Lexeme → Type 0
   Means (AWord w) tokens rest = IsToken (Reserved w) tokens rest
   Means Opening tokens rest = IsToken (Punct mark.Open) tokens rest

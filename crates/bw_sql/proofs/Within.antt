@@ -1,5 +1,7 @@
 -- What a query that is spelled names, and that it is whole.
-use Rattle.std.proofs.Common.{◌≡◌, ◌≤◌, ◌+◌, ℕ, zero, suc, Bool, true, false, nat_lt, List, [], ◌∷◌, map, length, vec_len, Some, Result, Ok, Err, IfOk, refl, ap, subst, arith}
+use Rattle.std.proofs.Common.{◌≡◌, ◌≤◌, ◌+◌, ℕ, zero, suc, Bool, true, false, nat_lt, List, [], ◌∷◌}
+use Rattle.std.proofs.Common.{map, length, vec_len, Some, Result, Ok, Err, IfOk, refl, ap, subst}
+use Rattle.std.proofs.Common.{arith}
 use Rattle.std.specs.List.{list_all, range_with_len}
 use Rattle.std.proofs.lemmas.Bool.{and_from, le-leb, lt-ltb}
 use Rattle.std.proofs.lemmas.List.FromFn.{length-map-range_with_len}
@@ -13,22 +15,31 @@ use Rattle.bw_model.specs.declared.query.Query.{Query}
 use Rattle.bw_model.specs.declared.schema.Schema.{Schema}
 use Rattle.bw_model.specs.Column.{column_named}
 use Rattle.bw_model.specs.Cond.{is_within}
-use Rattle.bw_model.specs.CondTree.{CondTree, And, trees_of, tree_within, trees_within, is_whole_tree, are_whole_trees, count_of}
+use Rattle.bw_model.specs.CondTree.{CondTree, And, trees_of, tree_within, trees_within}
+use Rattle.bw_model.specs.CondTree.{is_whole_tree, are_whole_trees, count_of}
 use Rattle.bw_text.specs.Text.{same_text}
 use Rattle.bw_model.specs.Total.{item_within}
 use Rattle.bw_sql.specs.declared.condition.Connective.{Connective}
 use Rattle.bw_sql.specs.declared.condition.Connective.TheVariants as connective
 use Rattle.bw_sql.specs.declared.items.Aggregate.TheVariants as kind
-use Rattle.bw_sql.specs.Asked.{QueryShape, query_shape}
-use Rattle.bw_sql.specs.Demand.{NamesColumn, OfOneKind, column_number, column_or_first, is_met, meets}
-use Rattle.bw_sql.specs.Grammar.{OperandIs, CommaList, RangeIs, ComparedIs, JoinedIs, MoreParts, PartIs, FactorIs, TestIs, PrimaryIs, ItemIs, NextItemIs, ItemsAre, SelectionIs, IsQuery, fold_operands, null, column, no_more, one_more, between, among, compared, comparison, range, not_range, is_null, is_not_null, parts, last_part, next_part, factor, term, test, not_test, tested, untested, is, is_not, predicate, bracket, plain, count_all, aggregate, next_item, star, items, all_rows, rows_where, statement}
+use Rattle.bw_sql.specs.QueryShape.{QueryShape, query_shape}
+use Rattle.bw_sql.specs.Demand.{NamesColumn, OfOneKind, column_number, column_or_first, is_met}
+use Rattle.bw_sql.specs.Demand.{meets}
+use Rattle.bw_sql.specs.Grammar.{OperandIs, CommaList, RangeIs, ComparedIs, JoinedIs, MoreParts}
+use Rattle.bw_sql.specs.Grammar.{PartIs, FactorIs, TestIs, PrimaryIs, ItemIs, NextItemIs, ItemsAre}
+use Rattle.bw_sql.specs.Grammar.{SelectionIs, IsQuery, fold_operands, null, column, no_more}
+use Rattle.bw_sql.specs.Grammar.{one_more, between, among, compared, comparison, range, not_range}
+use Rattle.bw_sql.specs.Grammar.{is_null, is_not_null, parts, last_part, next_part, factor, term}
+use Rattle.bw_sql.specs.Grammar.{test, not_test, tested, untested, is, is_not, predicate, bracket}
+use Rattle.bw_sql.specs.Grammar.{plain, count_all, aggregate, next_item, star, items, all_rows}
+use Rattle.bw_sql.specs.Grammar.{rows_where, statement}
 use Rattle.bw_sql.specs.Items.{AreOfOneKind, is_of_kind, are_of_kind}
 use Rattle.bw_sql.specs.Statement.{Parses, tokens_of}
 use Rattle.bw_sql.specs.Token.{Lexeme}
 use Rattle.bw_sql.specs.Words.{join_of}
 use Rattle.bw_sql.proofs.Cases.{option_cases}
 
--- a tree names the first so many columns alone, and is whole
+-- a tree names the first columns, this many, alone, and is whole
 abbrev Good : ℕ → CondTree → Type 0
 Good columns c = (tree_within columns c ≡ true) × (is_whole_tree c ≡ true)
 
@@ -169,7 +180,7 @@ pub record GoodQuery (columns : ℕ) (query : QueryShape) : Type 0 where
   pub within : tree_within columns query.cond ≡ true
   pub whole : is_whole_tree query.cond ≡ true
   pub items : list_all (item_within columns) query.items ≡ true
-  pub some : 1 ≤ length query.items
+  pub nonempty : 1 ≤ length query.items
   pub kinds : AreOfOneKind query.items
 
 pub query_good : (schema : Schema) (tokens : List Lexeme) (query : QueryShape) → IsQuery schema tokens query →
@@ -178,7 +189,7 @@ query_good schema tokens query (statement list m selection end) =
     let xs = items_good schema list in
     let c = selection_good schema selection in
     let columns : length schema.columns.items ≡ vec_len schema.columns = omega (arith, schema.columns.ok.0) in
-    subst (λ k. GoodQuery k query) columns (record { within = c.0; whole = c.1; items = xs.1; some = xs.0; kinds = xs.2 })
+    subst (λ k. GoodQuery k query) columns (record { within = c.0; whole = c.1; items = xs.1; nonempty = xs.0; kinds = xs.2 })
 
 -- so it is with the query that a text is read as
 pub if_good : (schema : Schema) (text : List ℕ) (result : Result Query Fault) (P : Query → Type 0) → Parses schema text result →

@@ -1,5 +1,6 @@
 -- Demands on a statement beyond the productions of the grammar.
-use Rattle.std.specs.Prelude.{ℕ, ℤ, pos, ◌-ℤ◌, Bool, true, false, not, List, map, length, Option, Some, None, is_some, nat_le}
+use Rattle.std.specs.Prelude.{ℕ, ℤ, pos, ◌-ℤ◌, Bool, true, false, not, List, map, length, Option}
+use Rattle.std.specs.Prelude.{Some, None, is_some, nat_le}
 use Rattle.std.specs.List.{range_with_len}
 use Rattle.bw_model.specs.declared.column.Column.{Column}
 use Rattle.bw_model.specs.declared.query.Item.{Item}
@@ -9,7 +10,8 @@ use Rattle.bw_model.specs.Column.{column_named}
 use Rattle.bw_text.specs.Number.{digits_value, number_of}
 use Rattle.bw_text.specs.Text.{same_text}
 use Rattle.bw_sql.specs.declared.reader.Refusal.{Refusal}
-use Rattle.bw_sql.specs.declared.reader.Refusal.TheVariants.{UnknownTable, UnknownColumn, Literal, MixedItems, Nesting}
+use Rattle.bw_sql.specs.declared.reader.Refusal.TheVariants.{UnknownTable, UnknownColumn, Literal}
+use Rattle.bw_sql.specs.declared.reader.Refusal.TheVariants.{MixedItems, Nesting}
 use Rattle.bw_sql.specs.Limits.{deepest_nesting}
 
 -- A table's name is the schema's; a column's name is that of one of its columns; 64 bits hold the

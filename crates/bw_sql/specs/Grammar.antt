@@ -16,9 +16,11 @@ use Rattle.bw_sql.specs.declared.condition.Connective.{Connective}
 use Rattle.bw_sql.specs.declared.condition.Connective.TheVariants as connective
 use Rattle.bw_sql.specs.declared.items.Aggregate.{Aggregate}
 use Rattle.bw_sql.specs.declared.token.Mark.TheVariants as mark
-use Rattle.bw_sql.specs.Asked.{QueryShape}
-use Rattle.bw_model.specs.CondTree.{CondTree, CondTrees, Always, Cmp, Between, Among, IsNull, Not, Test, trees_of}
-use Rattle.bw_sql.specs.Demand.{Demand, NamesTable, NamesColumn, Fits, OfOneKind, Depth, column_number, every_column, is_met, signed}
+use Rattle.bw_sql.specs.QueryShape.{QueryShape}
+use Rattle.bw_model.specs.CondTree.{CondTree, CondTrees, Always, Cmp, Between, Among, IsNull, Not}
+use Rattle.bw_model.specs.CondTree.{Test, trees_of}
+use Rattle.bw_sql.specs.Demand.{Demand, NamesTable, NamesColumn, Fits, OfOneKind, Depth}
+use Rattle.bw_sql.specs.Demand.{column_number, every_column, is_met, signed}
 use Rattle.bw_sql.specs.Words.{word_of, join_of, aggregate_word, of_column}
 use Rattle.bw_sql.specs.Token.{Lexeme, Name, Digits, Reserved, Compare, Punct}
 

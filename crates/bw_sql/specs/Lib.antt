@@ -1,10 +1,10 @@
-pub mod Asked
+pub mod QueryShape
 pub mod Cut
 pub mod Demand
 pub mod Frontier
 pub mod Grammar
 pub mod Items
-pub mod Judged
+pub mod Verdict
 pub mod Lexer
 pub mod Limits
 pub mod Piece

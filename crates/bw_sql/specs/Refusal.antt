@@ -1,8 +1,10 @@
 -- The numbers of a statement's errors.
 use Rattle.std.specs.Prelude.{ℕ, Bool, IsTrue, ◌&&◌, ◌||◌, nat_le}
-use Rattle.bw_model.specs.FaultTable.{CHARACTER, SYNTAX, UNKNOWN_TABLE, UNKNOWN_COLUMN, LITERAL, MIXED_ITEMS, NESTING}
+use Rattle.bw_model.specs.FaultTable.{CHARACTER, SYNTAX, UNKNOWN_TABLE, UNKNOWN_COLUMN, LITERAL}
+use Rattle.bw_model.specs.FaultTable.{MIXED_ITEMS, NESTING}
 use Rattle.bw_sql.specs.declared.reader.Refusal.{Refusal}
-use Rattle.bw_sql.specs.declared.reader.Refusal.TheVariants.{Syntax, UnknownTable, UnknownColumn, Literal, MixedItems, Nesting}
+use Rattle.bw_sql.specs.declared.reader.Refusal.TheVariants.{Syntax, UnknownTable, UnknownColumn}
+use Rattle.bw_sql.specs.declared.reader.Refusal.TheVariants.{Literal, MixedItems, Nesting}
 use Rattle.bw_model.specs.declared.fault.Fault.{Fault}
 use Rattle.bw_model.specs.Fault.{is_memory}
 

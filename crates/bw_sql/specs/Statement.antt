@@ -1,5 +1,6 @@
 -- What a text means: the query that it spells, or its error.
-use Rattle.std.specs.Prelude.{◌≡◌, ℕ, ◌<◌, ◌≤◌, ◌⊎◌, List, map, length, Option, Some, None, Result, Ok, Err, false, slice_get}
+use Rattle.std.specs.Prelude.{◌≡◌, ℕ, ◌<◌, ◌≤◌, ◌⊎◌, List, map, length, Option, Some, None, Result}
+use Rattle.std.specs.Prelude.{Ok, Err, false, slice_get}
 use Rattle.bw_model.specs.FaultTable.{CHARACTER, STATEMENT_TOO_LONG}
 use Rattle.bw_model.specs.declared.fault.Fault.{Fault}
 use Rattle.bw_model.specs.declared.query.Query.{Query}
@@ -7,7 +8,7 @@ use Rattle.bw_model.specs.declared.schema.Schema.{Schema}
 use Rattle.bw_model.specs.Fault.{at_byte, is_memory}
 use Rattle.bw_sql.specs.declared.reader.Refusal.{Refusal}
 use Rattle.bw_sql.specs.declared.reader.Refusal.TheVariants.{Syntax}
-use Rattle.bw_sql.specs.Asked.{QueryShape, query_shape}
+use Rattle.bw_sql.specs.QueryShape.{QueryShape, query_shape}
 use Rattle.bw_sql.specs.Cut.{IsCut, Spot}
 use Rattle.bw_sql.specs.Frontier.{IsFirst}
 use Rattle.bw_sql.specs.Grammar.{IsQuery}

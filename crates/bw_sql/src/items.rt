@@ -10,7 +10,9 @@ ghost use Rattle.std.specs.Prelude.{is_some, ◌≡◌, ◌<◌, length, IfOk, I
 ghost use Rattle.std.specs.Option.{option_map};
 ghost use Rattle.bw_sql.specs.Demand.{every_column};
 ghost use Rattle.bw_sql.specs.Reader.{Reads, ReadsFrom};
-ghost use Rattle.bw_sql.specs.Reading.{after_aggregate, aggregated_at, argument_at, begins_with_name, item_at, items_at, more_items, next_item_at, of_one_kind, with_front};
+ghost use Rattle.bw_sql.specs.Reading.{after_aggregate, aggregated_at, argument_at};
+ghost use Rattle.bw_sql.specs.Reading.{begins_with_name, item_at, items_at, more_items};
+ghost use Rattle.bw_sql.specs.Reading.{next_item_at, of_one_kind, with_front};
 ghost use Rattle.bw_sql.specs.Token.{lexemes};
 ghost use Rattle.bw_sql.specs.Words.{of_column};
 

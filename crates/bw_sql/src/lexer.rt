@@ -1,11 +1,14 @@
 //! Cuts a statement into tokens, the longest piece first.
-ghost use Rattle.std.specs.Prelude.{◌≡◌, ◌≤◌, ◌↔◌, IsTrue, length, [], ◌∷◌, false, IfOk, IfSome, IfNone, MatchOption};
+ghost use Rattle.std.specs.Prelude.{◌≡◌, ◌≤◌, ◌↔◌, IsTrue, length, [], ◌∷◌, false, IfOk, IfSome};
+ghost use Rattle.std.specs.Prelude.{IfNone, MatchOption};
 ghost use Rattle.std.specs.List.{prefix_len};
 ghost use Rattle.std.specs.Char.{is_ascii_digit};
 ghost use Rattle.bw_text.specs.Text.{goes_on_in_word};
 ghost use Rattle.bw_sql.specs.Cut.{HasNoToken, IsCut, spots};
 ghost use Rattle.bw_sql.specs.Lexer.{piece};
-ghost use Rattle.bw_sql.specs.Piece.{IsDelimiter, IsLongestDelimiter, BeginsNoDelimiter, IsLongest, BeginsNoPiece, is_short_delimiter, is_long_delimiter, is_blank, is_in_comment, begins_comment};
+ghost use Rattle.bw_sql.specs.Piece.{IsDelimiter, IsLongestDelimiter, BeginsNoDelimiter, IsLongest};
+ghost use Rattle.bw_sql.specs.Piece.{BeginsNoPiece, is_short_delimiter, is_long_delimiter};
+ghost use Rattle.bw_sql.specs.Piece.{is_blank, is_in_comment, begins_comment};
 ghost use Rattle.bw_sql.specs.Token.{Compare, lexeme, word_lexeme};
 
 use crate::token::{Mark, Placed, Token};

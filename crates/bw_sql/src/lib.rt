@@ -17,19 +17,20 @@
 //! `predicate.rt`.
 #![tactic(auto)]
 
-ghost use Rattle.std.specs.Prelude.{List, ℕ, Option, ◌≡◌, ◌<◌, ◌≤◌, length, IfOk, IfErr, IsTrue, vec_len};
+ghost use Rattle.std.specs.Prelude.{List, ℕ, Option, ◌≡◌, ◌<◌, ◌≤◌, length, IfOk, IfErr, IsTrue};
+ghost use Rattle.std.specs.Prelude.{vec_len};
 ghost use Rattle.std.specs.List.{list_all};
 ghost use Rattle.bw_model.specs.FaultTable.{STATEMENT_TOO_LONG};
 ghost use Rattle.bw_model.specs.Fault.{at_byte, is_memory};
 ghost use Rattle.bw_model.specs.Cond.{names_within, is_whole};
 ghost use Rattle.bw_model.specs.SchemaText.{schema_shape};
-ghost use Rattle.bw_model.specs.Standing.{StandsAsListed};
+ghost use Rattle.bw_model.specs.FaultPlaces.{StandsAsListed};
 ghost use Rattle.bw_model.specs.Total.{item_within};
-ghost use Rattle.bw_sql.specs.Asked.{QueryShape};
+ghost use Rattle.bw_sql.specs.QueryShape.{QueryShape};
 ghost use Rattle.bw_sql.specs.Cut.{IsCut, Spot, spots};
 ghost use Rattle.bw_sql.specs.Grammar.{IsQuery};
 ghost use Rattle.bw_sql.specs.Items.{AreOfOneKind};
-ghost use Rattle.bw_sql.specs.Judged.{Answers, IsFaultOf};
+ghost use Rattle.bw_sql.specs.Verdict.{Answers, IsFaultOf};
 ghost use Rattle.bw_sql.specs.Limits.{longest_statement};
 ghost use Rattle.bw_sql.specs.Reading.{statement_at};
 ghost use Rattle.bw_sql.specs.Refusal.{IsStatementFault};
@@ -153,7 +154,7 @@ pub fn one_fault()
 {}
 
 /// A theorem: a text's error is where the table of errors lists it: at a byte.
-#[tactic(auto, using(crate::proofs::StandingLemmas::fault_listed))]
+#[tactic(auto, using(crate::proofs::FaultPlaceLemmas::fault_listed))]
 pub fn faults_stand_as_listed()
     ensures { (schema : Schema) (text : List ℕ) (fault : Fault)
         → IsFault schema text fault → StandsAsListed fault }

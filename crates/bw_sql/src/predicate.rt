@@ -14,7 +14,9 @@ ghost use Rattle.std.specs.Prelude.{◌≡◌, ◌<◌, ◌≤◌, length, IfOk,
 ghost use Rattle.std.specs.Option.{option_map};
 ghost use Rattle.bw_model.specs.CondTree.{Not, tree_of};
 ghost use Rattle.bw_sql.specs.Reader.{ReadsFrom};
-ghost use Rattle.bw_sql.specs.Reading.{predicate_at, predicate_of, after_comparison, null_test_at, operands_at, range_at, list_at, range_or_list_at, with_front, more_operands};
+ghost use Rattle.bw_sql.specs.Reading.{predicate_at, predicate_of, after_comparison, null_test_at};
+ghost use Rattle.bw_sql.specs.Reading.{operands_at, range_at, list_at, range_or_list_at};
+ghost use Rattle.bw_sql.specs.Reading.{with_front, more_operands};
 ghost use Rattle.bw_sql.specs.Token.{lexemes};
 
 use crate::operand::operand;

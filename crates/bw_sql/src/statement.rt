@@ -6,8 +6,9 @@
 ghost use Rattle.std.specs.Prelude.{◌<◌};
 ghost use Rattle.bw_sql.specs.Reader.{Reads, ReadsFrom};
 ghost use Rattle.bw_model.specs.CondTree.{tree_of};
-ghost use Rattle.bw_sql.specs.Asked.{query_shape};
-ghost use Rattle.bw_sql.specs.Reading.{end_at, selection_at, statement_at, table_at, table_expression_at};
+ghost use Rattle.bw_sql.specs.QueryShape.{query_shape};
+ghost use Rattle.bw_sql.specs.Reading.{end_at, selection_at, statement_at, table_at};
+ghost use Rattle.bw_sql.specs.Reading.{table_expression_at};
 ghost use Rattle.bw_sql.specs.Token.{lexemes};
 
 use crate::condition::condition;

@@ -1,6 +1,6 @@
-//! Totals of the picked rows of segments.
+//! Totals of the selected rows of segments.
 ghost use Rattle.std.specs.Prelude.{◌+◌, ◌≤◌, ◌^◌, length, IsTrue};
-ghost use Rattle.bw_aggregate.specs.Picked.{IsWithin};
+ghost use Rattle.bw_aggregate.specs.Selected.{IsWithin};
 ghost use Rattle.bw_lanes.specs.Lanes.{lanes_of_words};
 ghost use Rattle.bw_model.specs.Total.{is_aggregate, item_within};
 
@@ -16,9 +16,9 @@ pub fn calls_new(item: &Item) -> Totals
 }
 
 pub fn calls_add<S: Segment>(totals: &mut Totals, segment: &S, plane: &Plane)
-    requires aggregate { IsTrue (is_aggregate totals.old.picked.item) }
+    requires aggregate { IsTrue (is_aggregate totals.old.selected.item) }
     requires column { IsTrue
-        (item_within (length (S.meaning segment.now).columns) totals.old.picked.item) }
+        (item_within (length (S.meaning segment.now).columns) totals.old.selected.item) }
     requires plane { IsWithin (length (S.meaning segment.now).rows) (lanes_of_words plane.now) }
     requires count { totals.old.rows + length (S.meaning segment.now).rows ≤ 2 ^ 24 }
 {

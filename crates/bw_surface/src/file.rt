@@ -1,4 +1,4 @@
-//! Table files, and the sources and sinks that they come from and go to.
+//! Table files, and the sources and sinks that they are read from and written to.
 ghost use Rattle.std.specs.Prelude.{◌≡◌, ◌-◌, ◌^◌, ◌<◌, ◌≤◌, true, length, map};
 ghost use Rattle.std.specs.List.{list_all};
 ghost use Rattle.bw_model.specs.Column.{admits_values};

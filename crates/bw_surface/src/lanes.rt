@@ -1,4 +1,4 @@
-//! Planes and the operations on them, and on one byte of each of 512 rows.
+//! Operations on planes, and on one byte of each of 512 rows.
 ghost use Rattle.std.specs.Prelude.{◌≤◌};
 
 use bw_lanes::Plane;

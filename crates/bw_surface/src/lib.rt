@@ -1,9 +1,11 @@
-//! What callers write: every type, variant, field and call of the public surface, by the crate that has it.
+//! A caller of every type, variant, field and call of the public surface, in a module for each
+//! crate.
 //!
-//! Each function here calls one call, with its parameters in their order, under the condition that callers are told of
-//! and no other; it makes a value of its parts; or it tells an enum's variants apart. So this crate isn't proved once a
-//! name, a field, a parameter or a crate of theirs changes, or a condition becomes stronger. What calls answer is said
-//! and tested elsewhere. Nothing stands on this crate.
+//! Each function calls one public call, with its parameters in their order, under the documented
+//! condition and no other; or it builds a value from its fields; or it matches all variants of an
+//! enum. So this crate no longer proves if a public name, field, parameter or crate changes, or if
+//! a condition becomes stronger. What calls return is specified and tested elsewhere. No crate
+//! depends on this one.
 //!
 //! Read a module beside the crate of its name; `bw_planes` and `bw_slices` share one.
 #![tactic(auto)]

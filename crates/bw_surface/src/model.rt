@@ -1,4 +1,4 @@
-//! Values, rows, columns and schemas; conditions and queries; and faults.
+//! Values, rows, columns and schemas; conditions and queries; and errors.
 ghost use Rattle.std.specs.Prelude.{◌≤ℤ◌, ◌<ℤ◌, ◌-ℤ◌, ◌^◌, ◌<◌, ◌≤◌, pos, length, IsTrue};
 ghost use Rattle.bw_model.specs.Code.{span_at, width_at};
 ghost use Rattle.bw_model.specs.Column.{names_of};

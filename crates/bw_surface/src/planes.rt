@@ -1,4 +1,4 @@
-//! Segments in both layouts, of `bw_planes` and `bw_slices`, built of rows in memory.
+//! Segments in both layouts, of `bw_planes` and `bw_slices`, built from rows in memory.
 ghost use Rattle.std.specs.Prelude.{◌≡◌, ◌≤◌, true, length, map};
 ghost use Rattle.std.specs.List.{list_all};
 ghost use Rattle.bw_model.specs.Column.{admits_values};

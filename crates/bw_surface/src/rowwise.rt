@@ -1,4 +1,4 @@
-//! Truth and aggregates by rows.
+//! Truth and aggregates row by row.
 ghost use Rattle.std.specs.Prelude.{◌≤◌, ◌^◌, length, All, IsTrue};
 ghost use Rattle.bw_model.specs.Cond.{is_whole, names_within};
 ghost use Rattle.bw_model.specs.Row.{values_of};

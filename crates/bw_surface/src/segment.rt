@@ -1,4 +1,4 @@
-//! What every segment answers.
+//! The methods of every segment.
 ghost use Rattle.std.specs.Prelude.{◌<◌, length};
 ghost use Rattle.bw_model.specs.Code.{slices_at};
 ghost use Rattle.bw_model.specs.Variable.{variables_of};

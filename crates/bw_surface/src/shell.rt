@@ -1,4 +1,4 @@
-//! The calls end to end, and what is reported of them.
+//! The calls of `bw` from end to end, and their reports.
 ghost use Rattle.std.specs.Prelude.{◌-◌, ◌^◌, ◌<◌};
 ghost use Rattle.bw_memory.specs.MemoryTable.{schema_of};
 ghost use Rattle.bw_query.specs.ProgramCache.{Serves};

@@ -1,11 +1,14 @@
 -- How a text is cut into lines, one line at a time.
-use Rattle.std.proofs.Common.{◌≡◌, ℕ, ◌+◌, Bool, true, false, List, [], ◌∷◌, take, drop, refl, ap, ◌∙◌, cond, arith, suc, not, ◌<◌, length, Some, None, position, ◌≤◌, ◌++◌, inl, inr, subst}
+use Rattle.std.proofs.Common.{◌≡◌, ℕ, ◌+◌, Bool, true, false, List, [], ◌∷◌, take, drop, refl, ap}
+use Rattle.std.proofs.Common.{◌∙◌, cond, arith, suc, not, ◌<◌, length, Some, None, position, ◌≤◌}
+use Rattle.std.proofs.Common.{◌++◌, inl, inr, subst}
 use Rattle.std.specs.List.{before_first, after_first, position_or_len, list_all}
 use Rattle.std.proofs.lemmas.Bool.{eqb-true, ltb-false, ltb-true}
 use Rattle.std.proofs.lemmas.List.{take_all}
 use Rattle.std.proofs.lemmas.Option.{cond_some}
 use Rattle.std.proofs.Math.ListN.{drop_of_length-le}
-use Rattle.bw_text.specs.Lines.{cut_lines, with_first, is_line_feed, is_skipped, words_of, numbered_from, numbered, NumberedWords, IsFirstLine}
+use Rattle.bw_text.specs.Lines.{cut_lines, with_first, is_line_feed, is_skipped, words_of}
+use Rattle.bw_text.specs.Lines.{numbered_from, numbered, NumberedWords, IsFirstLine}
 
 -- one byte more in front, at the list of lines that the rest is cut into
 lines_with : Bool → ℕ → List (List ℕ) → List (List ℕ)
@@ -43,7 +46,7 @@ cut_lines-cons c [] = cut_lines-by c [] ∙ at_last (is_line_feed c) c
 cut_lines-cons c (d ∷ ds) =
     cut_lines-by c (d ∷ ds) ∙ by_cases (is_line_feed c) c (d ∷ ds) (position_or_len is_line_feed (d ∷ ds)) (cut_lines-cons d ds)
 
--- the same, by where the first line feed stands
+-- the same, by the place of the first line feed
 pub cut_at : (text : List ℕ) (at : ℕ) → 0 < length text → position is_line_feed text ≡ Some at → cut_lines text ≡ take at text ∷ cut_lines (drop (at + 1) text)
 cut_at [] at h e = absurd (omega arith)
 cut_at (c ∷ cs) at h e =
@@ -119,7 +122,7 @@ pub fed_at : (text : List ℕ) → position_or_len is_line_feed text < length te
 fed_at [] h = absurd (omega arith)
 fed_at (c ∷ cs) h = split_by (is_line_feed c) c cs (position_or_len is_line_feed cs) refl (fed_at cs) h
 
--- where the first line feed stands, the line ends; a text with none is one line
+-- the line ends at the first line feed; a text with none is one line
 pub first_at : (text : List ℕ) (at : ℕ) → position is_line_feed text ≡ Some at → IsFirstLine text (take at text) (drop (at + 1) text)
 first_at text at e =
     let found = cond_some _ _ _ e in

@@ -1,8 +1,10 @@
 -- Decimal digits, one more at a time.
-use Rattle.std.proofs.Common.{◌≡◌, ◌∙◌, ap, sym, ℕ, suc, ◌+◌, ◌-◌, ◌*◌, ◌^◌, ◌<◌, ◌≤◌, List, [], ◌∷◌, ◌++◌, fold, length, take, drop, min, get_or, refl, arith}
+use Rattle.std.proofs.Common.{◌≡◌, ◌∙◌, ap, sym, ℕ, suc, ◌+◌, ◌-◌, ◌*◌, ◌^◌, ◌<◌, ◌≤◌, List, []}
+use Rattle.std.proofs.Common.{◌∷◌, ◌++◌, fold, length, take, drop, min, get_or, refl, arith}
 use Rattle.std.proofs.lemmas.List.{take-append-drop}
 use Rattle.std.proofs.lemmas.List.Sums.{fold_more, fold-append}
-use Rattle.std.proofs.Common.{ℤ, pos, ◌-ℤ◌, cond, true, false, Option, Some, None, FitsSigned, w64, leb, ltb}
+use Rattle.std.proofs.Common.{ℤ, pos, ◌-ℤ◌, cond, true, false, Option, Some, None, FitsSigned, w64}
+use Rattle.std.proofs.Common.{leb, ltb}
 use Rattle.std.proofs.lemmas.Int.{ints}
 use Rattle.std.proofs.Math.Nat.{pow-le-pow_right, pow-succ'}
 use Rattle.std.specs.Option.{SomeIff}
@@ -24,7 +26,8 @@ cut_more n m u e = omega arith
 pub one_more : (n m u : ℕ) → m ≡ min n (2 ^ 64 - 1) → min (10 * m + u) (2 ^ 64 - 1) ≡ min (10 * n + u) (2 ^ 64 - 1)
 one_more n m u e = omega arith
 
--- a number that is cut at the greatest of 64 bits has a sign and fits just where the number does
+-- a number that is cut at the greatest of 64 bits has a sign and fits if and only if the number
+-- does
 pub negative_is : (r : Option ℤ) (m n : ℕ) → m ≡ min n (2 ^ 64 - 1) → SomeIff r (FitsSigned w64 (pos 0 -ℤ pos m)) (pos 0 -ℤ pos m)
     → r ≡ cond (leb n (2 ^ 63)) (Some (pos 0 -ℤ pos n)) None
 negative_is None m n e h = let over : leb n (2 ^ 63) ≡ false = lt-leb _ _ (grind (arith, ints)) in rw over refl
@@ -55,7 +58,7 @@ decimal_of_front digits i =
     let all : fold step 0 digits ≡ fold step (fold step 0 (take i digits)) (drop i digits) = ap (fold step 0) (sym same) ∙ whole in
     omega (arith, fold_grows (fold step 0 (take i digits)) (drop i digits))
 
--- where the digits so far and one more spell too much, all do
+-- if the digits so far and one more spell too much, all do
 pub too_much : (digits : List ℕ) (i n : ℕ) → i < length digits → n ≡ digits_value (take i digits) → 2 ^ 64 ≤ 10 * n + (get_or digits i 0 - 48) → None ≡ where_64_bits_hold (digits_value digits)
 too_much digits i n lt is over =
     let past : ltb (digits_value digits) (2 ^ 64) ≡ false = le-ltb _ _ (omega (arith, decimal_more digits i lt, decimal_of_front digits (i + 1))) in
@@ -64,7 +67,7 @@ too_much digits i n lt is over =
 pub enough : (n : ℕ) → n < 2 ^ 64 → Some n ≡ where_64_bits_hold n
 enough n lt = let within : ltb n (2 ^ 64) ≡ true = lt-ltb _ _ lt in rw within refl
 
--- so many digits spell less than the power of ten with so many zeros
+-- this many digits spell less than the power of ten with this many zeros
 pub one_zero_more : (i n u : ℕ) → n < 10 ^ i → u < 10 → 10 * n + u < 10 ^ (i + 1)
 one_zero_more i n u below digit =
     let next : i + 1 ≡ suc i = omega arith in

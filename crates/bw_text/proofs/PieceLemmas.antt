@@ -1,9 +1,10 @@
 -- What is written piece by piece.
-use Rattle.std.proofs.Common.{◌≡◌, ◌∙◌, refl, sym, ap, ℕ, ◌+◌, ◌<◌, ◌≤◌, List, [], ◌∷◌, ◌++◌, map, length, drop, get_or, add-one, append_assoc}
+use Rattle.std.proofs.Common.{◌≡◌, ◌∙◌, refl, sym, ap, ℕ, ◌+◌, ◌<◌, ◌≤◌, List, [], ◌∷◌, ◌++◌, map}
+use Rattle.std.proofs.Common.{length, drop, get_or, add-one, append_assoc}
 use Rattle.std.proofs.lemmas.List.{append-nil, drop_all}
 use Rattle.std.proofs.Math.Seq.{drop-cons}
 use Rattle.bw_text.specs.declared.piece.Piece.{Piece}
-use Rattle.bw_text.specs.Printed.{piece_text, spaced}
+use Rattle.bw_text.specs.Printing.{piece_text, spaced}
 
 pub spaced-next : (pieces : List Piece) (i : ℕ) (d : Piece) → i < length pieces →
     spaced (map piece_text (drop i pieces)) ≡ (32 ∷ piece_text (get_or pieces i d)) ++ spaced (map piece_text (drop (i + 1) pieces))
@@ -18,7 +19,7 @@ spaced-end pieces i le = rw (drop_all i pieces le) refl
 pub written : (now piece left rest start new : List ℕ) → new ≡ now ++ piece → left ≡ piece ++ rest → now ++ left ≡ start → new ++ rest ≡ start
 written now piece left rest start new is parts e = rw is (append_assoc now piece rest ∙ ap (λ (t : List ℕ). now ++ t) (sym parts) ∙ e)
 
--- where nothing is left, all is written
+-- if nothing is left, all is written
 pub all_written : (now left start : List ℕ) → left ≡ [] → now ++ left ≡ start → now ≡ start
 all_written now left start none e = sym (append-nil now) ∙ ap (λ (t : List ℕ). now ++ t) (sym none) ∙ e
 

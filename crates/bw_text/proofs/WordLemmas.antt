@@ -1,5 +1,6 @@
 -- The only one of some words.
-use Rattle.std.proofs.Common.{◌≡◌, ℕ, Bool, true, false, List, [], ◌∷◌, filter, length, refl, cond, arith, None, Some}
+use Rattle.std.proofs.Common.{◌≡◌, ℕ, Bool, true, false, List, [], ◌∷◌, filter, length, refl, cond}
+use Rattle.std.proofs.Common.{arith, None, Some}
 use Rattle.std.specs.List.{find}
 use Rattle.bw_text.specs.Lines.{only_of}
 
@@ -7,7 +8,7 @@ alone : (x : List ℕ) (xs : List (List ℕ)) → length (x ∷ xs) ≡ 1 → So
 alone x [] e = refl
 alone x (y ∷ ys) e = absurd (omega arith)
 
--- where one word alone passes a test, it's the first that does
+-- if only one word passes a test, it's the first that does
 pub first_kept : (p : List ℕ → Bool) (xs : List (List ℕ)) → length (filter p xs) ≡ 1 → find p xs ≡ only_of (filter p xs)
 first_kept p [] e = refl
 first_kept p (x ∷ xs) e =

@@ -4,6 +4,6 @@ pub mod LineKind
 pub mod Lines
 pub mod Number
 pub mod Opcode
-pub mod Printed
+pub mod Printing
 pub mod Register
 pub mod Text

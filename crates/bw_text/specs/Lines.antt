@@ -1,5 +1,6 @@
 -- Texts by lines, the form of schemas, programs and certificates.
-use Rattle.std.specs.Prelude.{ℕ, ◌+◌, Bool, true, false, List, [], ◌∷◌, ◌++◌, length, map, filter, not, ◌||◌, ◌==◌, if◌then◌else◌, ◌≡◌, ◌⊎◌, Option, Some, None}
+use Rattle.std.specs.Prelude.{ℕ, ◌+◌, Bool, true, false, List, [], ◌∷◌, ◌++◌, length, map, filter}
+use Rattle.std.specs.Prelude.{not, ◌||◌, ◌==◌, if◌then◌else◌, ◌≡◌, ◌⊎◌, Option, Some, None}
 use Rattle.std.specs.List.{slice_split, list_all}
 use Rattle.std.specs.Str.Lines.{strip_carriage_return}
 use Rattle.bw_text.specs.declared.lines.Line.{Line}

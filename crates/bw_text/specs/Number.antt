@@ -1,5 +1,6 @@
 -- Whole numbers, spelled in decimal digits.
-use Rattle.std.specs.Prelude.{ℕ, ℤ, pos, ◌+◌, ◌-◌, ◌*◌, ◌^◌, ◌-ℤ◌, Bool, true, false, not, List, [], ◌∷◌, fold, Option, Some, None, ◌&&◌, if◌then◌else◌, nat_le, nat_lt}
+use Rattle.std.specs.Prelude.{ℕ, ℤ, pos, ◌+◌, ◌-◌, ◌*◌, ◌^◌, ◌-ℤ◌, Bool, true, false, not, List, []}
+use Rattle.std.specs.Prelude.{◌∷◌, fold, Option, Some, None, ◌&&◌, if◌then◌else◌, nat_le, nat_lt}
 use Rattle.std.specs.List.{list_all}
 use Rattle.std.specs.Char.{is_ascii_digit}
 

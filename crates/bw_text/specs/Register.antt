@@ -1,5 +1,6 @@
 -- Registers, and how they are written.
-use Rattle.std.specs.Prelude.{ℕ, Bool, ◌||◌, ◌==◌, List, ◌∷◌, drop, Option, Some, None, if◌then◌else◌, nat_lt, slice_index}
+use Rattle.std.specs.Prelude.{ℕ, Bool, ◌||◌, ◌==◌, List, ◌∷◌, drop, Option, Some, None}
+use Rattle.std.specs.Prelude.{if◌then◌else◌, nat_lt, slice_index}
 use Rattle.std.specs.Fmt.{decimal}
 use Rattle.bw_text.specs.Number.{natural_of}
 

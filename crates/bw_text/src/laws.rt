@@ -1,10 +1,11 @@
 //! Laws: what is written can be read again.
-ghost use Rattle.std.specs.Prelude.{◌≡◌, ◌∷◌, ◌++◌, ◌+◌, ◌<◌, ◌^◌, ℕ, List, Some, IsTrue, true, false};
+ghost use Rattle.std.specs.Prelude.{◌≡◌, ◌∷◌, ◌++◌, ◌+◌, ◌<◌, ◌^◌, ℕ, List, Some, IsTrue, true};
+ghost use Rattle.std.specs.Prelude.{false};
 ghost use Rattle.std.specs.Fmt.{decimal};
 ghost use Rattle.std.specs.List.{list_all};
 ghost use Rattle.bw_text.specs.Lines.{begins_comment, cut_lines, numbered, numbered_from};
 ghost use Rattle.bw_text.specs.Number.{natural_of};
-ghost use Rattle.bw_text.specs.Printed.{is_plain_word, line_text};
+ghost use Rattle.bw_text.specs.Printing.{is_plain_word, line_text};
 
 /// A law: a line that is written of plain words is cut off the text that begins with it, and has
 /// these words. If its first word begins a comment, it is skipped, and counts.

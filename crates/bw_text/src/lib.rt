@@ -10,7 +10,7 @@
 //! - a line that is written ([`push_line`]) is cut into its words again
 //!   ([`written_lines_are_read`])
 //!
-//! Read `specs/Lines.antt` first, then `specs/Printed.antt`.
+//! Read `specs/Lines.antt` first, then `specs/Printing.antt`.
 #![tactic(auto)]
 
 mod form;

@@ -1,10 +1,13 @@
 //! Texts by lines. A line ends at a line feed or at the text's end; a carriage return before that
 //! is dropped. Words are separated by spaces and tabs. A line without words, or whose first word
 //! begins with `#`, is skipped, but counted.
-ghost use Rattle.std.specs.Prelude.{◌≡◌, ◌+◌, ◌<◌, ◌^◌, [], ◌∷◌, IfOk, IfSome, IfNone, OnOk, OnErr, map, filter, not, option_map, length};
+ghost use Rattle.std.specs.Prelude.{◌≡◌, ◌+◌, ◌<◌, ◌^◌, [], ◌∷◌, IfOk, IfSome, IfNone, OnOk, OnErr};
+ghost use Rattle.std.specs.Prelude.{map, filter, not, option_map, length};
 ghost use Rattle.std.specs.List.{find, position, slice_split};
 ghost use Rattle.std.specs.Str.Lines.{strip_carriage_return};
-ghost use Rattle.bw_text.specs.Lines.{cut_lines, is_line_feed, is_blank, words_of, only_of, is_empty, is_skipped, line_of, lines_in, end_in, whole, from_line, IsFirstLine};
+ghost use Rattle.bw_text.specs.Lines.{cut_lines, is_line_feed, is_blank, words_of, only_of};
+ghost use Rattle.bw_text.specs.Lines.{is_empty, is_skipped, line_of, lines_in, end_in, whole};
+ghost use Rattle.bw_text.specs.Lines.{from_line, IsFirstLine};
 
 use std::alloc::{AllocError, Global};
 use std::marker::Model;

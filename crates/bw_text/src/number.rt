@@ -1,8 +1,10 @@
 //! Whole numbers, spelled in decimal digits.
-ghost use Rattle.std.specs.Prelude.{◌≡◌, ◌+◌, ◌*◌, ◌^◌, ◌-◌, ◌<◌, ◌≤◌, ℕ, List, Some, None, IfSome, length, min, if◌then◌else◌};
+ghost use Rattle.std.specs.Prelude.{◌≡◌, ◌+◌, ◌*◌, ◌^◌, ◌-◌, ◌<◌, ◌≤◌, ℕ, List, Some, None, IfSome};
+ghost use Rattle.std.specs.Prelude.{length, min, if◌then◌else◌};
 ghost use Rattle.std.specs.List.{list_all};
 ghost use Rattle.std.specs.Char.{is_ascii_digit};
-ghost use Rattle.bw_text.specs.Number.{digits_value, are_digits, number_of, natural_of, where_64_bits_hold};
+ghost use Rattle.bw_text.specs.Number.{digits_value, are_digits, number_of, natural_of};
+ghost use Rattle.bw_text.specs.Number.{where_64_bits_hold};
 
 /// Returns whether a text is at least one digit, and nothing else.
 fn are_digits(text: &[u8]) -> bool

@@ -1,7 +1,7 @@
 //! Lines of words, written.
 ghost use Rattle.std.specs.Prelude.{◌≡◌, ◌++◌, OnOk, map};
 ghost use Rattle.std.specs.Fmt.{decimal};
-ghost use Rattle.bw_text.specs.Printed.{line_text, piece_text, spaced};
+ghost use Rattle.bw_text.specs.Printing.{line_text, piece_text, spaced};
 
 use std::alloc::{AllocError, Global};
 

@@ -1,9 +1,10 @@
 //! Laws: the facts of a diagram are true of every assignment, and later lines change no node's
 //! value.
-ghost use Rattle.std.specs.Prelude.{◌≡◌, ◌-◌, ◌≤◌, ℕ, false, true, List, ◌++◌, Some, Option, Ok, slice_get};
+ghost use Rattle.std.specs.Prelude.{◌≡◌, ◌-◌, ◌≤◌, ℕ, false, true, List, ◌++◌, Some, Option, Ok};
+ghost use Rattle.std.specs.Prelude.{slice_get};
 ghost use Rattle.bw_model.specs.declared.column.Column.{Column};
 ghost use Rattle.bw_model.specs.Code.{width_at};
-ghost use Rattle.bw_model.specs.Stored.{number_spelled};
+ghost use Rattle.bw_model.specs.StoredCodes.{number_spelled};
 ghost use Rattle.bw_model.specs.Variable.{Assignment, bit_variable, spelled};
 ghost use Rattle.bw_diagram.specs.declared.chain.Chain.{Chain};
 ghost use Rattle.bw_diagram.specs.declared.node.Node.{Node};
@@ -12,7 +13,8 @@ ghost use Rattle.bw_diagram.specs.declared.product.Reason.{Reason};
 ghost use Rattle.bw_diagram.specs.Node.{IsNode, node_at, node_value, child};
 ghost use Rattle.bw_diagram.specs.Chain.{IsChain, padded_number};
 ghost use Rattle.bw_diagram.specs.Product.{IsProduct};
-ghost use Rattle.bw_diagram.specs.Facts.{Facts, AreTrue, no_facts, with_node, with_chain, with_product};
+ghost use Rattle.bw_diagram.specs.Facts.{Facts, AreTrue, no_facts, with_node, with_chain};
+ghost use Rattle.bw_diagram.specs.Facts.{with_product};
 
 use super::Diagram;
 

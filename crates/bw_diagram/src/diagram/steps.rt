@@ -3,7 +3,9 @@ ghost use Rattle.std.specs.Prelude.{◌≡◌, ◌+◌, ◌<◌, ◌≤◌, ◌^
 ghost use Rattle.std.specs.Option.{ForSome};
 ghost use Rattle.std.specs.Bool.{OnTrue};
 ghost use Rattle.bw_diagram.specs.Node.{is_node};
-ghost use Rattle.bw_diagram.specs.Chain.{chain_named, variable_at, in_range, is_within, is_step, is_earlier, node_before, chooses, leads, leads_always, step, occurs, length_of, end_of};
+ghost use Rattle.bw_diagram.specs.Chain.{chain_named, variable_at, in_range, is_within, is_step};
+ghost use Rattle.bw_diagram.specs.Chain.{is_earlier, node_before, chooses, leads, leads_always};
+ghost use Rattle.bw_diagram.specs.Chain.{step, occurs, length_of, end_of};
 
 use super::Diagram;
 use crate::chain::{Chain, ChainColumns, ChainKind, is_choice};

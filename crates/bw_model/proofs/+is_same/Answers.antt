@@ -4,8 +4,8 @@ use Rattle.std.proofs.lemmas.List.{map_more}
 use Rattle.bw_model.specs.CondTree.{CondTree, tree_of}
 use Rattle.bw_model.proofs.+is_same.Goals as goal
 
-pub same::are_same-loop-place-preserved : goal.same::are_same-loop-place-preserved
-same::are_same-loop-place-preserved t c =
+pub equality::are_same-loop-place-preserved : goal.equality::are_same-loop-place-preserved
+equality::are_same-loop-place-preserved t c =
     let conds = c.args.conds.now in
     let others = c.args.others.now in
     let i = c.loop-place.place in

@@ -21,7 +21,7 @@ pub returns-clause-items : goal.returns-clause-items
 returns-clause-items c = if_good c.args.schema.now c.args.text.now c.read.result _ (returns-clause-read c) (λ query good. good.items)
 
 pub returns-clause-nonempty : goal.returns-clause-nonempty
-returns-clause-nonempty c = if_good c.args.schema.now c.args.text.now c.read.result _ (returns-clause-read c) (λ query good. good.some)
+returns-clause-nonempty c = if_good c.args.schema.now c.args.text.now c.read.result _ (returns-clause-read c) (λ query good. good.nonempty)
 
 pub returns-clause-kinds : goal.returns-clause-kinds
 returns-clause-kinds c = if_good c.args.schema.now c.args.text.now c.read.result _ (returns-clause-read c) (λ query good. good.kinds)

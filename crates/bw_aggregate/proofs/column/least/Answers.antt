@@ -5,8 +5,8 @@ use Rattle.std.specs.Int.{int_min}
 use Rattle.std.proofs.lemmas.Int.{ints}
 use Rattle.bw_lanes.specs.Lanes.{lanes_of_words}
 use Rattle.bw_model.specs.Code.{value_at}
-use Rattle.bw_segment.specs.Picked.{codes_in}
-use Rattle.bw_aggregate.specs.Picked.{values_in}
+use Rattle.bw_segment.specs.Selected.{codes_in}
+use Rattle.bw_aggregate.specs.Selected.{values_in}
 use Rattle.bw_model.specs.Total.{combine_totals}
 use Rattle.bw_model.specs.declared.query.Item.TheVariants.{Min}
 use Rattle.bw_aggregate.proofs.ValueLemmas.{least_kept, least_value}

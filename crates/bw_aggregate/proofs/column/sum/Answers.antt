@@ -1,11 +1,12 @@
-use Rattle.std.proofs.Common.{◌≡◌, ◌∙◌, sym, ap, ap₂, w64, to_z, of_z, pos, ◌+ℤ◌, ◌*ℤ◌, Some, sum, arith}
+use Rattle.std.proofs.Common.{◌≡◌, ◌∙◌, sym, ap, ap₂, w64, to_z, of_z, pos, ◌+ℤ◌, ◌*ℤ◌, Some, sum}
+use Rattle.std.proofs.Common.{arith}
 use Rattle.std.specs.List.{reduce}
 use Rattle.std.proofs.lemmas.Int.{ints}
 use Rattle.bw_lanes.specs.Lanes.{lanes_of_words}
 use Rattle.bw_model.specs.Code.{value_at}
-use Rattle.bw_segment.specs.Picked.{codes_in}
-use Rattle.bw_aggregate.specs.Picked.{values_in}
-use Rattle.bw_segment.proofs.PickedCodes.{codes_counted}
+use Rattle.bw_segment.specs.Selected.{codes_in}
+use Rattle.bw_aggregate.specs.Selected.{values_in}
+use Rattle.bw_segment.proofs.SelectedCodes.{codes_counted}
 use Rattle.bw_aggregate.proofs.ValueLemmas.{sum_of_none, sum_of_some}
 use Rattle.bw_aggregate.proofs.column.sum.Goals as goal
 

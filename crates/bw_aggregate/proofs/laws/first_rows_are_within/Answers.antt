@@ -1,4 +1,4 @@
-use Rattle.bw_aggregate.proofs.PickedLemmas.{first_within, both_within}
+use Rattle.bw_aggregate.proofs.SelectedLemmas.{first_within, both_within}
 use Rattle.bw_aggregate.proofs.laws.first_rows_are_within.Goals as goal
 
 pub returns : goal.returns

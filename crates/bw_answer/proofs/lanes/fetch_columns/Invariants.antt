@@ -1,6 +1,6 @@
 use Rattle.std.proofs.Common.{◌≡◌, ◌<◌, ℕ, [], length, get_or}
 use Rattle.bw_model.specs.Row.{value_in}
-use Rattle.bw_answer.specs.Fetched.{value_in_lane}
+use Rattle.bw_answer.specs.LaneFields.{value_in_lane}
 use Rattle.bw_answer.proofs.lanes.fetch_columns.Given as goal
 
 -- the columns so far are fetched

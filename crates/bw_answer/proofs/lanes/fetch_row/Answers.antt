@@ -7,7 +7,7 @@ use Rattle.bw_answer.proofs.lanes.fetch_row.Goals as goal
 
 pub put-requires : goal.put-requires
 unfolding group_size
-put-requires g c = omega (arith, c.requires.number, (g.met.S.Segment.is_group c.args.segment.now).few)
+put-requires g c = omega (arith, c.requires.number, (g.met.S.Segment.is_group c.args.segment.now).within_limit)
 
 pub loop-column-preserved : goal.loop-column-preserved
 loop-column-preserved g c =

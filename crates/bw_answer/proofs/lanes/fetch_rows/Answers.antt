@@ -1,8 +1,8 @@
--- The last row that is picked of those that are left.
+-- The last row that is selected of those that are left.
 use Rattle.std.proofs.Common.{◌≡◌, ◌∙◌, refl, sym, subst, true≢false, [], get_or, arith, inl, inr}
 use Rattle.std.proofs.lemmas.Bool.{cases_lt}
 use Rattle.bw_model.specs.Groups.{group_size}
-use Rattle.bw_answer.specs.Fetched.{HasRow}
+use Rattle.bw_answer.specs.LaneFields.{HasRow}
 use Rattle.bw_answer.proofs.lanes.fetch_rows.Goals as goal
 
 pub last_between-requires : goal.last_between-requires

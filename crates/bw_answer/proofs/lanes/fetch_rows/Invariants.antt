@@ -1,9 +1,9 @@
 use Rattle.std.proofs.Common.{◌≡◌, ◌<◌, ◌≤◌, ℕ, true, false, [], get_or, length}
 use Rattle.bw_lanes.specs.Lanes.{lanes_of_words}
-use Rattle.bw_answer.specs.Fetched.{HasRow}
+use Rattle.bw_answer.specs.LaneFields.{HasRow}
 use Rattle.bw_answer.proofs.lanes.fetch_rows.Given as goal
 
--- the picked rows from one on are fetched
+-- the selected rows from one on are fetched
 abbrev pub invariant-loop-last : goal.invariant-loop-last
 invariant-loop-last g l = record {
   within : l.number ≤ length (g.S.Segment.meaning l.segment).rows;

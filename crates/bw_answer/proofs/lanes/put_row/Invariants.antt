@@ -1,6 +1,6 @@
 use Rattle.std.proofs.Common.{◌≡◌, ◌<◌, ℕ, get_or}
 use Rattle.bw_model.specs.Row.{value_in, values_of}
-use Rattle.bw_answer.specs.Fetched.{value_in_lane}
+use Rattle.bw_answer.specs.LaneFields.{value_in_lane}
 use Rattle.bw_answer.proofs.lanes.put_row.Given as goal
 
 -- the values of the columns so far are put

@@ -1,7 +1,7 @@
 -- One more field in front of those that are written.
 use Rattle.std.proofs.Common.{◌∙◌, drop, arith}
 use Rattle.bw_answer.specs.Answer.{value_text}
-use Rattle.bw_answer.specs.Fetched.{value_in_lane}
+use Rattle.bw_answer.specs.LaneFields.{value_in_lane}
 use Rattle.bw_answer.proofs.RecordLemmas.{record_grows}
 use Rattle.bw_answer.proofs.record.put_record.Goals as goal
 

@@ -1,6 +1,6 @@
 use Rattle.std.proofs.Common.{◌≡◌, ◌+◌, ◌*◌, ◌<◌, ◌≤◌, ◌++◌, drop, length, map}
 use Rattle.bw_answer.specs.Answer.{record_text, value_text}
-use Rattle.bw_answer.specs.Fetched.{value_in_lane}
+use Rattle.bw_answer.specs.LaneFields.{value_in_lane}
 use Rattle.bw_answer.proofs.record.put_record.Given as goal
 
 -- the fields from one on are written

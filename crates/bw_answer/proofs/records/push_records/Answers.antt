@@ -1,9 +1,10 @@
 -- The records of more rows after the others.
-use Rattle.std.proofs.Common.{◌∙◌, ◌≤◌, ◌++◌, refl, ap, sym, map, arith, append-nil, length, drop, ◌-◌}
+use Rattle.std.proofs.Common.{◌∙◌, ◌≤◌, ◌++◌, refl, ap, sym, map, arith, append-nil, length, drop}
+use Rattle.std.proofs.Common.{◌-◌}
 use Rattle.std.proofs.lemmas.List.{take_all, length-drop}
 use Rattle.bw_lanes.specs.Lanes.{lanes_of_words}
 use Rattle.bw_answer.specs.Answer.{csv_text}
-use Rattle.bw_answer.specs.Fetched.{fields_in_lane}
+use Rattle.bw_answer.specs.LaneFields.{fields_in_lane}
 use Rattle.bw_answer.proofs.PositionLemmas.{all_positions, records_more}
 use Rattle.bw_answer.proofs.records.push_records.Goals as goal
 

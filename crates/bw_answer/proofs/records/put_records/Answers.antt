@@ -1,10 +1,11 @@
--- The record of the last row that is picked of those that are left, in front of the others.
+-- The record of the last row that is selected of those that are left, in front of the others.
 use Rattle.std.proofs.Common.{◌∙◌, ◌-◌, ◌*◌, refl, ap, sym, length, map, arith}
 use Rattle.std.proofs.lemmas.List.{drop_all}
 use Rattle.bw_lanes.specs.Lanes.{lanes_of_words}
 use Rattle.bw_answer.specs.Answer.{csv_text}
-use Rattle.bw_answer.specs.Fetched.{fields_in_lane}
-use Rattle.bw_answer.proofs.PositionLemmas.{positions_none, positions_passed, record_last, room_left}
+use Rattle.bw_answer.specs.LaneFields.{fields_in_lane}
+use Rattle.bw_answer.proofs.PositionLemmas.{positions_none, positions_passed, record_last}
+use Rattle.bw_answer.proofs.PositionLemmas.{room_left}
 use Rattle.bw_answer.proofs.records.put_records.Goals as goal
 
 pub loop-last-init : goal.loop-last-init

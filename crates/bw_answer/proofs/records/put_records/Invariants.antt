@@ -1,7 +1,7 @@
 use Rattle.std.proofs.Common.{◌≡◌, ◌-◌, ◌*◌, ◌≤◌, drop, length, map}
 use Rattle.bw_lanes.specs.Lanes.{lanes_of_words}
 use Rattle.bw_answer.specs.Answer.{csv_text}
-use Rattle.bw_answer.specs.Fetched.{fields_in_lane, positions_between}
+use Rattle.bw_answer.specs.LaneFields.{fields_in_lane, positions_between}
 use Rattle.bw_answer.proofs.records.put_records.Given as goal
 
 -- the records of the rows from one on are written

@@ -3,7 +3,8 @@ use Rattle.std.proofs.Common.{◌∙◌, ap, get_or, sym, below_more, ℕ, lengt
 use Rattle.std.proofs.lemmas.List.Edits.{map_over_more}
 use Rattle.bw_model.specs.Row.{values_of}
 use Rattle.bw_rowwise.specs.Accumulator.{Tally, tally_with}
-use Rattle.bw_answer.proofs.TotalsLemmas.{AddsRow, adds_at, all_added, is_of-with, room_at, rows_added}
+use Rattle.bw_answer.proofs.TotalsLemmas.{AddsRow, adds_at, all_added, is_of-with, room_at}
+use Rattle.bw_answer.proofs.TotalsLemmas.{rows_added}
 use Rattle.bw_answer.proofs.totals.add_row.Goals as goal
 
 pub add-requires-clause-capacity : goal.add-requires-clause-capacity

@@ -4,7 +4,8 @@ use Rattle.std.specs.List.{list_any}
 use Rattle.std.proofs.lemmas.List.{map-append}
 use Rattle.bw_rowwise.specs.Accumulator.{Tally, tally_of}
 use Rattle.bw_answer.specs.Aggregates.{aggregates_of, is_same}
-use Rattle.bw_answer.proofs.AggregateLemmas.{another_last, is_aggregate-unless_plain, known_left_out}
+use Rattle.bw_answer.proofs.AggregateLemmas.{another_last, is_aggregate-unless_plain}
+use Rattle.bw_answer.proofs.AggregateLemmas.{known_left_out}
 use Rattle.bw_answer.proofs.totals.include.Goals as goal
 
 pub returns-then-has_total-clause-totals : goal.returns-then-has_total-clause-totals

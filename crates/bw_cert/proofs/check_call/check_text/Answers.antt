@@ -2,7 +2,7 @@
 -- its condition has the tree of the query's.
 use Rattle.std.proofs.Common.{◌≡◌, true, false}
 use Rattle.std.proofs.lemmas.Result.{err_from_is_err_and}
-use Rattle.bw_sql.specs.Asked.{query_shape}
+use Rattle.bw_sql.specs.QueryShape.{query_shape}
 use Rattle.bw_model.specs.SchemaText.{schema_shape}
 use Rattle.bw_cert.proofs.TextLemmas.{Laws, query_spelled, numbers_given, accepted_so}
 use Rattle.bw_cert.proofs.check_call.check_text.Goals as goal

@@ -7,7 +7,7 @@ returns-clause-certified c columns cond same file program other certificate anot
     let laws : Laws = record {
       program = c.programs_are_read_as_spelled.ensures.read;
       certificate = c.certificates_are_read_as_spelled.ensures.read;
-      judged = c.certificates_are_judged_by_what_they_say.ensures;
+      judged = c.certificates_are_checked_by_their_fields.ensures;
       valid = c.valid_exactly_where_checked.ensures.complete;
     } in
     one_way laws columns file cond same program other certificate another a b
@@ -17,7 +17,7 @@ returns-clause-none_certified c columns cond same file program certificate fault
     let laws : Laws = record {
       program = c.programs_are_read_as_spelled.ensures.read;
       certificate = c.certificates_are_read_as_spelled.ensures.read;
-      judged = c.certificates_are_judged_by_what_they_say.ensures;
+      judged = c.certificates_are_checked_by_their_fields.ensures;
       valid = c.valid_exactly_where_checked.ensures.complete;
     } in
     no_fault laws columns file cond same program certificate fault trees is refused
@@ -27,7 +27,7 @@ returns-clause-fault c columns cond same file fault other trees a b =
     let laws : Laws = record {
       program = c.programs_are_read_as_spelled.ensures.read;
       certificate = c.certificates_are_read_as_spelled.ensures.read;
-      judged = c.certificates_are_judged_by_what_they_say.ensures;
+      judged = c.certificates_are_checked_by_their_fields.ensures;
       valid = c.valid_exactly_where_checked.ensures.complete;
     } in
     one_fault laws columns file cond same fault other trees a b

@@ -1,4 +1,4 @@
--- The sections of a certificate that is refused.
+-- The sections of a certificate that is rejected.
 use Rattle.bw_cert.proofs.FirstWrongLemmas.{first_wrong}
 use Rattle.bw_cert.proofs.laws.refused_certificates_have_a_first_fault.Goals as goal
 

@@ -1,4 +1,4 @@
--- The lines that are refused, and the first fault in them.
+-- The lines that are rejected, and the first error in them.
 use Rattle.bw_cert.proofs.FirstFaultLemmas.{first_fault_stands, refused_with_first, lines_after}
 use Rattle.bw_cert.proofs.laws.refused_lines_have_a_first_fault.Goals as goal
 

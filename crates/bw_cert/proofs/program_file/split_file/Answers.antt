@@ -1,6 +1,7 @@
 use Rattle.std.proofs.Common.{◌∙◌, sym, ap, subst, length, length-take, arith}
 use Rattle.bw_text.specs.Lines.{Unread}
-use Rattle.bw_cert.proofs.SplitLemmas.{CutSoFar, cut_none, cut_nowhere, cut_there, numbered_within, passed, shorter, within}
+use Rattle.bw_cert.proofs.SplitLemmas.{CutSoFar, cut_none, cut_nowhere, cut_there, numbered_within}
+use Rattle.bw_cert.proofs.SplitLemmas.{passed, shorter, within}
 use Rattle.bw_cert.proofs.program_file.split_file.Goals as goal
 
 pub lines-init : goal.lines-init

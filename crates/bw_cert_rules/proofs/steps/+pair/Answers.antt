@@ -1,7 +1,8 @@
 -- A condition's parts name only columns that it names itself.
 use Rattle.std.proofs.Common.{rules, length}
 use Rattle.bw_model.specs.declared.cond.Cond.TheViews.{the_lemmas}
-use Rattle.bw_model.proofs.CondLemmas.{names_within-And, names_within-Or, names_within-Not, names_within-Test}
+use Rattle.bw_model.proofs.CondLemmas.{names_within-And, names_within-Or, names_within-Not}
+use Rattle.bw_model.proofs.CondLemmas.{names_within-Test}
 use Rattle.bw_cert_rules.proofs.steps.+pair.Goals as goal
 
 pub pair-combine_parts-requires : goal.pair-combine_parts-requires

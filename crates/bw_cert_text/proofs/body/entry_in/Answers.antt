@@ -1,5 +1,5 @@
 use Rattle.std.proofs.Common.{arith}
-use Rattle.bw_cert_text.proofs.StoredLemmas.{keep_read}
+use Rattle.bw_cert_text.proofs.StoredLineLemmas.{keep_read}
 use Rattle.bw_cert_text.proofs.body.entry_in.Goals as goal
 
 pub returns-in-Keep-len3 : goal.returns-in-Keep-len3

@@ -1,7 +1,8 @@
 -- Each turn reads one more pair.
 use Rattle.std.proofs.Common.{◌≡◌, ◌≢◌, ◌∙◌, sym, length, arith}
 use Rattle.std.proofs.lemmas.Bool.{eqb-true, eqb-false}
-use Rattle.bw_cert_text.proofs.EdgeLemmas.{edges-first, edges-second, edges-next, edges-all, edges-half}
+use Rattle.bw_cert_text.proofs.EdgeLemmas.{edges-first, edges-second, edges-next, edges-all}
+use Rattle.bw_cert_text.proofs.EdgeLemmas.{edges-half}
 use Rattle.bw_cert_text.proofs.line.edges_in.Goals as goal
 
 pub returns-in_default-natural_number : goal.returns-in_default-natural_number

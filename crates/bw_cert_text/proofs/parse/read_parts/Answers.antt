@@ -1,28 +1,28 @@
--- Each turn reads one more line; the end and each fault are the text's.
+-- Each turn reads one more line; the end and each error are the text's.
 use Rattle.std.proofs.Common.{◌∙◌, ℕ, ap, sym, Err}
 use Rattle.std.proofs.lemmas.Result.{err_from_is_err_and}
 use Rattle.bw_cert_text.specs.CertificateText.{form_fault}
 use Rattle.bw_cert_text.specs.Parts.{append_fields}
-use Rattle.bw_cert_text.specs.SaidFields.{part_fields}
-use Rattle.bw_cert_text.proofs.TextLemmas.{told-end, told-next, told-before, told-last}
+use Rattle.bw_cert_text.specs.ParsedFields.{part_fields}
+use Rattle.bw_cert_text.proofs.TextLemmas.{whole-end, whole-next, whole-before, whole-last}
 use Rattle.bw_cert_text.proofs.parse.read_parts.Goals as goal
 
 pub returns-in_err-part-clause-fault : goal.returns-in_err-part-clause-fault
 returns-in_err-part-clause-fault c =
     let p = err_from_is_err_and c.from_residual-in_err-part.result c.from_residual-in_err-part.ensures.1 in
     let line = rw c.in-Some.is at c.in_ok-line.ensures.line in
-    rw (p.1, p.2) (λ aside. told-next _ _ _ _ _ _ _ c.loop-pairs.invariant.told line (Err c.in_err-part.field-0.0) (c.in_err-part.ensures.parsed aside))
+    rw (p.1, p.2) (λ aside. whole-next _ _ _ _ _ _ _ c.loop-pairs.invariant.told line (Err c.in_err-part.field-0.0) (c.in_err-part.ensures.parsed aside))
 
 pub returns-in-End-clause-read : goal.returns-in-End-clause-read
 returns-in-End-clause-read c =
     let line = rw c.in-Some.is at c.in_ok-line.ensures.line in
-    told-last _ _ _ _ _ _ _ c.loop-pairs.invariant.told line c.in-End.end (rw c.in-End.is at c.in_ok-part.ensures.parsed)
+    whole-last _ _ _ _ _ _ _ c.loop-pairs.invariant.told line c.in-End.end (rw c.in-End.is at c.in_ok-part.ensures.parsed)
 
 pub loop-pairs-preserved : goal.loop-pairs-preserved
 loop-pairs-preserved c =
     let line = rw c.in-Some.is at c.in_ok-line.ensures.line in
     record {
-      told = told-before _ _ _ _ _ _ _ c.loop-pairs.invariant.told line (part_fields c.in-Before.part) (append_fields c.push.new.self) _
+      told = whole-before _ _ _ _ _ _ _ c.loop-pairs.invariant.told line (part_fields c.in-Before.part) (append_fields c.push.new.self) _
           (rw c.in-Before.is at c.in_ok-part.ensures.parsed) c.section_of-section.ensures c.in_ok-push-in-Before.ensures;
       end = c.loop-pairs.invariant.end ∙ sym c.in_ok-line.ensures.end;
     }
@@ -30,6 +30,6 @@ loop-pairs-preserved c =
 pub returns-clause-fault : goal.returns-clause-fault
 returns-clause-fault c = λ _.
     let none = rw c.in_default.is at c.in_ok-line.ensures.none in
-    told-end _ _ _ _ _ c.loop-pairs.invariant.told none.0
+    whole-end _ _ _ _ _ c.loop-pairs.invariant.told none.0
     ∙ ap (λ (n : ℕ). Err (form_fault n)) (c.loop-pairs.invariant.end ∙ none.1 ∙ sym c.number.ensures)
     ∙ ap Err (sym c.at_line.ensures)

@@ -6,7 +6,7 @@ use Rattle.bw_cert_text.specs.PrintText.{lines_text, body_tokens}
 use Rattle.bw_cert_text.specs.Reprint.{are_small}
 use Rattle.bw_cert_text.proofs.print.put_body.Given as goal
 
--- what is written so far, and then the lines that are left, are all lines after the text; where the
+-- what is written so far, and then the lines that are left, are all lines after the text; if the
 -- numbers of those are below 2^64, all are
 abbrev pub invariant-loop-line : goal.invariant-loop-line
 invariant-loop-line l = record {

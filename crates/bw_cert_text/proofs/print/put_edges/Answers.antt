@@ -1,6 +1,7 @@
 -- Each line that is written goes over from what is left, and its numbers are below 2^64.
 use Rattle.std.proofs.Common.{◌∙◌, sym, arith}
-use Rattle.bw_cert_text.proofs.PrintLemmas.{edges-next, edges-end, fit-next, fit-all, is_small_edge, edges_fit}
+use Rattle.bw_cert_text.proofs.PrintLemmas.{edges-next, edges-end, fit-next, fit-all, is_small_edge}
+use Rattle.bw_cert_text.proofs.PrintLemmas.{edges_fit}
 use Rattle.bw_text.proofs.PieceLemmas.{written, all_written}
 use Rattle.bw_cert_text.proofs.print.put_edges.Goals as goal
 

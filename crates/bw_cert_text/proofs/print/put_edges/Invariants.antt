@@ -1,7 +1,7 @@
 use Rattle.std.proofs.Common.{◌≡◌, ◌++◌, take, drop, true}
 use Rattle.std.specs.List.{list_all}
 use Rattle.bw_cert_text.specs.PrintText.{token_words}
-use Rattle.bw_text.specs.Printed.{spaced}
+use Rattle.bw_text.specs.Printing.{spaced}
 use Rattle.bw_cert_text.specs.Token.{edge_tokens}
 use Rattle.bw_cert_text.proofs.PrintLemmas.{is_small_edge}
 use Rattle.bw_cert_text.proofs.print.put_edges.Given as goal

@@ -16,8 +16,8 @@ returns g c =
     let count = length-map rows values_of in
     let all = take_all c.loop-row.row-index rows c.loop-row-test.false in
     record {
-      some = omega arith;
-      few = omega arith;
+      nonempty = omega arith;
+      within_limit = omega arith;
       admitted = list_all-map (admits_values columns) values_of rows
           ∙ sym (ap (list_all (λ (row : Row). admits_values columns (values_of row))) all) ∙ c.loop-row.invariant;
     }

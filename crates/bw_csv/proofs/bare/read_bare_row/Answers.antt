@@ -1,4 +1,4 @@
--- A record's fault is that of the rows from it on.
+-- A record's error is that of the rows from it on.
 use Rattle.std.proofs.Common.{◌∙◌, ap}
 use Rattle.std.proofs.lemmas.Result.{err_from_is_err_and}
 use Rattle.bw_csv.specs.Bare.{bare_rows}

@@ -3,7 +3,8 @@ use Rattle.std.proofs.Common.{◌∙◌, sym, arith, length-append, ℤ, Option}
 use Rattle.std.proofs.lemmas.List.{drop_all}
 use Rattle.std.proofs.lemmas.Result.{err_from_is_err_and}
 use Rattle.csv.specs.Records.{fields_of}
-use Rattle.bw_csv.proofs.BareLemmas.{bare_values-end, bare_values-fault, bare_values-next, field_there}
+use Rattle.bw_csv.proofs.BareLemmas.{bare_values-end, bare_values-fault, bare_values-next}
+use Rattle.bw_csv.proofs.BareLemmas.{field_there}
 use Rattle.bw_csv.proofs.FieldLemmas.{drop-field_at}
 use Rattle.bw_csv.proofs.bare.read_values.Goals as goal
 

@@ -1,4 +1,4 @@
--- Each turn goes on by one byte.
+-- Each turn continues by one byte.
 use Rattle.std.proofs.Common.{◌∙◌, ◌+◌, List, ℕ, sym, subst, drop, get_or}
 use Rattle.std.proofs.lemmas.List.{drop_all}
 use Rattle.bw_csv.proofs.HeadingLemmas.{GoesOn, drop_at, goes-end, goes-first, goes-last, goes-next}

@@ -1,4 +1,4 @@
--- Each turn goes on by one byte, and a comma ends one field more.
+-- Each turn continues by one byte, and a comma ends one field more.
 use Rattle.std.proofs.Common.{◌≡◌, ◌∙◌, ◌+◌, false, true, arith, sym, subst, get_or}
 use Rattle.csv.specs.Machine.{is_end, step}
 use Rattle.csv.specs.Reading.{default_config}
@@ -6,13 +6,14 @@ use Rattle.bw_csv.specs.Fields.{HasMoreFields, is_field_closed}
 use Rattle.bw_csv.specs.Plain.{state_of}
 use Rattle.bw_csv.proofs.CutLemmas.{begins_field, begins_next, begins_nothing, has_more}
 use Rattle.bw_csv.proofs.many_fields.after_fields.Goals as goal
-use Rattle.bw_csv.proofs.many_fields.after_fields.Goals.{then-closes_field+else-closed-count, else-closes_field}
+use Rattle.bw_csv.proofs.many_fields.after_fields.Goals.{then-closes_field+else-closed-count}
+use Rattle.bw_csv.proofs.many_fields.after_fields.Goals.{else-closes_field}
 
 pub loop-i-init : goal.loop-i-init
 loop-i-init c = begins_nothing c.args.text.now
 
 pub overflow_add-closed : goal.overflow_add-closed
-overflow_add-closed c = let few = c.loop-i.invariant.few in omega arith
+overflow_add-closed c = let few = c.loop-i.invariant.within_limit in omega arith
 
 pub returns-then-closed-count : goal.returns-then-closed-count
 returns-then-closed-count c =

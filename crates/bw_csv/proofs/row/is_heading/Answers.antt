@@ -1,7 +1,8 @@
 -- Each turn compares one more name.
 use Rattle.std.proofs.Common.{◌≡◌, ◌∙◌, refl, sym, arith, length}
 use Rattle.std.proofs.lemmas.List.{drop_all}
-use Rattle.bw_csv.proofs.FieldLemmas.{drop-column, drop-field_at, drop-no_field, within-field_at, is_heading-next, is_heading-short, is_heading-end}
+use Rattle.bw_csv.proofs.FieldLemmas.{drop-column, drop-field_at, drop-no_field, within-field_at}
+use Rattle.bw_csv.proofs.FieldLemmas.{is_heading-next, is_heading-short, is_heading-end}
 use Rattle.bw_csv.proofs.row.is_heading.Goals as goal
 
 pub returns-in_default : goal.returns-in_default

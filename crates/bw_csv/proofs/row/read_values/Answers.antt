@@ -2,7 +2,8 @@
 use Rattle.std.proofs.Common.{◌∙◌, sym, ap, Err}
 use Rattle.std.proofs.lemmas.List.{drop_all}
 use Rattle.std.proofs.lemmas.Result.{err_from_is_err_and}
-use Rattle.bw_csv.proofs.FieldLemmas.{drop-column, drop-field_at, drop-no_field, values-next, values-fault, values-short, values-end}
+use Rattle.bw_csv.proofs.FieldLemmas.{drop-column, drop-field_at, drop-no_field, values-next}
+use Rattle.bw_csv.proofs.FieldLemmas.{values-fault, values-short, values-end}
 use Rattle.bw_csv.proofs.row.read_values.Goals as goal
 
 pub returns-in_default-clause-values : goal.returns-in_default-clause-values

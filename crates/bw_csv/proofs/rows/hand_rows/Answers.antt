@@ -1,4 +1,4 @@
--- The first fault after the rows so far is that of the whole, and an error of the reader's own is
+-- The first error after the rows so far is that of the whole, and an error of the reader's own is
 -- after them.
 use Rattle.std.proofs.lemmas.Result.{err_from_is_err_and}
 use Rattle.bw_csv.proofs.RowLemmas.{led-fault, led-stops}

@@ -8,10 +8,10 @@ use Rattle.bw_csv.proofs.rows.hand_rows.Given as goal
 abbrev pub invariant-rows : goal.invariant-rows
 invariant-rows g l = record {
   readable : IsReadable l.rest;
-  takes : g.K.RowTaker.takes l.taker ≡ g.K.RowTaker.takes l.initial.taker;
-  count : g.K.RowTaker.rows l.taker + 1 ≡ l.number;
+  takes : g.K.RowConsumer.takes l.taker ≡ g.K.RowConsumer.takes l.initial.taker;
+  count : g.K.RowConsumer.rows l.taker + 1 ≡ l.number;
   within : l.number ≤ 2 ^ 24 + 1;
-  so_far : LedSoFar g.K.RowTaker.led l.initial.taker l.taker l.columns (to_come l.initial.rest) l.number (to_come l.rest);
+  so_far : LedSoFar g.K.RowConsumer.led l.initial.taker l.taker l.columns (to_come l.initial.rest) l.number (to_come l.rest);
 }
 
 abbrev pub decreases-rows : goal.decreases-rows

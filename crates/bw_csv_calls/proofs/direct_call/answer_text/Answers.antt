@@ -9,7 +9,7 @@ use Rattle.bw_model.specs.Fault.{no_memory, ◌>>=◌}
 use Rattle.bw_model.specs.Row.{Value}
 use Rattle.bw_csv.specs.Rows.{rows_of, MatchesUnlessExempt, is_exempt}
 use Rattle.bw_answer.specs.Answer.{csv_text, meaning}
-use Rattle.bw_answer.specs.Over.{GoesOver}
+use Rattle.bw_answer.specs.Progress.{GoesOver}
 use Rattle.bw_answer.specs.declared.answer.Answer.{Answer}
 use Rattle.bw_csv_calls.proofs.direct_call.answer_text.Goals as goal
 
@@ -29,5 +29,5 @@ returns-clause-text c =
     let query = c.args.query.now in
     gives_rows (λ rows. csv_text (meaning (names_of columns) query rows)) c.in_ok-answer.answer c.read_rows.new.taker (rows_of columns c.args.csv.now) c.into_text.result
     c.in_ok-read_rows.ensures.handed
-    (λ rows led. IfOk-weaker c.into_text.result _ _ (λ text whole. whole (names_of columns) query rows (led.over (names_of columns) query [] c.in_ok-answer.ensures.covers)) c.into_text.ensures.text)
+    (λ rows led. IfOk-weaker c.into_text.result _ _ (λ text whole. whole (names_of columns) query rows (led.covers (names_of columns) query [] c.in_ok-answer.ensures.covers)) c.into_text.ensures.text)
     c.into_text.ensures.only_oom

@@ -1,4 +1,4 @@
--- Each exit, by what its calls' contracts say.
+-- Each exit, by the contracts of its calls.
 use Rattle.std.proofs.lemmas.Result.{err_from_is_err_and}
 use Rattle.bw_csv_calls.proofs.Exits.{went_nowhere, went_on}
 use Rattle.bw_csv_calls.proofs.DirectExits.{AnswerTo}

@@ -1,12 +1,14 @@
--- Each exit, by what its calls' contracts say.
+-- Each exit, by the contracts of its calls.
 use Rattle.std.proofs.Common.{Err, refl}
 use Rattle.std.proofs.lemmas.Result.{IfErr-weaker, err_from_is_err_and}
 use Rattle.bw_model.specs.Limits.{longest_schema, longest_csv}
 use Rattle.bw_io.specs.Source.{NotReached, Whole}
 use Rattle.bw_csv.proofs.InputLemmas.{made_of_none}
 use Rattle.bw_csv_calls.specs.Direct.{answer_of}
-use Rattle.bw_csv_calls.proofs.Exits.{came_of, stopped_of, refused_exit, text_exit, none_understood, not_reached}
-use Rattle.bw_csv_calls.proofs.DirectExits.{AnswerTo, refused_schema, read_statement, statement_exit}
+use Rattle.bw_csv_calls.proofs.Exits.{came_of, stopped_of, refused_exit, text_exit, none_understood}
+use Rattle.bw_csv_calls.proofs.Exits.{not_reached}
+use Rattle.bw_csv_calls.proofs.DirectExits.{AnswerTo, refused_schema, read_statement}
+use Rattle.bw_csv_calls.proofs.DirectExits.{statement_exit}
 use Rattle.bw_csv_calls.proofs.direct_call.direct_text.Goals as goal
 
 pub returns-in_err-schema-clause-answer : goal.returns-in_err-schema-clause-answer

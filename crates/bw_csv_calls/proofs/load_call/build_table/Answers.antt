@@ -1,4 +1,4 @@
--- Each exit, by what its calls' contracts say.
+-- Each exit, by the contracts of its calls.
 use Rattle.std.proofs.Common.{◌≡◌, Ok, Err, Result, refl}
 use Rattle.std.proofs.lemmas.Result.{IfErr-weaker, err_from_is_err_and}
 use Rattle.bw_model.specs.declared.fault.Fault.{Fault}
@@ -8,12 +8,13 @@ use Rattle.bw_io.specs.Source.{Arrival, NotReached, Whole}
 use Rattle.bw_file.specs.declared.layout.Layout.{Layout}
 use Rattle.bw_csv.specs.Input.{IsMadeOf}
 use Rattle.bw_csv.proofs.InputLemmas.{made_of_none}
-use Rattle.bw_csv_calls.specs.Arrived.{IsSchemaFrom}
+use Rattle.bw_csv_calls.specs.ReadInputs.{IsSchemaFrom}
 use Rattle.bw_csv_calls.specs.Load.{IsFile, file_of}
-use Rattle.bw_csv_calls.proofs.Exits.{Given, came_of, stopped_of, refused_exit, text_exit, not_reached}
+use Rattle.bw_csv_calls.proofs.Exits.{Given, came_of, stopped_of, refused_exit, text_exit}
+use Rattle.bw_csv_calls.proofs.Exits.{not_reached}
 use Rattle.bw_csv_calls.proofs.load_call.build_table.Goals as goal
 
--- the schema was refused, or read
+-- the schema was rejected, or read
 refused_schema : (layout : Layout) (came : Arrival) (fault : Fault) → IsSchemaFrom came (Err fault) → IsFile layout came NotReached (Err fault)
 refused_schema layout came fault from =
     let outcome : Result Schema Fault = Err fault in

@@ -2,7 +2,8 @@ use Rattle.std.proofs.Common.{◌∙◌}
 use Rattle.std.proofs.lemmas.Bool.{ne_eqb, lt-leb}
 use Rattle.bw_file.proofs.BodyLemmas.{bits_begin, bits_clear, bits_early}
 use Rattle.bw_file.proofs.body.plane_has_padding.Goals as goal
-use Rattle.bw_file.proofs.body.plane_has_padding.Goals.{else-rows-at-via-then-rows-at+else-byte-bit-eq1, else-rows-at-via-else-rows-at}
+use Rattle.bw_file.proofs.body.plane_has_padding.Goals.{else-rows-at-via-then-rows-at+else-byte-bit-eq1}
+use Rattle.bw_file.proofs.body.plane_has_padding.Goals.{else-rows-at-via-else-rows-at}
 
 pub loop-bit-init : goal.loop-bit-init
 loop-bit-init c = bits_begin c.args.rows c.args.at c.args.byte

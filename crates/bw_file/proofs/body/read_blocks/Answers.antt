@@ -1,9 +1,11 @@
-use Rattle.std.proofs.Common.{◌≡◌, ◌<◌, ◌+◌, ◌-◌, ◌++◌, ℕ, drop, take, length, length-take, length-drop, ap, ◌∙◌, arith}
+use Rattle.std.proofs.Common.{◌≡◌, ◌<◌, ◌+◌, ◌-◌, ◌++◌, ℕ, drop, take, length, length-take}
+use Rattle.std.proofs.Common.{length-drop, ap, ◌∙◌, arith}
 use Rattle.std.proofs.lemmas.List.{take_all}
 use Rattle.std.proofs.lemmas.Result.{err_from_is_err_and}
 use Rattle.bw_file.specs.Blocks.{block_from, block_size, bytes_before, segment_size}
 use Rattle.bw_file.specs.SegmentBytes.{bytes_held}
-use Rattle.bw_file.proofs.BodyLemmas.{blocks_more, blocks_stop, blocks_read, sound_more, before_more}
+use Rattle.bw_file.proofs.BodyLemmas.{blocks_more, blocks_stop, blocks_read, sound_more}
+use Rattle.bw_file.proofs.BodyLemmas.{before_more}
 use Rattle.bw_file.proofs.SegmentBytesLemmas.{with_part}
 use Rattle.bw_file.proofs.body.read_blocks.Goals as goal
 

@@ -5,7 +5,7 @@ use Rattle.bw_file.specs.SegmentBytes.{bytes_held, AreNext}
 use Rattle.bw_file.specs.TableReading.{blocks}
 use Rattle.bw_file.proofs.body.read_blocks.Given as goal
 
--- the blocks so far are in the front of the bytes, without fault, and reading goes on with the
+-- the blocks so far are in the front of the bytes, without error, and reading continues with the
 -- others
 abbrev pub invariant-loop-col : goal.invariant-loop-col
 invariant-loop-col g l = record {

@@ -6,7 +6,7 @@ use Rattle.bw_file.specs.Reading.{state, GoesOn}
 use Rattle.bw_file.specs.TableReading.{columns}
 use Rattle.bw_file.proofs.header.read_columns.Given as goal
 
--- the columns so far were read, and reading goes on with the others
+-- the columns so far were read, and reading continues with the others
 abbrev pub invariant-loop : goal.invariant-loop
 invariant-loop g l = record {
   on : GoesOn (columns l.version [] l.count) (state (g.S.Source.to_come l.initial.source) l.initial.offset (g.S.Source.failures l.initial.source))

@@ -1,13 +1,13 @@
 use Rattle.std.proofs.lemmas.Result.{err_from_is_err_and}
 use Rattle.bw_file.specs.TableReading.{parse_count}
-use Rattle.bw_file.proofs.ReadingLemmas.{judged_stops, judged_done}
+use Rattle.bw_file.proofs.ReadingLemmas.{read_field_stops, read_field_done}
 use Rattle.bw_file.proofs.header.read_count.Goals as goal
 
 pub returns-in_err-take-clause-reads : goal.returns-in_err-take-clause-reads
 returns-in_err-take-clause-reads g c =
     let p = err_from_is_err_and c.from_residual.result c.from_residual.ensures.1 in
-    rw (p.1, p.2) (judged_stops 2 parse_count _ _ _ c.in_err-take.ensures.reads)
+    rw (p.1, p.2) (read_field_stops 2 parse_count _ _ _ c.in_err-take.ensures.reads)
 
 pub returns-clause-reads : goal.returns-clause-reads
 returns-clause-reads g c =
-    rw (c.at_offset.ensures, c.parse_count.ensures.count) (judged_done 2 parse_count c.take.new.buffer _ _ c.in_ok-take.ensures.reads)
+    rw (c.at_offset.ensures, c.parse_count.ensures.count) (read_field_done 2 parse_count c.take.new.buffer _ _ c.in_ok-take.ensures.reads)

@@ -1,6 +1,7 @@
 use Rattle.std.proofs.lemmas.Result.{err_from_is_err_and}
 use Rattle.bw_file.specs.TableReading.{front}
-use Rattle.bw_file.proofs.HeaderLemmas.{magic_read, version_read, layout_read, count_read, front_read}
+use Rattle.bw_file.proofs.HeaderLemmas.{magic_read, version_read, layout_read, count_read}
+use Rattle.bw_file.proofs.HeaderLemmas.{front_read}
 use Rattle.bw_file.proofs.ReadingLemmas.{begins, stops}
 use Rattle.bw_file.proofs.header.read_front.Goals as goal
 

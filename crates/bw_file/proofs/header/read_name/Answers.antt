@@ -1,7 +1,8 @@
 use Rattle.std.proofs.Common.{arith, length-take}
 use Rattle.std.proofs.lemmas.Result.{err_from_is_err_and}
 use Rattle.bw_model.specs.Column.{names_of}
-use Rattle.bw_file.proofs.HeaderLemmas.{name_begins, name_judged, name_taken, name_refused, name_stops}
+use Rattle.bw_file.proofs.HeaderLemmas.{name_begins, name_judged, name_taken, name_refused}
+use Rattle.bw_file.proofs.HeaderLemmas.{name_stops}
 use Rattle.bw_file.proofs.ReadingLemmas.{stops, stops_memory}
 use Rattle.bw_file.proofs.header.read_name.Goals as goal
 

@@ -18,8 +18,8 @@ returns-in_err-segment-clause-fault c =
 pub loop-rows-smaller-in_ok-push_rows : goal.loop-rows-smaller-in_ok-push_rows
 loop-rows-smaller-in_ok-push_rows c =
     let gave = segment_of (rw c.in-Some.is at c.in_ok-segment.ensures) in
-    let some = (any_is_group c.in-Some.segment).some in
-    omega (arith, gave.counted, some, gave.same.rows, c.next_segment.new.self.within)
+    let some = (any_is_group c.in-Some.segment).nonempty in
+    omega (arith, gave.row_count, some, gave.same.rows, c.next_segment.new.self.within)
 
 pub loop-rows-preserved-in_ok-push_rows : goal.loop-rows-preserved-in_ok-push_rows
 loop-rows-preserved-in_ok-push_rows c =
@@ -38,8 +38,8 @@ loop-rows-preserved-in_ok-push_rows c =
 pub loop-rows-smaller : goal.loop-rows-smaller
 loop-rows-smaller c =
     let gave = segment_of (rw c.in-Some.is at c.in_ok-segment.ensures) in
-    let some = (any_is_group c.in-Some.segment).some in
-    omega (arith, gave.counted, some, gave.same.rows, c.next_segment.new.self.within)
+    let some = (any_is_group c.in-Some.segment).nonempty in
+    omega (arith, gave.row_count, some, gave.same.rows, c.next_segment.new.self.within)
 
 pub loop-rows-preserved : goal.loop-rows-preserved
 loop-rows-preserved c =

@@ -1,4 +1,5 @@
-use Rattle.std.proofs.Common.{◌++◌, ◌∷◌, [], ◌<◌, List, length, get_or, take, None, sym, ap, ◌∙◌, arith}
+use Rattle.std.proofs.Common.{◌++◌, ◌∷◌, [], ◌<◌, List, length, get_or, take, None, sym, ap, ◌∙◌}
+use Rattle.std.proofs.Common.{arith}
 use Rattle.std.proofs.lemmas.List.{take_more, take_all}
 use Rattle.bw_model.specs.Row.{Value}
 use Rattle.bw_file.specs.AnySegment.{any_meaning}

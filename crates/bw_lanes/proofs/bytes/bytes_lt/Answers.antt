@@ -1,5 +1,6 @@
 -- No byte is less than 0.
-use Rattle.std.proofs.Common.{◌≡◌, ◌∙◌, refl, sym, ap, ap₂, ℕ, ◌∷◌, false, List, [], ltb, le-ltb, map, length, replicate, arith}
+use Rattle.std.proofs.Common.{◌≡◌, ◌∙◌, refl, sym, ap, ap₂, ℕ, ◌∷◌, false, List, [], ltb, le-ltb}
+use Rattle.std.proofs.Common.{map, length, replicate, arith}
 use Rattle.bw_lanes.proofs.WordLemmas.{zeros_are_zero}
 use Rattle.bw_lanes.proofs.bytes.bytes_lt.Goals as goal
 

@@ -2,7 +2,7 @@
 use Rattle.std.proofs.Common.{Ok, ap, sym, ◌∙◌}
 use Rattle.bw_file.specs.FileBytes.{file_bytes}
 use Rattle.bw_laws.proofs.BackupLemmas.{same_rows}
-use Rattle.bw_laws.proofs.JoinedLemmas.{loaded, loaded_text}
+use Rattle.bw_laws.proofs.LoadThenQueryLemmas.{loaded, loaded_text}
 use Rattle.bw_laws.proofs.backup.a_load_is_restored.Goals as goal
 
 pub returns : goal.returns

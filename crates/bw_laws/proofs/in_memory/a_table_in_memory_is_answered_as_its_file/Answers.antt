@@ -1,4 +1,4 @@
--- One text, and one question or fault.
+-- One text, and one question or error.
 use Rattle.bw_laws.proofs.InMemoryLemmas.{one_question, one_refusal, one_shape, one_text}
 use Rattle.bw_laws.proofs.in_memory.a_table_in_memory_is_answered_as_its_file.Goals as goal
 

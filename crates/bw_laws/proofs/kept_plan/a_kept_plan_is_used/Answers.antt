@@ -1,10 +1,10 @@
--- Schemas that one text spells have the same columns, and conditions of one tree are judged alike.
+-- Schemas that one text spells have the same columns, and conditions of one tree are checked alike.
 use Rattle.std.proofs.Common.{◌≡◌, ◌∙◌, refl, sym, ap, subst}
 use Rattle.bw_model.specs.CondTree.{tree_of}
 use Rattle.bw_model.specs.SchemaText.{IsSchemaText, schema_shape}
 use Rattle.bw_file.specs.TableReading.{Found}
 use Rattle.bw_program.specs.Program.{ProgramShape}
-use Rattle.bw_sql.specs.Asked.{QueryShape, query_shape}
+use Rattle.bw_sql.specs.QueryShape.{QueryShape, query_shape}
 use Rattle.bw_query.specs.Served.{ByProgram}
 use Rattle.bw_laws.proofs.KeptPlanLemmas.{certified_too, plan_written}
 use Rattle.bw_laws.proofs.kept_plan.a_kept_plan_is_used.Goals as goal
@@ -26,7 +26,7 @@ returns-clause-each c = λ text sql plan schema query kept spelled is.
     let there = c.schemas_of_one_shape.ensures.spelled kept.schema schema sql (query_shape kept.query) shape kept.asked in
     let trees : tree_of kept.query.cond ≡ tree_of query.cond = ap (λ (query : QueryShape). query.cond) (c.one_query_of_a_text.ensures schema sql (query_shape kept.query) (query_shape query) there is) in
     let certified = rw columns at kept.certifies in
-    let judged = c.certificates_are_judged_by_what_they_say.ensures schema.columns.items kept.query.cond query.cond kept.program kept.certificate kept.certificate trees refl in
+    let judged = c.certificates_are_checked_by_their_fields.ensures schema.columns.items kept.query.cond query.cond kept.program kept.certificate kept.certificate trees refl in
     let complete = c.valid_exactly_where_checked.ensures.complete schema.columns.items kept.query.cond kept.program kept.certificate certified.valid in
     let valid = c.valid_exactly_where_checked.ensures.sound schema.columns.items query.cond kept.program kept.certificate certified.valid.facts (sym judged ∙ complete) in
     (is, (kept.program, kept.certificate, certified_too schema.columns.items kept.query.cond query.cond plan kept.program kept.certificate valid certified))

@@ -1,7 +1,7 @@
 -- The blocks of a segment in either layout.
 use Rattle.bw_file.specs.AnySegment.{any_meaning}
 use Rattle.bw_file.specs.Blocks.{form_of}
-use Rattle.bw_memory.proofs.KeptLemmas.{are_of, on_ok_three}
+use Rattle.bw_memory.proofs.StoredSegmentLemmas.{are_of, on_ok_three}
 use Rattle.bw_memory.proofs.layouts.push_segment.Goals as goal
 
 pub returns-in-Planes-clause-added : goal.returns-in-Planes-clause-added

@@ -5,7 +5,8 @@ use Rattle.bw_file.specs.AnySegment.{any_is_group}
 use Rattle.bw_file.specs.TableReader.{layout_in, rows_given, schema_in}
 use Rattle.bw_file.proofs.MemoryAnswers.{columns_of, later_answers, memory_answers, same_table}
 use Rattle.bw_file.proofs.NextLemmas.{end_of, refusal_of, segment_of}
-use Rattle.bw_memory.proofs.ReadLemmas.{all_kept, given_next, groups_next, kept_next, no_groups, none_given, none_read}
+use Rattle.bw_memory.proofs.ReadLemmas.{all_kept, given_next, groups_next, kept_next, no_groups}
+use Rattle.bw_memory.proofs.ReadLemmas.{none_given, none_read}
 use Rattle.bw_memory.proofs.reading.read_segments.Goals as goal
 
 pub loop-segment-init : goal.loop-segment-init
@@ -18,7 +19,7 @@ loop-segment-init g c =
       same = record { version = refl; layout = refl; schema = refl; rows = refl };
       reading = c.requires.fresh.1;
       failures = refl;
-      few = omega arith;
+      within_limit = omega arith;
     }
 
 pub returns-in_err-segment-clause-refused : goal.returns-in_err-segment-clause-refused
@@ -52,7 +53,7 @@ pub loop-segment-smaller : goal.loop-segment-smaller
 loop-segment-smaller g c =
     let gave = segment_of (rw c.in-Some.is at c.in_ok-segment.ensures) in
     let group = any_is_group c.in-Some.segment in
-    omega (arith, gave.of_table.count, gave.counted, group.some, gave.same.rows)
+    omega (arith, gave.of_table.count, gave.row_count, group.nonempty, gave.same.rows)
 
 pub loop-segment-preserved : goal.loop-segment-preserved
 loop-segment-preserved g c =
@@ -66,20 +67,20 @@ loop-segment-preserved g c =
     let added = c.in_ok-pushed.ensures.added in
     let count = c.loop-segment.count in
     let new = c.push_segment-pushed.new.columns in
-    let groups = groups_next first reader next segment count _ new so_far.same gave.of_table so_far.kept so_far.given added gave.counted in
+    let groups = groups_next first reader next segment count _ new so_far.same gave.of_table so_far.kept so_far.given added gave.row_count in
     record {
-      kept = kept_next first reader next segment count _ new so_far.same gave.of_table so_far.kept so_far.given added gave.counted;
-      given = given_next first reader next segment count _ new so_far.same gave.of_table so_far.kept so_far.given added gave.counted;
+      kept = kept_next first reader next segment count _ new so_far.same gave.of_table so_far.kept so_far.given added gave.row_count;
+      given = given_next first reader next segment count _ new so_far.same gave.of_table so_far.kept so_far.given added gave.row_count;
       read = λ start read. rw groups (gave.after start _ (so_far.read start read));
       same = same_table _ _ _ so_far.same gave.same;
       reading = gave.goes_on;
       failures = omega (arith, gave.failures, so_far.failures);
-      few = omega (arith, so_far.few, gave.counted, group.some);
+      within_limit = omega (arith, so_far.within_limit, gave.row_count, group.nonempty);
     }
 
 pub returns-clause-kept : goal.returns-clause-kept
 returns-clause-kept g c =
     let so_far = c.loop-segment.invariant in
     let ended = end_of (rw c.in_default.is at c.in_ok-segment.ensures) so_far.reading in
-    all_kept _ _ c.args.reader.now c.loop-segment.reader c.next_segment.new.self c.loop-segment.count _ so_far.same so_far.kept ended.counted
+    all_kept _ _ c.args.reader.now c.loop-segment.reader c.next_segment.new.self c.loop-segment.count _ so_far.same so_far.kept ended.row_count
     (omega (arith, c.next_segment.new.self.within, c.next_segment.new.self.within_limit)) (λ start read. ended.whole start _ (so_far.read start read)) (λ start read. ended.groups start _ (so_far.read start read))

@@ -28,7 +28,7 @@ invariant_of-result g c =
     let began = c.requires.began in
     record {
       placed = made.placed;
-      within_limit = omega (arith, c.given.ensures, all.few);
+      within_limit = omega (arith, c.given.ensures, all.within_limit);
       kept = segments_made c.args.reader.now c.layout-layout.result schema _ c.given.result c.in_ok-segments.segments _ _ c.layout-layout.ensures name columns c.given.ensures items all.segments;
       cut = cut_made c.args.reader.now c.layout-layout.result schema _ c.given.result c.in_ok-segments.segments _ _ c.layout-layout.ensures name columns c.given.ensures items _ _ all began.0 began.1;
     }

@@ -3,7 +3,8 @@ use Rattle.std.proofs.Common.{◌≡◌, ◌∙◌, ap, sym, Some, Err, Ok, Fits
 use Rattle.std.proofs.lemmas.Int.{to_z-of_z}
 use Rattle.bw_text.specs.Lines.{line_of}
 use Rattle.bw_model.specs.SchemaText.{column_words, words_shape, is_range}
-use Rattle.bw_model.proofs.SchemaLemmas.{list_any_names, column_on-twice, column_on-range, column_on-taken, ap2, same_shape}
+use Rattle.bw_model.proofs.SchemaLemmas.{list_any_names, column_on-twice, column_on-range}
+use Rattle.bw_model.proofs.SchemaLemmas.{column_on-taken, ap2, same_shape}
 use Rattle.bw_model.proofs.parse.column_of.Goals as goal
 
 pub returns-then-has_name-clause-column : goal.returns-then-has_name-clause-column

@@ -1,5 +1,6 @@
--- Each turn adds the column of the next line; the end and each fault are the text's.
-use Rattle.std.proofs.Common.{◌≡◌, ◌≢◌, ◌∷◌, [], ◌<◌, ◌∙◌, length, arith, ap, sym, length-append, refl, ℕ, Ok, Err}
+-- Each turn adds the column of the next line; the end and each error are the text's.
+use Rattle.std.proofs.Common.{◌≡◌, ◌≢◌, ◌∷◌, [], ◌<◌, ◌∙◌, length, arith, ap, sym, length-append}
+use Rattle.std.proofs.Common.{refl, ℕ, Ok, Err}
 use Rattle.std.proofs.lemmas.Bool.{eqb-true, eqb-false}
 use Rattle.std.proofs.lemmas.Result.{err_from_is_err_and}
 use Rattle.bw_model.specs.Column.{names_of}
@@ -7,7 +8,10 @@ use Rattle.bw_model.specs.Fault.{at_line, ◌>>=◌}
 use Rattle.bw_text.specs.Lines.{lines_in, end_in, line_of}
 use Rattle.bw_model.specs.Name.{are_apart}
 use Rattle.bw_model.specs.SchemaText.{column_shape, column_on, schema_on, columns_on, with_columns}
-use Rattle.bw_model.proofs.SchemaLemmas.{are_apart-push, names_of-push, schema_of-lines, schema_of-long, schema_of-first, schema_on-nothing, columns_on-next, columns_on-nothing, shapes-push, with_columns-none, with_columns-some}
+use Rattle.bw_model.proofs.SchemaLemmas.{are_apart-push, names_of-push, schema_of-lines}
+use Rattle.bw_model.proofs.SchemaLemmas.{schema_of-long, schema_of-first, schema_on-nothing}
+use Rattle.bw_model.proofs.SchemaLemmas.{columns_on-next, columns_on-nothing, shapes-push}
+use Rattle.bw_model.proofs.SchemaLemmas.{with_columns-none, with_columns-some}
 use Rattle.bw_model.proofs.parse.read_schema.Goals as goal
 
 pub loop-columns-init : goal.loop-columns-init

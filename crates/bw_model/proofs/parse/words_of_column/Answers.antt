@@ -4,7 +4,9 @@ use Rattle.std.proofs.lemmas.List.{length-map}
 use Rattle.std.proofs.lemmas.Bool.Decides.{nat_tests}
 use Rattle.bw_model.proofs.SchemaLemmas.{column_words-other}
 use Rattle.bw_model.proofs.parse.words_of_column.Goals as goal
-use Rattle.bw_model.proofs.parse.words_of_column.Goals.{in_default-via-then-words-lt4, in_default-via-else-words-lt4+else-words-lt5+then-words-lt6, in_default-via-else-words-lt4+else-words-lt5+else-words-lt6+else-words-lt7}
+use Rattle.bw_model.proofs.parse.words_of_column.Goals.{in_default-via-then-words-lt4}
+use Rattle.bw_model.proofs.parse.words_of_column.Goals.{in_default-via-else-words-lt4+else-words-lt5+then-words-lt6}
+use Rattle.bw_model.proofs.parse.words_of_column.Goals.{in_default-via-else-words-lt4+else-words-lt5+else-words-lt6+else-words-lt7}
 
 pub returns-in_default : goal.returns-in_default
 returns-in_default c =

@@ -1,5 +1,5 @@
 use Rattle.std.proofs.Common.{◌≡◌, true}
-use Rattle.bw_plan.specs.Named.{are_chains_named}
+use Rattle.bw_plan.specs.ChainNames.{are_chains_named}
 use Rattle.bw_plan.proofs.emit.chain_lines.Given as goal
 
 abbrev pub invariant-loop-number : goal.invariant-loop-number

@@ -1,10 +1,11 @@
-use Rattle.std.proofs.Common.{◌≡◌, ◌∙◌, sym, ap, ap₂, subst, suc, ◌+◌, ◌-◌, ◌*◌, ◌/◌, ◌%◌, ◌^◌, ◌≤◌, ◌&&◌, map, sum_by, count_by, arith}
+use Rattle.std.proofs.Common.{◌≡◌, ◌∙◌, sym, ap, ap₂, subst, suc, ◌+◌, ◌-◌, ◌*◌, ◌/◌, ◌%◌, ◌^◌, ◌≤◌}
+use Rattle.std.proofs.Common.{◌&&◌, map, sum_by, count_by, arith}
 use lib.Lanes.{zip2}
 use Rattle.std.proofs.lemmas.Grind.{pow_more}
 use Rattle.bw_lanes.specs.Lanes.{bits_from_least}
 use Rattle.bw_model.specs.Code.{has_bit}
 use Rattle.bw_model.specs.Selection.{selected_items}
-use Rattle.bw_segment.proofs.PickedLemmas.{count_both}
+use Rattle.bw_segment.proofs.SelectedLemmas.{count_both}
 use Rattle.bw_planes.specs.Planes.{planes_codes, codes_in_word}
 use Rattle.bw_planes.proofs.SumLemmas.{numbers_more, no_numbers}
 use Rattle.bw_planes.proofs.sum.sum_of_bits.Goals as goal

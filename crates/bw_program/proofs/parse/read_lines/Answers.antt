@@ -1,12 +1,14 @@
--- Each turn reads one more line; the end and each fault are the text's.
-use Rattle.std.proofs.Common.{◌≡◌, ◌∙◌, ◌∷◌, [], ◌<◌, ◌≤◌, ℕ, ap, sym, Err, length, length-append, arith}
+-- Each turn reads one more line; the end and each error are the text's.
+use Rattle.std.proofs.Common.{◌≡◌, ◌∙◌, ◌∷◌, [], ◌<◌, ◌≤◌, ℕ, ap, sym, Err, length, length-append}
+use Rattle.std.proofs.Common.{arith}
 use Rattle.std.proofs.lemmas.Bool.{le-leb}
 use Rattle.std.proofs.lemmas.Result.{err_from_is_err_and}
 use Rattle.bw_model.specs.Fault.{at_line}
 use Rattle.bw_text.specs.Lines.{line_of}
 use Rattle.bw_program.specs.Program.{most_instructions}
 use Rattle.bw_program.specs.ProgramText.{instr_on}
-use Rattle.bw_program.proofs.TextLemmas.{program_on-end, program_on-long, result_read, result_refused, instr_read}
+use Rattle.bw_program.proofs.TextLemmas.{program_on-end, program_on-long, result_read}
+use Rattle.bw_program.proofs.TextLemmas.{result_refused, instr_read}
 use Rattle.bw_program.proofs.parse.read_lines.Goals as goal
 
 pub returns-then-is_result_line-clause-read : goal.returns-then-is_result_line-clause-read
@@ -46,7 +48,7 @@ loop-line-preserved c =
     let read = sym c.in_ok-instr.was ∙ c.instr_of.ensures.parsed ∙ ap (λ (n : ℕ). instr_on columns n (line_of c.in-Some.line)) count in
     let next = instr_read columns _ _ _ _ _ _ line (sym c.is_result_line.ensures ∙ c.if-is_result_line.false) room read in
     rw c.in_ok-push.ensures.items (record {
-      few = omega (arith, length-append c.loop-line.placed.items (record { line = c.in-Some.line.number; instr = c.in_ok-instr.instr } ∷ []));
+      within_limit = omega (arith, length-append c.loop-line.placed.items (record { line = c.in-Some.line.number; instr = c.in_ok-instr.instr } ∷ []));
       told = c.loop-line.invariant.told ∙ next;
       end = c.loop-line.invariant.end ∙ sym c.in_ok-line.ensures.end;
     })

@@ -7,7 +7,7 @@ use Rattle.bw_program.proofs.parse.read_lines.Given as goal
 -- the program is that of the instructions so far and the lines to come
 abbrev pub invariant-loop-line : goal.invariant-loop-line
 invariant-loop-line l = record {
-  few : length l.placed.items ≤ most_instructions;
+  within_limit : length l.placed.items ≤ most_instructions;
   told : program_on l.schema.columns.items [] (lines_in l.initial.lines) (end_in l.initial.lines)
       ≡ program_on l.schema.columns.items l.placed.items (lines_in l.lines) (end_in l.initial.lines);
   end : end_in l.initial.lines ≡ end_in l.lines;

@@ -1,4 +1,4 @@
--- Each exit, by what its calls' contracts say.
+-- Each exit, by the contracts of its calls.
 use Rattle.std.proofs.Common.{ℕ, List, Ok, Err, subst}
 use Rattle.std.specs.Io.KnownBytes.{Appends}
 use Rattle.std.proofs.lemmas.Result.{err_from_is_err_and}

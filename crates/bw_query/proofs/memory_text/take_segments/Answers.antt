@@ -1,10 +1,10 @@
 -- Each segment's rows are taken after those of the segments before it.
 use Rattle.std.proofs.Common.{◌∙◌, ◌+◌, ◌<◌, length, refl, sym, ap, subst, arith}
 use Rattle.bw_model.specs.declared.query.Query.{Query}
-use Rattle.bw_answer.specs.AreOver.{CountsRows}
-use Rattle.bw_memory.specs.Kept.{groups_kept}
+use Rattle.bw_answer.specs.TextAndTotals.{CountsRows}
+use Rattle.bw_memory.specs.StoredSegments.{stored_groups}
 use Rattle.bw_memory.specs.MemoryTable.{schema_of, meaning_numbered}
-use Rattle.bw_memory.proofs.KeptLemmas.{groups_more, length-groups, room_for, rows_before}
+use Rattle.bw_memory.proofs.StoredSegmentLemmas.{groups_more, length-groups, room_for, rows_before}
 use Rattle.bw_memory.proofs.ReadLemmas.{no_groups}
 use Rattle.bw_query.specs.Scan.{IsFor, loads_in, skips_in}
 use Rattle.bw_query.proofs.TableLemmas.{goes_nowhere, goes_on, one_more}
@@ -15,7 +15,7 @@ loop-number-init c =
     let table = c.args.table.now in
     let none = no_groups table.layout (schema_of table).columns.items table.rows table.columns.items in
     record {
-      over = rw none (goes_nowhere c.args.answer.now);
+      covers = rw none (goes_nowhere c.args.answer.now);
       scanned = rw none (record { segments = refl; loads = refl; skips = refl });
       few_loads = omega arith;
       few_skips = omega arith;
@@ -34,7 +34,7 @@ take_numbered-requires-clause-capacity c =
     let table = c.args.table.now in
     let number = c.loop-number.number in
     let there : number < table.segments = omega (arith, c.segments-number-end.ensures) in
-    omega (arith, table.within_limit, room_for table.layout (schema_of table).columns.items table.rows number c.loop-number.answer.rows table.columns.items (table.kept.some number there) c.loop-number.invariant.rows)
+    omega (arith, table.within_limit, room_for table.layout (schema_of table).columns.items table.rows number c.loop-number.answer.rows table.columns.items (table.kept.nonempty number there) c.loop-number.invariant.rows)
 
 pub loop-number-preserved : goal.loop-number-preserved
 loop-number-preserved c =
@@ -44,11 +44,11 @@ loop-number-preserved c =
     let so_far = c.loop-number.invariant in
     let taken = c.in_ok-more.ensures in
     let rows = (meaning_numbered table number).rows in
-    let groups = groups_kept table.layout columns table.rows number table.columns.items in
+    let groups = stored_groups table.layout columns table.rows number table.columns.items in
     let more = groups_more table.layout columns table.rows number table.columns.items in
     let count = length-groups table.layout columns table.rows number table.columns.items in
     record {
-      over = rw more (goes_on _ _ _ groups rows so_far.over taken.covers);
+      covers = rw more (goes_on _ _ _ groups rows so_far.covers taken.covers);
       scanned = rw more (record {
         segments = omega (arith, so_far.scanned.segments, count, length-groups table.layout columns table.rows (number + 1) table.columns.items, ap length more);
         loads = one_more (loads_in columns c.args.scan.now) groups rows _ _ so_far.scanned.loads taken.loads;

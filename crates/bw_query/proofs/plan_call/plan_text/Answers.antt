@@ -1,9 +1,10 @@
--- Each exit, by what its calls' contracts say.
+-- Each exit, by the contracts of its calls.
 use Rattle.std.proofs.Common.{List, ℕ, Result, Ok, Err, subst, sym}
 use Rattle.std.proofs.lemmas.Result.{err_from_is_err_and}
 use Rattle.bw_model.specs.declared.fault.Fault.{Fault}
 use Rattle.bw_query.specs.Plan.{IsPlanFault, schema_refused, statement_refused, unplanned}
-use Rattle.bw_query.proofs.TableExits.{refused, schema_writes_nothing, statement_writes_nothing, unplanned_writes_nothing, went}
+use Rattle.bw_query.proofs.TableExits.{refused, schema_writes_nothing, statement_writes_nothing}
+use Rattle.bw_query.proofs.TableExits.{unplanned_writes_nothing, went}
 use Rattle.bw_query.proofs.plan_call.plan_text.Goals as goal
 
 pub returns-in_err-schema : goal.returns-in_err-schema

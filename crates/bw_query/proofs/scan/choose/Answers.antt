@@ -1,8 +1,9 @@
 -- A file's program is used after files that are rejected.
 use Rattle.bw_memory.specs.MemoryTable.{schema_of}
-use Rattle.bw_query.specs.Among.{IsRejected, texts_of}
+use Rattle.bw_query.specs.ProgramChoice.{IsRejected, texts_of}
 use Rattle.bw_query.specs.declared.scan.Scan.TheVariants.{Program}
-use Rattle.bw_query.proofs.CacheLemmas.{chosen_first, chosen_if_found, file_at, files_all, files_more}
+use Rattle.bw_query.proofs.CacheLemmas.{chosen_first, chosen_if_found, file_at, files_all}
+use Rattle.bw_query.proofs.CacheLemmas.{files_more}
 use Rattle.bw_query.proofs.scan.choose.Goals as goal
 
 pub returns-in-Some-clause-chosen : goal.returns-in-Some-clause-chosen

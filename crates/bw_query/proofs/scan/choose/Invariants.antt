@@ -1,6 +1,6 @@
 use Rattle.std.proofs.Common.{All, take}
 use Rattle.bw_memory.specs.MemoryTable.{schema_of}
-use Rattle.bw_query.specs.Among.{IsRejected, texts_of}
+use Rattle.bw_query.specs.ProgramChoice.{IsRejected, texts_of}
 use Rattle.bw_query.proofs.scan.choose.Given as goal
 
 -- the files so far are rejected

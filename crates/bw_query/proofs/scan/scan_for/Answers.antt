@@ -1,4 +1,4 @@
--- A program file that is accepted is refused only where memory runs out.
+-- A program file that is accepted is rejected only if memory runs out.
 use Rattle.std.proofs.lemmas.Result.{err_from_is_err_and}
 use Rattle.bw_query.proofs.ScanLemmas.{only_memory}
 use Rattle.bw_query.proofs.scan.scan_for.Goals as goal

@@ -1,13 +1,14 @@
--- Each exit, by what its calls' contracts say.
+-- Each exit, by the contracts of its calls.
 use Rattle.std.proofs.Common.{List, ap, inl, inr, refl, subst, sym}
 use Rattle.std.proofs.lemmas.Result.{err_from_is_err_and}
-use Rattle.bw_cert.specs.Judged.{is_file_fault}
+use Rattle.bw_cert.specs.FileVerdict.{is_file_fault}
 use Rattle.bw_model.specs.declared.column.Column.{Column}
-use Rattle.bw_sql.specs.Asked.{QueryShape, query_shape}
+use Rattle.bw_sql.specs.QueryShape.{QueryShape, query_shape}
 use Rattle.bw_sql.specs.Refusal.{is_statement_fault}
 use Rattle.bw_query.specs.Scan.{IsUsable, given_file}
 use Rattle.bw_query.proofs.ScanLemmas.{usable}
-use Rattle.bw_query.proofs.TableExits.{file_writes_nothing, no_failed_read, statement_writes_nothing}
+use Rattle.bw_query.proofs.TableExits.{file_writes_nothing, no_failed_read}
+use Rattle.bw_query.proofs.TableExits.{statement_writes_nothing}
 use Rattle.bw_query.proofs.table_calls.prepare.Goals as goal
 
 pub returns-clause-asked : goal.returns-clause-asked

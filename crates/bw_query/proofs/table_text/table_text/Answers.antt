@@ -34,5 +34,5 @@ returns-clause-text g c = λ start read.
       cut = all.cut start read;
       counts = all.counts;
       is = c.in_ok-into_text.ensures.text (names_of (schema_in c.args.reader.now).columns.items) c.args.query.now (together all.groups)
-          (all.over.over (names_of (schema_in c.args.reader.now).columns.items) c.args.query.now [] over);
+          (all.covers.covers (names_of (schema_in c.args.reader.now).columns.items) c.args.query.now [] over);
     }

@@ -1,10 +1,11 @@
 -- Each segment's rows are taken after those of the segments before it.
-use Rattle.std.proofs.Common.{◌∙◌, ℕ, ◌+◌, List, [], ◌∷◌, ◌++◌, length, length-append, refl, sym, ap, subst, arith}
+use Rattle.std.proofs.Common.{◌∙◌, ℕ, ◌+◌, List, [], ◌∷◌, ◌++◌, length, length-append, refl, sym}
+use Rattle.std.proofs.Common.{ap, subst, arith}
 use Rattle.std.proofs.lemmas.Result.{err_from_is_err_and}
 use Rattle.bw_model.specs.declared.column.Column.{Column}
 use Rattle.bw_model.specs.declared.query.Query.{Query}
-use Rattle.bw_answer.specs.AreOver.{CountsRows}
-use Rattle.bw_answer.specs.Over.{asked_by}
+use Rattle.bw_answer.specs.TextAndTotals.{CountsRows}
+use Rattle.bw_answer.specs.Progress.{query_in}
 use Rattle.bw_file.specs.TableReader.{schema_in}
 use Rattle.bw_query.specs.Scan.{IsFor, loads_in, skips_in}
 use Rattle.bw_file.specs.AnySegment.{any_is_group, any_meaning}
@@ -18,7 +19,7 @@ pub loop-segment-init : goal.loop-segment-init
 loop-segment-init g c = record {
   groups = [];
   read = λ start read. read;
-  over = goes_nowhere c.args.answer.now;
+  covers = goes_nowhere c.args.answer.now;
   scanned = record { segments = refl; loads = refl; skips = refl };
   few_loads = omega arith;
   few_skips = omega arith;
@@ -26,7 +27,7 @@ loop-segment-init g c = record {
   reading = c.requires.fresh.1;
   failures = refl;
   rows = c.requires.none ∙ sym c.requires.fresh.0;
-  few = omega arith;
+  within_limit = omega arith;
   width = c.requires.width;
   asked = refl;
   counts = c.counts_rows-counts.ensures;
@@ -52,13 +53,13 @@ pub loop-segment-smaller : goal.loop-segment-smaller
 loop-segment-smaller g c =
     let gave = segment_of (rw c.in-Some.is at c.in_ok-segment.ensures) in
     let group = any_is_group c.in-Some.segment in
-    omega (arith, gave.of_table.count, gave.counted, group.some, gave.same.rows)
+    omega (arith, gave.of_table.count, gave.row_count, group.nonempty, gave.same.rows)
 
 pub take_either-taken-requires-clause-scan : goal.take_either-taken-requires-clause-scan
 take_either-taken-requires-clause-scan g c =
     let so_far = c.loop-segment.invariant in
     let gave = segment_of (rw c.in-Some.is at c.in_ok-segment.ensures) in
-    let under = subst (λ (columns : List Column). IsFor columns (asked_by c.args.answer.now).cond c.args.scan.now)
+    let under = subst (λ (columns : List Column). IsFor columns (query_in c.args.answer.now).cond c.args.scan.now)
     (sym (columns_of c.args.reader.now c.loop-segment.reader c.in-Some.segment so_far.same gave.of_table)) c.requires.scan in
     subst (λ (query : Query). IsFor (any_meaning c.in-Some.segment).columns query.cond c.args.scan.now) (sym so_far.asked) under
 
@@ -72,7 +73,7 @@ take_either-taken-requires-clause-width g c =
 pub take_either-taken-requires-clause-capacity : goal.take_either-taken-requires-clause-capacity
 take_either-taken-requires-clause-capacity g c =
     let gave = segment_of (rw c.in-Some.is at c.in_ok-segment.ensures) in
-    omega (arith, c.loop-segment.invariant.rows, gave.counted, c.next_segment.new.self.within, c.next_segment.new.self.within_limit)
+    omega (arith, c.loop-segment.invariant.rows, gave.row_count, c.next_segment.new.self.within, c.next_segment.new.self.within_limit)
 
 pub loop-segment-preserved : goal.loop-segment-preserved
 loop-segment-preserved g c =
@@ -88,7 +89,7 @@ loop-segment-preserved g c =
     record {
       groups = so_far.groups ++ rows ∷ [];
       read = λ start read. gave.after start so_far.groups (so_far.read start read);
-      over = goes_on _ _ _ so_far.groups rows so_far.over taken.covers;
+      covers = goes_on _ _ _ so_far.groups rows so_far.covers taken.covers;
       scanned = record {
         segments = omega (arith, so_far.scanned.segments, more);
         loads = one_more (loads_in (schema_in c.args.reader.now).columns.items c.args.scan.now) so_far.groups rows _ _ so_far.scanned.loads (taken.loads ∙ loads);
@@ -99,8 +100,8 @@ loop-segment-preserved g c =
       same = same_table _ _ _ so_far.same gave.same;
       reading = gave.goes_on;
       failures = omega (arith, gave.failures, so_far.failures);
-      rows = taken.rows ∙ ap (λ (n : ℕ). n + length rows) so_far.rows ∙ sym gave.counted;
-      few = omega (arith, more, so_far.few, gave.counted, group.some);
+      rows = taken.rows ∙ ap (λ (n : ℕ). n + length rows) so_far.rows ∙ sym gave.row_count;
+      within_limit = omega (arith, more, so_far.within_limit, gave.row_count, group.nonempty);
       width = taken.width ∙ so_far.width;
       asked = taken.covers.same ∙ so_far.asked;
       counts = λ is. subst CountsRows (sym taken.covers.same) (so_far.counts is);
@@ -112,7 +113,7 @@ returns-clause-took g c =
     let ended = end_of (rw c.in_default.is at c.in_ok-segment.ensures) so_far.reading in
     record {
       groups = so_far.groups;
-      over = so_far.over;
+      covers = so_far.covers;
       counts = so_far.scanned;
       read = λ start read. rw (so_far.same.layout, so_far.same.schema) at (ended.whole start so_far.groups (so_far.read start read));
       cut = λ start read. ended.groups start so_far.groups (so_far.read start read);

@@ -1,10 +1,11 @@
 use Rattle.std.proofs.Common.{◌≡◌, ◌-◌, ◌*◌, ◌≤◌, List, [], None, length, true}
 use Rattle.bw_model.specs.Groups.{together}
 use Rattle.bw_model.specs.Row.{Value}
-use Rattle.bw_answer.specs.AreOver.{CountsRows}
-use Rattle.bw_answer.specs.Over.{GoesOver, asked_by}
+use Rattle.bw_answer.specs.TextAndTotals.{CountsRows}
+use Rattle.bw_answer.specs.Progress.{GoesOver, query_in}
 use Rattle.bw_file.specs.Reading.{State, state}
-use Rattle.bw_file.specs.TableReader.{SameTable, ReadProgress, bytes_taken, rows_given, rows_stated, schema_in, final_result}
+use Rattle.bw_file.specs.TableReader.{SameTable, ReadProgress, bytes_taken, rows_given, rows_stated}
+use Rattle.bw_file.specs.TableReader.{schema_in, final_result}
 use Rattle.bw_query.specs.TableText.{IsScanOf}
 use Rattle.bw_query.proofs.table_text.take_rows.Given as goal
 
@@ -15,7 +16,7 @@ invariant-loop-segment g l = record {
   read : (start : State)
       → ReadProgress start (state (g.S.Source.to_come l.initial.source) (bytes_taken l.initial.reader) (g.S.Source.failures l.initial.source)) l.initial.reader []
       → ReadProgress start (state (g.S.Source.to_come l.source) (bytes_taken l.reader) (g.S.Source.failures l.source)) l.reader groups;
-  over : GoesOver l.initial.answer (together groups) l.answer;
+  covers : GoesOver l.initial.answer (together groups) l.answer;
   scanned : IsScanOf (schema_in l.initial.reader).columns.items l.scan groups l.scanned;
   few_loads : l.scanned.loads ≤ 4096 * length groups;
   few_skips : l.scanned.skips ≤ 4096 * length groups;
@@ -23,10 +24,10 @@ invariant-loop-segment g l = record {
   reading : final_result l.reader ≡ None;
   failures : g.S.Source.failures l.source ≡ g.S.Source.failures l.initial.source;
   rows : l.answer.rows ≡ rows_given l.reader;
-  few : length groups ≤ rows_given l.reader;
+  within_limit : length groups ≤ rows_given l.reader;
   width : l.answer.width ≡ length (schema_in l.initial.reader).columns.items;
-  asked : asked_by l.answer ≡ asked_by l.initial.answer;
-  counts : l.counts ≡ true → CountsRows (asked_by l.answer);
+  asked : query_in l.answer ≡ query_in l.initial.answer;
+  counts : l.counts ≡ true → CountsRows (query_in l.answer);
 }
 
 abbrev pub decreases-loop-segment : goal.decreases-loop-segment

@@ -1,8 +1,8 @@
 -- Each segment's loads are added to those of the segments before it.
 use Rattle.std.proofs.Common.{◌≡◌, ◌+◌, refl, arith}
-use Rattle.bw_memory.specs.Kept.{groups_kept}
+use Rattle.bw_memory.specs.StoredSegments.{stored_groups}
 use Rattle.bw_memory.specs.MemoryTable.{schema_of, meaning_numbered}
-use Rattle.bw_memory.proofs.KeptLemmas.{groups_more}
+use Rattle.bw_memory.proofs.StoredSegmentLemmas.{groups_more}
 use Rattle.bw_memory.proofs.ReadLemmas.{no_groups}
 use Rattle.bw_query.specs.Scan.{loads_in}
 use Rattle.bw_query.specs.declared.scan.Scan.TheVariants.{Program}
@@ -21,7 +21,7 @@ loop-number-preserved c =
     let columns = (schema_of table).columns.items in
     let number = c.loop-number.number in
     let rows = (meaning_numbered table number).rows in
-    let groups = groups_kept table.layout columns table.rows number table.columns.items in
+    let groups = stored_groups table.layout columns table.rows number table.columns.items in
     let more = groups_more table.layout columns table.rows number table.columns.items in
     record {
       sum = rw more (one_more (loads_in columns (Program c.args.certified.now)) groups rows _ _ c.loop-number.invariant.sum c.in_ok-loads.ensures.loads);

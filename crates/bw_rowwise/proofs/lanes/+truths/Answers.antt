@@ -1,4 +1,4 @@
--- One more part; and no other where every lane is settled.
+-- One more part; and no other if every lane is settled.
 use Rattle.std.proofs.Common.{◌∙◌, ℕ}
 use Rattle.bw_rowwise.specs.Prepared.{prepared_truth, row_at}
 use Rattle.bw_rowwise.proofs.TruthLemmas.{alike, all_false, all_more, any_more, any_true}

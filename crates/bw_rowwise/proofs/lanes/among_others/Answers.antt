@@ -17,7 +17,7 @@ loop-other-preserved g c =
     let others = c.args.others.now in
     let i = c.loop-other.other-index in
     let x : Operand = get_or others i (Col 0) in
-    alike _ _ _ (c.either-greatest.ensures _ _ c.loop-other.invariant c.compared.ensures) (λ lane within.
+    alike _ _ _ (c.either-greatest.ensures _ _ c.loop-other.invariant c.compare.ensures) (λ lane within.
     let is = λ (operand : Operand). compare_values Eq (value lane c.args.x) (value lane operand) in
     ap (λ l. greatest (any_of l) (is x)) (map-map (compare_values Eq (value lane c.args.x)) (value lane) (take i others)) ∙ any_more is others i x c.loop-other-test.true (get_or_default others i (Col 0) x c.loop-other-test.true)
     ∙ sym (ap any_of (map-map (compare_values Eq (value lane c.args.x)) (value lane) (take (i + 1) others))))

@@ -5,7 +5,8 @@ use Rattle.bw_model.proofs.CondLemmas.{truth_of-Among}
 use Rattle.bw_rowwise.specs.Prepared.{prepared_truth}
 use Rattle.bw_rowwise.proofs.PreparedLemmas.{alike_pushed, alike_repeated, truth-Among}
 use Rattle.bw_rowwise.proofs.prepared.+new.Goals as goal
-use Rattle.bw_rowwise.proofs.prepared.+new.Goals.{all_of-then-not-branch+in_ok-new+in_ok-push, all_of-else-not-branch}
+use Rattle.bw_rowwise.proofs.prepared.+new.Goals.{all_of-then-not-branch+in_ok-new+in_ok-push}
+use Rattle.bw_rowwise.proofs.prepared.+new.Goals.{all_of-else-not-branch}
 
 pub Prepared::new-returns-in_ok-items-in-Among-clause-prepared :
     goal.Prepared::new-returns-in_ok-items-in-Among-clause-prepared

@@ -8,7 +8,8 @@ use Rattle.bw_model.specs.declared.cond.Operand.{Operand}
 use Rattle.bw_model.specs.declared.cond.Truth.{Truth}
 use Rattle.bw_rowwise.proofs.NumberLemmas.{number_more, other_more}
 use Rattle.bw_rowwise.proofs.prepared.items_of.Goals as goal
-use Rattle.bw_rowwise.proofs.prepared.items_of.Goals.{in-Lit+in_ok-push-in-Lit, in-Col+in_ok-push-in-Col}
+use Rattle.bw_rowwise.proofs.prepared.items_of.Goals.{in-Lit+in_ok-push-in-Lit}
+use Rattle.bw_rowwise.proofs.prepared.items_of.Goals.{in-Col+in_ok-push-in-Col}
 
 pub loop-item-preserved : goal.loop-item-preserved
 loop-item-preserved c = λ row x.

@@ -2,11 +2,12 @@
 use Rattle.std.proofs.Common.{◌∙◌, sym, ap, ◌<◌, length, arith, refl, Err, length-append, List, ℕ}
 use Rattle.bw_model.proofs.SchemaLemmas.{are_apart-push}
 use Rattle.bw_csv.specs.Records.{fields_in}
-use Rattle.bw_schemas.proofs.HeadingLemmas.{fault_first, name_more, name_twice, names_end, no_name, none_named, nothing_apart, some_named, too_many}
+use Rattle.bw_schemas.proofs.HeadingLemmas.{fault_first, name_more, name_twice, names_end, no_name}
+use Rattle.bw_schemas.proofs.HeadingLemmas.{none_named, nothing_apart, some_named, too_many}
 use Rattle.bw_schemas.proofs.heading.heading_names.Goals as goal
 
 pub loop-i-init : goal.loop-i-init
-loop-i-init c = rw c.new-names.ensures.items (record { rest = refl; few = omega arith; apart = nothing_apart })
+loop-i-init c = rw c.new-names.ensures.items (record { rest = refl; within_limit = omega arith; apart = nothing_apart })
 
 pub returns-then-len-ge-MAX_COLUMNS-clause-names :
     goal.returns-then-len-ge-MAX_COLUMNS-clause-names
@@ -38,7 +39,7 @@ loop-i-preserved c =
     let items = rw c.in_ok-new.ensures at c.in_ok-push.ensures.items in
     rw items (record {
       rest = c.loop-i.invariant.rest ∙ name_more _ fields c.loop-i.i c.field-name.result.now there c.field-name.ensures (omega (arith, c.len.ensures)) (sym c.is_name.ensures ∙ c.if-not-is_name.false) new;
-      few = omega (arith, length-append {A = List ℕ}, c.len.ensures);
+      within_limit = omega (arith, length-append {A = List ℕ}, c.len.ensures);
       apart = are_apart-push c.loop-i.names.items c.field-name.result.now c.loop-i.invariant.apart new;
     })
 

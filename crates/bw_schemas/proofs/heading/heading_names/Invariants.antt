@@ -9,6 +9,6 @@ use Rattle.bw_schemas.proofs.heading.heading_names.Given as goal
 abbrev pub invariant-loop-i : goal.invariant-loop-i
 invariant-loop-i l = record {
   rest : names_from [] (map without_blanks (fields_in l.records)) ≡ names_from l.names.items (map without_blanks (drop l.i (fields_in l.records)));
-  few : length l.names.items ≤ 64;
+  within_limit : length l.names.items ≤ 64;
   apart : are_apart l.names.items ≡ true;
 }

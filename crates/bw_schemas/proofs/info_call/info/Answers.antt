@@ -1,9 +1,10 @@
--- Each exit, by what its calls' contracts say.
+-- Each exit, by the contracts of its calls.
 use Rattle.std.proofs.Common.{ℕ, [], refl}
 use Rattle.std.proofs.lemmas.Result.{err_from_is_err_and}
 use Rattle.bw_file.specs.Reading.{State, state}
 use Rattle.bw_file.specs.TableReader.{bytes_taken}
-use Rattle.bw_schemas.proofs.InfoExits.{header_exit, input_verdict, memory_exit, text_exit, refused_memory, refused_table, told_file}
+use Rattle.bw_schemas.proofs.InfoExits.{header_exit, input_verdict, memory_exit, text_exit}
+use Rattle.bw_schemas.proofs.InfoExits.{refused_memory, refused_table, told_file}
 use Rattle.bw_io.specs.Sink.{none_aside}
 use Rattle.bw_io.proofs.SinkLemmas.{wrote_text}
 use Rattle.bw_schemas.proofs.SizeLemmas.{header_taken}

@@ -1,11 +1,13 @@
 -- Each column that is written goes over from those that are left.
-use Rattle.std.proofs.Common.{◌≡◌, ◌∙◌, ◌++◌, List, [], ap, sym, subst, arith, ℕ, ◌≤◌, length, map, drop}
+use Rattle.std.proofs.Common.{◌≡◌, ◌∙◌, ◌++◌, List, [], ap, sym, subst, arith, ℕ, ◌≤◌, length, map}
+use Rattle.std.proofs.Common.{drop}
 use Rattle.std.proofs.lemmas.List.{append-nil}
 use Rattle.bw_model.specs.declared.schema.Schema.{Schema}
 use Rattle.bw_model.specs.SchemaText.{column_shape, schema_shape, IsSchemaText}
-use Rattle.bw_schemas.specs.Printed.{column_line, columns_text, schema_text, table_line}
-use Rattle.bw_text.specs.Printed.{line_text}
-use Rattle.bw_schemas.proofs.PrintedText.{all_written, columns_text-end, columns_text-next, no_comments, text_spells}
+use Rattle.bw_schemas.specs.PrintedSchema.{column_line, columns_text, schema_text, table_line}
+use Rattle.bw_text.specs.Printing.{line_text}
+use Rattle.bw_schemas.proofs.PrintedText.{all_written, columns_text-end, columns_text-next}
+use Rattle.bw_schemas.proofs.PrintedText.{no_comments, text_spells}
 use Rattle.bw_text.proofs.PieceLemmas.{written}
 use Rattle.bw_schemas.proofs.print.print_schema.Goals as goal
 

@@ -1,7 +1,7 @@
 use Rattle.std.proofs.Common.{◌≡◌, ◌++◌, map, drop}
 use Rattle.bw_model.specs.SchemaText.{column_shape}
-use Rattle.bw_schemas.specs.Printed.{columns_text, table_line}
-use Rattle.bw_text.specs.Printed.{line_text}
+use Rattle.bw_schemas.specs.PrintedSchema.{columns_text, table_line}
+use Rattle.bw_text.specs.Printing.{line_text}
 use Rattle.bw_schemas.proofs.print.print_schema.Given as goal
 
 -- what is written so far, and then the columns that are left, are the whole text

@@ -5,4 +5,4 @@ use Rattle.bw_schemas.proofs.schema.columns_after.Goals as goal
 
 pub returns-clause-columns : goal.returns-clause-columns
 returns-clause-columns c =
-    rw (after_seen c.args.names.now _ _ _ refl c.in_ok-seen.ensures.seen) (rw c.deref.ensures.value at c.columns_seen.ensures.columns)
+    rw (after_seen c.args.names.now _ _ _ refl c.in_ok-seen.ensures.seen) (rw c.deref.ensures.value at c.columns_from_stats.ensures.columns)

@@ -5,8 +5,8 @@ use Rattle.bw_csv.specs.Bare.{bare_rows}
 use Rattle.bw_csv.specs.Records.{remaining_records}
 use Rattle.bw_csv.proofs.BareLemmas.{bare_rows-end, bare_rows-next}
 use Rattle.bw_csv.proofs.Passed.{passed-next, passed-stops}
-use Rattle.bw_schemas.specs.Seen.{with_records}
-use Rattle.bw_schemas.proofs.SeenLemmas.{length-with_values, records-end, records-next}
+use Rattle.bw_schemas.specs.ColumnStats.{with_records}
+use Rattle.bw_schemas.proofs.ColumnStatsLemmas.{length-with_values, records-end, records-next}
 use Rattle.bw_schemas.proofs.schema.take_rows.Goals as goal
 
 pub rows-preserved : goal.rows-preserved

@@ -3,7 +3,7 @@ use Rattle.bw_model.specs.Row.{Value}
 use Rattle.bw_csv.specs.Bare.{bare_rows}
 use Rattle.bw_csv.specs.Records.{IsOpen, remaining_records}
 use Rattle.bw_csv.proofs.Passed.{Passed}
-use Rattle.bw_schemas.specs.Seen.{with_records}
+use Rattle.bw_schemas.specs.ColumnStats.{with_records}
 use Rattle.bw_schemas.proofs.schema.take_rows.Given as goal
 
 -- what is seen of all rows is what is seen so far, and then of the rows of the records to come

@@ -1,10 +1,12 @@
-use Rattle.std.proofs.Common.{◌≡◌, ◌∙◌, refl, sym, ap, ◌*◌, ◌||◌, not, length, get_or, ℕ, List, true, false, add-one, arith}
+use Rattle.std.proofs.Common.{◌≡◌, ◌∙◌, refl, sym, ap, ◌*◌, ◌||◌, not, length, get_or, ℕ, List}
+use Rattle.std.proofs.Common.{true, false, add-one, arith}
 use Rattle.std.specs.List.{list_all}
 use lib.Lanes.{zip2}
 use Rattle.bw_lanes.specs.Lanes.{lanes_of_words}
 use Rattle.bw_lanes.proofs.WordLemmas.{length-lanes_of_words}
 use Rattle.bw_segment.specs.BlockFault.{first_fault, or_else}
-use Rattle.bw_segment.proofs.FaultLemmas.{of_rows, fault_in_padding, fault_in_rows, fault_at, rows_fine, row_is}
+use Rattle.bw_segment.proofs.FaultLemmas.{of_rows, fault_in_padding, fault_in_rows, fault_at}
+use Rattle.bw_segment.proofs.FaultLemmas.{rows_fine, row_is}
 use Rattle.bw_segment.proofs.block.fault_of_lanes.Goals as goal
 
 lanes_long : (words : List ℕ) → length words ≡ 8 → length (lanes_of_words words) ≡ 512

@@ -1,4 +1,5 @@
-use Rattle.std.proofs.Common.{◌≡◌, ◌∙◌, ap, ap₂, ◌+◌, ◌-◌, ◌<◌, ◌++◌, cond, ℕ, [], flat_map, length, append_assoc, rules, arith}
+use Rattle.std.proofs.Common.{◌≡◌, ◌∙◌, ap, ap₂, ◌+◌, ◌-◌, ◌<◌, ◌++◌, cond, ℕ, [], flat_map, length}
+use Rattle.std.proofs.Common.{append_assoc, rules, arith}
 use Rattle.std.specs.List.{range_with_len}
 use Rattle.bw_lanes.specs.Lanes.{bytes_of_lanes}
 use Rattle.bw_model.specs.Code.{width_at}

@@ -1,5 +1,5 @@
 use Rattle.std.proofs.Common.{◌≡◌, ◌<◌, ℕ, [], map, length, get_or}
-use Rattle.bw_model.specs.Stored.{byte_of}
+use Rattle.bw_model.specs.StoredCodes.{byte_of}
 use Rattle.bw_segment.proofs.codes.slices_of.Given as goal
 
 abbrev pub invariant-loop-slice : goal.invariant-loop-slice

@@ -1,4 +1,5 @@
-use Rattle.std.proofs.Common.{◌≡◌, ◌∙◌, ap, ◌<◌, [], set, cond, length, arith, unwrap_or, get_or-set_other}
+use Rattle.std.proofs.Common.{◌≡◌, ◌∙◌, ap, ◌<◌, [], set, cond, length, arith, unwrap_or}
+use Rattle.std.proofs.Common.{get_or-set_other}
 use Rattle.bw_model.specs.Row.{values_of}
 use Rattle.bw_segment.specs.Columns.{kept_at}
 use Rattle.bw_segment.specs.declared.columns.ColumnCodes.{ColumnCodes}

@@ -21,7 +21,7 @@ returns-clause-group c = λ yes.
     let rows = c.args.rows.now in
     let same = length-map rows values_of in
     record {
-      some = omega arith;
-      few = omega arith;
+      nonempty = omega arith;
+      within_limit = omega arith;
       admitted = sym (ap (λ l. list_all (admits_values c.args.schema.now.columns.items) (map values_of l)) (take_all c.loop-row.row-index rows (omega arith))) ∙ c.loop-row.invariant;
     }

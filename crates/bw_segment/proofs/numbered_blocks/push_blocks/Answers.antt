@@ -1,7 +1,8 @@
 -- Each column gets its block.
 use Rattle.std.proofs.Common.{◌∙◌, ap, List, ℕ, ◌++◌, length, get_or, arith}
 use Rattle.bw_io.specs.Shared.{bytes_in}
-use Rattle.bw_segment.proofs.ColumnBlockLemmas.{all_more, keep_more, last_segment, none_more, one_more, other_segment}
+use Rattle.bw_segment.proofs.ColumnBlockLemmas.{all_more, keep_more, last_segment, none_more}
+use Rattle.bw_segment.proofs.ColumnBlockLemmas.{one_more, other_segment}
 use Rattle.bw_segment.proofs.PackedLemmas.{length-block}
 use Rattle.bw_segment.proofs.numbered_blocks.push_blocks.Goals as goal
 

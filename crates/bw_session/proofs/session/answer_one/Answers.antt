@@ -1,7 +1,8 @@
 use Rattle.std.proofs.Common.{◌≡◌, sym, ◌∙◌, false, true, arith}
 use Rattle.bw_io.specs.Sink.{is_write_fault}
 use Rattle.bw_session.specs.Session.{AsksNothing}
-use Rattle.bw_session.proofs.WriteLemmas.{answer_failed, answered, asks_something, count_kept, count_same, refused, silent}
+use Rattle.bw_session.proofs.WriteLemmas.{answer_failed, answered, asks_something, count_kept}
+use Rattle.bw_session.proofs.WriteLemmas.{count_same, refused, silent}
 use Rattle.bw_session.proofs.session.answer_one.Goals as goal
 
 pub returns-then-asks_nothing-clause-answers : goal.returns-then-asks_nothing-clause-answers

@@ -1,5 +1,6 @@
-use Rattle.std.proofs.Common.{◌≡◌, ◌∙◌, sym, ap, suc, ◌+◌, ◌-◌, ◌*◌, ◌/◌, map, length, take, drop, arith, take-take}
-use Rattle.bw_model.specs.Stored.{byte_of}
+use Rattle.std.proofs.Common.{◌≡◌, ◌∙◌, sym, ap, suc, ◌+◌, ◌-◌, ◌*◌, ◌/◌, map, length, take, drop}
+use Rattle.std.proofs.Common.{arith, take-take}
+use Rattle.bw_model.specs.StoredCodes.{byte_of}
 use Rattle.bw_slices.specs.Slices.{slices_codes}
 use Rattle.bw_slices.proofs.KeptLemmas.{slice_of_codes}
 use Rattle.bw_slices.proofs.read.slice_of.Goals as goal

@@ -1,6 +1,7 @@
 -- Each kind of byte begins its own kind of piece.
 use Rattle.std.proofs.Common.{◌∙◌, sym}
-use Rattle.bw_sql.proofs.Cuts.{blank_longest, word_longest, digits_longest, comment_longest, delimiter_longest, no_piece, split}
+use Rattle.bw_sql.proofs.Cuts.{blank_longest, word_longest, digits_longest, comment_longest}
+use Rattle.bw_sql.proofs.Cuts.{delimiter_longest, no_piece, split}
 use Rattle.bw_sql.proofs.lexer.first_piece.Goals as goal
 
 pub returns-in_err-token : goal.returns-in_err-token

@@ -1,7 +1,8 @@
--- What is left after a gap has no token where the text has none.
+-- What is left after a gap has no token if the text has none.
 use Rattle.std.proofs.Common.{refl, ◌<◌, None, [], length, arith, sym, ◌∙◌}
 use Rattle.std.proofs.lemmas.Bool.{eqb-true, eqb-false}
-use Rattle.bw_sql.proofs.Cuts.{bare_after, cut_step, ended_at, none_first, shrinks, token_first, true_is_not_false}
+use Rattle.bw_sql.proofs.Cuts.{bare_after, cut_step, ended_at, none_first, shrinks, token_first}
+use Rattle.bw_sql.proofs.Cuts.{true_is_not_false}
 use Rattle.bw_sql.proofs.lexer.has_no_token.Goals as goal
 
 pub returns-in_default : goal.returns-in_default

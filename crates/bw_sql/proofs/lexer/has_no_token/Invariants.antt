@@ -1,4 +1,4 @@
--- A text has no token where what is left of it has none, and the rest gets shorter.
+-- A text has no token if what is left of it has none, and the rest gets shorter.
 use Rattle.std.proofs.Common.{◌≤◌, ◌-◌, None, [], length}
 use Rattle.bw_sql.specs.Cut.{HasNoToken, IsCut}
 use Rattle.bw_sql.proofs.lexer.has_no_token.Given as goal

@@ -1,4 +1,4 @@
--- The line ends where the first line feed stands.
+-- The line ends at the first line feed.
 use Rattle.std.proofs.Common.{◌+◌, ◌-◌, ◌∙◌, ◌≤◌, sym, length, drop, arith, length-drop}
 use Rattle.std.proofs.lemmas.List.{take_all}
 use Rattle.bw_text.specs.Lines.{cut_lines}

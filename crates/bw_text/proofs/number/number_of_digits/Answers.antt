@@ -1,4 +1,4 @@
--- Each turn takes one more digit; where that is too much, so is the whole.
+-- Each turn takes one more digit; if that is too much, so is the whole.
 use Rattle.std.proofs.Common.{◌-◌, get_or, arith, refl, ap, ◌∙◌}
 use Rattle.std.proofs.lemmas.List.{take_all}
 use Rattle.bw_text.specs.Number.{digits_value}

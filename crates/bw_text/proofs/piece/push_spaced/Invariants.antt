@@ -1,5 +1,5 @@
 use Rattle.std.proofs.Common.{◌≡◌, ◌++◌, drop, map}
-use Rattle.bw_text.specs.Printed.{piece_text, spaced}
+use Rattle.bw_text.specs.Printing.{piece_text, spaced}
 use Rattle.bw_text.proofs.piece.push_spaced.Given as goal
 
 -- what is written so far, and then the pieces that are left, are all after the text

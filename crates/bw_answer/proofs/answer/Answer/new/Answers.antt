@@ -13,7 +13,7 @@ use Rattle.bw_answer.proofs.answer.Answer.new.Goals as goal
 pub invariant_of-result-clause-totalling : goal.invariant_of-result-clause-totalling
 invariant_of-result-clause-totalling c = λ e. aggregates c.args.query.now.items.items c.requires.kinds (ap lists_rows (sym c.deref.ensures.value) ∙ sym c.lists_rows.ensures ∙ e)
 
--- each item is within so many columns
+-- each item is within this many columns
 within : (width columns : ℕ) (items : List Item) → width ≡ columns → list_all (item_within columns) items ≡ true → list_all (item_within width) items ≡ true
 within width columns items same = subst (λ (n : ℕ). list_all (item_within n) items ≡ true) (sym same)
 

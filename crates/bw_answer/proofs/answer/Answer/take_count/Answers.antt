@@ -1,5 +1,6 @@
 -- Each total counts the rows, and the text stays.
-use Rattle.std.proofs.Common.{◌≡◌, ◌∙◌, ◌+◌, ◌≤◌, List, ◌++◌, true, length, length-append, map, subst, sym, ap, arith}
+use Rattle.std.proofs.Common.{◌≡◌, ◌∙◌, ◌+◌, ◌≤◌, List, ◌++◌, true, length, length-append, map}
+use Rattle.std.proofs.Common.{subst, sym, ap, arith}
 use Rattle.std.specs.List.{list_all}
 use Rattle.std.proofs.lemmas.List.{with_items_is}
 use Rattle.bw_model.specs.Selection.{matching_rows}
@@ -9,7 +10,8 @@ use Rattle.bw_answer.specs.Answer.{is_count_all}
 use Rattle.bw_answer.specs.Totals.{is_of}
 use Rattle.bw_answer.proofs.AggregateLemmas.{all_asked}
 use Rattle.bw_answer.proofs.AnswerLemmas.{text_over_same}
-use Rattle.bw_answer.proofs.CountLemmas.{all_counted, counts_list_nothing, every_kept, is_of-counted}
+use Rattle.bw_answer.proofs.CountLemmas.{all_counted, counts_list_nothing, every_kept}
+use Rattle.bw_answer.proofs.CountLemmas.{is_of-counted}
 use Rattle.bw_answer.proofs.answer.Answer.take_count.Goals as goal
 
 pub invariant_of-self-clause-capacity : goal.invariant_of-self-clause-capacity
@@ -25,11 +27,11 @@ invariant_of-self-clause-capacity c =
 pub returns-clause-covers : goal.returns-clause-covers
 returns-clause-covers c = λ start before rows long led. record {
   same = led.same;
-  over = λ names query first over.
+  covers = λ names query first over.
       let self = c.args.self.now in
       let after = c.add_count.new.totals in
       let size : length after ≡ self.totals.len = c.add_count.auto.totals ∙ c.deref_mut.ensures.len in
-      let so_far = led.over names query first over in
+      let so_far = led.covers names query first over in
       let items = query.items.items in
       let all : list_all is_count_all items ≡ true = rw so_far.0 at c.requires.counts.alone in
       let some : 1 ≤ length items = rw so_far.0 at self.nonempty in

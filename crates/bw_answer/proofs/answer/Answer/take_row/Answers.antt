@@ -1,10 +1,11 @@
 -- One more row, after those that the answer had taken.
-use Rattle.std.proofs.Common.{◌≡◌, ◌∙◌, ◌+◌, true, List, [], ◌∷◌, ◌++◌, length, subst, sym, append_assoc}
+use Rattle.std.proofs.Common.{◌≡◌, ◌∙◌, ◌+◌, true, List, [], ◌∷◌, ◌++◌, length, subst, sym}
+use Rattle.std.proofs.Common.{append_assoc}
 use Rattle.std.specs.List.{list_all}
 use Rattle.std.proofs.lemmas.List.{with_items_is}
 use Rattle.bw_model.specs.Row.{values_of}
 use Rattle.bw_rowwise.specs.Accumulator.{Tally}
-use Rattle.bw_answer.specs.AreOver.{AreOver}
+use Rattle.bw_answer.specs.TextAndTotals.{AreOver}
 use Rattle.bw_answer.specs.Totals.{is_of}
 use Rattle.bw_answer.proofs.TotalsLemmas.{has_room-from}
 use Rattle.bw_answer.proofs.answer.Answer.take_row.Goals as goal
@@ -18,12 +19,12 @@ put_row-requires-clause-capacity c =
 pub returns-clause-covers : goal.returns-clause-covers
 returns-clause-covers c = λ start before led. record {
   same = led.same;
-  over = λ names query first over.
+  covers = λ names query first over.
       let self = c.args.self.now in
       let row = values_of c.args.row.now in
       let after = c.put_row.new.totals in
       let size : length after ≡ self.totals.len = c.put_row.auto.totals ∙ c.deref_mut.ensures.len in
-      let so_far = led.over names query first over in
+      let so_far = led.covers names query first over in
       let old : AreOver names self.query.now (first ++ before) self.text.items c.deref_mut.result.now = rw (so_far.0, c.deref_mut.ensures.value) so_far.1 in
       let put = c.in_ok-put_row.ensures.covers names (first ++ before) old in
       let there : AreOver names query (first ++ (before ++ row ∷ [])) c.put_row.new.text.items after =

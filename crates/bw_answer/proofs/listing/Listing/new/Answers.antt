@@ -1,4 +1,4 @@
--- The columns are within the table, and where there are none there is nothing to be within.
+-- The columns are within the table, and if there are none there is nothing to be within.
 use Rattle.std.proofs.Common.{◌≡◌, ◌∙◌, ◌<◌, sym, vec_len, get_or, arith, subst}
 use Rattle.std.proofs.lemmas.Bool.{eqb-true}
 use Rattle.bw_answer.proofs.ColumnLemmas.{columns_within}

@@ -5,7 +5,7 @@ use Rattle.std.proofs.lemmas.Result.{on_ok_weaker}
 use Rattle.bw_model.specs.Row.{values_of}
 use Rattle.bw_answer.specs.Answer.{record_text}
 use Rattle.bw_answer.specs.Columns.{fields_of}
-use Rattle.bw_answer.specs.Fetched.{fields_in_lane}
+use Rattle.bw_answer.specs.LaneFields.{fields_in_lane}
 use Rattle.bw_answer.proofs.ColumnLemmas.{fields_same}
 use Rattle.bw_answer.proofs.listing.Listing.push_row.Goals as goal
 

@@ -1,5 +1,6 @@
 -- The result register on a segment's lanes, masked to its rows.
-use Rattle.std.proofs.Common.{◌≡◌, ◌∙◌, sym, ap, subst, ◌-◌, ◌++◌, ◌&&◌, Bool, true, false, List, length, map, replicate}
+use Rattle.std.proofs.Common.{◌≡◌, ◌∙◌, sym, ap, subst, ◌-◌, ◌++◌, ◌&&◌, Bool, true, false, List}
+use Rattle.std.proofs.Common.{length, map, replicate}
 use Rattle.std.specs.List.{list_all}
 use Rattle.std.specs.Simd.Lanes.{zip2}
 use Rattle.std.proofs.lemmas.List.{length-map, length-replicate}
@@ -8,7 +9,7 @@ use Rattle.bw_model.specs.Column.{admits_values}
 use Rattle.bw_model.specs.Cond.{is_match}
 use Rattle.bw_model.specs.Groups.{group_size, lanes_of}
 use Rattle.bw_model.specs.Row.{Value}
-use Rattle.bw_model.specs.Stored.{no_bits}
+use Rattle.bw_model.specs.StoredCodes.{no_bits}
 use Rattle.bw_program.specs.Machine.{end_state}
 use Rattle.bw_run.specs.Run.{first_lanes}
 use Rattle.bw_cert.proofs.SelectionLemmas.{register_is, masked, on_lane}

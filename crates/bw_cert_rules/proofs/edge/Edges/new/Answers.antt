@@ -1,5 +1,6 @@
 -- No edges.
-use Rattle.std.proofs.Common.{◌≡◌, ◌∙◌, sym, ap, ap₂, subst, ◌+◌, List, [], ◌∷◌, ◌++◌, length, map, replicate, arith}
+use Rattle.std.proofs.Common.{◌≡◌, ◌∙◌, sym, ap, ap₂, subst, ◌+◌, List, [], ◌∷◌, ◌++◌, length, map}
+use Rattle.std.proofs.Common.{replicate, arith}
 use Rattle.std.proofs.lemmas.List.{length-replicate, map-append}
 use Rattle.bw_cert_rules.specs.declared.edge.Edge.{Edge}
 use Rattle.bw_cert_rules.specs.Edges.{Holds}

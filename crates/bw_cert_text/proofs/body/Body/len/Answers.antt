@@ -1,5 +1,5 @@
 use Rattle.std.proofs.Common.{◌∙◌, ap, length}
-use Rattle.bw_cert_text.proofs.StoredLemmas.{lines-count}
+use Rattle.bw_cert_text.proofs.StoredLineLemmas.{lines-count}
 use Rattle.bw_cert_text.proofs.body.Body.len.Goals as goal
 
 pub returns : goal.returns

@@ -1,5 +1,5 @@
 -- One line more is kept.
-use Rattle.bw_cert_text.proofs.StoredLemmas.{one_more}
+use Rattle.bw_cert_text.proofs.StoredLineLemmas.{one_more}
 use Rattle.bw_cert_text.proofs.body.Body.put.Goals as goal
 
 pub invariant_of-self-2 : goal.invariant_of-self-2

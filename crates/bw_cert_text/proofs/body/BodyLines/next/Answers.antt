@@ -1,8 +1,8 @@
 -- The first line is taken off.
 use Rattle.std.proofs.Common.{◌∙◌, sym, ap, ap₂, ◌∷◌, take, drop, arith}
 use Rattle.bw_cert_text.specs.BodyLines.{body_lines}
-use Rattle.bw_cert_text.specs.Stored.{pairs_of, lines_of, line_of}
-use Rattle.bw_cert_text.proofs.StoredLemmas.{no_kinds, too_short, too_few, line_there}
+use Rattle.bw_cert_text.specs.StoredLines.{pairs_of, lines_of, line_of}
+use Rattle.bw_cert_text.proofs.StoredLineLemmas.{no_kinds, too_short, too_few, line_there}
 use Rattle.bw_cert_text.proofs.body.BodyLines.next.Goals as goal
 
 pub returns-in_default : goal.returns-in_default

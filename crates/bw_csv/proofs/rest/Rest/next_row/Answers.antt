@@ -2,7 +2,8 @@
 use Rattle.std.proofs.Common.{◌≡◌, ◌∙◌, ◌∷◌, List, ℕ, Ok, ap, sym}
 use Rattle.bw_model.specs.Row.{values_of}
 use Rattle.bw_csv.specs.Rows.{row_of_record}
-use Rattle.bw_csv.proofs.RestLemmas.{found_still, plain-readable, plain-to_come, reader-open, reader-to_come, readable_still}
+use Rattle.bw_csv.proofs.RestLemmas.{found_still, plain-readable, plain-to_come, reader-open}
+use Rattle.bw_csv.proofs.RestLemmas.{reader-to_come, readable_still}
 use Rattle.bw_csv.proofs.RowLemmas.{row_admitted, row_within}
 use Rattle.bw_csv.proofs.rest.Rest.next_row.Goals as goal
 

@@ -1,7 +1,8 @@
 use Rattle.std.proofs.lemmas.Result.{err_from_is_err_and}
 use Rattle.bw_file.proofs.EncoderLemmas.{held_as_before}
 use Rattle.bw_file.proofs.encoder.Encoder.add.Goals as goal
-use Rattle.bw_file.proofs.encoder.Encoder.add.Goals.{then-self-eq-LANES+in_ok-flush, else-self-eq-LANES}
+use Rattle.bw_file.proofs.encoder.Encoder.add.Goals.{then-self-eq-LANES+in_ok-flush}
+use Rattle.bw_file.proofs.encoder.Encoder.add.Goals.{else-self-eq-LANES}
 
 pub returns-clause-holds : goal.returns-clause-holds
 returns-clause-holds c = λ rows holds. elim c.if-self-eq-LANES.branch [

@@ -1,4 +1,5 @@
-use Rattle.std.proofs.Common.{◌≡◌, ◌++◌, ◌∷◌, List, [], sym, ap, ◌∙◌, subst, length, length-append, append_assoc, arith}
+use Rattle.std.proofs.Common.{◌≡◌, ◌++◌, ◌∷◌, List, [], sym, ap, ◌∙◌, subst, length, length-append}
+use Rattle.std.proofs.Common.{append_assoc, arith}
 use Rattle.bw_model.specs.Row.{Value, values_of}
 use Rattle.bw_segment.specs.Columns.{KeepRows}
 use Rattle.bw_segment.proofs.ColumnLemmas.{written}

@@ -25,5 +25,5 @@ returns-clause-holds c =
       kept = c.in_ok-kept.ensures.keeps columns (omega (arith, c.len.ensures));
       filled = refl;
       count = refl;
-      admitted = record { few = lit≤ tt; admitted = refl };
+      admitted = record { within_limit = lit≤ tt; admitted = refl };
     }

@@ -1,7 +1,8 @@
-use Rattle.std.proofs.Common.{◌≡◌, ◌+◌, ◌-◌, ◌≤◌, length, length-take, length-drop, take, drop, subst, arith}
+use Rattle.std.proofs.Common.{◌≡◌, ◌+◌, ◌-◌, ◌≤◌, length, length-take, length-drop, take, drop}
+use Rattle.std.proofs.Common.{subst, arith}
 use Rattle.std.specs.Prelude.{slice_range}
 use Rattle.bw_io.specs.Shared.{bytes_in}
-use Rattle.bw_file.specs.Reading.{Took, state}
+use Rattle.bw_file.specs.Reading.{HasConsumed, state}
 use Rattle.bw_file.specs.SegmentBytes.{bytes_held, AreNext}
 use Rattle.bw_file.specs.declared.segment_bytes.SegmentBytes.{SegmentBytes}
 use Rattle.bw_file.proofs.ReadingLemmas.{field_taken}
@@ -16,9 +17,9 @@ returns-in-Shared-clause-reads g c =
     let next = subst (λ (held : SegmentBytes). AreNext held c.args.start (g.S.Source.kept c.args.source.now)) c.in-Shared.is c.requires.next in
     let front : take c.args.size (g.S.Source.kept c.args.source.now) ≡ block = next_kept bytes _ c.args.start c.args.size within next.0 in
     let long : length block ≡ c.args.size = omega (arith, length-take (c.args.start + c.args.size - c.args.start) (drop c.args.start bytes), length-drop c.args.start bytes, within) in
-    let took : Took (state (g.S.Source.to_come c.args.source.now) c.args.offset.now (g.S.Source.failures c.args.source.now))
+    let took : HasConsumed (state (g.S.Source.to_come c.args.source.now) c.args.offset.now (g.S.Source.failures c.args.source.now))
     (state (g.S.Source.to_come c.pass.new.self) (c.args.offset.now + c.args.size) (g.S.Source.failures c.pass.new.self)) block =
-    record { consumed = rw front at c.pass.ensures.bytes; counted = omega (arith, long); each = rw c.as_slice.ensures at c.are_bytes.ensures } in
+    record { consumed = rw front at c.pass.ensures.bytes; advanced = omega (arith, long); each = rw c.as_slice.ensures at c.are_bytes.ensures } in
     field_taken c.args.size _ _ block took c.pass.ensures.count long
 
 pub returns-in-Shared-clause-next : goal.returns-in-Shared-clause-next

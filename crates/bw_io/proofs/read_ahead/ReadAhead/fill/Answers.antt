@@ -1,4 +1,5 @@
-use Rattle.std.proofs.Common.{rules, ◌≡◌, ◌∙◌, ap, ◌+◌, [], List, ℕ, drop, slice_range, length-drop, vec_len, arith}
+use Rattle.std.proofs.Common.{rules, ◌≡◌, ◌∙◌, ap, ◌+◌, [], List, ℕ, drop, slice_range, length-drop}
+use Rattle.std.proofs.Common.{vec_len, arith}
 use Rattle.std.specs.Vec.{with_items}
 use Rattle.std.proofs.lemmas.List.{with_items_is}
 use Rattle.bw_io.proofs.PieceBytes.{piece_of, piece_kept, nothing_read}

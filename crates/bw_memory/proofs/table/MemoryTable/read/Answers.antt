@@ -1,4 +1,4 @@
--- A table file is refused by a failed read or out of memory alone.
+-- A table file is rejected by a failed read or out of memory alone.
 use Rattle.std.proofs.lemmas.Result.{err_from_is_err_and}
 use Rattle.bw_memory.proofs.table.MemoryTable.read.Goals as goal
 

@@ -1,7 +1,7 @@
 -- Those of all segments.
 use Rattle.std.proofs.Common.{arith}
 use Rattle.bw_memory.specs.MemoryTable.{schema_of}
-use Rattle.bw_memory.proofs.KeptLemmas.{length-rows}
+use Rattle.bw_memory.proofs.StoredSegmentLemmas.{length-rows}
 use Rattle.bw_memory.proofs.table.MemoryTable.rows.Goals as goal
 
 pub returns : goal.returns

@@ -1,20 +1,20 @@
 -- The rows of the segment of a number.
 use Rattle.std.proofs.Common.{◌∙◌, refl, arith}
 use Rattle.bw_model.specs.Groups.{group_size}
-use Rattle.bw_memory.proofs.KeptLemmas.{rows_cut}
+use Rattle.bw_memory.proofs.StoredSegmentLemmas.{rows_cut}
 use Rattle.bw_memory.proofs.table.MemoryTable.segment.Goals as goal
 
 pub overflow_sub-self : goal.overflow_sub-self
 unfolding group_size
-overflow_sub-self g c = omega (arith, c.args.self.now.kept.some c.args.number c.requires.number)
+overflow_sub-self g c = omega (arith, c.args.self.now.kept.nonempty c.args.number c.requires.number)
 
 pub overflow_mul-number : goal.overflow_mul-number
 unfolding group_size
-overflow_mul-number g c = omega (arith, c.args.self.now.kept.some c.args.number c.requires.number)
+overflow_mul-number g c = omega (arith, c.args.self.now.kept.nonempty c.args.number c.requires.number)
 
 pub of_columns-requires-clause-nonempty : goal.of_columns-requires-clause-nonempty
 unfolding group_size
-of_columns-requires-clause-nonempty g c = omega (arith, c.min-rows.ensures, c.args.self.now.kept.some c.args.number c.requires.number)
+of_columns-requires-clause-nonempty g c = omega (arith, c.min-rows.ensures, c.args.self.now.kept.nonempty c.args.number c.requires.number)
 
 pub of_columns-requires-clause-within_limit : goal.of_columns-requires-clause-within_limit
 unfolding group_size

@@ -1,4 +1,4 @@
-use Rattle.bw_model.proofs.StoredLemmas.{stored_below, number_of_bits, byte_of_bits}
+use Rattle.bw_model.proofs.StoredCodeLemmas.{stored_below, number_of_bits, byte_of_bits}
 use Rattle.bw_model.proofs.schema.Schema.bits_spell_stored_codes.Goals as goal
 
 pub returns : goal.returns

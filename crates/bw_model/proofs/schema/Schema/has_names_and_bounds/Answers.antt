@@ -1,5 +1,6 @@
 -- All columns were looked at, and bounds are in order by their type.
-use Rattle.std.proofs.Common.{◌≡◌, true, refl, subst, ℤ, pos, ◌^◌, ◌≤ℤ◌, ◌<ℤ◌, ◌-ℤ◌, int_le, int_lt, All, List, [], ◌∷◌, length, ◌≤◌, ℕ, take, rules}
+use Rattle.std.proofs.Common.{◌≡◌, true, refl, subst, ℤ, pos, ◌^◌, ◌≤ℤ◌, ◌<ℤ◌, ◌-ℤ◌, int_le, int_lt}
+use Rattle.std.proofs.Common.{All, List, [], ◌∷◌, length, ◌≤◌, ℕ, take, rules}
 use Rattle.std.specs.List.{list_all}
 use Rattle.std.proofs.lemmas.List.{take_all}
 use Rattle.std.proofs.lemmas.List.Elements.{All-head, All-tail, All-more, All-map}

@@ -1,7 +1,8 @@
 -- The variables up to the column's end are counted, and the bit's stands so far before it.
 use Rattle.std.proofs.Common.{◌≡◌, ◌+◌, ◌≤◌, suc, ap, ◌∙◌, arith}
 use Rattle.bw_model.specs.Variable.{first_variable, variables_of}
-use Rattle.bw_model.proofs.VariableLemmas.{width_before_next, first_variable_next, first_variable_within}
+use Rattle.bw_model.proofs.VariableLemmas.{width_before_next, first_variable_next}
+use Rattle.bw_model.proofs.VariableLemmas.{first_variable_within}
 use Rattle.bw_model.proofs.schema.Schema.var_bit.Goals as goal
 
 pub overflow_sub-result : goal.overflow_sub-result

@@ -1,5 +1,5 @@
 use Rattle.std.proofs.Common.{◌∙◌, ap, map, ltb, not}
-use Rattle.bw_model.specs.Stored.{byte_of}
+use Rattle.bw_model.specs.StoredCodes.{byte_of}
 use Rattle.bw_planes.specs.Planes.{planes_codes}
 use Rattle.bw_planes.proofs.CompareLemmas.{of_byte, negated}
 use Rattle.bw_planes.proofs.planes.PlanesCodeLayout.byte_lt.Goals as goal

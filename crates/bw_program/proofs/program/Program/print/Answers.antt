@@ -6,7 +6,7 @@ use Rattle.bw_program.specs.ProgramText.{IsProgramText}
 use Rattle.bw_program.proofs.PrintedText.{text_spells}
 use Rattle.bw_program.proofs.PrintLemmas.{lines_text-next, lines_text-end}
 use Rattle.bw_text.proofs.PieceLemmas.{written}
-use Rattle.bw_text.specs.Printed.{line_text}
+use Rattle.bw_text.specs.Printing.{line_text}
 use Rattle.bw_program.proofs.program.Program.print.Goals as goal
 
 pub loop-number-preserved : goal.loop-number-preserved

@@ -1,6 +1,6 @@
 -- One more file is read, and then all are.
 use Rattle.std.proofs.Common.{arith}
-use Rattle.bw_query.specs.Among.{IsFileRead}
+use Rattle.bw_query.specs.ProgramChoice.{IsFileRead}
 use Rattle.bw_query.proofs.CacheLemmas.{files_all, files_more}
 use Rattle.bw_query.proofs.program_cache.ProgramCache.new.Goals as goal
 

@@ -1,5 +1,5 @@
 use Rattle.std.proofs.Common.{All, take}
-use Rattle.bw_query.specs.Among.{IsFileRead, texts_of}
+use Rattle.bw_query.specs.ProgramChoice.{IsFileRead, texts_of}
 use Rattle.bw_query.proofs.program_cache.ProgramCache.new.Given as goal
 
 -- the files so far are read

@@ -5,7 +5,7 @@ use Rattle.bw_rowwise.specs.Lanes.{value_at}
 use Rattle.bw_rowwise.specs.Numbers.{among_numbers}
 use Rattle.bw_rowwise.proofs.column_lanes.ColumnLanes.among.Given as goal
 
--- a byte for each lane so far: 1 where the value is among the numbers, and 1 where it may be
+-- a byte for each lane so far: 1 if the value is among the numbers, and 1 if it may be
 abbrev pub invariant-loop-lane : goal.invariant-loop-lane
 invariant-loop-lane l = record {
   room : length l.yes ≡ 512;

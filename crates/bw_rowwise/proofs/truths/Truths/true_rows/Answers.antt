@@ -13,7 +13,7 @@ returns c = λ f rows keeps a many each.
     let lanes = lanes_of_words c.args.self.now.yes in
     marked (lanes_of_words c.both_lanes.result) rows keeps (record {
       all = c.both_lanes.ensures.long;
-      few = omega (arith, many, c.requires);
+      within_limit = omega (arith, many, c.requires);
       kept = λ lane below.
           let within : lane < 512 = omega (arith, many, c.requires, below) in
           c.both_lanes.ensures.each lane within

@@ -1,4 +1,4 @@
--- The block stands where it is looked for.
+-- The block is at its place.
 use Rattle.std.proofs.Common.{◌∙◌, ap, ℕ, ◌+◌, ◌*◌, List, length, get_or, slice_range, rules, arith}
 use Rattle.bw_segment.proofs.ColumnBlockLemmas.{block_read, is_column, room_read}
 use Rattle.bw_segment.proofs.numbered_blocks.NumberedBlocksBlocks.block.Goals as goal

@@ -1,4 +1,4 @@
--- They are those of the block that stands where it is looked for.
+-- They are those of the block at its place.
 use Rattle.std.proofs.Common.{◌∙◌, ◌*◌, get_or, rules}
 use Rattle.bw_segment.proofs.ColumnBlockLemmas.{block_read, is_column}
 use Rattle.bw_segment.proofs.FrontLemmas.{front_is, if_some}

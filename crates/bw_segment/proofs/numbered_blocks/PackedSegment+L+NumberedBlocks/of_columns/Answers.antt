@@ -1,4 +1,4 @@
--- Each block stands where a segment of the layout has it.
+-- Each block is where a segment of the layout has it.
 use Rattle.bw_segment.proofs.ColumnBlockLemmas.{stands}
 use Rattle.bw_segment.proofs.numbered_blocks.PackedSegment+L+NumberedBlocks.of_columns.Goals as goal
 

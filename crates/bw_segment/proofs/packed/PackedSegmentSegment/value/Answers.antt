@@ -1,4 +1,5 @@
-use Rattle.std.proofs.Common.{◌≡◌, ◌∙◌, sym, ap, ap₂, ℕ, w64, FitsSigned, Some, get_or, false, rules, arith}
+use Rattle.std.proofs.Common.{◌≡◌, ◌∙◌, sym, ap, ap₂, ℕ, w64, FitsSigned, Some, get_or, false}
+use Rattle.std.proofs.Common.{rules, arith}
 use Rattle.std.proofs.lemmas.Int.{to_z-of_z}
 use Rattle.bw_model.specs.Code.{span_at, value_at}
 use Rattle.bw_segment.specs.Meaning.{code_lanes}

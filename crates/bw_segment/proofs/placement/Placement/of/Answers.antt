@@ -1,4 +1,5 @@
-use Rattle.std.proofs.Common.{All, ◌∙◌, sym, ap, ap₂, subst, ◌≤◌, ◌+◌, ◌*◌, ◌++◌, ◌∷◌, [], map, length, arith}
+use Rattle.std.proofs.Common.{All, ◌∙◌, sym, ap, ap₂, subst, ◌≤◌, ◌+◌, ◌*◌, ◌++◌, ◌∷◌, [], map}
+use Rattle.std.proofs.Common.{length, arith}
 use Rattle.std.specs.List.{range_with_len}
 use Rattle.std.proofs.lemmas.List.Elements.{All-push}
 use Rattle.std.proofs.lemmas.List.FromFn.{map-range_with_len_more}

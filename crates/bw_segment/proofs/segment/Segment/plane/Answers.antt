@@ -1,6 +1,6 @@
 use Rattle.std.proofs.Common.{◌∙◌, sym, ap, arith}
 use Rattle.bw_segment.specs.Meaning.{variable_lanes}
-use Rattle.bw_segment.specs.Picked.{bit_lanes}
+use Rattle.bw_segment.specs.Selected.{bit_lanes}
 use Rattle.bw_segment.proofs.LaneLemmas.{nulls_in_lanes, bits_in_lanes}
 use Rattle.bw_segment.proofs.segment.Segment.plane.Goals as goal
 

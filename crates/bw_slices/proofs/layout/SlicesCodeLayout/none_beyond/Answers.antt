@@ -1,8 +1,9 @@
-use Rattle.std.proofs.Common.{◌≡◌, ◌∙◌, ap, subst, ◌+◌, ◌-◌, ◌*◌, ◌/◌, ◌^◌, true, not, get_or, arith}
+use Rattle.std.proofs.Common.{◌≡◌, ◌∙◌, ap, subst, ◌+◌, ◌-◌, ◌*◌, ◌/◌, ◌^◌, true, not, get_or}
+use Rattle.std.proofs.Common.{arith}
 use Rattle.std.proofs.lemmas.List.{get_or-map}
 use Rattle.bw_lanes.specs.Lanes.{lanes_of_words}
-use Rattle.bw_model.specs.Stored.{byte_of}
-use Rattle.bw_segment.specs.Picked.{is_beyond}
+use Rattle.bw_model.specs.StoredCodes.{byte_of}
+use Rattle.bw_segment.specs.Selected.{is_beyond}
 use Rattle.bw_slices.specs.Slices.{slices_codes}
 use Rattle.bw_slices.proofs.FarLemmas.{far_apart, none_selected}
 use Rattle.bw_slices.proofs.layout.SlicesCodeLayout.none_beyond.Goals as goal

@@ -1,5 +1,5 @@
 use Rattle.std.proofs.Common.{◌≡◌, ◌∙◌, ap, suc, ◌+◌, ◌-◌, ◌++◌, map, append_assoc, arith}
-use Rattle.bw_model.specs.Stored.{byte_of}
+use Rattle.bw_model.specs.StoredCodes.{byte_of}
 use Rattle.bw_slices.specs.Slices.{slices_bytes}
 use Rattle.bw_slices.proofs.layout.SlicesCodeLayout.push_codes.Goals as goal
 

@@ -1,0 +1,88 @@
+//! The totals of the selected rows of a segment.
+ghost use Rattle.std.specs.Prelude.{◌≡◌, ◌+◌, ◌≤◌, ◌++◌, List, length, IsTrue};
+ghost use Rattle.bw_lanes.specs.Lanes.{lanes_of_words};
+ghost use Rattle.bw_model.specs.Limits.{most_rows};
+ghost use Rattle.bw_model.specs.Row.{Value};
+ghost use Rattle.bw_model.specs.Total.{combine_totals, item_within, total};
+ghost use Rattle.bw_rowwise.specs.Accumulator.{tally_of, IsTotalOfRows};
+ghost use Rattle.bw_aggregate.specs.Selected.{IsWithin, selected_rows, with_selected};
+
+use crate::column::{greatest, least, present, sum};
+use bw_lanes::{Selection, count};
+use bw_model::{Item, totals_join};
+use bw_rowwise::Accumulator;
+use bw_segment::Segment;
+
+/// Adds the selected rows of a segment to a total: row i is selected if lane i is 1. The selection
+/// must have no bit past the segment's rows, and the segment must have the aggregate's column. With
+/// the segment's rows the total must be of at most 2^24. If no row is selected, only the selection
+/// is read.
+pub fn add_selected<S: Segment>(total: &mut Accumulator, segment: &S, selection: &Selection)
+    requires column { IsTrue (item_within (length (S.meaning segment.now).columns) total.old.item) }
+    requires selection { IsWithin (length (S.meaning segment.now).rows)
+        (lanes_of_words selection.now) }
+    requires capacity { total.old.count + length (S.meaning segment.now).rows ≤ most_rows }
+    ensures step { total.new ≡ with_selected total.old
+        (selected_rows (S.meaning segment.now) (lanes_of_words selection.now)) }
+    ensures item { total.new.item ≡ total.old.item }
+    ensures count { total.new.count
+        ≡ total.old.count + length
+        (selected_rows (S.meaning segment.now) (lanes_of_words selection.now)) }
+    ensures total { (rows : List (List Value)) → total.old ≡ tally_of total.old.item rows
+        → total.new ≡ tally_of total.old.item
+        (rows ++ selected_rows (S.meaning segment.now) (lanes_of_words selection.now)) }
+{
+    totals_join();
+    let number = count(selection);
+    if number != 0 {
+        let others = total_of(total.item(), segment, selection, total.finish());
+        total.add_total(number, others);
+    }
+}
+
+/// Returns the total of the selected rows of a segment, or None if it adds nothing to the total of
+/// earlier rows. A count of rows is computed here: the other totals may need planes, which would be
+/// cleared for it too.
+fn total_of<S: Segment>(
+    item: Item,
+    segment: &S,
+    selection: &Selection,
+    so_far: Option<i128>,
+) -> Option<i128>
+    requires column { IsTrue (item_within (length (S.meaning segment.now).columns) item) }
+    requires selection { IsWithin (length (S.meaning segment.now).rows)
+        (lanes_of_words selection.now) }
+    ensures total { combine_totals item so_far result ≡ combine_totals item so_far
+        (total item (selected_rows (S.meaning segment.now) (lanes_of_words selection.now))) }
+    ensures small { IsTotalOfRows 1 result }
+{
+    match item {
+        Item::CountAll => Some(i128::from(count(selection))),
+        _ => total_by_columns(item, segment, selection, so_far),
+    }
+}
+
+/// Returns the same, for any item.
+#[inline(never)]
+fn total_by_columns<S: Segment>(
+    item: Item,
+    segment: &S,
+    selection: &Selection,
+    so_far: Option<i128>,
+) -> Option<i128>
+    requires column { IsTrue (item_within (length (S.meaning segment.now).columns) item) }
+    requires selection { IsWithin (length (S.meaning segment.now).rows)
+        (lanes_of_words selection.now) }
+    ensures total { combine_totals item so_far result ≡ combine_totals item so_far
+        (total item (selected_rows (S.meaning segment.now) (lanes_of_words selection.now))) }
+    ensures small { IsTotalOfRows 1 result }
+{
+    match item {
+        Item::Plain(_) => None,
+        Item::CountAll => Some(i128::from(count(selection))),
+        Item::Count(col) => Some(i128::from(count(&present(segment, col, selection)))),
+        Item::Sum(col) => sum(segment, col, &present(segment, col, selection)),
+        Item::Min(col) => least(segment, col, &present(segment, col, selection), so_far),
+        Item::Max(col) => greatest(segment, col, &present(segment, col, selection), so_far),
+    }
+}

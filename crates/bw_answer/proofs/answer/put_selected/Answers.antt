@@ -1,0 +1,76 @@
+-- What is selected is kept: more records in the text, or more rows in the totals.
+use Rattle.std.proofs.Common.{◌≡◌, ◌∙◌, ◌-◌, ◌≤◌, ◌++◌, sym, List, ℕ, map, ap, length, arith}
+use Rattle.std.proofs.lemmas.List.Elements.{filter-append}
+use Rattle.std.specs.List.{filter_map}
+use Rattle.bw_lanes.specs.Lanes.{lanes_of_words}
+use Rattle.bw_model.specs.Cond.{is_match}
+use Rattle.bw_model.specs.Groups.{group_size}
+use Rattle.bw_model.specs.Row.{Value}
+use Rattle.bw_model.specs.Selection.{matching_rows, selected_items}
+use Rattle.bw_rowwise.specs.Accumulator.{Tally, tally_of}
+use Rattle.bw_aggregate.specs.Selected.{with_selected}
+use Rattle.bw_answer.specs.Aggregates.{aggregates_of}
+use Rattle.bw_answer.specs.Answer.{csv_text, field_of}
+use Rattle.bw_answer.specs.TextAndTotals.{text_over}
+use Rattle.bw_answer.specs.Columns.{fields_of}
+use Rattle.bw_answer.proofs.AnswerLemmas.{text_over_more, text_over_same}
+use Rattle.bw_answer.proofs.ColumnLemmas.{map_listed, some_column}
+use Rattle.bw_answer.proofs.SelectedLemmas.{all_totals, few_kept, is_of-later, is_of-selected}
+use Rattle.bw_answer.proofs.SelectedLemmas.{selected_as_kept}
+use Rattle.bw_answer.proofs.answer.put_selected.Goals as goal
+
+pub push_selected-requires-clause-nonempty : goal.push_selected-requires-clause-nonempty
+push_selected-requires-clause-nonempty g c =
+    let named = c.requires.names c.if-lists.true in
+    let some = some_column c.args.query.now.items.items (sym c.requires.lists ∙ c.if-lists.true) in
+    omega (arith, some, ap length named.0, c.args.records.now.columns.ok.0)
+
+pub returns-in_ok-push_selected-clause-covers : goal.returns-in_ok-push_selected-clause-covers
+returns-in_ok-push_selected-clause-covers g c = λ names rows over.
+    let query = c.args.query.now in
+    let more = (g.S.Segment.meaning c.args.segment.now).rows in
+    let lists = sym c.requires.lists ∙ c.if-lists.true in
+    let kept_all : selected_items (lanes_of_words c.args.selection.now) more ≡ matching_rows query.cond more =
+    ap (λ lanes. selected_items lanes more) c.requires.picks ∙ selected_as_kept query.cond more (group_size - length more) in
+    let items = query.items.items in
+    let named = (c.requires.names c.if-lists.true).0 in
+    let fields : map (fields_of c.args.records.now.columns.items) (matching_rows query.cond more) ≡ map (λ row. filter_map (field_of row) items) (matching_rows query.cond more) =
+    rw named (map_listed items (matching_rows query.cond more)) in
+    let records = ap (map (fields_of c.args.records.now.columns.items)) kept_all ∙ fields in
+    record {
+      written = c.in_ok-push_selected.ensures.records ∙ ap (λ (l : List ℕ). l ++ csv_text (map (fields_of c.args.records.now.columns.items) (selected_items (lanes_of_words c.args.selection.now) more))) over.written
+          ∙ ap (λ (those : List (List (List ℕ))). text_over names query rows ++ csv_text those) records ∙ text_over_more names query rows more lists;
+      totalled = λ totals. absurd (cc (lists, totals));
+    }
+
+pub returns-in_ok-push_selected-clause-counts : goal.returns-in_ok-push_selected-clause-counts
+returns-in_ok-push_selected-clause-counts g c = λ width rows e.
+    is_of-later width rows (length (g.S.Segment.meaning c.args.segment.now).rows) c.args.totals.now e
+
+pub returns-else-lists-clause-covers : goal.returns-else-lists-clause-covers
+returns-else-lists-clause-covers g c = λ names rows over.
+    let query = c.args.query.now in
+    let more = (g.S.Segment.meaning c.args.segment.now).rows in
+    let lists = sym c.requires.lists ∙ c.if-lists.false in
+    let items = aggregates_of query.items.items in
+    let those = selected_items (lanes_of_words c.args.selection.now) more in
+    let kept_all : those ≡ matching_rows query.cond more =
+    ap (λ lanes. selected_items lanes more) c.requires.picks ∙ selected_as_kept query.cond more (group_size - length more) in
+    let kept_more : matching_rows query.cond rows ++ those ≡ matching_rows query.cond (rows ++ more) =
+    ap (λ (l : List (List Value)). matching_rows query.cond rows ++ l) kept_all ∙ sym (filter-append (is_match query.cond) rows more) in
+    record {
+      written = over.written ∙ text_over_same names query rows (rows ++ more) lists;
+      totalled = λ _. c.total_selected.ensures ∙ ap (map (λ (tally : Tally). with_selected tally those)) (over.totalled lists)
+          ∙ all_totals items (matching_rows query.cond rows) those c.totals_join.ensures
+          ∙ ap (λ (all : List (List Value)). map (λ item. tally_of item all) items) kept_more;
+    }
+
+pub returns-else-lists-clause-counts : goal.returns-else-lists-clause-counts
+returns-else-lists-clause-counts g c = λ width rows e.
+    let query = c.args.query.now in
+    let more = (g.S.Segment.meaning c.args.segment.now).rows in
+    let those = selected_items (lanes_of_words c.args.selection.now) more in
+    let kept_all : those ≡ matching_rows query.cond more =
+    ap (λ lanes. selected_items lanes more) c.requires.picks ∙ selected_as_kept query.cond more (group_size - length more) in
+    let few : length those ≤ length more = omega (arith, ap length kept_all, few_kept query.cond more) in
+    rw c.total_selected.ensures (is_of-selected width rows (length more) those c.args.totals.now few e)

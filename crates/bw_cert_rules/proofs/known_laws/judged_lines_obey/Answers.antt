@@ -1,6 +1,0 @@
--- Lines that are judged to be right are those of parts that obey.
-use Rattle.bw_cert_rules.proofs.AcceptLemmas.{judged_accepts}
-use Rattle.bw_cert_rules.proofs.known_laws.judged_lines_obey.Goals as goal
-
-pub returns : goal.returns
-returns c = judged_accepts

@@ -1,0 +1,133 @@
+//! A command and its arguments.
+use bw_file::Layout;
+
+/// A command and its arguments. All but the SQL and the name of a table are file names.
+#[derive(Clone, Copy)]
+pub enum CommandArgs<'a> {
+    Direct {
+        schema: &'a str,
+        csv: &'a str,
+        sql: &'a str,
+    },
+    Infer {
+        name: Option<&'a str>,
+        csv: &'a str,
+    },
+    Load {
+        layout: Layout,
+        schema: &'a str,
+        csv: &'a str,
+        out: &'a str,
+    },
+    Query {
+        program: Option<&'a str>,
+        stats: bool,
+        table: &'a str,
+        sql: &'a str,
+    },
+    /// Its program files, any number of them, are a field of the invocation.
+    Session {
+        stats: bool,
+        table: &'a str,
+    },
+    Info {
+        table: &'a str,
+    },
+    Dump {
+        table: &'a str,
+    },
+    Plan {
+        schema: &'a str,
+        sql: &'a str,
+    },
+    Check {
+        schema: &'a str,
+        sql: &'a str,
+        file: &'a str,
+    },
+}
+
+impl<'a> CommandArgs<'a> {
+    /// Returns the schema file.
+    pub fn schema(self) -> Option<&'a str> {
+        match self {
+            CommandArgs::Direct { schema, .. }
+            | CommandArgs::Load { schema, .. }
+            | CommandArgs::Plan { schema, .. }
+            | CommandArgs::Check { schema, .. } => Some(schema),
+            _ => None,
+        }
+    }
+
+    /// Returns the CSV file.
+    pub fn csv(self) -> Option<&'a str> {
+        match self {
+            CommandArgs::Direct { csv, .. }
+            | CommandArgs::Infer { csv, .. }
+            | CommandArgs::Load { csv, .. } => { Some(csv) }
+            _ => None,
+        }
+    }
+
+    /// Returns the table file that is read.
+    pub fn table(self) -> Option<&'a str> {
+        match self {
+            CommandArgs::Query { table, .. }
+            | CommandArgs::Session { table, .. }
+            | CommandArgs::Info { table }
+            | CommandArgs::Dump { table } => Some(table),
+            _ => None,
+        }
+    }
+
+    /// Returns the program file.
+    pub fn program(self) -> Option<&'a str> {
+        match self {
+            CommandArgs::Query { program, .. } => program,
+            CommandArgs::Check { file, .. } => Some(file),
+            _ => None,
+        }
+    }
+
+    /// Returns the statement.
+    pub fn sql(self) -> Option<&'a str> {
+        match self {
+            CommandArgs::Direct { sql, .. }
+            | CommandArgs::Query { sql, .. }
+            | CommandArgs::Plan { sql, .. }
+            | CommandArgs::Check { sql, .. } => Some(sql),
+            _ => None,
+        }
+    }
+
+    /// Returns the table name that the command line gives, if it gives one.
+    pub fn name(self) -> Option<&'a str> {
+        match self {
+            CommandArgs::Infer { name, .. } => name,
+            _ => None,
+        }
+    }
+
+    /// Returns the command's name and its arguments in order, as the help prints them.
+    pub fn usage(self) -> &'static str {
+        match self {
+            CommandArgs::Direct { .. } => "bw direct SCHEMA CSV SQL",
+            CommandArgs::Infer { .. } => "bw infer [--table NAME] CSV",
+            CommandArgs::Load { .. } => "bw load [--layout planes|slices] SCHEMA CSV OUT",
+            CommandArgs::Query { .. } => "bw query [--program FILE] [--stats] TABLE SQL",
+            CommandArgs::Session { .. } => "bw session [--program FILE]... [--stats] TABLE",
+            CommandArgs::Info { .. } => "bw info TABLE",
+            CommandArgs::Dump { .. } => "bw dump TABLE",
+            CommandArgs::Plan { .. } => "bw plan SCHEMA SQL",
+            CommandArgs::Check { .. } => "bw check SCHEMA SQL FILE",
+        }
+    }
+
+    /// Returns the file that is written.
+    pub fn out(self) -> Option<&'a str> {
+        match self {
+            CommandArgs::Load { out, .. } => Some(out),
+            _ => None,
+        }
+    }
+}

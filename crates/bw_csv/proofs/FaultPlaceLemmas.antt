@@ -1,0 +1,58 @@
+-- The errors of CSV texts stand as the table of errors lists them.
+use Rattle.std.proofs.Common.{◌≡◌, ℕ, ℤ, ◌+◌, List, [], ◌∷◌, Bool, true, false, not, ◌&&◌, ◌==◌}
+use Rattle.std.proofs.Common.{if◌then◌else◌, Option, Some, None, Ok, Err, refl, length, nat_lt}
+use Rattle.std.proofs.Common.{int_le}
+use Rattle.csv.specs.Reading.{records, strip_bom, default_config}
+use Rattle.bw_model.specs.declared.column.Column.{Column}
+use Rattle.bw_model.specs.declared.fault.Fault.{Fault}
+use Rattle.bw_model.specs.Fault.{◌>>=◌, at_record, refused_if}
+use Rattle.bw_model.specs.FaultTable.{standing_of, HEADING, RECORD_LENGTH, NOT_A_NUMBER}
+use Rattle.bw_model.specs.FaultTable.{OUT_OF_RANGE, NULL_NOT_ALLOWED, TOO_MANY_ROWS}
+use Rattle.bw_model.specs.FaultPlaces.{StandsAsListed, FaultAsListed}
+use Rattle.bw_model.proofs.FaultPlaceLemmas.{refused_listed, bind_listed, listed_fault}
+use Rattle.bw_text.specs.Number.{are_digits, number_of}
+use Rattle.bw_csv.specs.Rows.{within_bounds, number_value, is_null_text, is_minus, unsigned}
+use Rattle.bw_csv.specs.Rows.{text_value, without_blanks, value_of_field, values_of_fields}
+use Rattle.bw_csv.specs.Rows.{row_of_record, with_row, rows_from, is_heading, rows_after, rows_of}
+
+within_listed : (number : ℕ) (column : Column) (n : Option ℤ) → FaultAsListed (within_bounds number column n)
+unfolding standing_of
+within_listed number column None = refl
+within_listed number column (Some n) = refused_listed (not (int_le column.lo n && int_le n column.hi)) (at_record OUT_OF_RANGE number) _ refl tt
+
+text_listed : (number : ℕ) (column : Column) (text : List ℕ) → FaultAsListed (text_value number column text)
+unfolding standing_of
+text_listed number column text = at (is_null_text text)
+  where
+    at : (null : Bool) → FaultAsListed (if null then refused_if (not column.nullable) (at_record NULL_NOT_ALLOWED number) (Ok None) else number_value number column (is_minus text) (unsigned text))
+    at true = refused_listed (not column.nullable) (at_record NULL_NOT_ALLOWED number) (Ok None) refl tt
+    at false = refused_listed (not (are_digits (unsigned text))) (at_record NOT_A_NUMBER number) _ refl (within_listed number column (number_of (is_minus text) (unsigned text)))
+
+values_listed : (number : ℕ) (columns : List Column) (fields : List (List ℕ)) → FaultAsListed (values_of_fields number columns fields)
+unfolding standing_of value_of_field values_of_fields
+values_listed number [] fields = tt
+values_listed number (column ∷ columns) [] = refl
+values_listed number (column ∷ columns) (field ∷ fields) =
+    bind_listed (value_of_field number column field) (λ value. values_of_fields number columns fields >>= λ values. Ok (value ∷ values)) (text_listed number column (without_blanks field))
+    (λ value. bind_listed (values_of_fields number columns fields) (λ values. Ok (value ∷ values)) (values_listed number columns fields) (λ values. tt))
+
+row_listed : (number : ℕ) (columns : List Column) (fields : List (List ℕ)) → FaultAsListed (row_of_record number columns fields)
+unfolding standing_of row_of_record
+row_listed number columns fields =
+    refused_listed (not (length fields == length columns)) (at_record RECORD_LENGTH number) _ refl
+    (refused_listed (nat_lt 16777216 number) (at_record TOO_MANY_ROWS number) _ refl (values_listed number columns fields))
+
+rows_listed : (columns : List Column) (number : ℕ) (all : List (List (List ℕ))) → FaultAsListed (rows_from columns number all)
+unfolding rows_from
+rows_listed columns number [] = tt
+rows_listed columns number (fields ∷ more) =
+    bind_listed (row_of_record number columns fields) (λ row. with_row row (rows_from columns (number + 1) more)) (row_listed number columns fields)
+    (λ row. bind_listed (rows_from columns (number + 1) more) (λ rows. Ok (row ∷ rows)) (rows_listed columns (number + 1) more) (λ rows. tt))
+
+all_listed : (columns : List Column) (all : List (List (List ℕ))) → FaultAsListed (rows_after columns all)
+unfolding standing_of rows_after
+all_listed columns [] = refl
+all_listed columns (heading ∷ more) = refused_listed (not (is_heading columns heading)) (at_record HEADING 0) _ refl (rows_listed columns 1 more)
+
+pub fault_listed : (columns : List Column) (text : List ℕ) (fault : Fault) → rows_of columns text ≡ Err fault → StandsAsListed fault
+fault_listed columns text fault is = listed_fault (rows_of columns text) fault (all_listed columns (records default_config (strip_bom text))) is

@@ -1,5 +1,0 @@
-use Rattle.bw_lanes.proofs.PickedLemmas.{kept_computed}
-use Rattle.bw_lanes.proofs.picked.mask_equal.Goals as goal
-
-pub returns : goal.returns
-returns c = kept_computed c.args.rows c.args.bytes c.args.c c.fits-bytes.0

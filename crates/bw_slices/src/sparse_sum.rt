@@ -1,0 +1,72 @@
+//! The sum of the codes in few lanes, one code after the other, and their highest bytes.
+ghost use Rattle.std.specs.Prelude.{All, ◌≡◌, ◌^◌, ◌+◌, ◌*◌, ◌/◌, ◌<◌, ◌≤◌, ℕ, true, false, not};
+ghost use Rattle.std.specs.Prelude.{drop, length, slice_index, slice_index_or, sum, take};
+ghost use Rattle.bw_lanes.specs.Lanes.{bits_from_least, lanes_of_words};
+ghost use Rattle.bw_model.specs.Selection.{selected_items};
+ghost use Rattle.bw_segment.specs.Selected.{is_beyond};
+ghost use Rattle.bw_slices.specs.Slices.{slices_codes};
+
+use crate::layout::Slices;
+use bw_lanes::{LANES, Selection, last_between};
+use bw_segment::CodeLayout;
+
+/// Returns the sum of the codes in these lanes.
+#[tactic(auto, using(crate::proofs::CodeLemmas::few_sums))]
+pub(crate) fn sum_of_few(width: u32, bytes: &[u8], lanes: &Selection) -> u128
+    requires width { (1 ≤ width) × (width ≤ 63) }
+    requires size { length bytes.now ≡ 512 * ((width + 7) / 8) }
+    requires small { All (λ code. code < 2 ^ width) (slices_codes ((width + 7) / 8) bytes.now) }
+    ensures { result ≡ sum (selected_items (lanes_of_words lanes.now)
+        (slices_codes ((width + 7) / 8) bytes.now)) }
+{
+    let mut sum = 0;
+    for word in 0..8 {
+        sum += sum_of_word(width, bytes, word, lanes[word]);
+    }
+    sum
+}
+
+/// Returns the sum of the codes of selected rows among the 64 of a word.
+#[tactic(auto, using(bw_segment::proofs::SelectedLemmas::no_bits))]
+fn sum_of_word(width: u32, bytes: &[u8], word: usize, rows: u64) -> u128
+    requires width { (1 ≤ width) × (width ≤ 63) }
+    requires size { length bytes.now ≡ 512 * ((width + 7) / 8) }
+    requires small { All (λ code. code < 2 ^ width) (slices_codes ((width + 7) / 8) bytes.now) }
+    requires word { word < 8 }
+    ensures sum { result ≡ sum (selected_items (bits_from_least 64 rows)
+        (take 64 (drop (64 * word) (slices_codes ((width + 7) / 8) bytes.now)))) }
+    ensures bound { result ≤ 2 ^ 69 }
+{
+    let mut sum = 0;
+    let mut left = rows;
+    while left != 0 {
+        let row = left.trailing_zeros();
+        sum += u128::from(Slices::code(width, bytes, 64 * word + row as usize));
+        left &= !(1 << row);
+    }
+    sum
+}
+
+/// Returns whether, in each of few lanes, the byte is below `top` or, unless `greatest`, above it.
+pub(crate) fn none_near(bytes: &[u8; LANES], lanes: &Selection, top: u64, greatest: bool) -> bool
+    ensures { result ≡ true → (lane : ℕ)
+        → slice_index_or (lanes_of_words lanes.now) lane false ≡ true
+        → is_beyond (not greatest) top (slice_index bytes.now lane) ≡ true }
+{
+    let mut end = LANES;
+    while let Some(lane) = last_between(lanes, 0, end) {
+        if is_near(u64::from(bytes[lane]), top, greatest) {
+            return false;
+        }
+        end = lane;
+    }
+    true
+}
+
+/// Returns whether a byte is at least `top` or, unless `greatest`, at most `top`.
+#[inline(always)]
+fn is_near(byte: u64, top: u64, greatest: bool) -> bool
+    ensures { result ≡ not (is_beyond (not greatest) top byte) }
+{
+    if greatest { byte >= top } else { byte <= top }
+}
