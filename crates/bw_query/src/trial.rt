@@ -212,11 +212,11 @@ fn rows_in_segment(table: &MemoryTable, number: u32, filter: &mut Filter) -> Res
     match table.layout() {
         Layout::Planes => {
             let segment = table.segment::<Planes>(number)?;
-            Ok(count(&filter.rows_kept(&segment)))
+            Ok(count(&filter.matching_lanes(&segment)))
         }
         Layout::Slices => {
             let segment = table.segment::<Slices>(number)?;
-            Ok(count(&filter.rows_kept(&segment)))
+            Ok(count(&filter.matching_lanes(&segment)))
         }
     }
 }
