@@ -5,7 +5,7 @@ ghost use Rattle.bw_model.specs.Groups.{group_size};
 ghost use Rattle.bw_segment.specs.Meaning.{meaning_of, IsGroup};
 
 use crate::failure::Failure;
-use crate::random::{drawn, or_null};
+use crate::random::{next_number, or_null};
 use bw_lanes::{Plane, bytes_bit, bytes_eq, bytes_lt};
 use bw_model::{Row, Schema};
 use bw_planes::{PlaneSegment, Planes};
@@ -137,10 +137,10 @@ fn drawn_rows(alloc: Global) -> Result<Vec<Row>, Failure> {
     let mut rows = Vec::new(alloc);
     let mut state = 1;
     for _ in 0..512 {
-        let a = i64::from(drawn(&mut state) >> 24);
-        let b = i64::from((drawn(&mut state) >> 8) % 21) - 10;
-        let c = i64::from((drawn(&mut state) >> 4) % 1000001);
-        let d = i64::from(drawn(&mut state));
+        let a = i64::from(next_number(&mut state) >> 24);
+        let b = i64::from((next_number(&mut state) >> 8) % 21) - 10;
+        let c = i64::from((next_number(&mut state) >> 4) % 1000001);
+        let d = i64::from(next_number(&mut state));
         let b = or_null(&mut state, b);
         let d = or_null(&mut state, d);
         rows.push(Row {

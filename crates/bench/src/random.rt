@@ -2,7 +2,7 @@
 use std::time::Duration;
 
 /// Returns the next number.
-pub(crate) fn drawn(state: &mut u64) -> u32 {
+pub(crate) fn next_number(state: &mut u64) -> u32 {
     *state = state
         .wrapping_mul(6364136223846793005)
         .wrapping_add(1442695040888963407);
@@ -11,7 +11,7 @@ pub(crate) fn drawn(state: &mut u64) -> u32 {
 
 /// Returns a number, or null about once in eight.
 pub(crate) fn or_null(state: &mut u64, number: i64) -> Option<i64> {
-    if drawn(state) >> 29 == 0 {
+    if next_number(state) >> 29 == 0 {
         None
     } else {
         Some(number)

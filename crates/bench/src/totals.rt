@@ -4,7 +4,7 @@
 //!
 //! `total_ways.rt` has what is timed; read it first.
 use crate::failure::Failure;
-use crate::random::{drawn, nanos, or_null};
+use crate::random::{nanos, next_number, or_null};
 use crate::total_ways::{Greatest, Least, Sum, Way};
 use bw_lanes::Plane;
 use bw_model::{Row, Schema};
@@ -131,7 +131,7 @@ fn time_way<W: Way, S: Segment>(
 fn drawn_rows(alloc: Global, state: &mut u64) -> Result<Vec<Row>, Failure> {
     let mut rows = Vec::with_capacity(alloc, 512)?;
     for _ in 0..512 {
-        let a = i64::from(drawn(state));
+        let a = i64::from(next_number(state));
         let a = or_null(state, a);
         rows.push(Row {
             values: vec![in alloc; a]?,
@@ -145,8 +145,8 @@ fn drawn_plane(state: &mut u64, power: usize) -> Plane {
     let mut plane = [u64::MAX; 8];
     for _ in 0..power {
         for word in 0..8 {
-            let low = u64::from(drawn(state));
-            plane[word] &= low << 32 | u64::from(drawn(state));
+            let low = u64::from(next_number(state));
+            plane[word] &= low << 32 | u64::from(next_number(state));
         }
     }
     plane

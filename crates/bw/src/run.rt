@@ -438,7 +438,7 @@ fn or_write_failure<'a, T>(
 ) -> Result<T, CommandFailure<'a>> {
     match done {
         Ok(given) => Ok(given),
-        Err(fault) => Err(CommandFailure::of(fault, files).unwritten(error)),
+        Err(fault) => Err(CommandFailure::of(fault, files).with_write_error(error)),
     }
 }
 

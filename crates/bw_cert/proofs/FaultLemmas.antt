@@ -23,12 +23,12 @@ use Rattle.bw_cert_text.specs.declared.lines.InstructionEntry.{InstructionEntry}
 use Rattle.bw_cert_text.specs.declared.lines.Keep.{Keep}
 use Rattle.bw_cert_rules.specs.declared.edge.Edge.{Edge}
 use Rattle.bw_cert_rules.specs.Accepted.{KeepLine, keep_line, are_kept}
-use Rattle.bw_cert_rules.specs.Instruction.{check_instruction_line, put, is_fill, is_skip_line}
+use Rattle.bw_cert_rules.specs.Instruction.{check_instruction_line, set_register, is_fill, is_skip_line}
 use Rattle.bw_cert_rules.specs.Instruction.{loaded_node, operation_row, byte_chain, byte_node}
 use Rattle.bw_cert_rules.specs.Instruction.{terminal, plane_on, read_on, joined_on, opposite_on}
 use Rattle.bw_cert_rules.specs.Instruction.{byte_on}
 use Rattle.bw_cert_rules.specs.Join.{is_valid_keep}
-use Rattle.bw_cert_rules.specs.Known.{Known, node_of, nothing_known, with_node}
+use Rattle.bw_cert_rules.specs.Known.{KnownNodes, node_of, nothing_known, with_node}
 use Rattle.bw_cert_rules.specs.Walk.{WalkState, keep_in, by_keep, keeps_taken, join_taken, is_join}
 use Rattle.bw_cert_rules.specs.Walk.{instruction_on, instruction_taken, apply_join}
 use Rattle.bw_cert_rules.proofs.JoinLemmas.{keep_on, keep_refused}
@@ -51,16 +51,16 @@ map_err (Ok x) g fault is = cc
 map_err {A = A} {B = B} (Err first) g fault is = ap (λ (fault : Fault). Err fault) (err_same B first fault is)
 
 -- the line of an instruction
-abbrev pub taken_of : List BodyLine → Known → WalkState
+abbrev pub taken_of : List BodyLine → KnownNodes → WalkState
 taken_of lines known = record { known = known; rest = lines }
 
-pub line_wrong : (facts : Facts) (end : ℕ) (known : Known) (instr : Instr) (lines : List BodyLine) (fault : Fault) → instruction_taken facts end known instr lines ≡ Err fault → WrongLine facts end known instr lines fault
+pub line_wrong : (facts : Facts) (end : ℕ) (known : KnownNodes) (instr : Instr) (lines : List BodyLine) (fault : Fault) → instruction_taken facts end known instr lines ≡ Err fault → WrongLine facts end known instr lines fault
 line_wrong facts end known instr [] fault is = sym (err_same WalkState (at_line 607 end) fault is)
 line_wrong facts end known instr (line ∷ lines) fault is = map_err (instruction_on facts known instr line line.entry) (taken_of lines) fault is
 
-pub wrong_line : (facts : Facts) (end : ℕ) (known : Known) (instr : Instr) (lines : List BodyLine) (fault : Fault) → WrongLine facts end known instr lines fault → instruction_taken facts end known instr lines ≡ Err fault
+pub wrong_line : (facts : Facts) (end : ℕ) (known : KnownNodes) (instr : Instr) (lines : List BodyLine) (fault : Fault) → WrongLine facts end known instr lines fault → instruction_taken facts end known instr lines ≡ Err fault
 wrong_line facts end known instr [] fault is = ap (λ (fault : Fault). Err fault) (sym is)
-wrong_line facts end known instr (line ∷ lines) fault is = ap (λ (r : Result Known Fault). r >>= λ known. Ok (taken_of lines known)) is
+wrong_line facts end known instr (line ∷ lines) fault is = ap (λ (r : Result KnownNodes Fault). r >>= λ known. Ok (taken_of lines known)) is
 
 -- a line that says what is kept of a register
 entry_is : (entry : Entry) (keep : Keep) → keep_in entry ≡ Some keep → entry ≡ line_of.Keep keep
@@ -75,12 +75,12 @@ kept_of line keep = record { line = line.line; keep = keep }
 line_is : (line : BodyLine) (keep : Keep) → keep_in line.entry ≡ Some keep → line ≡ keep_line (kept_of line keep)
 line_is line keep is = ap (λ (entry : Entry). record { line = line.line; entry = entry }) (entry_is line.entry keep is)
 
-module _ (facts : Facts) (through : Known) (edges : List Edge) where
-  abbrev pub next_keep : ℕ → Known → BodyLine → List BodyLine → Keep → Result WalkState Fault
+module _ (facts : Facts) (through : KnownNodes) (edges : List Edge) where
+  abbrev pub next_keep : ℕ → KnownNodes → BodyLine → List BodyLine → Keep → Result WalkState Fault
   next_keep least kept line lines keep =
       refused_if (not (is_valid_keep facts through edges least keep)) (at_line 608 line.line) (keeps_taken facts through edges (suc keep.register) (with_node kept keep.register keep.node) lines)
 
-  pub keep_wrong : (least : ℕ) (kept : Known) (lines : List BodyLine) (fault : Fault) → keeps_taken facts through edges least kept lines ≡ Err fault → WrongKeep facts through edges least lines fault
+  pub keep_wrong : (least : ℕ) (kept : KnownNodes) (lines : List BodyLine) (fault : Fault) → keeps_taken facts through edges least kept lines ≡ Err fault → WrongKeep facts through edges least lines fault
   unfolding keeps_taken are_kept
   keep_wrong least kept [] fault is = cc
   keep_wrong least kept (line ∷ lines) fault is =
@@ -117,7 +117,7 @@ module _ (facts : Facts) (through : Known) (edges : List Edge) where
       at None there is rest = cc
       at (Some keep) there is rest = judged keep (is_valid_keep facts through edges least keep) there refl is (rest keep)
 
-  wrong_keep : (least : ℕ) (kept : Known) (keeps : List KeepLine) (wrong : KeepLine) (others : List BodyLine) → are_kept facts through edges least keeps ≡ true →
+  wrong_keep : (least : ℕ) (kept : KnownNodes) (keeps : List KeepLine) (wrong : KeepLine) (others : List BodyLine) → are_kept facts through edges least keeps ≡ true →
       are_kept facts through edges least (keeps ++ wrong ∷ []) ≡ false → keeps_taken facts through edges least kept (map keep_line keeps ++ keep_line wrong ∷ others) ≡ Err (at_line 608 wrong.line)
   unfolding are_kept
   wrong_keep least kept [] wrong others hold broken =
@@ -129,7 +129,7 @@ module _ (facts : Facts) (through : Known) (edges : List Edge) where
       ∙ wrong_keep (suc k.keep.register) (with_node kept k.keep.register k.keep.node) keeps wrong others now.1 (sym (ap (λ b. b && rest) now.0) ∙ broken)
 
   -- after the lines KEEP that were taken comes another line, or none
-  pub keeps_stop : (least : ℕ) (kept : Known) (lines : List BodyLine) (taken : WalkState) → keeps_taken facts through edges least kept lines ≡ Ok taken → NoKeep taken.rest
+  pub keeps_stop : (least : ℕ) (kept : KnownNodes) (lines : List BodyLine) (taken : WalkState) → keeps_taken facts through edges least kept lines ≡ Ok taken → NoKeep taken.rest
   unfolding keeps_taken
   keeps_stop least kept [] taken is = subst (λ (t : WalkState). NoKeep t.rest) (ok_same is) tt
   keeps_stop least kept (line ∷ lines) taken is =
@@ -141,7 +141,7 @@ module _ (facts : Facts) (through : Known) (edges : List Edge) where
       at (Some keep) there is rest = rest keep (not_refused (not (is_valid_keep facts through edges least keep)) _ _ taken is).1
 
 -- the join of a place
-module _ (facts : Facts) (end place : ℕ) (through : Known) where
+module _ (facts : Facts) (end place : ℕ) (through : KnownNodes) where
   abbrev pub after_join : List Edge → List BodyLine → Result WalkState Fault
   after_join edges lines = keeps_taken facts through edges 0 nothing_known lines
 
@@ -194,21 +194,21 @@ then_stands : (A B : Type 0) (line : ℕ) (r : Result A Fault) (f : A → Result
 then_stands A B line (Ok x) f here each = each x
 then_stands A B line (Err first) f here each = record { told = λ fault is. here.told fault (ap (λ (fault : Fault). Err fault) (err_same B first fault is)) }
 
-put_stands : (known : Known) (line register : ℕ) (given : Result ℕ Fault) → OnLine ℕ line given → OnLine Known line (put known register given)
-put_stands known line register given here = then_stands ℕ Known line given _ here (λ node. ok_stands Known line (with_node known register node))
+put_stands : (known : KnownNodes) (line register : ℕ) (given : Result ℕ Fault) → OnLine ℕ line given → OnLine KnownNodes line (set_register known register given)
+put_stands known line register given here = then_stands ℕ KnownNodes line given _ here (λ node. ok_stands KnownNodes line (with_node known register node))
 
 plane_stands : (facts : Facts) (line : ℕ) (there : Bool) (variable : ℕ) (given : InstructionEntry) → OnLine ℕ line (plane_on facts line there variable given)
 plane_stands facts line there variable given =
     then_stands ℕ ℕ line (found_on 607 line (loaded_node given)) _ (found_stands ℕ 607 line (loaded_node given))
     (λ node. refused_stands ℕ (not there) 607 line _ (found_stands ℕ 607 line (variable_node facts variable node)))
 
-joined_stands : (facts : Facts) (known : Known) (line : ℕ) (op : Connective) (x y : ℕ) (given : InstructionEntry) → OnLine ℕ line (joined_on facts known line op x y given)
+joined_stands : (facts : Facts) (known : KnownNodes) (line : ℕ) (op : Connective) (x y : ℕ) (given : InstructionEntry) → OnLine ℕ line (joined_on facts known line op x y given)
 joined_stands facts known line op x y given =
     then_stands ℕ ℕ line (found_on 607 line (operation_row given)) _ (found_stands ℕ 607 line (operation_row given))
     (λ row. then_stands ℕ ℕ line (read_on known line x) _ (found_stands ℕ 609 line (node_of known x))
     (λ a. then_stands ℕ ℕ line (read_on known line y) _ (found_stands ℕ 609 line (node_of known y)) (λ b. found_stands ℕ 607 line (product_node facts op a b row))))
 
-opposite_stands : (facts : Facts) (known : Known) (line x : ℕ) (given : InstructionEntry) → OnLine ℕ line (opposite_on facts known line x given)
+opposite_stands : (facts : Facts) (known : KnownNodes) (line x : ℕ) (given : InstructionEntry) → OnLine ℕ line (opposite_on facts known line x given)
 opposite_stands facts known line x given =
     then_stands ℕ ℕ line (found_on 607 line (operation_row given)) _ (found_stands ℕ 607 line (operation_row given))
     (λ row. then_stands ℕ ℕ line (read_on known line x) _ (found_stands ℕ 609 line (node_of known x)) (λ a. found_stands ℕ 607 line (product_node facts connective.Diff 1 a row)))
@@ -218,11 +218,11 @@ byte_stands facts line kind there column slice k given =
     then_stands (Option ℕ) ℕ line (found_on 607 line (byte_chain given)) _ (found_stands (Option ℕ) 607 line (byte_chain given))
     (λ chain. refused_stands ℕ (not there) 607 line _ (found_stands ℕ 607 line (byte_node facts kind column slice k chain)))
 
-after_stands : (facts : Facts) (known : Known) (line : ℕ) (i : Instr) (given : InstructionEntry) → OnLine Known line (check_instruction_line facts known line i given)
+after_stands : (facts : Facts) (known : KnownNodes) (line : ℕ) (i : Instr) (given : InstructionEntry) → OnLine KnownNodes line (check_instruction_line facts known line i given)
 unfolding check_instruction_line
 after_stands facts known line (does.Load r column bit) given = put_stands known line r _ (plane_stands facts line _ _ given)
 after_stands facts known line (does.Nulls r column) given = put_stands known line r _ (plane_stands facts line _ _ given)
-after_stands facts known line (does.Fill r bit) given = refused_stands Known (not (is_fill given)) 607 line _ (ok_stands Known line (with_node known r (terminal bit)))
+after_stands facts known line (does.Fill r bit) given = refused_stands KnownNodes (not (is_fill given)) 607 line _ (ok_stands KnownNodes line (with_node known r (terminal bit)))
 after_stands facts known line (does.And r x y) given = put_stands known line r _ (joined_stands facts known line connective.And x y given)
 after_stands facts known line (does.Or r x y) given = put_stands known line r _ (joined_stands facts known line connective.Or x y given)
 after_stands facts known line (does.Xor r x y) given = put_stands known line r _ (joined_stands facts known line connective.Xor x y given)
@@ -230,11 +230,11 @@ after_stands facts known line (does.Not r x) given = put_stands known line r _ (
 after_stands facts known line (does.ByteLt r column slice k) given = put_stands known line r _ (byte_stands facts line Less _ column slice k given)
 after_stands facts known line (does.ByteEq r column slice k) given = put_stands known line r _ (byte_stands facts line Equal _ column slice k given)
 after_stands facts known line (does.Skip x target) given =
-    refused_stands Known (not (is_skip_line given)) 607 line _ (then_stands ℕ Known line (read_on known line x) _ (found_stands ℕ 609 line (node_of known x)) (λ node. ok_stands Known line known))
+    refused_stands KnownNodes (not (is_skip_line given)) 607 line _ (then_stands ℕ KnownNodes line (read_on known line x) _ (found_stands ℕ 609 line (node_of known x)) (λ node. ok_stands KnownNodes line known))
 
 -- a line that is rejected in place of an instruction's is so on that line
-pub line_stands : (facts : Facts) (known : Known) (instr : Instr) (line : BodyLine) (entry : Entry) (fault : Fault) → instruction_on facts known instr line entry ≡ Err fault → fault ≡ at_line fault.code line.line
+pub line_stands : (facts : Facts) (known : KnownNodes) (instr : Instr) (line : BodyLine) (entry : Entry) (fault : Fault) → instruction_on facts known instr line entry ≡ Err fault → fault ≡ at_line fault.code line.line
 line_stands facts known instr line (line_of.Instruction given) fault is = (after_stands facts known line.line instr given).told fault is
-line_stands facts known instr line (line_of.Condition given) fault is = (err_stands Known 607 line.line).told fault is
-line_stands facts known instr line (line_of.Join place) fault is = (err_stands Known 607 line.line).told fault is
-line_stands facts known instr line (line_of.Keep keep) fault is = (err_stands Known 607 line.line).told fault is
+line_stands facts known instr line (line_of.Condition given) fault is = (err_stands KnownNodes 607 line.line).told fault is
+line_stands facts known instr line (line_of.Join place) fault is = (err_stands KnownNodes 607 line.line).told fault is
+line_stands facts known instr line (line_of.Keep keep) fault is = (err_stands KnownNodes 607 line.line).told fault is

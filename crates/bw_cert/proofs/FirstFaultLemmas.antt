@@ -19,7 +19,7 @@ use Rattle.bw_cert_rules.specs.Accepted.{known_after_join, known_past, kept_by, 
 use Rattle.bw_cert_rules.specs.Accepted.{is_valid_join, AreValidParts}
 use Rattle.bw_cert_rules.specs.Instruction.{check_instruction_line}
 use Rattle.bw_cert_rules.specs.Join.{edge_of, with_edge, edges_into}
-use Rattle.bw_cert_rules.specs.Known.{Known, nothing_known, with_node}
+use Rattle.bw_cert_rules.specs.Known.{KnownNodes, nothing_known, with_node}
 use Rattle.bw_cert_rules.specs.Walk.{WalkState, by_keep, keeps_taken, instruction_taken, apply_join}
 use Rattle.bw_cert_rules.specs.Walk.{check_lines_from, check_lines}
 use Rattle.bw_cert_rules.proofs.AcceptLemmas.{Line, Joined, line_read, join_read, drop_stands}
@@ -44,7 +44,7 @@ some_same : {A : Type 0} {x y : A} → Some x ≡ Some y → x ≡ y
 some_same is = cc
 
 -- a valid join is at the target of skips
-joins_some : (facts : Facts) (through : Known) (edges : List Edge) (join : Option JoinLines) (lines : JoinLines) → join ≡ Some lines → is_valid_join facts through edges join ≡ true → 0 < length edges
+joins_some : (facts : Facts) (through : KnownNodes) (edges : List Edge) (join : Option JoinLines) (lines : JoinLines) → join ≡ Some lines → is_valid_join facts through edges join ≡ true → 0 < length edges
 joins_some facts through [] None lines some valid_parts = cc
 joins_some facts through [] (Some join) lines some valid_parts = cc
 joins_some facts through (edge ∷ edges) join lines some valid_parts = omega arith
@@ -88,10 +88,10 @@ come_further facts end lines first instr edges taken through gone come line took
     one_more = omega (arith, length-append first (instr ∷ []))
 
     says : check_instruction_line facts (known_after facts first come.parts) line.line instr line.entry ≡ Ok through.known
-    says = ap (λ (known : Known). check_instruction_line facts known line.line instr line.entry) (sym come.known) ∙ line.says
+    says = ap (λ (known : KnownNodes). check_instruction_line facts known line.line instr line.entry) (sym come.known) ∙ line.says
 
     edges_same : with_edge edges (edge_of taken.known instr) ≡ with_edge (edges_before facts first come.parts (length first)) (edge_of (known_after facts first come.parts) instr)
-    edges_same = ap₂ (λ (edges : List Edge) (known : Known). with_edge edges (edge_of known instr)) come.edges_are come.known
+    edges_same = ap₂ (λ (edges : List Edge) (known : KnownNodes). with_edge edges (edge_of known instr)) come.edges_are come.known
 
     whole : KeepsAreAll (with_one come.parts part) gone.rest
     whole place given lines last there some =
@@ -115,7 +115,7 @@ stands_from facts end lines fault instrs (instr ∷ others) first edges taken pr
     into = edges_into (suc (length first)) further
 
     into_are : into ≡ edges_after facts first come.parts instr
-    into_are = ap₂ (λ (edges : List Edge) (known : Known). edges_into (suc (length first)) (with_edge edges (edge_of known instr))) come.edges_are come.known
+    into_are = ap₂ (λ (edges : List Edge) (known : KnownNodes). edges_into (suc (length first)) (with_edge edges (edge_of known instr))) come.edges_are come.known
 
     Goes : Type 0
     Goes = (first : List Instr) (edges : List Edge) (taken : WalkState) → instrs ≡ first ++ others → Come facts lines first edges taken →
@@ -149,7 +149,7 @@ stands_from facts end lines fault instrs (instr ∷ others) first edges taken pr
           rest = through.rest;
           spelled = line.spelled;
           through = through.known;
-          says = ap (λ (known : Known). check_instruction_line facts known line.line instr line.entry) (sym come.known) ∙ line.says;
+          says = ap (λ (known : KnownNodes). check_instruction_line facts known line.line instr line.entry) (sym come.known) ∙ line.says;
           skips = wrong.0;
           wrong = wrong.1;
         }))
@@ -164,7 +164,7 @@ stands_from facts end lines fault instrs (instr ∷ others) first edges taken pr
         × ((apply_join facts end (suc (length first)) into through >>= λ gone. check_lines_from facts end (suc (length first)) further others gone) ≡ Err fault)) →
         Goes → FirstFault facts instrs end lines fault
     at (inl refused) goes =
-        fault_of (inl (subst (λ (known : Known). WrongLine facts end known instr taken.rest fault) come.known (line_wrong facts end taken.known instr taken.rest fault refused)))
+        fault_of (inl (subst (λ (known : KnownNodes). WrongLine facts end known instr taken.rest fault) come.known (line_wrong facts end taken.known instr taken.rest fault refused)))
     at (inr (through, took, refused)) goes =
         past_line through (line_read facts end taken.known instr taken.rest through took)
         (bind_err (apply_join facts end (suc (length first)) into through) (λ gone. check_lines_from facts end (suc (length first)) further others gone) fault refused) goes
@@ -186,12 +186,12 @@ first_fault_stands facts instrs end lines fault is =
     none k part given = cc
 
 -- lines KEEP that are kept, and then another line
-keeps_end : (facts : Facts) (through : Known) (edges : List Edge) (least : ℕ) (kept : Known) (lines : List BodyLine) → NoKeep lines → keeps_taken facts through edges least kept lines ≡ Ok (taken_of lines kept)
+keeps_end : (facts : Facts) (through : KnownNodes) (edges : List Edge) (least : ℕ) (kept : KnownNodes) (lines : List BodyLine) → NoKeep lines → keeps_taken facts through edges least kept lines ≡ Ok (taken_of lines kept)
 unfolding keeps_taken
 keeps_end facts through edges least kept [] none = refl
 keeps_end facts through edges least kept (line ∷ lines) none = ap (λ said. by_keep said (Ok (taken_of (line ∷ lines) kept)) (next_keep facts through edges least kept line lines)) none
 
-keeps_over : (facts : Facts) (through : Known) (edges : List Edge) (least : ℕ) (kept : Known) (keeps : List KeepLine) (lines : List BodyLine) → NoKeep lines → are_kept facts through edges least keeps ≡ true →
+keeps_over : (facts : Facts) (through : KnownNodes) (edges : List Edge) (least : ℕ) (kept : KnownNodes) (keeps : List KeepLine) (lines : List BodyLine) → NoKeep lines → are_kept facts through edges least keeps ≡ true →
     keeps_taken facts through edges least kept (map keep_line keeps ++ lines) ≡ Ok (taken_of lines (kept_by kept keeps))
 unfolding are_kept kept_by
 keeps_over facts through edges least kept [] lines none are = keeps_end facts through edges least kept lines none
@@ -201,7 +201,7 @@ keeps_over facts through edges least kept (k ∷ keeps) lines none are =
     ∙ keeps_over facts through edges (suc k.keep.register) (with_node kept k.keep.register k.keep.node) keeps lines none now.1
 
 -- a valid join, and then other lines
-join_over : (facts : Facts) (end place : ℕ) (edges : List Edge) (through : Known) (join : Option JoinLines) (lines : List BodyLine) → ((given : JoinLines) → join ≡ Some given → NoKeep lines) →
+join_over : (facts : Facts) (end place : ℕ) (edges : List Edge) (through : KnownNodes) (join : Option JoinLines) (lines : List BodyLine) → ((given : JoinLines) → join ≡ Some given → NoKeep lines) →
     is_valid_join facts through edges join ≡ true → apply_join facts end place edges (taken_of (join_lines place join ++ lines) through) ≡ Ok (taken_of lines (known_after_join through join))
 join_over facts end place [] through None lines none valid_parts = refl
 join_over facts end place [] through (Some join) lines none valid_parts = cc
@@ -230,8 +230,8 @@ walk_over facts all every end place (instr ∷ instrs) [] others rest valid_part
 walk_over facts all every end place (instr ∷ instrs) (part ∷ parts) others rest valid_parts whole instrs_are parts_are count =
     let instr_there = drop_stands all instrs place instr instrs_are in
     let part_there = drop_stands every parts place part parts_are in
-    let known : Known = known_before facts all every place in
-    let through : Known = known_on_fallthrough facts known instr part in
+    let known : KnownNodes = known_before facts all every place in
+    let through : KnownNodes = known_on_fallthrough facts known instr part in
     let more : List BodyLine = lines_of (suc place) parts ++ rest in
     let own : List BodyLine = (join_lines (suc place) part.join ++ lines_of (suc place) parts) ++ rest in
     let edges : List Edge = with_edge (edges_before facts all every place) (edge_of known instr) in
@@ -246,7 +246,7 @@ walk_over facts all every end place (instr ∷ instrs) (part ∷ parts) others r
     let joins : apply_join facts end (suc place) (edges_into (suc place) edges) (taken_of own through) ≡ Ok (taken_of more (known_before facts all every (suc place))) =
     ap₂ (λ (es : List Edge) (lines : List BodyLine). apply_join facts end (suc place) (edges_into (suc place) es) (taken_of lines through)) edges_are (append_assoc (join_lines (suc place) part.join) (lines_of (suc place) parts) rest)
     ∙ join_over facts end (suc place) _ through part.join more none (valid_parts.join place instr part instr_there.0 part_there.0)
-    ∙ ap (λ (k : Known). Ok (taken_of more k)) (sym next) in
+    ∙ ap (λ (k : KnownNodes). Ok (taken_of more k)) (sym next) in
     let same : suc place + length instrs ≡ place + suc (length instrs) = omega arith in
     ap (λ t. t >>= λ through. apply_join facts end (suc place) (edges_into (suc place) edges) through >>= λ taken. check_lines_from facts end (suc place) edges (instrs ++ others) taken) says
     ∙ ap (λ t. t >>= λ taken. check_lines_from facts end (suc place) edges (instrs ++ others) taken) joins
@@ -264,7 +264,7 @@ refused_with_first facts instrs end lines fault f =
     ∙ ap (λ n. check_lines_from facts end n (edges_before facts f.first f.parts n) (f.instr ∷ f.others) (taken_of f.rest (known_before facts f.first f.parts n))) from_start
     ∙ at f.wrong
   where
-    known : Known
+    known : KnownNodes
     known = known_after facts f.first f.parts
 
     edges : List Edge
@@ -284,7 +284,7 @@ refused_with_first facts instrs end lines fault f =
     at (inl line) = ap (λ t. t >>= past_line) (wrong_line facts end known f.instr f.rest fault line)
     at (inr place) =
         ap (λ (rest : List BodyLine). instruction_taken facts end known f.instr rest >>= past_line) place.spelled
-        ∙ ap (λ (r : Result Known Fault). (r >>= λ through. Ok (taken_of place.rest through)) >>= past_line) place.says
+        ∙ ap (λ (r : Result KnownNodes Fault). (r >>= λ through. Ok (taken_of place.rest through)) >>= past_line) place.says
         ∙ ap (λ t. t >>= past_join) (wrong_join facts end (suc (length f.first)) place.through (edges_after facts f.first f.parts f.instr) place.rest fault place.skips place.wrong)
 
 -- and the error is the same whatever lines come after the one on which it stands
@@ -294,7 +294,7 @@ at_end code end fault is = is ∙ ap (λ (fault : Fault). at_line fault.code end
 pub lines_after : (facts : Facts) (instrs : List Instr) (end : ℕ) (lines : List BodyLine) (fault : Fault) → FirstFault facts instrs end lines fault → StandsOn facts instrs end lines fault ⊎ (fault ≡ at_line fault.code end)
 lines_after facts instrs end lines fault f = at f.wrong
   where
-    known : Known
+    known : KnownNodes
     known = known_after facts f.first f.parts
 
     edges : List Edge

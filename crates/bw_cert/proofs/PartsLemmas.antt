@@ -13,7 +13,7 @@ use Rattle.bw_cert_rules.specs.Accepted.{edge_at, known_on_fallthrough, known_or
 use Rattle.bw_cert_rules.specs.Accepted.{known_after_join, known_past, is_valid_join, AreValidParts}
 use Rattle.bw_cert_rules.specs.Instruction.{check_instruction_line}
 use Rattle.bw_cert_rules.specs.Join.{edge_of, with_edge, edges_into}
-use Rattle.bw_cert_rules.specs.Known.{Known}
+use Rattle.bw_cert_rules.specs.Known.{KnownNodes}
 
 abbrev pub with_one : {A : Type 0} → List A → A → List A
 with_one xs x = xs ++ x ∷ []
@@ -50,14 +50,14 @@ module _ (facts : Facts) (first : List Instr) (instr : Instr) (parts : List Part
   known_more zero le = refl
   known_more (suc place) le =
       ap₂ (known_past facts (known_before facts (with_one first instr) (with_one parts part) place)) (stands_before first instr place (omega (arith, le))) (stands_before parts part place (omega (arith, le, count)))
-      ∙ ap (λ (known : Known). known_past facts known (slice_get first place) (slice_get parts place)) (known_more place (omega (arith, le)))
+      ∙ ap (λ (known : KnownNodes). known_past facts known (slice_get first place) (slice_get parts place)) (known_more place (omega (arith, le)))
 
   edges_more : (place : ℕ) → place ≤ length first → edges_before facts (with_one first instr) (with_one parts part) place ≡ edges_before facts first parts place
   unfolding edges_before
   edges_more zero le = refl
   edges_more (suc place) le =
       ap (λ (edges : List Edge). with_edge edges (edge_at (known_before facts (with_one first instr) (with_one parts part) place) (slice_get (with_one first instr) place))) (edges_more place (omega (arith, le)))
-      ∙ ap₂ (λ (known : Known) (next : Option Instr). with_edge (edges_before facts first parts place) (edge_at known next)) (known_more place (omega (arith, le))) (stands_before first instr place (omega (arith, le)))
+      ∙ ap₂ (λ (known : KnownNodes) (next : Option Instr). with_edge (edges_before facts first parts place) (edge_at known next)) (known_more place (omega (arith, le))) (stands_before first instr place (omega (arith, le)))
 
   -- the edges after it, and what is known there
   pub edges_here : edges_before facts (with_one first instr) (with_one parts part) (suc (length first)) ≡
@@ -65,36 +65,36 @@ module _ (facts : Facts) (first : List Instr) (instr : Instr) (parts : List Part
   unfolding edges_before
   edges_here =
       ap (λ (edges : List Edge). with_edge edges (edge_at (known_before facts (with_one first instr) (with_one parts part) (length first)) (slice_get (with_one first instr) (length first)))) (edges_more (length first) (omega arith))
-      ∙ ap₂ (λ (known : Known) (next : Option Instr). with_edge (edges_before facts first parts (length first)) (edge_at known next)) (known_more (length first) (omega arith)) (stands_last first instr)
+      ∙ ap₂ (λ (known : KnownNodes) (next : Option Instr). with_edge (edges_before facts first parts (length first)) (edge_at known next)) (known_more (length first) (omega arith)) (stands_last first instr)
 
   pub part_here : slice_get (with_one parts part) (length first) ≡ Some part
   part_here = ap (slice_get (with_one parts part)) (sym count) ∙ stands_last parts part
 
-  pub known_here : (through : Known) → check_instruction_line facts (known_before facts first parts (length first)) part.line instr part.entry ≡ Ok through →
+  pub known_here : (through : KnownNodes) → check_instruction_line facts (known_before facts first parts (length first)) part.line instr part.entry ≡ Ok through →
       known_before facts (with_one first instr) (with_one parts part) (suc (length first)) ≡ known_after_join through part.join
   unfolding known_before
   known_here through says =
       ap₂ (known_past facts (known_before facts (with_one first instr) (with_one parts part) (length first))) (stands_last first instr) part_here
-      ∙ ap (λ (known : Known). known_after_join (known_on_fallthrough facts known instr part) part.join) (known_more (length first) (omega arith))
-      ∙ ap (λ (known : Known). known_after_join known part.join) (ap known_or_nothing says)
+      ∙ ap (λ (known : KnownNodes). known_after_join (known_on_fallthrough facts known instr part) part.join) (known_more (length first) (omega arith))
+      ∙ ap (λ (known : KnownNodes). known_after_join known part.join) (ap known_or_nothing says)
 
   -- if it is valid, they all are
-  pub obeys_more : (through : Known) → AreValidParts facts first parts → check_instruction_line facts (known_before facts first parts (length first)) part.line instr part.entry ≡ Ok through →
+  pub obeys_more : (through : KnownNodes) → AreValidParts facts first parts → check_instruction_line facts (known_before facts first parts (length first)) part.line instr part.entry ≡ Ok through →
       IsTrue (is_valid_join facts through (edges_into (suc (length first)) (with_edge (edges_before facts first parts (length first)) (edge_of (known_before facts first parts (length first)) instr))) part.join) →
       AreValidParts facts (with_one first instr) (with_one parts part)
   obeys_more through valid_parts says joins = record {
     part_count = omega (arith, count, length-append parts (part ∷ []), length-append first (instr ∷ []));
     instruction = each_more (λ (place : ℕ) (i : Instr) (p : Part). check_instruction_line facts (known_before facts (with_one first instr) (with_one parts part) place) p.line i p.entry ≡ Ok (known_on_fallthrough facts (known_before facts (with_one first instr) (with_one parts part) place) i p))
         first instr parts part count
-        (λ place i p there given. subst (λ (known : Known). check_instruction_line facts known p.line i p.entry ≡ Ok (known_on_fallthrough facts known i p)) (sym (known_more place (omega (arith, slice_get_within first place i there)))) (valid_parts.instruction place i p there given))
-        (subst (λ (known : Known). check_instruction_line facts known part.line instr part.entry ≡ Ok (known_on_fallthrough facts known instr part)) (sym (known_more (length first) (omega arith))) (says ∙ ap Ok (sym (ap known_or_nothing says))));
+        (λ place i p there given. subst (λ (known : KnownNodes). check_instruction_line facts known p.line i p.entry ≡ Ok (known_on_fallthrough facts known i p)) (sym (known_more place (omega (arith, slice_get_within first place i there)))) (valid_parts.instruction place i p there given))
+        (subst (λ (known : KnownNodes). check_instruction_line facts known part.line instr part.entry ≡ Ok (known_on_fallthrough facts known instr part)) (sym (known_more (length first) (omega arith))) (says ∙ ap Ok (sym (ap known_or_nothing says))));
     join = each_more (λ (place : ℕ) (i : Instr) (p : Part). IsTrue (is_valid_join facts (known_on_fallthrough facts (known_before facts (with_one first instr) (with_one parts part) place) i p)
         (edges_into (suc place) (edges_before facts (with_one first instr) (with_one parts part) (suc place))) p.join))
         first instr parts part count
-        (λ place i p there given. ap₂ (λ (known : Known) (edges : List Edge). is_valid_join facts (known_on_fallthrough facts known i p) (edges_into (suc place) edges) p.join)
+        (λ place i p there given. ap₂ (λ (known : KnownNodes) (edges : List Edge). is_valid_join facts (known_on_fallthrough facts known i p) (edges_into (suc place) edges) p.join)
         (known_more place (omega (arith, slice_get_within first place i there))) (edges_more (suc place) (omega (arith, slice_get_within first place i there))) ∙ valid_parts.join place i p there given)
-        (ap₂ (λ (known : Known) (edges : List Edge). is_valid_join facts known (edges_into (suc (length first)) edges) part.join)
-        (ap (λ (known : Known). known_on_fallthrough facts known instr part) (known_more (length first) (omega arith)) ∙ ap known_or_nothing says) edges_here ∙ joins);
+        (ap₂ (λ (known : KnownNodes) (edges : List Edge). is_valid_join facts known (edges_into (suc (length first)) edges) part.join)
+        (ap (λ (known : KnownNodes). known_on_fallthrough facts known instr part) (known_more (length first) (omega arith)) ∙ ap known_or_nothing says) edges_here ∙ joins);
   }
 
 -- its lines come after theirs

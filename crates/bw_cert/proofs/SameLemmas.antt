@@ -17,7 +17,7 @@ use Rattle.bw_cert_text.specs.CertificateFields.{body_fields, certificate_fields
 use Rattle.bw_cert_text.specs.CertificateShape.{CertificateShape}
 use Rattle.bw_cert_rules.specs.declared.nodes.TruthPair.{TruthPair}
 use Rattle.bw_cert_rules.specs.Pair as pairs
-use Rattle.bw_cert_rules.specs.Known.{Known}
+use Rattle.bw_cert_rules.specs.Known.{KnownNodes}
 use Rattle.bw_cert_rules.specs.Walk.{WalkState}
 use Rattle.bw_cert_rules.specs.Walk as walk
 use Rattle.bw_cert.specs.StatedFacts.{on_line, with_lines, with_node_line, with_chain_line}
@@ -77,18 +77,18 @@ after_pair (Err fault) (Ok b) f g same each = cc
 after_pair (Err fault) (Err other) f g same each = cc
 
 pub after_walk : (read other : Result WalkState Fault) (f g : WalkState → Result Facts Fault) → walk.line_fields read ≡ walk.line_fields other →
-    ((known : Known) (lines others : List BodyLine) → SayTheSame lines others → f (record { known = known; rest = lines }) ≡ g (record { known = known; rest = others })) →
+    ((known : KnownNodes) (lines others : List BodyLine) → SayTheSame lines others → f (record { known = known; rest = lines }) ≡ g (record { known = known; rest = others })) →
     (read >>= f) ≡ (other >>= g)
 after_walk (Ok a) (Ok b) f g same each =
     let both : (a.known, map body_fields a.rest) ≡ (b.known, map body_fields b.rest) = cc in
-    let known : a.known ≡ b.known = ap (λ (said : Known × List BodyFields). said.0) both in
-    let rests : SayTheSame a.rest b.rest = ap (λ (said : Known × List BodyFields). said.1) both in
+    let known : a.known ≡ b.known = ap (λ (said : KnownNodes × List BodyFields). said.0) both in
+    let rests : SayTheSame a.rest b.rest = ap (λ (said : KnownNodes × List BodyFields). said.1) both in
     each a.known a.rest b.rest rests ∙ ap (λ known. g (record { known = known; rest = b.rest })) known
 after_walk (Ok a) (Err fault) f g same each = cc
 after_walk (Err fault) (Ok b) f g same each = cc
 after_walk (Err fault) (Err other) f g same each = cc
 
-pub end-same : (facts : Facts) (end : ℕ) (known : Known) (lines others : List BodyLine) (result first row : ℕ) → SayTheSame lines others →
+pub end-same : (facts : Facts) (end : ℕ) (known : KnownNodes) (lines others : List BodyLine) (result first row : ℕ) → SayTheSame lines others →
     last_on facts end lines known result first row ≡ last_on facts end others known result first row
 end-same facts end known [] [] result first row same = refl
 end-same facts end known [] (other ∷ others) result first row same = cc

@@ -13,7 +13,7 @@ use Rattle.std.proofs.lemmas.Bool.{eqb-true}
 use Rattle.bw_model.specs.Variable.{Assignment}
 use Rattle.bw_diagram.specs.Node.{node_value}
 use Rattle.bw_diagram.specs.Product.{apply_connective}
-use Rattle.bw_diagram.specs.References.{AreWorth, product_node}
+use Rattle.bw_diagram.specs.References.{HaveStatedValues, product_node}
 use Rattle.bw_diagram.specs.Facts.{Facts, AreTrue, no_facts, with_node, with_chain, with_product}
 use Rattle.bw_program.specs.declared.instr.Instr.{Instr}
 use Rattle.bw_program.specs.declared.instr.Instr.TheVariants as instr
@@ -29,7 +29,7 @@ use Rattle.bw_cert_text.specs.CertificateShape.{CertificateShape}
 use Rattle.bw_cert_rules.specs.Instruction.{check_instruction_line, loaded_node, byte_chain}
 use Rattle.bw_cert_rules.specs.Instruction.{plane_on, byte_on}
 use Rattle.bw_cert_rules.specs.Join.{is_zero}
-use Rattle.bw_cert_rules.specs.Known.{Known, node_of}
+use Rattle.bw_cert_rules.specs.Known.{KnownNodes, node_of}
 use Rattle.bw_cert_rules.specs.Walk.{WalkState}
 use Rattle.bw_cert.specs.StatedFacts.{on_line, with_lines, with_node_line, with_chain_line}
 use Rattle.bw_cert.specs.StatedFacts.{with_product_line, facts_stated}
@@ -72,7 +72,7 @@ ended facts found end taken result first row is = at taken.rest refl is
         let zero = not_refused (not (is_zero (product_node facts Xor node.0 first row))) _ _ found node.2 in
         record { none = there; node = node.0; known = found_ok 609 end _ node.0 node.1; zero = negated _ zero.0 }
 
-pub ends : (facts : Facts) (end : ℕ) (known : Known) (result first row node : ℕ) → node_of known result ≡ Some node → is_zero (product_node facts Xor node first row) ≡ true →
+pub ends : (facts : Facts) (end : ℕ) (known : KnownNodes) (result first row node : ℕ) → node_of known result ≡ Some node → is_zero (product_node facts Xor node first row) ≡ true →
     end_on facts end (record { known = known; rest = [] }) result first row ≡ Ok facts
 ends facts end known result first row node there none =
     ap (λ o. found_on 609 end o >>= λ node. refused_if (not (is_zero (product_node facts Xor node first row))) (at_line 610 end) (Ok facts)) there
@@ -125,7 +125,7 @@ stated_true columns certificate facts start node chain row is =
     start nodes.1) chains.1) chains.2
 
 -- an instruction whose line is right names what the columns have
-pub after_fits : (facts : Facts) (known past : Known) (line : ℕ) (i : Instr) (given : InstructionEntry) → check_instruction_line facts known line i given ≡ Ok past → instr_fits facts.columns i ≡ true
+pub after_fits : (facts : Facts) (known past : KnownNodes) (line : ℕ) (i : Instr) (given : InstructionEntry) → check_instruction_line facts known line i given ≡ Ok past → instr_fits facts.columns i ≡ true
 unfolding check_instruction_line
 after_fits facts known past line (instr.Load r column bit) given is =
     let node = bind_ok (plane_on facts line (instr_fits facts.columns (instr.Load r column bit)) (bit_variable facts.columns column bit) given) _ past is in
@@ -167,9 +167,9 @@ map_same f g [] same = refl
 map_same {B = B} f g (x ∷ xs) same = ap₂ (λ (y : B) (ys : List B). y ∷ ys) (same x) (map_same f g xs same)
 
 -- of two nodes whose XOR is the node 0 by a row, the values are the same
-pub same_worth : (facts : Facts) (a b row : ℕ) → AreWorth facts → is_zero (product_node facts Xor a b row) ≡ true → (assignment : Assignment) → node_value facts.nodes assignment a ≡ node_value facts.nodes assignment b
-same_worth facts a b row worth is assignment =
-    xor_zero _ _ (sym ((worth.row Xor a b row 0 (zero_is _ is)).1 assignment) ∙ worth.zero assignment)
+pub same_denotes : (facts : Facts) (a b row : ℕ) → HaveStatedValues facts → is_zero (product_node facts Xor a b row) ≡ true → (assignment : Assignment) → node_value facts.nodes assignment a ≡ node_value facts.nodes assignment b
+same_denotes facts a b row have_values is assignment =
+    xor_zero _ _ (sym ((have_values.row Xor a b row 0 (zero_is _ is)).1 assignment) ∙ have_values.zero assignment)
   where
     zero_is : (found : Option ℕ) → is_zero found ≡ true → found ≡ Some 0
     zero_is None is = cc

@@ -16,7 +16,7 @@ use Rattle.bw_cert_rules.specs.Accepted.{KeepLine, JoinLines, Part, AreValidPart
 use Rattle.bw_cert_rules.specs.Accepted.{lines_of, known_before, edges_before, are_kept}
 use Rattle.bw_cert_rules.specs.Instruction.{check_instruction_line}
 use Rattle.bw_cert_rules.specs.Join.{edge_of, with_edge, edges_into}
-use Rattle.bw_cert_rules.specs.Known.{Known}
+use Rattle.bw_cert_rules.specs.Known.{KnownNodes}
 use Rattle.bw_cert_rules.specs.Walk.{instruction_on, is_join, keep_in, check_lines}
 
 -- the lines don't begin with a line KEEP
@@ -33,14 +33,14 @@ KeepsAreAll parts rest =
 
 -- The line of an instruction is expected. The next line is another, or breaks its rule, whatever
 -- follows it; or there is none, and the error is at END (607).
-abbrev pub WrongLine : Facts → ℕ → Known → Instr → List BodyLine → Fault → Type 0
+abbrev pub WrongLine : Facts → ℕ → KnownNodes → Instr → List BodyLine → Fault → Type 0
 WrongLine facts end known instr [] fault = fault ≡ at_line INSTRUCTION_LINE end
 WrongLine facts end known instr (line ∷ lines) fault = instruction_on facts known instr line
     line.entry ≡ Err fault
 
 -- After lines KEEP that are true, of registers that ascend from the least, follows one that isn't,
 -- whatever follows it (608).
-pub record WrongKeep (facts : Facts) (through : Known) (edges : List Edge) (least : ℕ)
+pub record WrongKeep (facts : Facts) (through : KnownNodes) (edges : List Edge) (least : ℕ)
     (lines : List BodyLine)
     (fault : Fault) : Type 0 where
   pub keeps : List KeepLine
@@ -53,7 +53,7 @@ pub record WrongKeep (facts : Facts) (through : Known) (edges : List Edge) (leas
 
 -- The line JOIN of a place is expected. The next line is another (608); or there is none, and the
 -- error is at END; or it is that line, and a line KEEP after it isn't true.
-abbrev pub WrongJoin : Facts → ℕ → ℕ → Known → List Edge → List BodyLine → Fault → Type 0
+abbrev pub WrongJoin : Facts → ℕ → ℕ → KnownNodes → List Edge → List BodyLine → Fault → Type 0
 WrongJoin facts end place through edges [] fault = fault ≡ at_line JOIN end
 WrongJoin facts end place through edges (line ∷ lines) fault =
     ((is_join place line.entry ≡ false) × (fault ≡ at_line JOIN line.line))
@@ -61,20 +61,20 @@ WrongJoin facts end place through edges (line ∷ lines) fault =
 
 -- The next line is the instruction's and satisfies its rule. Skips lead to the place after it, but
 -- the next lines aren't that place's join.
-pub record WrongPlace (facts : Facts) (end place : ℕ) (known : Known) (edges : List Edge)
+pub record WrongPlace (facts : Facts) (end place : ℕ) (known : KnownNodes) (edges : List Edge)
     (instr : Instr)
     (lines : List BodyLine) (fault : Fault) : Type 0 where
   pub line : ℕ
   pub entry : InstructionEntry
   pub rest : List BodyLine
   pub spelled : lines ≡ record { line = line; entry = line_of.Instruction entry } ∷ rest
-  pub through : Known
+  pub through : KnownNodes
   pub says : check_instruction_line facts known line instr entry ≡ Ok through
   pub skips : 0 < length edges
   pub wrong : WrongJoin facts end place through edges rest fault
 
 -- what is known after these first instructions
-abbrev pub known_after : Facts → List Instr → List Part → Known
+abbrev pub known_after : Facts → List Instr → List Part → KnownNodes
 known_after facts first parts = known_before facts first parts (length first)
 
 -- the edges of the skips, among these and one more instruction, that lead to the place after them

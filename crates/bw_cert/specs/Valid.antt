@@ -18,7 +18,7 @@ use Rattle.bw_cert_rules.specs.declared.nodes.TruthPair.{TruthPair}
 use Rattle.bw_cert_rules.specs.Pair.{pair_of}
 use Rattle.bw_cert_rules.specs.Accepted.{Part, AreValidParts, known_before, lines_of}
 use Rattle.bw_cert_rules.specs.Join.{is_zero}
-use Rattle.bw_cert_rules.specs.Known.{Known, node_of}
+use Rattle.bw_cert_rules.specs.Known.{KnownNodes, node_of}
 use Rattle.bw_cert_rules.specs.Walk.{WalkState, check_lines}
 use Rattle.bw_cert.specs.StatedFacts.{facts_stated}
 
@@ -49,12 +49,12 @@ pub record Valid (columns : List Column) (cond : Cond) (program : ProgramShape)
 
 -- END: no line is left over (610), the result register's node is known (609), and by the product
 -- row its XOR with the condition's node is 0 (610)
-abbrev pub result_on : Facts → ℕ → Known → ℕ → ℕ → ℕ → Result Facts Fault
+abbrev pub result_on : Facts → ℕ → KnownNodes → ℕ → ℕ → ℕ → Result Facts Fault
 result_on facts end known result first row =
     found_on REGISTER_UNKNOWN end (node_of known result) >>= λ node.
     refused_if (not (is_zero (product_node facts Xor node first row))) (at_line END end) (Ok facts)
 
-abbrev pub last_on : Facts → ℕ → List BodyLine → Known → ℕ → ℕ → ℕ → Result Facts Fault
+abbrev pub last_on : Facts → ℕ → List BodyLine → KnownNodes → ℕ → ℕ → ℕ → Result Facts Fault
 last_on facts end [] known result first row = result_on facts end known result first row
 last_on facts end (line ∷ lines) known result first row = Err (at_line END line.line)
 

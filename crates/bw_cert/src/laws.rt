@@ -27,7 +27,7 @@ use bw_cert_rules::{
     accepted_lines_are_valid, lines_are_checked_by_their_fields, pairs_are_of_trees,
     pairs_tell_truths, skip_soundness, valid_lines_are_accepted,
 };
-use bw_diagram::{accepted_lines_are_true, cited_nodes_are_worth};
+use bw_diagram::{accepted_lines_are_true, cited_nodes_have_stated_values};
 use bw_run::runs_come_to_the_end;
 
 /// A law: a certificate is valid if and only if no line breaks a rule.
@@ -72,7 +72,7 @@ pub fn valid_programs_select()
         → Valid columns cond program certificate → Selects columns cond program }
 {
     accepted_lines_are_true();
-    cited_nodes_are_worth();
+    cited_nodes_have_stated_values();
     skip_soundness();
     runs_come_to_the_end();
     pairs_tell_truths();

@@ -20,7 +20,7 @@ use Rattle.bw_cert_rules.specs.Accepted.{known_or_nothing, known_after_join, kno
 use Rattle.bw_cert_rules.specs.Accepted.{are_kept, is_valid_join, Accepts}
 use Rattle.bw_cert_rules.specs.Instruction.{check_instruction_line}
 use Rattle.bw_cert_rules.specs.Join.{edge_of, with_edge, edges_into, is_valid_keep}
-use Rattle.bw_cert_rules.specs.Known.{Known, nothing_known, with_node}
+use Rattle.bw_cert_rules.specs.Known.{KnownNodes, nothing_known, with_node}
 use Rattle.bw_cert_rules.specs.Walk.{WalkState, keep_in, by_keep, keeps_taken, join_taken, is_join}
 use Rattle.bw_cert_rules.specs.Walk.{instruction_on, instruction_taken, apply_join}
 use Rattle.bw_cert_rules.specs.Walk.{check_lines_from, check_lines}
@@ -41,17 +41,17 @@ negated true is = refl
 negated false is = cc
 
 -- the line of an instruction
-pub record Line (facts : Facts) (known : Known) (instr : Instr) (lines : List BodyLine) (through : WalkState) : Type 0 where
+pub record Line (facts : Facts) (known : KnownNodes) (instr : Instr) (lines : List BodyLine) (through : WalkState) : Type 0 where
   pub line : ℕ
   pub entry : InstructionEntry
   pub spelled : lines ≡ record { line = line; entry = line_of.Instruction entry } ∷ through.rest
   pub says : check_instruction_line facts known line instr entry ≡ Ok through.known
 
-pub line_read : (facts : Facts) (end : ℕ) (known : Known) (instr : Instr) (lines : List BodyLine) (through : WalkState) → instruction_taken facts end known instr lines ≡ Ok through → Line facts known instr lines through
+pub line_read : (facts : Facts) (end : ℕ) (known : KnownNodes) (instr : Instr) (lines : List BodyLine) (through : WalkState) → instruction_taken facts end known instr lines ≡ Ok through → Line facts known instr lines through
 line_read facts end known instr [] through is = cc
 line_read facts end known instr (line ∷ lines) through is = at line.entry refl (bind_ok (instruction_on facts known instr line line.entry) _ through is)
   where
-    at : (entry : Entry) → line.entry ≡ entry → (k : Known) × (instruction_on facts known instr line line.entry ≡ Ok k) × (◌≡◌ {A = Result WalkState Fault} (Ok (record { known = k; rest = lines })) (Ok through)) →
+    at : (entry : Entry) → line.entry ≡ entry → (k : KnownNodes) × (instruction_on facts known instr line line.entry ≡ Ok k) × (◌≡◌ {A = Result WalkState Fault} (Ok (record { known = k; rest = lines })) (Ok through)) →
         Line facts known instr (line ∷ lines) through
     at (line_of.Instruction entry) there (k, says, done) =
         let same : record { known = k; rest = lines } ≡ through = ok_is done in
@@ -66,13 +66,13 @@ line_read facts end known instr (line ∷ lines) through is = at line.entry refl
     at (line_of.Keep keep) there (k, says, done) = err_not (ap (instruction_on facts known instr line) (sym there) ∙ says)
 
 -- the lines KEEP of a join
-pub record Keeps (facts : Facts) (through : Known) (edges : List Edge) (least : ℕ) (kept : Known) (lines : List BodyLine) (taken : WalkState) : Type 0 where
+pub record Keeps (facts : Facts) (through : KnownNodes) (edges : List Edge) (least : ℕ) (kept : KnownNodes) (lines : List BodyLine) (taken : WalkState) : Type 0 where
   pub keeps : List KeepLine
   pub spelled : lines ≡ map keep_line keeps ++ taken.rest
   pub kept_are : are_kept facts through edges least keeps ≡ true
   pub known : taken.known ≡ kept_by kept keeps
 
-pub keeps_read : (facts : Facts) (through : Known) (edges : List Edge) (least : ℕ) (kept : Known) (lines : List BodyLine) (taken : WalkState) → keeps_taken facts through edges least kept lines ≡ Ok taken →
+pub keeps_read : (facts : Facts) (through : KnownNodes) (edges : List Edge) (least : ℕ) (kept : KnownNodes) (lines : List BodyLine) (taken : WalkState) → keeps_taken facts through edges least kept lines ≡ Ok taken →
     Keeps facts through edges least kept lines taken
 unfolding keeps_taken are_kept kept_by
 keeps_read facts through edges least kept [] taken is =
@@ -173,13 +173,13 @@ before_more : (facts : Facts) (instrs : List Instr) (parts : List Part) (part : 
 unfolding known_before
 before_more facts instrs parts part zero le = refl
 before_more facts instrs parts part (suc place) le =
-    ap₂ (λ (known : Known) (p : Option Part). known_past facts known (slice_get instrs place) p) (before_more facts instrs parts part place (omega (arith, le))) (stands_before parts part place (omega (arith, le)))
+    ap₂ (λ (known : KnownNodes) (p : Option Part). known_past facts known (slice_get instrs place) p) (before_more facts instrs parts part place (omega (arith, le))) (stands_before parts part place (omega (arith, le)))
 
 edges_more : (facts : Facts) (instrs : List Instr) (parts : List Part) (part : Part) (place : ℕ) → place ≤ suc (length parts) → edges_before facts instrs (parts ++ part ∷ []) place ≡ edges_before facts instrs parts place
 unfolding edges_before
 edges_more facts instrs parts part zero le = refl
 edges_more facts instrs parts part (suc place) le =
-    ap₂ (λ (edges : List Edge) (known : Known). with_edge edges (edge_at known (slice_get instrs place))) (edges_more facts instrs parts part place (omega (arith, le))) (before_more facts instrs parts part place (omega (arith, le)))
+    ap₂ (λ (edges : List Edge) (known : KnownNodes). with_edge edges (edge_at known (slice_get instrs place))) (edges_more facts instrs parts part place (omega (arith, le))) (before_more facts instrs parts part place (omega (arith, le)))
 
 -- the lines of parts and one more
 lines_more : (place : ℕ) (parts : List Part) (part : Part) → lines_of place (parts ++ part ∷ []) ≡

@@ -19,7 +19,7 @@ use Rattle.bw_model.specs.Cond.{operand_value, is_within}
 use Rattle.bw_model.specs.Row.{Value, value_in}
 use Rattle.bw_model.specs.StoredCodes.{number_spelled}
 use Rattle.bw_model.specs.Truth.{truth_from, is_truth, holds, compare_values, swap_operands}
-use Rattle.bw_model.specs.Variable.{Assignment, first_variable, is_nullable, spelled, row_of}
+use Rattle.bw_model.specs.Variable.{Assignment, first_variable, is_nullable, binary_number, row_of}
 use Rattle.bw_model.specs.Variable.{null_variable, bit_variable}
 use Rattle.bw_model.proofs.PlaceLemmas.{value_in-row_of}
 use Rattle.bw_diagram.specs.declared.chain.ChainKind.{ChainKind}
@@ -27,7 +27,7 @@ use Rattle.bw_diagram.specs.declared.chain.ChainKind.TheVariants.{Less, Equal}
 use Rattle.bw_diagram.specs.declared.node.Node.{Node}
 use Rattle.bw_diagram.specs.declared.product.Connective.TheVariants.{And, Diff}
 use Rattle.bw_diagram.specs.Chain.{compares, padded_number, first_node}
-use Rattle.bw_diagram.specs.References.{AreWorth, product_node, comparison_node, two_column_node}
+use Rattle.bw_diagram.specs.References.{HaveStatedValues, product_node, comparison_node, two_column_node}
 use Rattle.bw_diagram.specs.Facts.{Facts}
 use Rattle.bw_diagram.proofs.ChainLemmas.{padded_number-whole, number_spelled-whole}
 use Rattle.bw_cert_text.specs.declared.lines.ConditionEntry.{ConditionEntry}
@@ -45,18 +45,18 @@ use Rattle.bw_cert_rules.specs.Meaning.{Tells}
 use Rattle.bw_cert_rules.proofs.NumberLemmas.{compares_to, turned_bit, lt_low, lt_high, eq_low}
 use Rattle.bw_cert_rules.proofs.NumberLemmas.{eq_high, lt_within, eq_within, holds_moved}
 use Rattle.bw_cert_rules.proofs.NumberLemmas.{holds_turned, lt_apart, le_apart, eq_apart, equal-lo}
-use Rattle.bw_cert_rules.proofs.RowLemmas.{Worth, zero_worth, one_worth, worth_so, if_both-is}
-use Rattle.bw_cert_rules.proofs.RowLemmas.{product_node-worth, has_value, value_node-worth}
+use Rattle.bw_cert_rules.proofs.RowLemmas.{Denotes, zero_denotes, one_denotes, denotes_so, if_both-is}
+use Rattle.bw_cert_rules.proofs.RowLemmas.{product_node-have_values, has_value, value_node-have_values}
 
 -- a pair whose nodes are worth this tells it
-pub tells_by : (nodes : List Node) (truth : Assignment → Truth) (pair : TruthPair) → Worth nodes (λ assignment. is_truth (truth assignment) Yes) pair.yes → Worth nodes (λ assignment. is_truth (truth assignment) No) pair.no → Tells nodes truth pair
-tells_by nodes truth pair t f = record { yes_node = t.is_node; no_node = f.is_node; yes = t.worth; no = f.worth }
+pub tells_by : (nodes : List Node) (truth : Assignment → Truth) (pair : TruthPair) → Denotes nodes (λ assignment. is_truth (truth assignment) Yes) pair.yes → Denotes nodes (λ assignment. is_truth (truth assignment) No) pair.no → Tells nodes truth pair
+tells_by nodes truth pair t f = record { yes_node = t.is_node; no_node = f.is_node; yes = t.have_values; no = f.have_values }
 
-pub tells_yes : (nodes : List Node) (truth : Assignment → Truth) (pair : TruthPair) → Tells nodes truth pair → Worth nodes (λ assignment. is_truth (truth assignment) Yes) pair.yes
-tells_yes nodes truth pair t = record { is_node = t.yes_node; worth = t.yes }
+pub tells_yes : (nodes : List Node) (truth : Assignment → Truth) (pair : TruthPair) → Tells nodes truth pair → Denotes nodes (λ assignment. is_truth (truth assignment) Yes) pair.yes
+tells_yes nodes truth pair t = record { is_node = t.yes_node; have_values = t.yes }
 
-pub tells_no : (nodes : List Node) (truth : Assignment → Truth) (pair : TruthPair) → Tells nodes truth pair → Worth nodes (λ assignment. is_truth (truth assignment) No) pair.no
-tells_no nodes truth pair t = record { is_node = t.no_node; worth = t.no }
+pub tells_no : (nodes : List Node) (truth : Assignment → Truth) (pair : TruthPair) → Tells nodes truth pair → Denotes nodes (λ assignment. is_truth (truth assignment) No) pair.no
+tells_no nodes truth pair t = record { is_node = t.no_node; have_values = t.no }
 
 pub tells_so : (nodes : List Node) (truth other : Assignment → Truth) (pair : TruthPair) → ((assignment : Assignment) → truth assignment ≡ other assignment) → Tells nodes truth pair → Tells nodes other pair
 tells_so nodes truth other pair same t = record {
@@ -68,9 +68,9 @@ tells_so nodes truth other pair same t = record {
 
 -- a step with one truth
 constant_tells : (nodes : List Node) (truth : Truth) → Tells nodes (λ assignment. truth) (constant_pair truth)
-constant_tells nodes Yes = tells_by nodes (λ assignment. Yes) (constant_pair Yes) (one_worth nodes) (zero_worth nodes)
-constant_tells nodes No = tells_by nodes (λ assignment. No) (constant_pair No) (zero_worth nodes) (one_worth nodes)
-constant_tells nodes Unknown = tells_by nodes (λ assignment. Unknown) (constant_pair Unknown) (zero_worth nodes) (zero_worth nodes)
+constant_tells nodes Yes = tells_by nodes (λ assignment. Yes) (constant_pair Yes) (one_denotes nodes) (zero_denotes nodes)
+constant_tells nodes No = tells_by nodes (λ assignment. No) (constant_pair No) (zero_denotes nodes) (one_denotes nodes)
+constant_tells nodes Unknown = tells_by nodes (λ assignment. Unknown) (constant_pair Unknown) (zero_denotes nodes) (zero_denotes nodes)
 
 -- the same by its line
 pub fixed-tells : (nodes : List Node) (truth : Truth) (pair : TruthPair) (entry : ConditionEntry) → fixed_pair truth entry ≡ Some pair → Tells nodes (λ assignment. truth) pair
@@ -78,11 +78,11 @@ fixed-tells nodes truth pair Fixed is = subst (Tells nodes (λ assignment. truth
 fixed-tells nodes truth pair _ is = cc
 
 -- this many bits spell a number below that power of 2
-spelled-lt : (assignment : Assignment) (first count : ℕ) → spelled assignment first count < 2 ^ count
+spelled-lt : (assignment : Assignment) (first count : ℕ) → binary_number assignment first count < 2 ^ count
 spelled-lt assignment first zero = omega arith
 spelled-lt assignment first (suc count) = by_bit (assignment first) (spelled-lt assignment (suc first) count)
   where
-    by_bit : (bit : Bool) → spelled assignment (suc first) count < 2 ^ count → cond bit (2 ^ count) 0 + spelled assignment (suc first) count < 2 ^ suc count
+    by_bit : (bit : Bool) → binary_number assignment (suc first) count < 2 ^ count → cond bit (2 ^ count) 0 + binary_number assignment (suc first) count < 2 ^ suc count
     by_bit true lt = omega (arith, pow-succ' 2 count)
     by_bit false lt = omega (arith, pow-succ' 2 count)
 
@@ -108,7 +108,7 @@ pub value_in-assigned : (columns : List Column) (col : ℕ) → col < length col
 value_in-assigned columns col lt assignment =
     value_in-row_of columns assignment col lt
     ∙ by_null (is_nullable columns col && assignment (first_variable columns col)) _
-    ∙ ap (value_if (has_value columns col assignment)) (value_at-lo columns col (spelled assignment (bit_variable columns col (width_at columns col - 1)) (width_at columns col)) lt
+    ∙ ap (value_if (has_value columns col assignment)) (value_at-lo columns col (binary_number assignment (bit_variable columns col (width_at columns col - 1)) (width_at columns col)) lt
     ∙ ap (λ code. lo_at columns col +ℤ pos code) (sym (number_spelled-whole columns col assignment)))
   where
     by_null : (null : Bool) (v : ℤ) → cond null None (Some v) ≡ value_if (not null) v
@@ -116,27 +116,27 @@ value_in-assigned columns col lt assignment =
     by_null false v = refl
 
 -- the terminal of a comparison with a bound that no number of the bits is compared to
-terminal-worth : (nodes : List Node) (x : Assignment → ℕ) (kind : ChainKind) (limit : ℤ) (width e : ℕ) → ((assignment : Assignment) → x assignment < 2 ^ width) → terminal_of kind limit width ≡ Some e →
-    Worth nodes (λ assignment. compares_to kind (pos (x assignment)) limit) e
-terminal-worth nodes x Less limit width e below is = by_low (int_le limit (pos 0)) refl is
+terminal-have_values : (nodes : List Node) (x : Assignment → ℕ) (kind : ChainKind) (limit : ℤ) (width e : ℕ) → ((assignment : Assignment) → x assignment < 2 ^ width) → terminal_of kind limit width ≡ Some e →
+    Denotes nodes (λ assignment. compares_to kind (pos (x assignment)) limit) e
+terminal-have_values nodes x Less limit width e below is = by_low (int_le limit (pos 0)) refl is
   where
-    by_high : (high : Bool) → int_le (pos (2 ^ width)) limit ≡ high → cond high (Some 1) None ≡ Some e → Worth nodes (λ assignment. int_lt (pos (x assignment)) limit) e
-    by_high true high is = subst (Worth nodes (λ assignment. int_lt (pos (x assignment)) limit)) (cc)
-        (worth_so nodes (λ assignment. true) _ 1 (λ assignment. sym (lt_high (x assignment) (2 ^ width) limit (below assignment) high)) (one_worth nodes))
+    by_high : (high : Bool) → int_le (pos (2 ^ width)) limit ≡ high → cond high (Some 1) None ≡ Some e → Denotes nodes (λ assignment. int_lt (pos (x assignment)) limit) e
+    by_high true high is = subst (Denotes nodes (λ assignment. int_lt (pos (x assignment)) limit)) (cc)
+        (denotes_so nodes (λ assignment. true) _ 1 (λ assignment. sym (lt_high (x assignment) (2 ^ width) limit (below assignment) high)) (one_denotes nodes))
     by_high false high is = cc
 
-    by_low : (low : Bool) → int_le limit (pos 0) ≡ low → cond low (Some 0) (cond (int_le (pos (2 ^ width)) limit) (Some 1) None) ≡ Some e → Worth nodes (λ assignment. int_lt (pos (x assignment)) limit) e
-    by_low true low is = subst (Worth nodes (λ assignment. int_lt (pos (x assignment)) limit)) (cc)
-        (worth_so nodes (λ assignment. false) _ 0 (λ assignment. sym (lt_low (x assignment) limit low)) (zero_worth nodes))
+    by_low : (low : Bool) → int_le limit (pos 0) ≡ low → cond low (Some 0) (cond (int_le (pos (2 ^ width)) limit) (Some 1) None) ≡ Some e → Denotes nodes (λ assignment. int_lt (pos (x assignment)) limit) e
+    by_low true low is = subst (Denotes nodes (λ assignment. int_lt (pos (x assignment)) limit)) (cc)
+        (denotes_so nodes (λ assignment. false) _ 0 (λ assignment. sym (lt_low (x assignment) limit low)) (zero_denotes nodes))
     by_low false low is = by_high (int_le (pos (2 ^ width)) limit) refl is
-terminal-worth nodes x Equal limit width e below is = by_tests (int_lt limit (pos 0)) (int_le (pos (2 ^ width)) limit) refl refl is
+terminal-have_values nodes x Equal limit width e below is = by_tests (int_lt limit (pos 0)) (int_le (pos (2 ^ width)) limit) refl refl is
   where
-    worth : ((assignment : Assignment) → int_eq (pos (x assignment)) limit ≡ false) → 0 ≡ e → Worth nodes (λ assignment. int_eq (pos (x assignment)) limit) e
-    worth unequal is = subst (Worth nodes (λ assignment. int_eq (pos (x assignment)) limit)) is (worth_so nodes (λ assignment. false) _ 0 (λ assignment. sym (unequal assignment)) (zero_worth nodes))
+    have_values : ((assignment : Assignment) → int_eq (pos (x assignment)) limit ≡ false) → 0 ≡ e → Denotes nodes (λ assignment. int_eq (pos (x assignment)) limit) e
+    have_values unequal is = subst (Denotes nodes (λ assignment. int_eq (pos (x assignment)) limit)) is (denotes_so nodes (λ assignment. false) _ 0 (λ assignment. sym (unequal assignment)) (zero_denotes nodes))
 
-    by_tests : (low high : Bool) → int_lt limit (pos 0) ≡ low → int_le (pos (2 ^ width)) limit ≡ high → cond (low || high) (Some 0) None ≡ Some e → Worth nodes (λ assignment. int_eq (pos (x assignment)) limit) e
-    by_tests true high low_is high_is is = worth (λ assignment. eq_low (x assignment) limit low_is) (cc)
-    by_tests false true low_is high_is is = worth (λ assignment. eq_high (x assignment) (2 ^ width) limit (below assignment) high_is) (cc)
+    by_tests : (low high : Bool) → int_lt limit (pos 0) ≡ low → int_le (pos (2 ^ width)) limit ≡ high → cond (low || high) (Some 0) None ≡ Some e → Denotes nodes (λ assignment. int_eq (pos (x assignment)) limit) e
+    by_tests true high low_is high_is is = have_values (λ assignment. eq_low (x assignment) limit low_is) (cc)
+    by_tests false true low_is high_is is = have_values (λ assignment. eq_high (x assignment) (2 ^ width) limit (below assignment) high_is) (cc)
     by_tests false false low_is high_is is = cc
 
 -- other bounds are natural numbers
@@ -175,26 +175,26 @@ compare_values-null op (Some m) = refl
 abbrev split_truth : Bool → Bool → Bool → Truth
 split_truth negated there bit = cond there (truth_from (turned_bit negated bit)) Unknown
 
-module _ (facts : Facts) (are_worth : AreWorth facts) where
-  split-tells : (negated : Bool) (m e : Option ℕ) (p q : ℕ) (pair : TruthPair) (there bit : Assignment → Bool) → ((n : ℕ) → m ≡ Some n → Worth facts.nodes there n) → ((n : ℕ) → e ≡ Some n → Worth facts.nodes bit n) →
+module _ (facts : Facts) (have_values : HaveStatedValues facts) where
+  split-tells : (negated : Bool) (m e : Option ℕ) (p q : ℕ) (pair : TruthPair) (there bit : Assignment → Bool) → ((n : ℕ) → m ≡ Some n → Denotes facts.nodes there n) → ((n : ℕ) → e ≡ Some n → Denotes facts.nodes bit n) →
       exchange_if negated (pair_if_known facts m e p q) ≡ Some pair → Tells facts.nodes (λ assignment. split_truth negated (there assignment) (bit assignment)) pair
-  split-tells negated None e p q pair there bit m_worth e_worth is = by_turn negated is
+  split-tells negated None e p q pair there bit m_denotes e_denotes is = by_turn negated is
     where
       by_turn : (negated : Bool) → exchange_if negated None ≡ Some pair → Tells facts.nodes (λ assignment. split_truth negated (there assignment) (bit assignment)) pair
       by_turn true is = cc
       by_turn false is = cc
-  split-tells negated (Some m) None p q pair there bit m_worth e_worth is = by_turn negated is
+  split-tells negated (Some m) None p q pair there bit m_denotes e_denotes is = by_turn negated is
     where
       by_turn : (negated : Bool) → exchange_if negated None ≡ Some pair → Tells facts.nodes (λ assignment. split_truth negated (there assignment) (bit assignment)) pair
       by_turn true is = cc
       by_turn false is = cc
-  split-tells negated (Some m) (Some e) p q pair there bit m_worth e_worth is = by_turn negated (if_both (product_node facts And m e p) (product_node facts Diff m e q)) refl is
+  split-tells negated (Some m) (Some e) p q pair there bit m_denotes e_denotes is = by_turn negated (if_both (product_node facts And m e p) (product_node facts Diff m e q)) refl is
     where
-      t_worth : (made : TruthPair) → if_both (product_node facts And m e p) (product_node facts Diff m e q) ≡ Some made → Worth facts.nodes (λ assignment. there assignment && bit assignment) made.yes
-      t_worth made is = product_node-worth facts are_worth And m e made.yes p there bit (m_worth m refl) (e_worth e refl) (if_both-is _ _ made is).0
+      t_denotes : (made : TruthPair) → if_both (product_node facts And m e p) (product_node facts Diff m e q) ≡ Some made → Denotes facts.nodes (λ assignment. there assignment && bit assignment) made.yes
+      t_denotes made is = product_node-have_values facts have_values And m e made.yes p there bit (m_denotes m refl) (e_denotes e refl) (if_both-is _ _ made is).0
 
-      f_worth : (made : TruthPair) → if_both (product_node facts And m e p) (product_node facts Diff m e q) ≡ Some made → Worth facts.nodes (λ assignment. there assignment && not (bit assignment)) made.no
-      f_worth made is = product_node-worth facts are_worth Diff m e made.no q there bit (m_worth m refl) (e_worth e refl) (if_both-is _ _ made is).1
+      f_denotes : (made : TruthPair) → if_both (product_node facts And m e p) (product_node facts Diff m e q) ≡ Some made → Denotes facts.nodes (λ assignment. there assignment && not (bit assignment)) made.no
+      f_denotes made is = product_node-have_values facts have_values Diff m e made.no q there bit (m_denotes m refl) (e_denotes e refl) (if_both-is _ _ made is).1
 
       both_yes : (there bit : Bool) → (there && bit) ≡ is_truth (split_truth false there bit) Yes
       both_yes true true = refl
@@ -223,34 +223,34 @@ module _ (facts : Facts) (are_worth : AreWorth facts) where
       by_turn false (Some found) made is =
           subst (Tells facts.nodes (λ assignment. split_truth false (there assignment) (bit assignment))) (cc)
           (tells_by facts.nodes _ found
-          (worth_so facts.nodes _ _ found.yes (λ assignment. both_yes (there assignment) (bit assignment)) (t_worth found made))
-          (worth_so facts.nodes _ _ found.no (λ assignment. both_no (there assignment) (bit assignment)) (f_worth found made)))
+          (denotes_so facts.nodes _ _ found.yes (λ assignment. both_yes (there assignment) (bit assignment)) (t_denotes found made))
+          (denotes_so facts.nodes _ _ found.no (λ assignment. both_no (there assignment) (bit assignment)) (f_denotes found made)))
       by_turn true (Some found) made is =
           subst (Tells facts.nodes (λ assignment. split_truth true (there assignment) (bit assignment))) (cc)
           (tells_by facts.nodes _ (exchange_nodes found)
-          (worth_so facts.nodes _ _ found.no (λ assignment. turned_yes (there assignment) (bit assignment)) (f_worth found made))
-          (worth_so facts.nodes _ _ found.yes (λ assignment. turned_no (there assignment) (bit assignment)) (t_worth found made)))
+          (denotes_so facts.nodes _ _ found.no (λ assignment. turned_yes (there assignment) (bit assignment)) (f_denotes found made))
+          (denotes_so facts.nodes _ _ found.yes (λ assignment. turned_no (there assignment) (bit assignment)) (t_denotes found made)))
 
   -- the node of a comparison of a column's code with a bound
-  bound_node-worth : (col : ℕ) (bound : Bound) (chain : Option ℕ) (e : ℕ) → bound_node facts.columns facts col bound chain ≡ Some e →
-      Worth facts.nodes (λ assignment. compares_to bound.kind (pos (code_spelled facts.columns col assignment)) bound.limit) e
-  bound_node-worth col bound chain e is = by_terminal (terminal_of bound.kind bound.limit (width_at facts.columns col)) refl chain is
+  bound_node-have_values : (col : ℕ) (bound : Bound) (chain : Option ℕ) (e : ℕ) → bound_node facts.columns facts col bound chain ≡ Some e →
+      Denotes facts.nodes (λ assignment. compares_to bound.kind (pos (code_spelled facts.columns col assignment)) bound.limit) e
+  bound_node-have_values col bound chain e is = by_terminal (terminal_of bound.kind bound.limit (width_at facts.columns col)) refl chain is
     where
       cite : ℕ → Option ℕ
       cite = comparison_node facts bound.kind col 0 (width_at facts.columns col) (unsigned_abs bound.limit)
 
       P : ℕ → Type 0
-      P = Worth facts.nodes (λ assignment. compares_to bound.kind (pos (code_spelled facts.columns col assignment)) bound.limit)
+      P = Denotes facts.nodes (λ assignment. compares_to bound.kind (pos (code_spelled facts.columns col assignment)) bound.limit)
 
       by_terminal : (terminal : Option ℕ) → terminal_of bound.kind bound.limit (width_at facts.columns col) ≡ terminal → (chain : Option ℕ) → terminal_or_cited terminal cite chain ≡ Some e → P e
       by_terminal (Some terminal) which None is =
-          subst P (cc) (terminal-worth facts.nodes (code_spelled facts.columns col) bound.kind bound.limit (width_at facts.columns col) terminal (code_spelled-lt facts.columns col) which)
+          subst P (cc) (terminal-have_values facts.nodes (code_spelled facts.columns col) bound.kind bound.limit (width_at facts.columns col) terminal (code_spelled-lt facts.columns col) which)
       by_terminal (Some terminal) which (Some number) is = cc
       by_terminal None which None is = cc
       by_terminal None which (Some number) is =
-          let found = are_worth.chain bound.kind col 0 (width_at facts.columns col) (unsigned_abs bound.limit) number e is in
-          worth_so facts.nodes _ _ e (λ assignment. terminal_of-compares bound.kind bound.limit (width_at facts.columns col) (code_spelled facts.columns col assignment) which)
-          (record { is_node = found.0; worth = found.1 })
+          let found = have_values.chain bound.kind col 0 (width_at facts.columns col) (unsigned_abs bound.limit) number e is in
+          denotes_so facts.nodes _ _ e (λ assignment. terminal_of-compares bound.kind bound.limit (width_at facts.columns col) (code_spelled facts.columns col assignment) which)
+          (record { is_node = found.0; have_values = found.1 })
 
   -- CMP
   pub with_literal-tells : (op : Op) (col : ℕ) (n : ℤ) (entry : ConditionEntry) (pair : TruthPair) → col < length facts.columns → with_literal facts.columns facts op col n entry ≡ Some pair →
@@ -260,7 +260,7 @@ module _ (facts : Facts) (are_worth : AreWorth facts) where
       tells_so facts.nodes _ _ pair same
       (split-tells bound.negated (value_node facts (null_variable facts.columns col) value) (bound_node facts.columns facts col bound chain) p q pair (has_value facts.columns col)
       (λ assignment. compares_to bound.kind (pos (code_spelled facts.columns col assignment)) bound.limit)
-      (λ m found. value_node-worth facts.columns facts are_worth col value m found) (λ e found. bound_node-worth col bound chain e found) is)
+      (λ m found. value_node-have_values facts.columns facts have_values col value m found) (λ e found. bound_node-have_values col bound chain e found) is)
     where
       bound : Bound
       bound = bound_of op (n -ℤ lo_at facts.columns col)
@@ -275,9 +275,9 @@ module _ (facts : Facts) (are_worth : AreWorth facts) where
   with_literal-tells op col n _ pair lt is = cc
 
   -- the node of a comparison of the codes of two columns
-  order_node-worth : (order : Order) (chain : Option ℕ) (e : ℕ) → order_node facts.columns facts order chain ≡ Some e →
-      Worth facts.nodes (λ assignment. compares order.kind (code_spelled facts.columns order.left assignment) (code_spelled facts.columns order.right assignment)) e
-  order_node-worth order chain e is = by_same (eqb order.left order.right) refl chain is
+  order_node-have_values : (order : Order) (chain : Option ℕ) (e : ℕ) → order_node facts.columns facts order chain ≡ Some e →
+      Denotes facts.nodes (λ assignment. compares order.kind (code_spelled facts.columns order.left assignment) (code_spelled facts.columns order.right assignment)) e
+  order_node-have_values order chain e is = by_same (eqb order.left order.right) refl chain is
     where
       len : ℕ
       len = max (width_at facts.columns order.left) (width_at facts.columns order.right)
@@ -286,11 +286,11 @@ module _ (facts : Facts) (are_worth : AreWorth facts) where
       cite = two_column_node facts order.kind order.left order.right len
 
       P : ℕ → Type 0
-      P = Worth facts.nodes (λ assignment. compares order.kind (code_spelled facts.columns order.left assignment) (code_spelled facts.columns order.right assignment))
+      P = Denotes facts.nodes (λ assignment. compares order.kind (code_spelled facts.columns order.left assignment) (code_spelled facts.columns order.right assignment))
 
-      itself : (kind : ChainKind) (x : Assignment → ℕ) → Worth facts.nodes (λ assignment. compares kind (x assignment) (x assignment)) (first_node kind)
-      itself Less x = worth_so facts.nodes _ _ 0 (λ assignment. sym (le-ltb (x assignment) (x assignment) (omega arith))) (zero_worth facts.nodes)
-      itself Equal x = worth_so facts.nodes _ _ 1 (λ assignment. sym (eq-eqb (x assignment) (x assignment) refl)) (one_worth facts.nodes)
+      itself : (kind : ChainKind) (x : Assignment → ℕ) → Denotes facts.nodes (λ assignment. compares kind (x assignment) (x assignment)) (first_node kind)
+      itself Less x = denotes_so facts.nodes _ _ 0 (λ assignment. sym (le-ltb (x assignment) (x assignment) (omega arith))) (zero_denotes facts.nodes)
+      itself Equal x = denotes_so facts.nodes _ _ 1 (λ assignment. sym (eq-eqb (x assignment) (x assignment) refl)) (one_denotes facts.nodes)
 
       whole : (assignment : Assignment) → compares order.kind (padded_number facts.columns order.left len assignment) (padded_number facts.columns order.right len assignment)
           ≡ compares order.kind (code_spelled facts.columns order.left assignment) (code_spelled facts.columns order.right assignment)
@@ -301,20 +301,20 @@ module _ (facts : Facts) (are_worth : AreWorth facts) where
       by_same : (same : Bool) → eqb order.left order.right ≡ same → (chain : Option ℕ) → terminal_or_cited (cond same (Some (first_node order.kind)) None) cite chain ≡ Some e → P e
       by_same true same None is =
           let one : order.left ≡ order.right = eqb-true order.left order.right same in
-          subst P (cc) (worth_so facts.nodes _ _ (first_node order.kind)
+          subst P (cc) (denotes_so facts.nodes _ _ (first_node order.kind)
           (λ assignment. ap (λ c. compares order.kind (code_spelled facts.columns order.left assignment) (code_spelled facts.columns c assignment)) one)
           (itself order.kind (code_spelled facts.columns order.left)))
       by_same true same (Some number) is = cc
       by_same false same None is = cc
       by_same false same (Some number) is =
-          let found = are_worth.two order.kind order.left order.right len number e is in
-          worth_so facts.nodes _ _ e whole (record { is_node = found.0; worth = found.1 })
+          let found = have_values.two order.kind order.left order.right len number e is in
+          denotes_so facts.nodes _ _ e whole (record { is_node = found.0; have_values = found.1 })
 
-  both_node-worth : (left right : Option ℕ) (number m : ℕ) (x y : Assignment → Bool) → ((n : ℕ) → left ≡ Some n → Worth facts.nodes x n) → ((n : ℕ) → right ≡ Some n → Worth facts.nodes y n) →
-      both_node facts left right number ≡ Some m → Worth facts.nodes (λ assignment. x assignment && y assignment) m
-  both_node-worth (Some left) (Some right) number m x y x_worth y_worth is = product_node-worth facts are_worth And left right m number x y (x_worth left refl) (y_worth right refl) is
-  both_node-worth (Some left) None number m x y x_worth y_worth is = cc
-  both_node-worth None right number m x y x_worth y_worth is = cc
+  both_node-have_values : (left right : Option ℕ) (number m : ℕ) (x y : Assignment → Bool) → ((n : ℕ) → left ≡ Some n → Denotes facts.nodes x n) → ((n : ℕ) → right ≡ Some n → Denotes facts.nodes y n) →
+      both_node facts left right number ≡ Some m → Denotes facts.nodes (λ assignment. x assignment && y assignment) m
+  both_node-have_values (Some left) (Some right) number m x y x_denotes y_denotes is = product_node-have_values facts have_values And left right m number x y (x_denotes left refl) (y_denotes right refl) is
+  both_node-have_values (Some left) None number m x y x_denotes y_denotes is = cc
+  both_node-have_values None right number m x y x_denotes y_denotes is = cc
 
   -- CMP2
   pub with_column-tells : (op : Op) (c d : ℕ) (entry : ConditionEntry) (pair : TruthPair) → c < length facts.columns → d < length facts.columns → with_column facts.columns facts op c d entry ≡ Some pair →
@@ -353,8 +353,8 @@ module _ (facts : Facts) (are_worth : AreWorth facts) where
           (split-tells order.negated m (order_node facts.columns facts order chain) p q pair
           (λ assignment. has_value facts.columns c assignment && has_value facts.columns d assignment)
           (λ assignment. compares order.kind (code assignment order.left) (code assignment order.right))
-          (λ n found. both_node-worth _ _ number n _ _ (λ n found. value_node-worth facts.columns facts are_worth c left n found) (λ n found. value_node-worth facts.columns facts are_worth d right n found) found)
-          (λ e found. order_node-worth order chain e found) is)
+          (λ n found. both_node-have_values _ _ number n _ _ (λ n found. value_node-have_values facts.columns facts have_values c left n found) (λ n found. value_node-have_values facts.columns facts have_values d right n found) found)
+          (λ e found. order_node-have_values order chain e found) is)
   with_column-tells op c d _ pair c_lt d_lt is = cc
 
   -- a comparison

@@ -7,13 +7,13 @@ use Rattle.std.proofs.Math.Nat.{pow-succ'}
 use Rattle.std.proofs.lemmas.Bool.{eqb-true, eq-eqb}
 use Rattle.bw_model.specs.declared.fault.Fault.{Fault}
 use Rattle.bw_model.specs.Fault.{◌>>=◌, refused_if}
-use Rattle.bw_model.specs.Variable.{Assignment, spelled}
+use Rattle.bw_model.specs.Variable.{Assignment, binary_number}
 use Rattle.bw_diagram.specs.Facts.{Facts}
 use Rattle.bw_diagram.specs.Node.{node_value}
 use Rattle.bw_program.specs.Machine.{with_register}
 use Rattle.bw_text.specs.Register.{register_count}
 use Rattle.bw_program.specs.ProgramText.{found_on}
-use Rattle.bw_cert_rules.specs.Known.{Known, node_of, nothing_known, with_node}
+use Rattle.bw_cert_rules.specs.Known.{KnownNodes, node_of, nothing_known, with_node}
 use Rattle.bw_cert_rules.specs.Sound.{Hold}
 
 -- what answered Ok along a chain answered Ok at each step
@@ -35,7 +35,7 @@ map_same f g [] same = refl
 map_same {B = B} f g (x ∷ xs) same = ap₂ (λ (y : B) (ys : List B). y ∷ ys) (same x) (map_same f g xs same)
 
 -- the node of a register, if one has been given a node: its own, or what it was
-pub looked : (known : Known) (r register node n : ℕ) → node_of (with_node known r node) register ≡ Some n → ((register ≡ r) × (node ≡ n)) ⊎ ((register ≢ r) × (node_of known register ≡ Some n))
+pub looked : (known : KnownNodes) (r register node n : ℕ) → node_of (with_node known r node) register ≡ Some n → ((register ≡ r) × (node ≡ n)) ⊎ ((register ≢ r) × (node_of known register ≡ Some n))
 looked [] r register node n is = cc
 looked (k ∷ known) zero zero node n is = inl (refl, cc)
 looked (k ∷ known) zero (suc register) node n is = inr ((λ same. absurd (omega (arith, same))), is)
@@ -60,9 +60,9 @@ pub holds_nothing : (facts : Facts) (lanes : List Assignment) (registers : ℕ �
 holds_nothing facts lanes registers register node is = absurd (nothing register node is)
 
 -- a register that is given a node, and holds its values
-pub holds_written : (facts : Facts) (lanes : List Assignment) (known : Known) (registers : ℕ → List Bool) (r node : ℕ) (bits : List Bool) → Hold facts lanes known registers →
+pub holds_written : (facts : Facts) (lanes : List Assignment) (known : KnownNodes) (registers : ℕ → List Bool) (r node : ℕ) (bits : List Bool) → Hold facts lanes known registers →
     bits ≡ map (λ assignment. node_value facts.nodes assignment node) lanes → Hold facts lanes (with_node known r node) (with_register registers r bits)
-holds_written facts lanes known registers r node bits holds worth register n is = at (looked known r register node n is)
+holds_written facts lanes known registers r node bits holds have_values register n is = at (looked known r register node n is)
   where
     value : ℕ → List Bool
     value n = map (λ assignment. node_value facts.nodes assignment n) lanes
@@ -72,26 +72,26 @@ holds_written facts lanes known registers r node bits holds worth register n is 
     other false same differs there = holds register n there
 
     at : ((register ≡ r) × (node ≡ n)) ⊎ ((register ≢ r) × (node_of known register ≡ Some n)) → with_register registers r bits register ≡ value n
-    at (inl (same, node_is)) = ap (λ k. with_register registers r bits k) same ∙ ap (λ b. cond b bits (registers r)) (eq-eqb r r refl) ∙ worth ∙ ap value node_is
+    at (inl (same, node_is)) = ap (λ k. with_register registers r bits k) same ∙ ap (λ b. cond b bits (registers r)) (eq-eqb r r refl) ∙ have_values ∙ ap value node_is
     at (inr (differs, there)) = other (eqb register r) refl differs there
 
 -- a kept register that holds the values of its node
-pub holds_kept : (facts : Facts) (lanes : List Assignment) (known : Known) (registers : ℕ → List Bool) (r node : ℕ) → Hold facts lanes known registers →
+pub holds_kept : (facts : Facts) (lanes : List Assignment) (known : KnownNodes) (registers : ℕ → List Bool) (r node : ℕ) → Hold facts lanes known registers →
     registers r ≡ map (λ assignment. node_value facts.nodes assignment node) lanes → Hold facts lanes (with_node known r node) registers
-holds_kept facts lanes known registers r node holds worth register n is = at (looked known r register node n is)
+holds_kept facts lanes known registers r node holds have_values register n is = at (looked known r register node n is)
   where
     value : ℕ → List Bool
     value n = map (λ assignment. node_value facts.nodes assignment n) lanes
 
     at : ((register ≡ r) × (node ≡ n)) ⊎ ((register ≢ r) × (node_of known register ≡ Some n)) → registers register ≡ value n
-    at (inl (same, node_is)) = ap registers same ∙ worth ∙ ap value node_is
+    at (inl (same, node_is)) = ap registers same ∙ have_values ∙ ap value node_is
     at (inr (differs, there)) = holds register n there
 
 -- this many bits spell a number below this many powers of two
-pub spelled_small : (bits : Assignment) (first count : ℕ) → spelled bits first count < 2 ^ count
+pub spelled_small : (bits : Assignment) (first count : ℕ) → binary_number bits first count < 2 ^ count
 spelled_small bits first zero = omega arith
 spelled_small bits first (suc count) = at (bits first) (spelled_small bits (suc first) count)
   where
-    at : (bit : Bool) → spelled bits (suc first) count < 2 ^ count → cond bit (2 ^ count) 0 + spelled bits (suc first) count < 2 ^ suc count
+    at : (bit : Bool) → binary_number bits (suc first) count < 2 ^ count → cond bit (2 ^ count) 0 + binary_number bits (suc first) count < 2 ^ suc count
     at true small = omega (arith, small, pow-succ' 2 count)
     at false small = omega (arith, small, pow-succ' 2 count)

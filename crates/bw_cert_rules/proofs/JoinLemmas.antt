@@ -12,7 +12,7 @@ use Rattle.bw_cert_text.specs.declared.lines.EdgeProducts.{EdgeProducts}
 use Rattle.bw_cert_text.specs.declared.lines.Keep.{Keep}
 use Rattle.bw_cert_rules.specs.declared.edge.Edge.{Edge}
 use Rattle.bw_cert_rules.specs.Join.{keeps_by_skip, keeps_by_skips, is_valid_keep}
-use Rattle.bw_cert_rules.specs.Known.{Known, with_node}
+use Rattle.bw_cert_rules.specs.Known.{KnownNodes, with_node}
 use Rattle.bw_cert_rules.specs.Walk.{WalkState, keep_in, by_keep, keeps_taken}
 
 -- a list that ends, or doesn't
@@ -38,7 +38,7 @@ no_skips facts keep skips pairs none = ap (λ es. keeps_by_skips facts keep es p
     at (rows ∷ more) = sym (eqb-suc-zero (length more))
 
 -- a line KEEP that is kept
-pub keep_on : (facts : Facts) (through : Known) (edges : List Edge) (least : ℕ) (kept : Known) (lines more : List BodyLine) (line : BodyLine) (keep : Keep) → lines ≡ line ∷ more → line.entry ≡ line_of.Keep keep →
+pub keep_on : (facts : Facts) (through : KnownNodes) (edges : List Edge) (least : ℕ) (kept : KnownNodes) (lines more : List BodyLine) (line : BodyLine) (keep : Keep) → lines ≡ line ∷ more → line.entry ≡ line_of.Keep keep →
     is_valid_keep facts through edges least keep ≡ true →
     keeps_taken facts through edges least kept lines ≡ keeps_taken facts through edges (suc keep.register) (with_node kept keep.register keep.node) more
 unfolding keeps_taken
@@ -50,7 +50,7 @@ keep_on facts through edges least kept lines more line keep there entry is =
     ∙ ap (λ b. refused_if (not b) (at_line 608 line.line) (keeps_taken facts through edges (suc keep.register) (with_node kept keep.register keep.node) more)) is
 
 -- one that isn't
-pub keep_refused : (facts : Facts) (through : Known) (edges : List Edge) (least : ℕ) (kept : Known) (lines more : List BodyLine) (line : BodyLine) (keep : Keep) → lines ≡ line ∷ more → line.entry ≡ line_of.Keep keep →
+pub keep_refused : (facts : Facts) (through : KnownNodes) (edges : List Edge) (least : ℕ) (kept : KnownNodes) (lines more : List BodyLine) (line : BodyLine) (keep : Keep) → lines ≡ line ∷ more → line.entry ≡ line_of.Keep keep →
     is_valid_keep facts through edges least keep ≡ false → keeps_taken facts through edges least kept lines ≡ Err (at_line 608 line.line)
 unfolding keeps_taken
 keep_refused facts through edges least kept lines more line keep there entry is =
@@ -61,11 +61,11 @@ keep_refused facts through edges least kept lines more line keep there entry is 
     ∙ ap (λ b. refused_if (not b) (at_line 608 line.line) (keeps_taken facts through edges (suc keep.register) (with_node kept keep.register keep.node) more)) is
 
 -- the end of such lines: no lines, or another one
-pub no_more_lines : (facts : Facts) (through : Known) (edges : List Edge) (least : ℕ) (kept : Known) (lines : List BodyLine) → lines ≡ [] → keeps_taken facts through edges least kept lines ≡ Ok (record { known = kept; rest = lines })
+pub no_more_lines : (facts : Facts) (through : KnownNodes) (edges : List Edge) (least : ℕ) (kept : KnownNodes) (lines : List BodyLine) → lines ≡ [] → keeps_taken facts through edges least kept lines ≡ Ok (record { known = kept; rest = lines })
 unfolding keeps_taken
 no_more_lines facts through edges least kept lines none = ap (keeps_taken facts through edges least kept) none ∙ ap (λ rest. Ok (record { known = kept; rest = rest })) (sym none)
 
-pub no_more_keeps : (facts : Facts) (through : Known) (edges : List Edge) (least : ℕ) (kept : Known) (lines more : List BodyLine) (line : BodyLine) → lines ≡ line ∷ more → ((keep : Keep) → line.entry ≢ line_of.Keep keep) →
+pub no_more_keeps : (facts : Facts) (through : KnownNodes) (edges : List Edge) (least : ℕ) (kept : KnownNodes) (lines more : List BodyLine) (line : BodyLine) → lines ≡ line ∷ more → ((keep : Keep) → line.entry ≢ line_of.Keep keep) →
     keeps_taken facts through edges least kept lines ≡ Ok (record { known = kept; rest = lines })
 unfolding keeps_taken
 no_more_keeps facts through edges least kept lines more line there other =

@@ -21,7 +21,7 @@ use Rattle.bw_cert_rules.specs.declared.edge.Edge.{Edge}
 use Rattle.bw_cert_rules.specs.Instruction.{check_instruction_line}
 use Rattle.bw_cert_rules.specs.Join.{edge_of, with_edge, edges_into, is_zero, keeps_by_skip}
 use Rattle.bw_cert_rules.specs.Join.{keeps_by_skips, is_valid_keep}
-use Rattle.bw_cert_rules.specs.Known.{Known, node_of, with_node, nothing_known}
+use Rattle.bw_cert_rules.specs.Known.{KnownNodes, node_of, with_node, nothing_known}
 use Rattle.bw_cert_rules.specs.Walk.{WalkState, line_fields, instruction_on, instruction_taken}
 use Rattle.bw_cert_rules.specs.Walk.{is_join, keep_in, by_keep, keeps_taken, apply_join}
 use Rattle.bw_cert_rules.specs.Walk.{check_lines_from}
@@ -31,19 +31,19 @@ abbrev pub SayTheSame : List BodyLine → List BodyLine → Type 0
 SayTheSame lines others = map body_fields lines ≡ map body_fields others
 
 abbrev Told : Type 0
-Told = Result (Known × List BodyFields) Fault
+Told = Result (KnownNodes × List BodyFields) Fault
 
-abbrev taken_of : Known → List BodyLine → WalkState
+abbrev taken_of : KnownNodes → List BodyLine → WalkState
 taken_of known rest = record { known = known; rest = rest }
 
 -- what a line says of an instruction, of a join and of a register
-abbrev instruction_said : Facts → Known → Instr → ℕ → EntryFields → Result Known Fault
+abbrev instruction_said : Facts → KnownNodes → Instr → ℕ → EntryFields → Result KnownNodes Fault
 instruction_said facts known instr line (Instruction given) = check_instruction_line facts known line instr given
 instruction_said facts known instr line (Condition given) = Err (at_line 607 line)
 instruction_said facts known instr line (Join place) = Err (at_line 607 line)
 instruction_said facts known instr line (Kept keep) = Err (at_line 607 line)
 
-instruction-said : (facts : Facts) (known : Known) (instr : Instr) (line : BodyLine) (e : Entry) → instruction_on facts known instr line e ≡ instruction_said facts known instr line.line (entry_fields e)
+instruction-said : (facts : Facts) (known : KnownNodes) (instr : Instr) (line : BodyLine) (e : Entry) → instruction_on facts known instr line e ≡ instruction_said facts known instr line.line (entry_fields e)
 instruction-said facts known instr line (entry.Condition given) = refl
 instruction-said facts known instr line (entry.Instruction given) = refl
 instruction-said facts known instr line (entry.Join place) = refl
@@ -92,12 +92,12 @@ skips-said facts keep [] (rows ∷ others) = refl
 skips-said facts keep (edge ∷ edges) [] = refl
 skips-said facts keep (edge ∷ edges) (rows ∷ others) = ap (λ b. keeps_by_skip facts keep edge rows && b) (skips-said facts keep edges others)
 
-kept_said : Facts → Known → List Edge → ℕ → KeepFields → Bool
+kept_said : Facts → KnownNodes → List Edge → ℕ → KeepFields → Bool
 kept_said facts through edges least keep =
     nat_le least keep.register && is_register keep.register && is_zero (option_and_then (λ f. product_node facts connective.Xor f keep.node keep.through) (node_of through keep.register))
     && skips_said facts keep.node keep.register edges keep.edges
 
-kept-said : (facts : Facts) (through : Known) (edges : List Edge) (least : ℕ) (keep : Keep) → is_valid_keep facts through edges least keep ≡ kept_said facts through edges least (keep_fields keep)
+kept-said : (facts : Facts) (through : KnownNodes) (edges : List Edge) (least : ℕ) (keep : Keep) → is_valid_keep facts through edges least keep ≡ kept_said facts through edges least (keep_fields keep)
 unfolding is_valid_keep kept_said
 kept-said facts through edges least keep =
     ap (λ b. nat_le least keep.register && is_register keep.register && is_zero (option_and_then (λ f. product_node facts connective.Xor f keep.node keep.through) (node_of through keep.register)) && b)
@@ -109,12 +109,12 @@ bind-same (Ok x) f g each = each x
 bind-same (Err fault) f g each = refl
 
 bind-fields : (read other : Result WalkState Fault) (f g : WalkState → Result WalkState Fault) → line_fields read ≡ line_fields other →
-    ((known : Known) (lines others : List BodyLine) → SayTheSame lines others → line_fields (f (taken_of known lines)) ≡ line_fields (g (taken_of known others))) →
+    ((known : KnownNodes) (lines others : List BodyLine) → SayTheSame lines others → line_fields (f (taken_of known lines)) ≡ line_fields (g (taken_of known others))) →
     line_fields (read >>= f) ≡ line_fields (other >>= g)
 bind-fields (Ok a) (Ok b) f g same each =
     let both : (a.known, map body_fields a.rest) ≡ (b.known, map body_fields b.rest) = cc in
-    let known : a.known ≡ b.known = ap (λ (said : Known × List BodyFields). said.0) both in
-    let rests : SayTheSame a.rest b.rest = ap (λ (said : Known × List BodyFields). said.1) both in
+    let known : a.known ≡ b.known = ap (λ (said : KnownNodes × List BodyFields). said.0) both in
+    let rests : SayTheSame a.rest b.rest = ap (λ (said : KnownNodes × List BodyFields). said.1) both in
     each a.known a.rest b.rest rests ∙ ap (λ known. line_fields (g (taken_of known b.rest))) known
 bind-fields (Ok a) (Err fault) f g same each = cc
 bind-fields (Err fault) (Ok b) f g same each = cc
@@ -125,23 +125,23 @@ refused-same true fault read other same = refl
 refused-same false fault read other same = same
 
 module _ (facts : Facts) (end : ℕ) where
-  instruction-same : (known : Known) (instr : Instr) (lines others : List BodyLine) → SayTheSame lines others → line_fields (instruction_taken facts end known instr lines) ≡ line_fields (instruction_taken facts end known instr others)
+  instruction-same : (known : KnownNodes) (instr : Instr) (lines others : List BodyLine) → SayTheSame lines others → line_fields (instruction_taken facts end known instr lines) ≡ line_fields (instruction_taken facts end known instr others)
   instruction-same known instr [] [] same = refl
   instruction-same known instr [] (other ∷ others) same = cc
   instruction-same known instr (line ∷ lines) [] same = cc
   instruction-same known instr (line ∷ lines) (other ∷ others) same =
       let first : body_fields line ≡ body_fields other = cc in
       let rest : SayTheSame lines others = cc in
-      let next : List BodyLine → Known → Result WalkState Fault = λ (rest : List BodyLine) (through : Known). Ok (taken_of through rest) in
-      ap (λ (r : Result Known Fault). line_fields (r >>= next lines)) (instruction-said facts known instr line line.entry
+      let next : List BodyLine → KnownNodes → Result WalkState Fault = λ (rest : List BodyLine) (through : KnownNodes). Ok (taken_of through rest) in
+      ap (λ (r : Result KnownNodes Fault). line_fields (r >>= next lines)) (instruction-said facts known instr line line.entry
       ∙ ap (λ (fields : BodyFields). instruction_said facts known instr fields.line fields.entry) first ∙ sym (instruction-said facts known instr other other.entry))
       ∙ bind-same (instruction_on facts known instr other other.entry) (next lines) (next others) (λ through. ap (λ (fields : List BodyFields). Ok (through, fields)) rest)
 
-  abbrev kept_on : Known → List Edge → ℕ → Known → BodyLine → List BodyLine → Keep → Result WalkState Fault
+  abbrev kept_on : KnownNodes → List Edge → ℕ → KnownNodes → BodyLine → List BodyLine → Keep → Result WalkState Fault
   kept_on through edges least kept line lines keep =
       refused_if (not (is_valid_keep facts through edges least keep)) (at_line 608 line.line) (keeps_taken facts through edges (suc keep.register) (with_node kept keep.register keep.node) lines)
 
-  keeps-same : (through : Known) (edges : List Edge) (least : ℕ) (kept : Known) (lines others : List BodyLine) → SayTheSame lines others →
+  keeps-same : (through : KnownNodes) (edges : List Edge) (least : ℕ) (kept : KnownNodes) (lines others : List BodyLine) → SayTheSame lines others →
       line_fields (keeps_taken facts through edges least kept lines) ≡ line_fields (keeps_taken facts through edges least kept others)
   unfolding keeps_taken
   keeps-same through edges least kept [] [] same = refl
@@ -154,7 +154,7 @@ module _ (facts : Facts) (end : ℕ) where
       (λ least kept. keeps-same through edges least kept lines others rest)
     where
       by : (k l : Option Keep) → option_map keep_fields k ≡ option_map keep_fields l → body_fields line ≡ body_fields other →
-          ((least : ℕ) (kept : Known) → line_fields (keeps_taken facts through edges least kept lines) ≡ line_fields (keeps_taken facts through edges least kept others)) →
+          ((least : ℕ) (kept : KnownNodes) → line_fields (keeps_taken facts through edges least kept lines) ≡ line_fields (keeps_taken facts through edges least kept others)) →
           line_fields (by_keep k (Ok (taken_of kept (line ∷ lines))) (kept_on through edges least kept line lines)) ≡ line_fields (by_keep l (Ok (taken_of kept (other ∷ others))) (kept_on through edges least kept other others))
       by None None keeps first more = ap (λ (fields : List BodyFields). Ok (kept, fields)) same
       by None (Some l) keeps first more = cc
@@ -168,7 +168,7 @@ module _ (facts : Facts) (end : ℕ) where
           ∙ ap₂ (λ b at. line_fields (refused_if (not b) (at_line 608 at) (keeps_taken facts through edges (suc k.register) (with_node kept k.register k.node) others))) judged (ap (λ (f : BodyFields). f.line) first)
           ∙ ap₂ (λ r n. line_fields (refused_if (not (is_valid_keep facts through edges least l)) (at_line 608 other.line) (keeps_taken facts through edges (suc r) (with_node kept r n) others))) register node
 
-  apply_join-same : (place : ℕ) (edges : List Edge) (known : Known) (lines others : List BodyLine) → SayTheSame lines others →
+  apply_join-same : (place : ℕ) (edges : List Edge) (known : KnownNodes) (lines others : List BodyLine) → SayTheSame lines others →
       line_fields (apply_join facts end place edges (taken_of known lines)) ≡ line_fields (apply_join facts end place edges (taken_of known others))
   apply_join-same place [] known lines others same = ap (λ (fields : List BodyFields). Ok (known, fields)) same
   apply_join-same place (edge ∷ edges) known [] [] same = refl
@@ -187,7 +187,7 @@ module _ (facts : Facts) (end : ℕ) where
       by false true joins at rest = cc
       by false false joins at rest = ap (λ at. Err (at_line 608 at)) at
 
-  pub check_lines_from-same : (place : ℕ) (edges : List Edge) (instrs : List Instr) (known : Known) (lines others : List BodyLine) → SayTheSame lines others →
+  pub check_lines_from-same : (place : ℕ) (edges : List Edge) (instrs : List Instr) (known : KnownNodes) (lines others : List BodyLine) → SayTheSame lines others →
       line_fields (check_lines_from facts end place edges instrs (taken_of known lines)) ≡ line_fields (check_lines_from facts end place edges instrs (taken_of known others))
   unfolding check_lines_from
   check_lines_from-same place edges [] known lines others same = ap (λ (fields : List BodyFields). Ok (known, fields)) same

@@ -17,7 +17,7 @@ use Rattle.bw_model.specs.Row.{Value}
 use Rattle.bw_model.specs.Truth.{compare_values, least, in_list, any_of}
 use Rattle.bw_model.specs.Variable.{Assignment, row_of}
 use Rattle.bw_model.proofs.BitsLemmas.{both}
-use Rattle.bw_diagram.specs.References.{AreWorth}
+use Rattle.bw_diagram.specs.References.{HaveStatedValues}
 use Rattle.bw_diagram.specs.Facts.{Facts}
 use Rattle.bw_cert_text.specs.declared.lines.BodyLine.{BodyLine}
 use Rattle.bw_cert_rules.specs.declared.nodes.TruthPair.{TruthPair}
@@ -41,7 +41,7 @@ least-yes a b = ap (least a) (by_truth b)
     by_truth Truth.Unknown = refl
     by_truth Truth.Yes = refl
 
-module _ (facts : Facts) (are_worth : AreWorth facts) (end : ℕ) where
+module _ (facts : Facts) (have_values : HaveStatedValues facts) (end : ℕ) where
   abbrev row : Assignment → List Value
   row assignment = row_of facts.columns assignment
 
@@ -49,8 +49,8 @@ module _ (facts : Facts) (are_worth : AreWorth facts) (end : ℕ) where
   within = is_within (length facts.columns)
 
   -- a comparison's line
-  comparison-sound : (op : Op) (x y : Operand) → within x ≡ true → within y ≡ true → IsSound facts are_worth (by_line end (comparison facts.columns facts op x y)) (λ assignment. compare_values op (operand_value (row assignment) x) (operand_value (row assignment) y))
-  comparison-sound op x y x_in y_in = by_line-sound facts are_worth end (comparison facts.columns facts op x y) _ (λ entry pair is. comparison-tells facts are_worth op x y entry pair x_in y_in is)
+  comparison-sound : (op : Op) (x y : Operand) → within x ≡ true → within y ≡ true → IsSound facts have_values (by_line end (comparison facts.columns facts op x y)) (λ assignment. compare_values op (operand_value (row assignment) x) (operand_value (row assignment) y))
+  comparison-sound op x y x_in y_in = by_line-sound facts have_values end (comparison facts.columns facts op x y) _ (λ entry pair is. comparison-tells facts have_values op x y entry pair x_in y_in is)
 
   abbrev reader : Cond → List BodyLine → Reading
   reader = pair_of facts.columns facts end
@@ -63,24 +63,24 @@ module _ (facts : Facts) (are_worth : AreWorth facts) (end : ℕ) where
 
   -- a condition whose lines are sound, if it names only columns
   abbrev Known : Type 0
-  Known = (cond : Cond) × (names cond ≡ true → IsSound facts are_worth (reader cond) (truth cond))
+  Known = (cond : Cond) × (names cond ≡ true → IsSound facts have_values (reader cond) (truth cond))
 
   abbrev bare : Cond-F Known → Cond-F Cond
   bare layer = map-Cond Known Cond (λ e. e.0) layer
 
   -- parts that are joined
   parts-sound : (junction : Junction) (parts : List Known) → list_all (λ part. part) (map names (map (λ e. e.0) parts)) ≡ true →
-      IsSound facts are_worth (joined_parts facts.columns facts end junction (map reader (map (λ e. e.0) parts))) (λ assignment. truth_of_all junction (map (truth_of (row assignment)) (map (λ e. e.0) parts)))
+      IsSound facts have_values (joined_parts facts.columns facts end junction (map reader (map (λ e. e.0) parts))) (λ assignment. truth_of_all junction (map (truth_of (row assignment)) (map (λ e. e.0) parts)))
   parts-sound junction parts pass lines rest pair is =
       let passes : list_all (λ (e : Known). names e.0) parts ≡ true =
       sym (list_all-map (λ part. part) names (map (λ e. e.0) parts) ∙ list_all-map names (λ (e : Known). e.0) parts) ∙ pass in
       tells_so facts.nodes _ _ pair (λ assignment. ap (truth_of_all junction) (sym (map-map (truth_of (row assignment)) (λ (e : Known). e.0) parts)))
-      (joined_parts-sound facts are_worth facts.columns end junction (λ (e : Known). reader e.0) (λ (e : Known). truth e.0) (λ (e : Known). names e.0) (λ e pass. e.1 pass) parts passes lines rest pair
+      (joined_parts-sound facts have_values facts.columns end junction (λ (e : Known). reader e.0) (λ (e : Known). truth e.0) (λ (e : Known). names e.0) (λ e pass. e.1 pass) parts passes lines rest pair
       (ap (λ readers. joined_parts facts.columns facts end junction readers lines) (sym (map-map reader (λ (e : Known). e.0) parts)) ∙ is))
 
   -- BETWEEN
   between-sound : (x y z : Operand) → (within x && within y && within z) ≡ true →
-      IsSound facts are_worth (joined_parts facts.columns facts end All (by_line end (comparison facts.columns facts Ge x y) ∷ by_line end (comparison facts.columns facts Le x z) ∷ []))
+      IsSound facts have_values (joined_parts facts.columns facts end All (by_line end (comparison facts.columns facts Ge x y) ∷ by_line end (comparison facts.columns facts Le x z) ∷ []))
       (λ assignment. least (compare_values Ge (operand_value (row assignment) x) (operand_value (row assignment) y)) (compare_values Le (operand_value (row assignment) x) (operand_value (row assignment) z)))
   between-sound x y z pass lines rest pair is =
       let upper = both _ _ pass in
@@ -88,38 +88,38 @@ module _ (facts : Facts) (are_worth : AreWorth facts) (end : ℕ) where
       let ends : List (Op × Operand) = (Ge, y) ∷ (Le, z) ∷ [] in
       let inside : list_all (λ (e : Op × Operand). within e.1) ends ≡ true = rw lower.1 (rw upper.1 refl) in
       tells_so facts.nodes _ _ pair (λ assignment. least-yes _ _)
-      (joined_parts-sound facts are_worth facts.columns end All (λ (e : Op × Operand). by_line end (comparison facts.columns facts e.0 x e.1))
+      (joined_parts-sound facts have_values facts.columns end All (λ (e : Op × Operand). by_line end (comparison facts.columns facts e.0 x e.1))
       (λ (e : Op × Operand) assignment. compare_values e.0 (operand_value (row assignment) x) (operand_value (row assignment) e.1)) (λ (e : Op × Operand). within e.1)
       (λ e pass. comparison-sound e.0 x e.1 lower.0 pass) ends inside lines rest pair is)
 
   -- IN
   among-sound : (x : Operand) (items : List Operand) → (within x && list_all within items) ≡ true →
-      IsSound facts are_worth (joined_parts facts.columns facts end Any (equations facts.columns facts end x items)) (λ assignment. in_list (operand_value (row assignment) x) (map (operand_value (row assignment)) items))
+      IsSound facts have_values (joined_parts facts.columns facts end Any (equations facts.columns facts end x items)) (λ assignment. in_list (operand_value (row assignment) x) (map (operand_value (row assignment)) items))
   among-sound x items pass lines rest pair is =
       let inside = both _ _ pass in
       tells_so facts.nodes _ _ pair (λ assignment. ap any_of (sym (map-map (compare_values Eq (operand_value (row assignment) x)) (operand_value (row assignment)) items)))
-      (joined_parts-sound facts are_worth facts.columns end Any (λ item. by_line end (comparison facts.columns facts Eq x item)) (λ item assignment. compare_values Eq (operand_value (row assignment) x) (operand_value (row assignment) item)) within
+      (joined_parts-sound facts have_values facts.columns end Any (λ item. by_line end (comparison facts.columns facts Eq x item)) (λ item assignment. compare_values Eq (operand_value (row assignment) x) (operand_value (row assignment) item)) within
       (λ item pass. comparison-sound Eq x item inside.0 pass) items inside.1 lines rest pair is)
 
   -- a condition, from its parts
   layer-sound : (layer : Cond-F Known) → within_step (length facts.columns) (map-Cond Cond Bool names (bare layer)) ≡ true →
-      IsSound facts are_worth (pair_step facts.columns facts end (map-Cond Cond (List BodyLine → Reading) reader (bare layer))) (λ assignment. truth_step (row assignment) (map-Cond Cond Truth (truth_of (row assignment)) (bare layer)))
-  layer-sound Cond-F.Always pass = by_line-sound facts are_worth end (fixed_pair Yes) _ (λ entry pair is. fixed-tells facts.nodes Yes pair entry is)
+      IsSound facts have_values (pair_step facts.columns facts end (map-Cond Cond (List BodyLine → Reading) reader (bare layer))) (λ assignment. truth_step (row assignment) (map-Cond Cond Truth (truth_of (row assignment)) (bare layer)))
+  layer-sound Cond-F.Always pass = by_line-sound facts have_values end (fixed_pair Yes) _ (λ entry pair is. fixed-tells facts.nodes Yes pair entry is)
   layer-sound (Cond-F.Cmp op x y) pass = let inside = both _ _ pass in comparison-sound op x y inside.0 inside.1
   layer-sound (Cond-F.Between x y z) pass = between-sound x y z pass
   layer-sound (Cond-F.Among x items) pass = among-sound x items.items pass
-  layer-sound (Cond-F.IsNull x) pass = by_line-sound facts are_worth end (is_null_test facts.columns facts x) _ (λ entry pair is. is_null_test-tells facts are_worth x entry pair pass is)
+  layer-sound (Cond-F.IsNull x) pass = by_line-sound facts have_values end (is_null_test facts.columns facts x) _ (λ entry pair is. is_null_test-tells facts have_values x entry pair pass is)
   layer-sound (Cond-F.And parts) pass = parts-sound All parts.items pass
   layer-sound (Cond-F.Or parts) pass = parts-sound Any parts.items pass
   layer-sound (Cond-F.Not part) pass =
-      after_part-sound facts are_worth end (reader part.value.0) (truth part.value.0) _ negated_pair (part.value.1 pass)
-      (λ made entry pair told is. negated_pair-tells facts are_worth made pair (truth part.value.0) entry told is)
+      after_part-sound facts have_values end (reader part.value.0) (truth part.value.0) _ negated_pair (part.value.1 pass)
+      (λ made entry pair told is. negated_pair-tells facts have_values made pair (truth part.value.0) entry told is)
   layer-sound (Cond-F.Test part wanted) pass =
-      after_part-sound facts are_worth end (reader part.value.0) (truth part.value.0) _ (tested_pair facts wanted) (part.value.1 pass)
-      (λ made entry pair told is. tested_pair-tells facts are_worth wanted made pair (truth part.value.0) entry told is)
+      after_part-sound facts have_values end (reader part.value.0) (truth part.value.0) _ (tested_pair facts wanted) (part.value.1 pass)
+      (λ made entry pair told is. tested_pair-tells facts have_values wanted made pair (truth part.value.0) entry told is)
 
   abbrev Sound : Cond → Type 0
-  Sound cond = names cond ≡ true → IsSound facts are_worth (reader cond) (truth cond)
+  Sound cond = names cond ≡ true → IsSound facts have_values (reader cond) (truth cond)
 
   pub pair_of-sound : (cond : Cond) → names_within (length facts.columns) cond ≡ true → (lines rest : List BodyLine) (pair : TruthPair) → pair_of facts.columns facts end cond lines ≡ Ok (pair, rest) →
       Tells facts.nodes (λ assignment. truth_of (row_of facts.columns assignment) cond) pair

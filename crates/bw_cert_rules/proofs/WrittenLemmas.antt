@@ -13,7 +13,7 @@ use Rattle.bw_cert_rules.specs.Accepted.{known_before, edges_before, edge_at, kn
 use Rattle.bw_cert_rules.specs.Accepted.{known_after_join, known_past, kept_by, are_kept}
 use Rattle.bw_cert_rules.specs.Accepted.{is_valid_join, AreValidParts}
 use Rattle.bw_cert_rules.specs.Join.{edge_of, with_edge, edges_into, is_valid_keep}
-use Rattle.bw_cert_rules.specs.Known.{Known, nothing_known, with_node}
+use Rattle.bw_cert_rules.specs.Known.{KnownNodes, nothing_known, with_node}
 use Rattle.bw_cert_rules.specs.Walk.{keep_in, by_keep, keeps_taken, instruction_taken, apply_join}
 use Rattle.bw_cert_rules.specs.Walk.{check_lines_from, check_lines}
 use Rattle.bw_cert_rules.proofs.AcceptLemmas.{drop_stands}
@@ -29,7 +29,7 @@ unfolding lines_of NoKeep
 no_keep place [] = tt
 no_keep place (part ∷ parts) = refl
 
-keeps_end : (facts : Facts) (through : Known) (edges : List Edge) (least : ℕ) (kept : Known) (lines : List BodyLine) → NoKeep lines → keeps_taken facts through edges least kept lines ≡ Ok (record { known = kept; rest = lines })
+keeps_end : (facts : Facts) (through : KnownNodes) (edges : List Edge) (least : ℕ) (kept : KnownNodes) (lines : List BodyLine) → NoKeep lines → keeps_taken facts through edges least kept lines ≡ Ok (record { known = kept; rest = lines })
 unfolding keeps_taken NoKeep
 keeps_end facts through edges least kept [] none = refl
 keeps_end facts through edges least kept (line ∷ lines) none =
@@ -37,7 +37,7 @@ keeps_end facts through edges least kept (line ∷ lines) none =
     (keeps_taken facts through edges (suc keep.register) (with_node kept keep.register keep.node) lines))) none
 
 -- lines KEEP that are kept
-keeps_written : (facts : Facts) (through : Known) (edges : List Edge) (least : ℕ) (kept : Known) (keeps : List KeepLine) (rest : List BodyLine) → NoKeep rest → are_kept facts through edges least keeps ≡ true →
+keeps_written : (facts : Facts) (through : KnownNodes) (edges : List Edge) (least : ℕ) (kept : KnownNodes) (keeps : List KeepLine) (rest : List BodyLine) → NoKeep rest → are_kept facts through edges least keeps ≡ true →
     keeps_taken facts through edges least kept (map keep_line keeps ++ rest) ≡ Ok (record { known = kept_by kept keeps; rest = rest })
 unfolding are_kept kept_by
 keeps_written facts through edges least kept [] rest none are = keeps_end facts through edges least kept rest none
@@ -47,7 +47,7 @@ keeps_written facts through edges least kept (k ∷ keeps) rest none are =
     ∙ keeps_written facts through edges (suc k.keep.register) (with_node kept k.keep.register k.keep.node) keeps rest none now.1
 
 -- a valid join
-join_written : (facts : Facts) (end place : ℕ) (edges : List Edge) (through : Known) (join : Option JoinLines) (rest : List BodyLine) → NoKeep rest → is_valid_join facts through edges join ≡ true →
+join_written : (facts : Facts) (end place : ℕ) (edges : List Edge) (through : KnownNodes) (join : Option JoinLines) (rest : List BodyLine) → NoKeep rest → is_valid_join facts through edges join ≡ true →
     apply_join facts end place edges (record { known = through; rest = join_lines place join ++ rest }) ≡ Ok (record { known = known_after_join through join; rest = rest })
 join_written facts end place [] through None rest none valid_parts = refl
 join_written facts end place [] through (Some join) rest none valid_parts = cc
@@ -68,8 +68,8 @@ walk_written facts all every end place (instr ∷ instrs) [] valid_parts instrs_
 walk_written facts all every end place (instr ∷ instrs) (part ∷ parts) valid_parts instrs_are parts_are count =
     let instr_there = drop_stands all instrs place instr instrs_are in
     let part_there = drop_stands every parts place part parts_are in
-    let known : Known = known_before facts all every place in
-    let through : Known = known_on_fallthrough facts known instr part in
+    let known : KnownNodes = known_before facts all every place in
+    let through : KnownNodes = known_on_fallthrough facts known instr part in
     let own : List BodyLine = join_lines (suc place) part.join ++ lines_of (suc place) parts in
     let edges : List Edge = with_edge (edges_before facts all every place) (edge_of known instr) in
     let edges_are : edges ≡ edges_before facts all every (suc place) = ap (λ i. with_edge (edges_before facts all every place) (edge_at known i)) (sym instr_there.0) in

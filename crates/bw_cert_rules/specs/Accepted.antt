@@ -10,7 +10,7 @@ use Rattle.bw_cert_text.specs.declared.lines.Entry.TheVariants as line_of
 use Rattle.bw_cert_text.specs.declared.lines.InstructionEntry.{InstructionEntry}
 use Rattle.bw_cert_text.specs.declared.lines.Keep.{Keep}
 use Rattle.bw_cert_rules.specs.declared.edge.Edge.{Edge}
-use Rattle.bw_cert_rules.specs.Known.{Known, nothing_known, with_node}
+use Rattle.bw_cert_rules.specs.Known.{KnownNodes, nothing_known, with_node}
 use Rattle.bw_cert_rules.specs.Instruction.{check_instruction_line}
 use Rattle.bw_cert_rules.specs.Walk.{WalkState}
 use Rattle.bw_cert_rules.specs.Join.{edge_of, with_edge, edges_into, is_valid_keep}
@@ -47,41 +47,41 @@ lines_of place (part ∷ parts) =
     ∷ (join_lines (suc place) part.join ++ lines_of (suc place) parts)
 
 -- what is known after lines KEEP: the registers that they name, and nothing else
-unfoldable pub kept_by : Known → List KeepLine → Known
+unfoldable pub kept_by : KnownNodes → List KeepLine → KnownNodes
 kept_by known [] = known
 kept_by known (k ∷ keeps) = kept_by (with_node known k.keep.register k.keep.node) keeps
 
 -- What is known on fall-through from an instruction, by its line; nothing if the line breaks its
 -- rule.
-abbrev pub known_or_nothing : Result Known Fault → Known
+abbrev pub known_or_nothing : Result KnownNodes Fault → KnownNodes
 known_or_nothing (Ok known) = known
 known_or_nothing (Err fault) = nothing_known
 
-abbrev pub known_on_fallthrough : Facts → Known → Instr → Part → Known
+abbrev pub known_on_fallthrough : Facts → KnownNodes → Instr → Part → KnownNodes
 known_on_fallthrough facts known instr part = known_or_nothing
     (check_instruction_line facts known part.line instr part.entry)
 
 -- what is known after an instruction: what its join keeps, or what falls through if there is no
 -- join
-abbrev pub known_after_join : Known → Option JoinLines → Known
+abbrev pub known_after_join : KnownNodes → Option JoinLines → KnownNodes
 known_after_join through None = through
 known_after_join through (Some join) = kept_by nothing_known join.keeps
 
-abbrev pub known_past : Facts → Known → Option Instr → Option Part → Known
+abbrev pub known_past : Facts → KnownNodes → Option Instr → Option Part → KnownNodes
 known_past facts known (Some instr) (Some part) = known_after_join
     (known_on_fallthrough facts known instr part) part.join
 known_past facts known (Some instr) None = nothing_known
 known_past facts known None part = nothing_known
 
 -- What is known before each place.
-unfoldable pub known_before : Facts → List Instr → List Part → ℕ → Known
+unfoldable pub known_before : Facts → List Instr → List Part → ℕ → KnownNodes
 known_before facts instrs parts zero = nothing_known
 known_before facts instrs parts (suc place) =
     known_past facts (known_before facts instrs parts place) (slice_get instrs place)
     (slice_get parts place)
 
 -- the edge of the skip at a place, if there is one
-abbrev pub edge_at : Known → Option Instr → Option Edge
+abbrev pub edge_at : KnownNodes → Option Instr → Option Edge
 edge_at known None = None
 edge_at known (Some instr) = edge_of known instr
 
@@ -94,7 +94,7 @@ edges_before facts instrs parts (suc place) =
     (slice_get instrs place))
 
 -- the lines KEEP are of ascending registers, from the least on, and each is true
-unfoldable pub are_kept : Facts → Known → List Edge → ℕ → List KeepLine → Bool
+unfoldable pub are_kept : Facts → KnownNodes → List Edge → ℕ → List KeepLine → Bool
 are_kept facts through edges least [] = true
 are_kept facts through edges least (k ∷ keeps) =
     is_valid_keep facts through edges least k.keep
@@ -102,7 +102,7 @@ are_kept facts through edges least (k ∷ keeps) =
 
 -- There is a join exactly if skips lead to the place, and what it keeps is true on fall-through and
 -- by each skip.
-abbrev pub is_valid_join : Facts → Known → List Edge → Option JoinLines → Bool
+abbrev pub is_valid_join : Facts → KnownNodes → List Edge → Option JoinLines → Bool
 is_valid_join facts through [] None = true
 is_valid_join facts through [] (Some join) = false
 is_valid_join facts through (edge ∷ edges) None = false

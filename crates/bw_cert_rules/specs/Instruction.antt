@@ -20,7 +20,7 @@ use Rattle.bw_program.specs.Program.{instr_fits}
 use Rattle.bw_program.specs.ProgramText.{found_on}
 use Rattle.bw_cert_text.specs.declared.lines.InstructionEntry.{InstructionEntry}
 use Rattle.bw_cert_text.specs.declared.lines.InstructionEntry.TheVariants as entry
-use Rattle.bw_cert_rules.specs.Known.{Known, node_of, with_node}
+use Rattle.bw_cert_rules.specs.Known.{KnownNodes, node_of, with_node}
 
 -- the fields of a line of each kind: the node of a plane, the product row of an operation, or the
 -- chain of a byte comparison, if it names one; or that it is the line of a constant or of a skip
@@ -78,17 +78,17 @@ abbrev pub operation_on : Facts → ℕ → Connective → ℕ → ℕ → ℕ �
 operation_on facts line op a b row = found_on INSTRUCTION_LINE line (product_node facts op a b row)
 
 -- the node of a register that is read, which must be known (609)
-abbrev pub read_on : Known → ℕ → ℕ → Result ℕ Fault
+abbrev pub read_on : KnownNodes → ℕ → ℕ → Result ℕ Fault
 read_on known line register = found_on REGISTER_UNKNOWN line (node_of known register)
 
 -- an operation on two registers
-abbrev pub joined_on : Facts → Known → ℕ → Connective → ℕ → ℕ → InstructionEntry → Result ℕ Fault
+abbrev pub joined_on : Facts → KnownNodes → ℕ → Connective → ℕ → ℕ → InstructionEntry → Result ℕ Fault
 joined_on facts known line op x y given =
     found_on INSTRUCTION_LINE line (operation_row given) >>= λ row.
     read_on known line x >>= λ a. read_on known line y >>= λ b. operation_on facts line op a b row
 
 -- the complement of a register, which is "1 and not" its node
-abbrev pub opposite_on : Facts → Known → ℕ → ℕ → InstructionEntry → Result ℕ Fault
+abbrev pub opposite_on : Facts → KnownNodes → ℕ → ℕ → InstructionEntry → Result ℕ Fault
 opposite_on facts known line x given =
     found_on INSTRUCTION_LINE line (operation_row given) >>= λ row.
     read_on known line x >>= λ a. operation_on facts line connective.Diff 1 a row
@@ -116,17 +116,17 @@ byte_on facts line kind there column slice k given =
     (found_on INSTRUCTION_LINE line (byte_node facts kind column slice k chain))
 
 -- the register gets the node, if there is one
-abbrev pub put : Known → ℕ → Result ℕ Fault → Result Known Fault
-put known register given = given >>= λ node. Ok (with_node known register node)
+abbrev pub set_register : KnownNodes → ℕ → Result ℕ Fault → Result KnownNodes Fault
+set_register known register given = given >>= λ node. Ok (with_node known register node)
 
 -- the register gets the node of a constant, if the line is a constant's
-abbrev pub fill : Known → ℕ → ℕ → Bool → InstructionEntry → Result Known Fault
+abbrev pub fill : KnownNodes → ℕ → ℕ → Bool → InstructionEntry → Result KnownNodes Fault
 fill known line register bit given = refused_if (not (is_fill given))
     (at_line INSTRUCTION_LINE line)
     (Ok (with_node known register (terminal bit)))
 
 -- the register that a skip reads must have a node, and the line must be a skip's
-abbrev pub check_skip : Known → ℕ → ℕ → InstructionEntry → Result Known Fault
+abbrev pub check_skip : KnownNodes → ℕ → ℕ → InstructionEntry → Result KnownNodes Fault
 check_skip known line register given = refused_if (not (is_skip_line given))
     (at_line INSTRUCTION_LINE line)
     (read_on known line register >>= λ node. Ok known)
@@ -134,27 +134,27 @@ check_skip known line register given = refused_if (not (is_skip_line given))
 -- What is known after an instruction, by its line: the register that it writes has the node that
 -- the line shows. A line of another kind, or one that doesn't show it, is 607. A line of the right
 -- kind is 609 if the instruction reads a register without a node. A skip changes nothing.
-unfoldable pub check_instruction_line : Facts → Known → ℕ → Instr → InstructionEntry
-    → Result Known Fault
+unfoldable pub check_instruction_line : Facts → KnownNodes → ℕ → Instr → InstructionEntry
+    → Result KnownNodes Fault
 check_instruction_line facts known line (Load r column bit) given =
-    put known r (plane_on facts line (instr_fits facts.columns (Load r column bit))
+    set_register known r (plane_on facts line (instr_fits facts.columns (Load r column bit))
     (bit_variable facts.columns column bit) given)
 check_instruction_line facts known line (Nulls r column) given =
-    put known r (plane_on facts line (instr_fits facts.columns (Nulls r column))
+    set_register known r (plane_on facts line (instr_fits facts.columns (Nulls r column))
     (first_variable facts.columns column) given)
 check_instruction_line facts known line (Fill r bit) given = fill known line r bit given
-check_instruction_line facts known line (And r x y) given = put known r
+check_instruction_line facts known line (And r x y) given = set_register known r
     (joined_on facts known line connective.And x y given)
-check_instruction_line facts known line (Or r x y) given = put known r
+check_instruction_line facts known line (Or r x y) given = set_register known r
     (joined_on facts known line connective.Or x y given)
-check_instruction_line facts known line (Xor r x y) given = put known r
+check_instruction_line facts known line (Xor r x y) given = set_register known r
     (joined_on facts known line connective.Xor x y given)
-check_instruction_line facts known line (Not r x) given = put known r
+check_instruction_line facts known line (Not r x) given = set_register known r
     (opposite_on facts known line x given)
 check_instruction_line facts known line (ByteLt r column slice k) given =
-    put known r (byte_on facts line Less (instr_fits facts.columns (ByteLt r column slice k)) column
+    set_register known r (byte_on facts line Less (instr_fits facts.columns (ByteLt r column slice k)) column
     slice k given)
 check_instruction_line facts known line (ByteEq r column slice k) given =
-    put known r (byte_on facts line Equal (instr_fits facts.columns (ByteEq r column slice k))
+    set_register known r (byte_on facts line Equal (instr_fits facts.columns (ByteEq r column slice k))
     column slice k given)
 check_instruction_line facts known line (Skip x target) given = check_skip known line x given

@@ -12,10 +12,10 @@ use Rattle.bw_program.specs.declared.instr.Instr.TheVariants.{Load, Nulls, Fill,
 use Rattle.bw_program.specs.declared.instr.Instr.TheVariants.{ByteLt, ByteEq, Skip}
 use Rattle.bw_text.specs.Register.{is_register}
 use Rattle.bw_cert_rules.specs.declared.edge.Edge.{Edge}
-use Rattle.bw_cert_rules.specs.Known.{Known, node_of}
+use Rattle.bw_cert_rules.specs.Known.{KnownNodes, node_of}
 
 -- the edge of an instruction that is a skip: its target, its register, and what is known there
-abbrev pub edge_of : Known → Instr → Option Edge
+abbrev pub edge_of : KnownNodes → Instr → Option Edge
 edge_of known (Load r column bit) = None
 edge_of known (Nulls r column) = None
 edge_of known (Fill r bit) = None
@@ -43,7 +43,7 @@ is_zero None = false
 is_zero (Some node) = node == 0
 
 -- On fall-through, the register's node equals the kept one: their XOR is 0 by the product row.
-abbrev pub keeps_through : Facts → Known → Keep → Bool
+abbrev pub keeps_through : Facts → KnownNodes → Keep → Bool
 keeps_through facts through keep = is_zero
     (option_and_then (λ f. product_node facts connective.Xor f keep.node keep.through)
     (node_of through keep.register))
@@ -69,7 +69,7 @@ keeps_by_skips facts keep (edge ∷ edges) (rows ∷ more) = keeps_by_skip facts
 
 -- The register isn't below the least, and has the node that its line names on every way to the
 -- join.
-unfoldable pub is_valid_keep : Facts → Known → List Edge → ℕ → Keep → Bool
+unfoldable pub is_valid_keep : Facts → KnownNodes → List Edge → ℕ → Keep → Bool
 is_valid_keep facts through edges least keep =
     nat_le least keep.register && is_register keep.register && keeps_through facts through keep
     && keeps_by_skips facts keep edges keep.edges

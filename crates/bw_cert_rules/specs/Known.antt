@@ -7,19 +7,19 @@ use Rattle.bw_model.specs.declared.fault.Fault.{Fault}
 use Rattle.bw_model.specs.Fault.{is_memory}
 use Rattle.bw_text.specs.Register.{register_count}
 
-abbrev pub Known : Type 0
-Known = List (Option ℕ)
+abbrev pub KnownNodes : Type 0
+KnownNodes = List (Option ℕ)
 
 -- the node of a register, if one is known
-abbrev pub node_of : Known → ℕ → Option ℕ
+abbrev pub node_of : KnownNodes → ℕ → Option ℕ
 node_of known register = slice_index_or known register None
 
 -- nothing is known, as at the start
-unfoldable pub nothing_known : Known
+unfoldable pub nothing_known : KnownNodes
 nothing_known = replicate register_count None
 
 -- this register has this node, and the others have what they had
-abbrev pub with_node : Known → ℕ → ℕ → Known
+abbrev pub with_node : KnownNodes → ℕ → ℕ → KnownNodes
 with_node known register node = slice_set known register (Some node)
 
 -- the error is one of 607 to 609, or out of memory

@@ -13,24 +13,24 @@ use Rattle.bw_cert_text.specs.declared.lines.Entry.TheVariants as line_of
 use Rattle.bw_cert_text.specs.declared.lines.Keep.{Keep}
 use Rattle.bw_cert_text.specs.CertificateFields.{BodyFields, body_fields}
 use Rattle.bw_cert_rules.specs.declared.edge.Edge.{Edge}
-use Rattle.bw_cert_rules.specs.Known.{Known, with_node, nothing_known}
+use Rattle.bw_cert_rules.specs.Known.{KnownNodes, with_node, nothing_known}
 use Rattle.bw_cert_rules.specs.Instruction.{check_instruction_line}
 use Rattle.bw_cert_rules.specs.Join.{edge_of, with_edge, edges_into, is_valid_keep}
 
 -- what is known after the lines that were consumed, and the other lines
 pub record WalkState : Type 0 where
-  pub known : Known
+  pub known : KnownNodes
   pub rest : List BodyLine
 
 -- The same result with each line replaced by its fields, so that equal lines at different addresses
 -- compare equal.
-abbrev pub line_fields : Result WalkState Fault → Result (Known × List BodyFields) Fault
+abbrev pub line_fields : Result WalkState Fault → Result (KnownNodes × List BodyFields) Fault
 line_fields (Ok taken) = Ok (taken.known, map body_fields taken.rest)
 line_fields (Err fault) = Err fault
 
 -- the line of an instruction is expected: any other is wrong (607), and if the lines have run out,
 -- END is
-abbrev pub instruction_on : Facts → Known → Instr → BodyLine → Entry → Result Known Fault
+abbrev pub instruction_on : Facts → KnownNodes → Instr → BodyLine → Entry → Result KnownNodes Fault
 instruction_on facts known instr line (line_of.Instruction given) = check_instruction_line facts
     known line.line
     instr given
@@ -40,7 +40,7 @@ instruction_on facts known instr line (line_of.Join place) = Err
     (at_line INSTRUCTION_LINE line.line)
 instruction_on facts known instr line (line_of.Keep keep) = Err (at_line INSTRUCTION_LINE line.line)
 
-abbrev pub instruction_taken : Facts → ℕ → Known → Instr → List BodyLine → Result WalkState Fault
+abbrev pub instruction_taken : Facts → ℕ → KnownNodes → Instr → List BodyLine → Result WalkState Fault
 instruction_taken facts end known instr [] = Err (at_line INSTRUCTION_LINE end)
 instruction_taken facts end known instr (line ∷ lines) =
     instruction_on facts known instr line line.entry
@@ -71,7 +71,7 @@ by_keep (Some keep) other kept = kept keep
 
 -- All KEEP lines that follow, of ascending registers from the least on: only those registers then
 -- have nodes. A line that breaks its rule is 608.
-unfoldable pub keeps_taken : Facts → Known → List Edge → ℕ → Known → List BodyLine
+unfoldable pub keeps_taken : Facts → KnownNodes → List Edge → ℕ → KnownNodes → List BodyLine
     → Result WalkState Fault
 keeps_taken facts through edges least kept [] = Ok (record { known = kept; rest = [] })
 keeps_taken facts through edges least kept (line ∷ lines) =

@@ -12,7 +12,7 @@ ghost use Rattle.bw_cert_rules.specs.Accepted.{lines_of};
 ghost use Rattle.bw_cert_rules.specs.Sound.{Hold};
 ghost use Rattle.bw_cert_rules.specs.Walk.{WalkState, check_lines, line_fields};
 
-use bw_diagram::cited_nodes_are_worth;
+use bw_diagram::cited_nodes_have_stated_values;
 
 /// A law, skip soundness: let parts satisfy the rules for a program's instructions, with true
 /// facts. In every run, over any lanes, whichever skips it takes, and at each place that it
@@ -31,7 +31,7 @@ pub fn skip_soundness()
         → Hold facts lanes (known_before facts program.instrs parts (length program.instrs))
         (end_state facts.columns lanes program).registers }
 {
-    cited_nodes_are_worth();
+    cited_nodes_have_stated_values();
 }
 
 /// A law: lines that are accepted are those of parts that satisfy their rules.

@@ -7,7 +7,7 @@ ghost use Rattle.bw_model.specs.Fault.{at_line};
 ghost use Rattle.bw_model.specs.Variable.{first_variable, bit_variable, is_nullable};
 ghost use Rattle.bw_program.specs.Program.{named_by};
 ghost use Rattle.bw_text.specs.Register.{register_count};
-ghost use Rattle.bw_cert_rules.specs.Instruction.{check_instruction_line, put, fill, check_skip};
+ghost use Rattle.bw_cert_rules.specs.Instruction.{check_instruction_line, set_register, fill, check_skip};
 ghost use Rattle.bw_cert_rules.specs.Instruction.{plane_on, read_on, joined_on, opposite_on};
 ghost use Rattle.bw_cert_rules.specs.Instruction.{operation_on, byte_on, byte_node, past_node};
 ghost use Rattle.bw_cert_rules.specs.Known.{is_known_fault};
@@ -34,11 +34,15 @@ const fn unfit(line: u64) -> Fault
 }
 
 /// Sets a register's node, if there is one.
-fn put(known: &mut Known, register: Register, node: Result<u64, Fault>) -> Result<(), Fault>
+fn set_register(
+    known: &mut Known,
+    register: Register,
+    node: Result<u64, Fault>,
+) -> Result<(), Fault>
     requires register { register < 64 }
     requires code { IfErr node (λ fault. IsTrue (is_known_fault fault)) }
-    ensures known { IfOk result (λ _. put known.old register node ≡ Ok known.new) }
-    ensures fault { IfErr result (λ fault. put known.old register node ≡ Err fault) }
+    ensures known { IfOk result (λ _. set_register known.old register node ≡ Ok known.new) }
+    ensures fault { IfErr result (λ fault. set_register known.old register node ≡ Err fault) }
     ensures code { IfErr result (λ fault. IsTrue (is_known_fault fault)) }
 {
     known[register as usize] = Some(node?);
@@ -105,32 +109,32 @@ impl LineChecker<'_> {
         ensures code { IfErr result (λ fault. IsTrue (is_known_fault fault)) }
     {
         match instr {
-            Instr::Load(r, col, bit) => put(known, r, self.plane(line, col, bit, given)),
-            Instr::Nulls(r, col) => put(known, r, self.nulls(line, col, given)),
+            Instr::Load(r, col, bit) => set_register(known, r, self.plane(line, col, bit, given)),
+            Instr::Nulls(r, col) => set_register(known, r, self.nulls(line, col, given)),
             Instr::Fill(r, bit) => fill(known, line, r, bit, given),
             Instr::And(r, x, y) => {
                 let node = self.operation_node(known, line, Connective::And, x, y, given);
-                put(known, r, node)
+                set_register(known, r, node)
             }
             Instr::Or(r, x, y) => {
                 let node = self.operation_node(known, line, Connective::Or, x, y, given);
-                put(known, r, node)
+                set_register(known, r, node)
             }
             Instr::Xor(r, x, y) => {
                 let node = self.operation_node(known, line, Connective::Xor, x, y, given);
-                put(known, r, node)
+                set_register(known, r, node)
             }
             Instr::Not(r, x) => {
                 let node = self.opposite(known, line, x, given);
-                put(known, r, node)
+                set_register(known, r, node)
             }
             Instr::ByteLt(r, col, slice, k) => {
                 let node = self.byte(line, ChainKind::Less, col, slice, k, given);
-                put(known, r, node)
+                set_register(known, r, node)
             }
             Instr::ByteEq(r, col, slice, k) => {
                 let node = self.byte(line, ChainKind::Equal, col, slice, k, given);
-                put(known, r, node)
+                set_register(known, r, node)
             }
             Instr::Skip(x, _) => check_skip(known, line, x, given),
         }

@@ -12,7 +12,7 @@ ghost use Rattle.bw_cert_rules.specs.declared.nodes.TruthPair.{TruthPair};
 ghost use Rattle.bw_cert_rules.specs.Meaning.{Tells};
 ghost use Rattle.bw_cert_rules.specs.Pair.{pair_of, line_fields};
 
-use bw_diagram::cited_nodes_are_worth;
+use bw_diagram::cited_nodes_have_stated_values;
 
 /// A law: if the facts of a diagram are true, the truth pair of a condition is two of its nodes.
 /// Under every assignment, the first is 1 exactly if the condition is TRUE on the assignment's row,
@@ -24,7 +24,7 @@ pub fn pairs_tell_truths()
         → pair_of columns facts end cond lines ≡ Ok (pair, rest)
         → Tells facts.nodes (λ assignment. truth_of (row_of columns assignment) cond) pair }
 {
-    cited_nodes_are_worth();
+    cited_nodes_have_stated_values();
 }
 
 /// A law: conditions of the same tree, and lines of the same content, are read alike. The result is

@@ -13,7 +13,7 @@ use Rattle.bw_cert_text.specs.CertificateFields.{ChainFields, BodyFields}
 use Rattle.bw_cert_text.specs.CertificateShape.{CertificateShape}
 use Rattle.bw_cert_text.specs.PrintText.{token_text, token_words, token_line, lines_text}
 use Rattle.bw_cert_text.specs.PrintText.{body_tokens, respelled_chain, print_text}
-use Rattle.bw_text.specs.Printing.{spaced}
+use Rattle.bw_text.specs.Printing.{spaced_words}
 use Rattle.bw_cert_text.specs.Reprint.{are_small, numbers_fit}
 use Rattle.bw_cert_text.specs.Token.{Token, Number, edge_tokens, node_tokens, chain_tokens}
 use Rattle.bw_cert_text.specs.Token.{row_tokens, end_tokens}
@@ -47,17 +47,17 @@ pub fit-none : {A : Type 0} (fits : A → Bool) (xs : List A) → xs ≡ [] → 
 fit-none fits xs is = ap (list_all fits) is
 
 pub edges-next : (xs : List EdgeProducts) (i : ℕ) (d : EdgeProducts) → i < length xs →
-    spaced (token_words (edge_tokens (drop i xs)))
-    ≡ spaced (token_words (Number (get_or xs i d).differs ∷ Number (get_or xs i d).within ∷ [])) ++ spaced (token_words (edge_tokens (drop (i + 1) xs)))
-unfolding spaced edge_tokens
-edges-next xs i d lt = rw (add-one, drop-cons xs i d lt) (go (token_text (Number (get_or xs i d).differs)) (token_text (Number (get_or xs i d).within)) (spaced (token_words (edge_tokens (drop (suc i) xs)))))
+    spaced_words (token_words (edge_tokens (drop i xs)))
+    ≡ spaced_words (token_words (Number (get_or xs i d).differs ∷ Number (get_or xs i d).within ∷ [])) ++ spaced_words (token_words (edge_tokens (drop (i + 1) xs)))
+unfolding spaced_words edge_tokens
+edges-next xs i d lt = rw (add-one, drop-cons xs i d lt) (go (token_text (Number (get_or xs i d).differs)) (token_text (Number (get_or xs i d).within)) (spaced_words (token_words (edge_tokens (drop (suc i) xs)))))
   where
     go : (a b rest : List ℕ) → 32 ∷ (a ++ (32 ∷ (b ++ rest))) ≡ (32 ∷ (a ++ (32 ∷ (b ++ [])))) ++ rest
     go a b rest =
         rw (append-nil b) (ap (λ (t : List ℕ). 32 ∷ t) (sym (append_assoc a (32 ∷ b) rest)))
 
-pub edges-end : (xs : List EdgeProducts) (i : ℕ) → length xs ≤ i → spaced (token_words (edge_tokens (drop i xs))) ≡ []
-unfolding spaced edge_tokens
+pub edges-end : (xs : List EdgeProducts) (i : ℕ) → length xs ≤ i → spaced_words (token_words (edge_tokens (drop i xs))) ≡ []
+unfolding spaced_words edge_tokens
 edges-end xs i le = rw (drop_all i xs le) refl
 
 -- lines of other things that are seen so
@@ -66,17 +66,17 @@ unfolding lines_text
 lines-map tokens view [] = refl
 lines-map tokens view (x ∷ xs) = ap (λ (t : List ℕ). token_line (tokens (view x)) ++ t) (lines-map tokens view xs)
 
-spaced-append : (a b : List Token) → spaced (token_words (a ++ b)) ≡ spaced (token_words a) ++ spaced (token_words b)
-unfolding spaced
+spaced-append : (a b : List Token) → spaced_words (token_words (a ++ b)) ≡ spaced_words (token_words a) ++ spaced_words (token_words b)
+unfolding spaced_words
 spaced-append [] b = refl
-spaced-append (t ∷ a) b = ap (λ (r : List ℕ). 32 ∷ r) (ap (λ (r : List ℕ). token_text t ++ r) (spaced-append a b) ∙ sym (append_assoc (token_text t) (spaced (token_words a)) (spaced (token_words b))))
+spaced-append (t ∷ a) b = ap (λ (r : List ℕ). 32 ∷ r) (ap (λ (r : List ℕ). token_text t ++ r) (spaced-append a b) ∙ sym (append_assoc (token_text t) (spaced_words (token_words a)) (spaced_words (token_words b))))
 
 -- a line that was written in four pieces
-pub line_written : (old key first second third new : List ℕ) (a b : List Token) → first ≡ old ++ key → second ≡ first ++ spaced (token_words a) → third ≡ second ++ spaced (token_words b) → new ≡ third ++ 10 ∷ [] →
-    new ≡ old ++ (key ++ (spaced (token_words (a ++ b)) ++ 10 ∷ []))
+pub line_written : (old key first second third new : List ℕ) (a b : List Token) → first ≡ old ++ key → second ≡ first ++ spaced_words (token_words a) → third ≡ second ++ spaced_words (token_words b) → new ≡ third ++ 10 ∷ [] →
+    new ≡ old ++ (key ++ (spaced_words (token_words (a ++ b)) ++ 10 ∷ []))
 line_written old key first second third new a b p q r s =
-    rw (s, r, q, p, spaced-append a b) (append_assoc ((old ++ key) ++ spaced (token_words a)) (spaced (token_words b)) (10 ∷ []) ∙ append_assoc (old ++ key) (spaced (token_words a)) (spaced (token_words b) ++ 10 ∷ [])
-    ∙ append_assoc old key (spaced (token_words a) ++ (spaced (token_words b) ++ 10 ∷ [])) ∙ ap (λ (t : List ℕ). old ++ (key ++ t)) (sym (append_assoc (spaced (token_words a)) (spaced (token_words b)) (10 ∷ []))))
+    rw (s, r, q, p, spaced-append a b) (append_assoc ((old ++ key) ++ spaced_words (token_words a)) (spaced_words (token_words b)) (10 ∷ []) ∙ append_assoc (old ++ key) (spaced_words (token_words a)) (spaced_words (token_words b) ++ 10 ∷ [])
+    ∙ append_assoc old key (spaced_words (token_words a) ++ (spaced_words (token_words b) ++ 10 ∷ [])) ∙ ap (λ (t : List ℕ). old ++ (key ++ t)) (sym (append_assoc (spaced_words (token_words a)) (spaced_words (token_words b)) (10 ∷ []))))
 
 -- a text that was written in five pieces
 pub text_written : (t0 t1 t2 t3 t4 t5 a b c d e : List ℕ) → t0 ≡ [] → t1 ≡ t0 ++ a → t2 ≡ t1 ++ b → t3 ≡ t2 ++ c → t4 ≡ t3 ++ d → t5 ≡ t4 ++ e → t5 ≡ a ++ (b ++ (c ++ (d ++ e)))

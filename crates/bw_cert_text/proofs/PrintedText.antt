@@ -14,7 +14,7 @@ use Rattle.bw_diagram.specs.declared.product.Reason.{Reason}
 use Rattle.bw_diagram.specs.declared.product.Reason.TheVariants.{Shortcut, Cofactors}
 use Rattle.bw_model.specs.declared.column.Column as stored
 use Rattle.bw_model.specs.Column.{names_of, column_named}
-use Rattle.bw_text.specs.Lines.{NumberedWords, begins_comment, cut_lines, numbered, numbered_from}
+use Rattle.bw_text.specs.Lines.{NumberedWords, begins_comment, cut_lines, numbered_words, numbered_from}
 use Rattle.bw_model.specs.Name.{is_name}
 use Rattle.bw_text.specs.Text.{same_text}
 use Rattle.bw_cert_text.specs.declared.lines.NodeLine.{NodeLine}
@@ -37,8 +37,8 @@ use Rattle.bw_cert_text.specs.CertificateText.{before_end, at_end, IsCertificate
 use Rattle.bw_cert_text.specs.LineText.{Part, Node, Chain, Row, Body}
 use Rattle.bw_cert_text.specs.PrintText.{token_text, token_line, lines_text, body_tokens}
 use Rattle.bw_cert_text.specs.PrintText.{schema_spelling, spelling_at, respelled_columns}
-use Rattle.bw_cert_text.specs.PrintText.{respelled_chain, respelled, certificate_text, print_text}
-use Rattle.bw_cert_text.specs.Reprint.{node_at, chain_at, row_at, body_at, numbered_on, renumbered}
+use Rattle.bw_cert_text.specs.PrintText.{respelled_chain, respell, certificate_text, print_text}
+use Rattle.bw_cert_text.specs.Reprint.{node_at, chain_at, row_at, body_at, numbered_on, renumber}
 use Rattle.bw_cert_text.specs.Reprint.{is_small, numbers_fit}
 use Rattle.bw_cert_text.specs.Token.{Token, Key, Number, Perhaps, Column, Register, IsSpelled}
 use Rattle.bw_cert_text.specs.Token.{AreSpelled, none, next, node_tokens, column_tokens}
@@ -116,7 +116,7 @@ not_true true e = absurd (cc e)
 not_true false e = refl
 
 tokens_said : (number : ℕ) (ts : List Token) (rest : List ℕ) → begins_line ts ≡ true → list_all is_clear ts ≡ true →
-    numbered_from number (cut_lines (token_line ts ++ rest)) ≡ numbered number (map token_text ts) ∷ numbered_from (number + 1) (cut_lines rest)
+    numbered_from number (cut_lines (token_line ts ++ rest)) ≡ numbered_words number (map token_text ts) ∷ numbered_from (number + 1) (cut_lines rest)
 tokens_said number [] rest begins h = absurd (cc begins)
 tokens_said number (Key key ∷ ts) rest begins h =
     let here = both (is_plain_word key) (list_all is_clear ts) h in
@@ -283,7 +283,7 @@ end_spelled : (n : ℕ) (end : EndLine) → list_all is_small (end_tokens end) �
 unfolding cut_lines numbered_from
 end_spelled n end h =
     let said = tokens_said n (end_tokens end) [] refl h in
-    let whole : numbered_from n (cut_lines (token_line (end_tokens end))) ≡ numbered n (map token_text (end_tokens end)) ∷ [] =
+    let whole : numbered_from n (cut_lines (token_line (end_tokens end))) ≡ numbered_words n (map token_text (end_tokens end)) ∷ [] =
     ap (λ (t : List ℕ). numbered_from n (cut_lines t)) (sym (append-nil (token_line (end_tokens end)))) ∙ said in
     rw whole (at_end (record { line = n; row = end.row }) (refl, tokens_spelled (end_tokens end) h))
 
@@ -335,7 +335,7 @@ put_together nodes chains rows body a b r y end =
 certificate_spelled : (first : ℕ) (c : CertificateFields) →
     list_all (λ x. list_all is_clear (node_tokens x)) c.nodes ≡ true → list_all (λ x. list_all is_clear (chain_tokens x)) c.chains ≡ true →
     list_all (λ x. list_all is_clear (row_tokens x)) c.products ≡ true → list_all (λ x. list_all is_clear (body_tokens x)) c.body ≡ true → list_all is_small (end_tokens c.end) ≡ true →
-    IsCertificateText first (certificate_text c) (renumbered first c)
+    IsCertificateText first (certificate_text c) (renumber first c)
 certificate_spelled first c nodes chains rows body end =
     let b : ℕ = first + length c.nodes in
     let r : ℕ = b + length c.chains in
@@ -353,11 +353,11 @@ certificate_spelled first c nodes chains rows body end =
     subst (λ (x : CertificateFields). SpellsFrom 0 (numbered_from first (cut_lines (certificate_text c))) x) (put_together c.nodes c.chains c.products c.body first b r y (record { line = e; row = c.end.row })) all
 
 pub text_spells : (columns : List stored.Column) (first : ℕ) (c : CertificateFields) → list_all is_name (names_of columns) ≡ true → numbers_fit c ≡ true → has_columns columns c ≡ true →
-    IsCertificateText first (print_text columns c) (renumbered first (respelled columns c))
+    IsCertificateText first (print_text columns c) (renumber first (respell columns c))
 text_spells columns first c names small there =
     let n = both (list_all (λ x. list_all is_small (node_tokens x)) c.nodes) _ small in
     let k = both (list_all (λ x. list_all is_small (chain_tokens x)) c.chains) _ n.1 in
     let r = both (list_all (λ x. list_all is_small (row_tokens x)) c.products) _ k.1 in
     let b = both (list_all (λ x. list_all is_small (body_tokens x)) c.body) (list_all is_small (end_tokens c.end)) r.1 in
-    certificate_spelled first (respelled columns c) (all_clear node_tokens (λ x h. h) c.nodes n.0) (chains_clear columns names c.chains k.0 there) (all_clear row_tokens row_all c.products r.0)
+    certificate_spelled first (respell columns c) (all_clear node_tokens (λ x h. h) c.nodes n.0) (chains_clear columns names c.chains k.0 there) (all_clear row_tokens row_all c.products r.0)
     (all_clear body_tokens (λ x h. entry_clear x.entry h) c.body b.0) b.1

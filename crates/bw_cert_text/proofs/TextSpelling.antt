@@ -12,7 +12,7 @@ use Rattle.bw_cert_text.specs.CertificateFields.{CertificateFields, certificate_
 use Rattle.bw_cert_text.specs.LineText.{Part, ParsedLine, Before, End, parse_line_in}
 use Rattle.bw_cert_text.specs.CertificateText.{section_of, with_part, end_alone, SpellsFrom}
 use Rattle.bw_cert_text.specs.CertificateText.{before_end, at_end, IsCertificateText, form_fault}
-use Rattle.bw_cert_text.specs.CertificateText.{is_before, ordered, last_line, followed}
+use Rattle.bw_cert_text.specs.CertificateText.{is_before, in_section_order, last_line, certificate_after}
 use Rattle.bw_cert_text.specs.CertificateText.{certificate_from, certificate_of}
 use Rattle.bw_cert_text.specs.Reprint.{numbers_fit}
 use Rattle.bw_cert_text.proofs.SpelledNumbers.{text_small}
@@ -39,13 +39,13 @@ text_read section (line ∷ lines) end c e = go (parse_line_in line) refl e (λ 
         rw (← same) (before_end part le (line_read line.number line.words (Before part) is) (more (section_of part) rest read))
 
     tested : (said : ParsedLine) → parse_line_in line ≡ Some said → (b : Bool) → is_before section said ≡ b →
-        (refused_if b (form_fault line.number) (Ok said) >>= λ said. followed lines (Reading lines end) said) ≡ Ok c →
+        (refused_if b (form_fault line.number) (Ok said) >>= λ said. certificate_after lines (Reading lines end) said) ≡ Ok c →
         ((s : ℕ) (x : CertificateFields) → Reading lines end s ≡ Ok x → SpellsFrom s lines x) → SpellsFrom section (line ∷ lines) c
     tested said is true before e more = absurd (cc e)
     tested (Before part) is false before e more = put part is (ltb-false (section_of part) section before) (Reading lines end (section_of part)) refl e more
     tested (End last) is false before e more = ended last is lines e
 
-    go : (o : Option ParsedLine) → parse_line_in line ≡ o → (ordered section line.number o >>= λ said. followed lines (Reading lines end) said) ≡ Ok c →
+    go : (o : Option ParsedLine) → parse_line_in line ≡ o → (in_section_order section line.number o >>= λ said. certificate_after lines (Reading lines end) said) ≡ Ok c →
         ((s : ℕ) (x : CertificateFields) → Reading lines end s ≡ Ok x → SpellsFrom s lines x) → SpellsFrom section (line ∷ lines) c
     go None is e more = absurd (cc e)
     go (Some said) is e more = tested said is (is_before section said) refl e more

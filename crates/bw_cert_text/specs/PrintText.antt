@@ -65,8 +65,8 @@ respelled_chain columns chain = record {
   columns = respelled_columns columns chain.columns;
 }
 
-abbrev pub respelled : List column.Column → CertificateFields → CertificateFields
-respelled columns c =
+abbrev pub respell : List column.Column → CertificateFields → CertificateFields
+respell columns c =
     record {
       nodes = c.nodes;
       chains = map (respelled_chain columns) c.chains;
@@ -77,4 +77,4 @@ respelled columns c =
 
 -- the canonical text of a certificate under a schema's columns
 abbrev pub print_text : List column.Column → CertificateFields → List ℕ
-print_text columns c = certificate_text (respelled columns c)
+print_text columns c = certificate_text (respell columns c)

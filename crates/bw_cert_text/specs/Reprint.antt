@@ -37,8 +37,8 @@ numbered_on at first [] = []
 numbered_on at first (x ∷ xs) = at first x ∷ numbered_on at (first + 1) xs
 
 -- a certificate whose lines are numbered from this number on
-abbrev pub renumbered : ℕ → CertificateFields → CertificateFields
-renumbered first c =
+abbrev pub renumber : ℕ → CertificateFields → CertificateFields
+renumber first c =
     let chains : ℕ = first + length c.nodes in
     let rows : ℕ = chains + length c.chains in
     let body : ℕ = rows + length c.products in

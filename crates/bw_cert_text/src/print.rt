@@ -10,14 +10,14 @@ ghost use Rattle.bw_model.specs.Name.{is_name};
 ghost use Rattle.bw_cert_text.specs.BodyLines.{body_lines};
 ghost use Rattle.bw_cert_text.specs.CertificateText.{IsCertificateText};
 ghost use Rattle.bw_cert_text.specs.Columns.{are_columns, has_columns};
-ghost use Rattle.bw_cert_text.specs.Reprint.{is_small, are_small, numbers_fit, renumbered};
+ghost use Rattle.bw_cert_text.specs.Reprint.{is_small, are_small, numbers_fit, renumber};
 ghost use Rattle.bw_cert_text.specs.CertificateFields.{CertificateFields, certificate_fields};
 ghost use Rattle.bw_cert_text.specs.CertificateFields.{column_fields, chain_fields, keep_fields};
 ghost use Rattle.bw_cert_text.specs.CertificateFields.{entry_fields, body_fields};
 ghost use Rattle.bw_cert_text.specs.PrintText.{token_text, token_words, token_line, lines_text};
 ghost use Rattle.bw_cert_text.specs.PrintText.{body_tokens, schema_spelling, respelled_chain};
-ghost use Rattle.bw_cert_text.specs.PrintText.{respelled, print_text};
-ghost use Rattle.bw_text.specs.Printing.{piece_text, spaced};
+ghost use Rattle.bw_cert_text.specs.PrintText.{respell, print_text};
+ghost use Rattle.bw_text.specs.Printing.{piece_text, spaced_words};
 ghost use Rattle.bw_cert_text.specs.Token.{Key, Number, Perhaps, one_key, two_key, node_tokens};
 ghost use Rattle.bw_cert_text.specs.Token.{chain_tokens, row_tokens, condition_tokens};
 ghost use Rattle.bw_cert_text.specs.Token.{instruction_tokens, edge_tokens, keep_tokens};
@@ -47,7 +47,7 @@ impl Certificate<'_> {
             (λ text. text.items ≡ print_text schema.now.columns.items
             (certificate_fields self.now)) }
         ensures spelled { IfOk result (λ text. (first : ℕ) → IsCertificateText first text.items
-            (renumbered first (respelled schema.now.columns.items (certificate_fields self.now)))) }
+            (renumber first (respell schema.now.columns.items (certificate_fields self.now)))) }
         ensures only_oom { IsOkUnless result no_memory }
     {
         schema.has_names_and_bounds();
@@ -97,7 +97,7 @@ pub fn canonical_texts_spell_certificates()
         → IsTrue (list_all is_name (names_of columns)) → IsTrue (numbers_fit certificate)
         → IsTrue (has_columns columns certificate)
         → IsCertificateText first (print_text columns certificate)
-        (renumbered first (respelled columns certificate)) }
+        (renumber first (respell columns certificate)) }
 {}
 
 /// A law: if a text spells a certificate, its numbers are below 2^64, and its registers r0 to r63.
@@ -415,7 +415,7 @@ fn put_keep(alloc: Global, keep: &Keep<'_>, text: &mut Vec<u8>) -> Result<(), Al
 /// Appends pairs of numbers, each number after a blank.
 fn put_edges(alloc: Global, edges: &[EdgeProducts], text: &mut Vec<u8>) -> Result<(), AllocError>
     ensures text { OnOk result (text.new.items ≡ text.old.items
-        ++ spaced (token_words (edge_tokens edges.now))) }
+        ++ spaced_words (token_words (edge_tokens edges.now))) }
     ensures fit { OnOk result (IsTrue (are_small (edge_tokens edges.now))) }
 {
     for edge in edges {
@@ -427,7 +427,7 @@ fn put_edges(alloc: Global, edges: &[EdgeProducts], text: &mut Vec<u8>) -> Resul
 /// Appends a pair of numbers, each after a blank.
 fn put_edge(alloc: Global, edge: EdgeProducts, text: &mut Vec<u8>) -> Result<(), AllocError>
     ensures text { OnOk result (text.new.items ≡ text.old.items
-        ++ spaced (token_words (Number edge.differs ∷ Number edge.within ∷ []))) }
+        ++ spaced_words (token_words (Number edge.differs ∷ Number edge.within ∷ []))) }
     ensures fit { IsTrue (are_small (Number edge.differs ∷ Number edge.within ∷ [])) }
 {
     let pieces = [Piece::Number(edge.differs), Piece::Number(edge.within)];

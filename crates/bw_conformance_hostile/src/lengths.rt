@@ -9,7 +9,13 @@ use std::process::Abort;
 use std::test::Fail;
 
 /// Returns a text, another one this many times, and an end.
-fn repeated(alloc: Global, start: &str, part: &str, count: u32, end: &str) -> Result<String, Fail> {
+fn repeat_text(
+    alloc: Global,
+    start: &str,
+    part: &str,
+    count: u32,
+    end: &str,
+) -> Result<String, Fail> {
     let mut text = String::new(alloc);
     text.push_str(start)?;
     for _ in 0..count {
@@ -43,7 +49,7 @@ fn long_statements_are_refused_alike(rt: HostRuntime) -> Result<(), Fail> {
         ("", " ", 65_536, code::SYNTAX, 65_536),
         ("", "(", 65_537, code::STATEMENT_TOO_LONG, 65_536),
     ] {
-        let sql = repeated(rt.alloc(), start, part, count, "")?;
+        let sql = repeat_text(rt.alloc(), start, part, count, "")?;
         let sql = sql.as_str();
         for call in [Call::Direct(sql), Call::Answer(sql, None), Call::Plan(sql)] {
             let mut sink = Taker {
@@ -94,7 +100,7 @@ fn check_answer(
 
 #[test]
 fn a_list_of_ten_thousand_numbers_is_answered(rt: HostRuntime) -> Result<(), Fail> {
-    let mut sql = repeated(rt.alloc(), COUNT, "", 0, "a IN (0")?;
+    let mut sql = repeat_text(rt.alloc(), COUNT, "", 0, "a IN (0")?;
     for number in 1..10_000u32 {
         let item = format!(in rt.alloc(); ", {number}")?;
         sql.push_str(item.as_str())?;
@@ -107,10 +113,10 @@ fn a_list_of_ten_thousand_numbers_is_answered(rt: HostRuntime) -> Result<(), Fai
 #[test]
 fn sixty_four_columns_of_63_bits_are_answered(rt: HostRuntime) -> Result<(), Fail> {
     let alloc = rt.alloc();
-    let mut schema = repeated(alloc, "TABLE w\n", "", 0, "")?;
+    let mut schema = repeat_text(alloc, "TABLE w\n", "", 0, "")?;
     let mut heading = String::new(alloc);
     let mut rows = [String::new(alloc), String::new(alloc)];
-    let mut sql = repeated(alloc, "SELECT COUNT(*) FROM w WHERE ", "", 0, "x0 >= 1")?;
+    let mut sql = repeat_text(alloc, "SELECT COUNT(*) FROM w WHERE ", "", 0, "x0 >= 1")?;
     for i in 0..64u32 {
         let comma = if i > 0 { "," } else { "" };
         let least = if i < 63 { "9223372036854775807" } else { "0" };
@@ -147,7 +153,7 @@ fn long_records_and_fields_are_judged(rt: HostRuntime) -> Result<(), Fail> {
         ("a,b\n", "x", ",0\n", Some(code::NOT_A_NUMBER)),
         ("a,b\n", "0", "7,0\n", None),
     ] {
-        let csv = repeated(rt.alloc(), start, part, 1_000_000, end)?;
+        let csv = repeat_text(rt.alloc(), start, part, 1_000_000, end)?;
         let expected = match fault {
             None => Ok(()),
             Some(code) => Err(Fault::at_record(code, 1)),

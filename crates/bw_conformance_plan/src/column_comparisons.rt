@@ -1,5 +1,5 @@
 //! Comparisons of columns with one another: skips, if no row has the two equal so far.
-use crate::rows::{Numbers, cost_of, judged, rows_of};
+use crate::rows::{Numbers, cost_of, cost_of_rows, rows_of};
 use bw_model::{Row, Schema, code};
 use std::alloc::Global;
 use std::process::Abort;
@@ -154,7 +154,7 @@ fn assert_longest(rt: &(impl Abort + AllocGlobal), count: usize, most: i64) -> R
     cost_of(rt, alloc, &schema, text.as_str(), &rows)?;
     let (schema, text) = chain(alloc, count.saturating_add(1), most)?;
     let none: Vec<Row> = Vec::new(alloc);
-    match judged(rt, alloc, &schema, text.as_str(), &none)? {
+    match cost_of_rows(rt, alloc, &schema, text.as_str(), &none)? {
         Ok(cost) => panic!(rt; "{text}: {cost:?}"),
         Err(fault) => assert_eq!(rt; fault.code, code::NO_PROGRAM, "{text}"),
     }

@@ -1,5 +1,5 @@
 //! Lists of numbers: what fits into a program, and the rows that it selects.
-use crate::rows::{Numbers, cost_of, judged, rows_of};
+use crate::rows::{Numbers, cost_of, cost_of_rows, rows_of};
 use bw_model::{Row, Schema, code};
 use std::alloc::Global;
 use std::process::Abort;
@@ -17,7 +17,7 @@ const WIDTHS: &str = "\
 
 /// Returns scattered numbers of this many bits, of which the first and the last bytes are often all
 /// zeros or ones.
-fn scattered(alloc: Global, count: u64, bits: u32) -> Result<Vec<i64>, Fail> {
+fn scatter_numbers(alloc: Global, count: u64, bits: u32) -> Result<Vec<i64>, Fail> {
     let mut numbers = Numbers::new(u64::from(bits));
     let mut made = Vec::new(alloc);
     for number in 0..count {
@@ -53,7 +53,7 @@ fn assert_served(
     let alloc = rt.alloc();
     let schema = Schema::parse(alloc, WIDTHS.as_bytes())?;
     for count in counts {
-        let numbers = scattered(alloc, *count, bits)?;
+        let numbers = scatter_numbers(alloc, *count, bits)?;
         let mut source = Numbers::new(*count);
         let rows = rows_of(alloc, &mut source, &schema, &numbers, 1200)?;
         let text = among(alloc, column, &numbers)?;
@@ -96,12 +96,12 @@ fn assert_longest(
 ) -> Result<(), Fail> {
     let schema = Schema::parse(alloc, WIDTHS.as_bytes())?;
     let none: Vec<Row> = Vec::new(alloc);
-    let fits = scattered(alloc, count, bits)?;
+    let fits = scatter_numbers(alloc, count, bits)?;
     let text = among(alloc, column, &fits)?;
     cost_of(rt, alloc, &schema, text.as_str(), &none)?;
-    let passes = scattered(alloc, count.saturating_add(1), bits)?;
+    let passes = scatter_numbers(alloc, count.saturating_add(1), bits)?;
     let text = among(alloc, column, &passes)?;
-    match judged(rt, alloc, &schema, text.as_str(), &none)? {
+    match cost_of_rows(rt, alloc, &schema, text.as_str(), &none)? {
         Ok(cost) => panic!(rt; "one number more: {cost:?}"),
         Err(fault) => assert_eq!(rt; fault.code, code::NO_PROGRAM),
     }

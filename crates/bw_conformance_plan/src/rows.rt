@@ -103,7 +103,7 @@ fn assert_group(rt: &impl Abort, schema: &Schema, rows: &[Row])
 
 /// Returns the certified program of a condition with its parts in some order, or the error of
 /// `propose_in_order`. The checker must accept what is proposed.
-pub(crate) fn planned(
+pub(crate) fn certify_plan(
     rt: &impl Abort,
     alloc: Global,
     schema: &Schema,
@@ -123,7 +123,7 @@ pub(crate) fn planned(
 
 /// Returns what a program selects from a group of rows in both layouts, which must be the rows on
 /// which the condition is TRUE.
-fn selected(
+fn select_rows(
     rt: &impl Abort,
     alloc: Global,
     schema: &Schema,
@@ -154,7 +154,7 @@ fn selected(
     Ok(Cost {
         loads: counts.loads,
         skips: counts.skips,
-        selected,
+        select_rows,
     })
 }
 
@@ -177,7 +177,7 @@ fn selected_in_all(
         selected: 0,
     };
     for group in rows.chunks(512) {
-        let more = selected(rt, alloc, schema, certified, cond, group, text)?;
+        let more = select_rows(rt, alloc, schema, certified, cond, group, text)?;
         cost.loads = cost.loads.saturating_add(more.loads);
         cost.skips = cost.skips.saturating_add(more.skips);
         cost.selected = cost.selected.saturating_add(more.selected);
@@ -186,7 +186,7 @@ fn selected_in_all(
 }
 
 /// Returns the cost of a condition's program over rows, or the error of `propose`.
-pub(crate) fn judged(
+pub(crate) fn cost_of_rows(
     rt: &impl Abort,
     alloc: Global,
     schema: &Schema,
@@ -209,7 +209,7 @@ pub(crate) fn judged_in_order(
     let cond = parse(alloc, schema, sql.as_bytes())?.cond;
     let sql = format!(in alloc; "SELECT COUNT(*) FROM t WHERE {order}")?;
     let order = parse(alloc, schema, sql.as_bytes())?.cond;
-    match planned(rt, alloc, schema, &cond, &order, text) {
+    match certify_plan(rt, alloc, schema, &cond, &order, text) {
         Ok(certified) => {
             let cost = selected_in_all(rt, alloc, schema, &certified, &cond, rows, text)?;
             Ok(Ok(cost))
@@ -226,7 +226,7 @@ pub(crate) fn cost_of(
     text: &str,
     rows: &[Row],
 ) -> Result<Cost, Fail> {
-    match judged(rt, alloc, schema, text, rows)? {
+    match cost_of_rows(rt, alloc, schema, text, rows)? {
         Ok(cost) => Ok(cost),
         Err(fault) => panic!(rt; "{text}: {fault}"),
     }

@@ -5,7 +5,7 @@ use bw_lanes::{
 };
 
 /// Bytes of which byte i is i mod 256.
-fn counted() -> [u8; 512] {
+fn counting_bytes() -> [u8; 512] {
     let mut bytes = [0; 512];
     for i in 0..512usize {
         bytes[i] = (i % 256) as u8;
@@ -15,7 +15,7 @@ fn counted() -> [u8; 512] {
 
 #[test]
 fn bytes_are_compared(rt: HostRuntime) {
-    let bytes = counted();
+    let bytes = counting_bytes();
     assert_eq!(rt; count(&bytes_lt(&bytes, 0)), 0);
     assert_eq!(rt; count(&bytes_lt(&bytes, 255)), 510);
     assert_eq!(rt; count(&bytes_eq(&bytes, 0)), 2);
@@ -67,7 +67,7 @@ fn planes_are_joined_and_kept(rt: HostRuntime) {
 
 #[test]
 fn bytes_are_totalled_in_some_rows(rt: HostRuntime) {
-    let bytes = counted();
+    let bytes = counting_bytes();
     let none = bytes_of_plane(&mask(0));
     let first = bytes_of_plane(&mask(100));
     let all = bytes_of_plane(&mask(512));

@@ -1,5 +1,5 @@
 //! The planes of a worked table, and what is read of them.
-use crate::segments::{SCHEMA, TABLE, compared, ones, rows_of};
+use crate::segments::{SCHEMA, TABLE, count_below_and_at, ones, rows_of};
 use bw_model::{Fault, Schema};
 use bw_planes::{PlaneSegment, Planes};
 use bw_segment::{Placement, Segment, columns_of, is_group, values_in_lanes};
@@ -45,9 +45,9 @@ fn segment_answers(rt: HostRuntime) -> Result<(), Fail> {
     assert_eq!(rt; values[4], Some(8));
     assert_eq!(rt; values[511], None);
     assert_eq!(rt; ones(&segment, 8), Some(2));
-    assert_eq!(rt; compared(&segment, 0, 0, 8), Some((510, 1)));
-    assert_eq!(rt; compared(&segment, 0, 0, 7), Some((508, 2)));
-    assert_eq!(rt; compared(&segment, 1, 0, 200), Some((512, 0)));
+    assert_eq!(rt; count_below_and_at(&segment, 0, 0, 8), Some((510, 1)));
+    assert_eq!(rt; count_below_and_at(&segment, 0, 0, 7), Some((508, 2)));
+    assert_eq!(rt; count_below_and_at(&segment, 1, 0, 200), Some((512, 0)));
     Ok(())
 }
 
@@ -55,7 +55,7 @@ fn segment_answers(rt: HostRuntime) -> Result<(), Fail> {
 const STARTS: [usize; 2] = [0, 512];
 
 /// Returns the error of a column's block in which two bytes are replaced, if there is one.
-fn judged(
+fn block_fault(
     alloc: Global,
     segment: &PlaneSegment,
     col: usize,
@@ -90,39 +90,39 @@ fn blocks_are_judged(rt: HostRuntime) -> Result<(), Fail> {
         segment.bytes().len()
     );
     assert_eq!(rt;
-        judged(rt.alloc(), &segment, 0, [(0, 0x02), (0, 0x02)])?,
+        block_fault(rt.alloc(), &segment, 0, [(0, 0x02), (0, 0x02)])?,
         None
     );
     assert_eq!(rt;
-        judged(rt.alloc(), &segment, 0, [(0, 0x22), (0, 0x22)])?,
+        block_fault(rt.alloc(), &segment, 0, [(0, 0x22), (0, 0x22)])?,
         Some(308)
     );
     assert_eq!(rt;
-        judged(rt.alloc(), &segment, 1, [(0, 0x0C), (64, 0x02)])?,
+        block_fault(rt.alloc(), &segment, 1, [(0, 0x0C), (64, 0x02)])?,
         None
     );
     assert_eq!(rt;
-        judged(rt.alloc(), &segment, 1, [(64, 0x06), (64, 0x06)])?,
+        block_fault(rt.alloc(), &segment, 1, [(64, 0x06), (64, 0x06)])?,
         Some(307)
     );
     assert_eq!(rt;
-        judged(rt.alloc(), &segment, 1, [(320, 0x02), (320, 0x02)])?,
+        block_fault(rt.alloc(), &segment, 1, [(320, 0x02), (320, 0x02)])?,
         Some(306)
     );
     assert_eq!(rt;
-        judged(rt.alloc(), &segment, 1, [(64, 0x06), (128, 0x14)])?,
+        block_fault(rt.alloc(), &segment, 1, [(64, 0x06), (128, 0x14)])?,
         Some(307)
     );
     assert_eq!(rt;
-        judged(rt.alloc(), &segment, 1, [(64, 0x07), (128, 0x15)])?,
+        block_fault(rt.alloc(), &segment, 1, [(64, 0x07), (128, 0x15)])?,
         Some(306)
     );
     assert_eq!(rt;
-        judged(rt.alloc(), &segment, 1, [(0, 0x2C), (0, 0x2C)])?,
+        block_fault(rt.alloc(), &segment, 1, [(0, 0x2C), (0, 0x2C)])?,
         Some(308)
     );
     assert_eq!(rt;
-        judged(rt.alloc(), &segment, 1, [(320, 0x02), (383, 0x80)])?,
+        block_fault(rt.alloc(), &segment, 1, [(320, 0x02), (383, 0x80)])?,
         Some(308)
     );
     Ok(())

@@ -42,7 +42,7 @@ pub(crate) fn ones(segment: &impl Segment, var: u32) -> Option<u32> {
 
 /// Returns how many rows, those past the last one too, have a byte less than c, and how many have
 /// c.
-pub(crate) fn compared(
+pub(crate) fn count_below_and_at(
     segment: &impl Segment,
     col: usize,
     slice: usize,

@@ -39,7 +39,7 @@ fn assert_aggregate(rt: &impl Abort, item: &Item, columns: usize)
 }
 
 /// Returns the totals of these and of the selected rows of one more segment.
-fn added<S: Segment>(
+fn add_segment<S: Segment>(
     rt: &impl Abort,
     mut totals: Totals,
     item: &Item,
@@ -83,14 +83,14 @@ pub(crate) fn total(
     assert!(rt; is_group(schema, &back));
 
     let planes = PlaneSegment::build(alloc, schema, &front)?;
-    let totals = added(rt, Totals::new(item), item, &planes, &first.plane);
+    let totals = add_segment(rt, Totals::new(item), item, &planes, &first.plane);
     let planes = PlaneSegment::build(alloc, schema, &back)?;
-    let of_planes = added(rt, totals, item, &planes, &second.plane).finish();
+    let of_planes = add_segment(rt, totals, item, &planes, &second.plane).finish();
 
     let slices = SliceSegment::build(alloc, schema, &front)?;
-    let totals = added(rt, Totals::new(item), item, &slices, &first.plane);
+    let totals = add_segment(rt, Totals::new(item), item, &slices, &first.plane);
     let slices = SliceSegment::build(alloc, schema, &back)?;
-    let of_slices = added(rt, totals, item, &slices, &second.plane).finish();
+    let of_slices = add_segment(rt, totals, item, &slices, &second.plane).finish();
 
     assert_eq!(rt; of_planes, of_slices, "{item:?}");
     Ok(of_planes)

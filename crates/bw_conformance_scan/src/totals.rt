@@ -240,7 +240,7 @@ fn least_and_greatest_are_found_among_ties(rt: HostRuntime) -> Result<(), Fail> 
 }
 
 /// Returns the next pseudo-random number.
-fn drawn(state: &mut u64) -> u64 {
+fn next_number(state: &mut u64) -> u64 {
     *state = state
         .wrapping_mul(6364136223846793005)
         .wrapping_add(1442695040888963407);
@@ -278,16 +278,16 @@ fn drawn_rows_are_totalled_as_row_by_row(rt: HostRuntime) -> Result<(), Fail> {
     let mut state = 7;
     let mut table = [[None; 2]; 512];
     for row in 0..512usize {
-        let drawn_whole = drawn(&mut state) << 32 | drawn(&mut state);
+        let drawn_whole = next_number(&mut state) << 32 | next_number(&mut state);
         let x = i64::try_from(drawn_whole >> 1).unwrap_or(0);
-        let y = !i64::try_from(drawn(&mut state) >> 16).unwrap_or(0);
+        let y = !i64::try_from(next_number(&mut state) >> 16).unwrap_or(0);
         table[row] = [
-            if drawn(&mut state) % 8 == 0 {
+            if next_number(&mut state) % 8 == 0 {
                 None
             } else {
                 Some(x)
             },
-            if drawn(&mut state) % 8 == 0 {
+            if next_number(&mut state) % 8 == 0 {
                 None
             } else {
                 Some(y)
@@ -296,7 +296,7 @@ fn drawn_rows_are_totalled_as_row_by_row(rt: HostRuntime) -> Result<(), Fail> {
     }
     let mut half = mask(0);
     for word in 0..8usize {
-        half[word] = drawn(&mut state) << 32 | drawn(&mut state);
+        half[word] = next_number(&mut state) << 32 | next_number(&mut state);
     }
     let other = [[None, None]];
     for plane in [mask(512), half, lanes(1), mask(65), mask(0)] {

@@ -17,7 +17,7 @@ use Rattle.bw_model.specs.Row.{Value}
 use Rattle.bw_csv.specs.Bare.{bare_number, bare_row, bare_rows, bare_value, bare_values}
 use Rattle.bw_csv.specs.Bare.{within_64_bits}
 use Rattle.bw_csv.specs.Rows.{is_minus, is_null_text, number_value, row_of_record, rows_from}
-use Rattle.bw_csv.specs.Rows.{unsigned, value_of_field, values_of_fields, with_row, within_bounds}
+use Rattle.bw_csv.specs.Rows.{without_sign, value_of_field, values_of_fields, with_row, within_bounds}
 use Rattle.bw_csv.specs.Rows.{without_blanks}
 use Rattle.bw_csv.proofs.FieldLemmas.{after, after-cons}
 
@@ -89,11 +89,11 @@ number_is : (number : ℕ) (column : Column) (spelled : Option ℤ) (value : Val
 number_is number column spelled value true e admitted = within_is number column spelled value e admitted
 number_is number column spelled value false e admitted = cc e
 
-either_is : (number : ℕ) (column : Column) (text : List ℕ) (value : Value) (null : Bool) → (if null then Ok None else bare_number number (is_minus text) (unsigned text)) ≡ Ok value
+either_is : (number : ℕ) (column : Column) (text : List ℕ) (value : Value) (null : Bool) → (if null then Ok None else bare_number number (is_minus text) (without_sign text)) ≡ Ok value
     → admits_value column value ≡ true
-    → (if null then refused_if (not column.nullable) (at_record 206 number) (Ok None) else number_value number column (is_minus text) (unsigned text)) ≡ Ok value
+    → (if null then refused_if (not column.nullable) (at_record 206 number) (Ok None) else number_value number column (is_minus text) (without_sign text)) ≡ Ok value
 either_is number column text value true e admitted = null_is number column value column.nullable refl e admitted
-either_is number column text value false e admitted = number_is number column (number_of (is_minus text) (unsigned text)) value (are_digits (unsigned text)) e admitted
+either_is number column text value false e admitted = number_is number column (number_of (is_minus text) (without_sign text)) value (are_digits (without_sign text)) e admitted
 
 value_is : (number : ℕ) (column : Column) (field : List ℕ) (value : Value) → bare_value number field ≡ Ok value → admits_value column value ≡ true
     → value_of_field number column field ≡ Ok value

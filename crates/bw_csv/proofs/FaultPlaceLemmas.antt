@@ -11,7 +11,7 @@ use Rattle.bw_model.specs.FaultTable.{OUT_OF_RANGE, NULL_NOT_ALLOWED, TOO_MANY_R
 use Rattle.bw_model.specs.FaultPlaces.{StandsAsListed, FaultAsListed}
 use Rattle.bw_model.proofs.FaultPlaceLemmas.{refused_listed, bind_listed, listed_fault}
 use Rattle.bw_text.specs.Number.{are_digits, number_of}
-use Rattle.bw_csv.specs.Rows.{within_bounds, number_value, is_null_text, is_minus, unsigned}
+use Rattle.bw_csv.specs.Rows.{within_bounds, number_value, is_null_text, is_minus, without_sign}
 use Rattle.bw_csv.specs.Rows.{text_value, without_blanks, value_of_field, values_of_fields}
 use Rattle.bw_csv.specs.Rows.{row_of_record, with_row, rows_from, is_heading, rows_after, rows_of}
 
@@ -24,9 +24,9 @@ text_listed : (number : ℕ) (column : Column) (text : List ℕ) → FaultAsList
 unfolding standing_of
 text_listed number column text = at (is_null_text text)
   where
-    at : (null : Bool) → FaultAsListed (if null then refused_if (not column.nullable) (at_record NULL_NOT_ALLOWED number) (Ok None) else number_value number column (is_minus text) (unsigned text))
+    at : (null : Bool) → FaultAsListed (if null then refused_if (not column.nullable) (at_record NULL_NOT_ALLOWED number) (Ok None) else number_value number column (is_minus text) (without_sign text))
     at true = refused_listed (not column.nullable) (at_record NULL_NOT_ALLOWED number) (Ok None) refl tt
-    at false = refused_listed (not (are_digits (unsigned text))) (at_record NOT_A_NUMBER number) _ refl (within_listed number column (number_of (is_minus text) (unsigned text)))
+    at false = refused_listed (not (are_digits (without_sign text))) (at_record NOT_A_NUMBER number) _ refl (within_listed number column (number_of (is_minus text) (without_sign text)))
 
 values_listed : (number : ℕ) (columns : List Column) (fields : List (List ℕ)) → FaultAsListed (values_of_fields number columns fields)
 unfolding standing_of value_of_field values_of_fields

@@ -15,7 +15,7 @@ use Rattle.bw_text.specs.Number.{are_digits, number_of}
 use Rattle.bw_model.specs.Row.{Value}
 use Rattle.bw_csv.specs.Rows.{StopsAfter, is_reader_fault, located_at, is_heading, is_minus}
 use Rattle.bw_csv.specs.Rows.{is_null_text, number_value, row_of_record, rows_from, rows_after}
-use Rattle.bw_csv.specs.Rows.{unsigned, value_of_field, values_of_fields, with_row, within_bounds}
+use Rattle.bw_csv.specs.Rows.{without_sign, value_of_field, values_of_fields, with_row, within_bounds}
 use Rattle.bw_csv.specs.Rows.{without_blanks}
 use Rattle.bw_csv.proofs.FieldLemmas.{after}
 use Rattle.bw_csv.proofs.Passed.{Passed, passed-nothing, passed-next, passed-on, passed-stops}
@@ -41,10 +41,10 @@ null_admitted number column value true n e = let same : ◌≡◌ {A = Value} No
 null_admitted number column value false n e = cc e
 
 either_admitted : (number : ℕ) (column : Column) (text : List ℕ) (value : Value) (null : Bool)
-    → (if null then refused_if (not column.nullable) (at_record 206 number) (Ok None) else number_value number column (is_minus text) (unsigned text)) ≡ Ok value
+    → (if null then refused_if (not column.nullable) (at_record 206 number) (Ok None) else number_value number column (is_minus text) (without_sign text)) ≡ Ok value
     → admits_value column value ≡ true
 either_admitted number column text value true e = null_admitted number column value column.nullable refl e
-either_admitted number column text value false e = number_admitted number column (number_of (is_minus text) (unsigned text)) value (are_digits (unsigned text)) e
+either_admitted number column text value false e = number_admitted number column (number_of (is_minus text) (without_sign text)) value (are_digits (without_sign text)) e
 
 value_admitted : (number : ℕ) (column : Column) (field : List ℕ) (value : Value) → value_of_field number column field ≡ Ok value → admits_value column value ≡ true
 unfolding value_of_field

@@ -9,7 +9,7 @@ use Rattle.bw_model.specs.Fault.{at_record, ◌>>=◌, refused_if}
 use Rattle.bw_model.specs.Limits.{most_rows}
 use Rattle.bw_text.specs.Number.{are_digits, number_of}
 use Rattle.bw_model.specs.Row.{Value}
-use Rattle.bw_csv.specs.Rows.{is_minus, is_null_text, unsigned, with_row, without_blanks}
+use Rattle.bw_csv.specs.Rows.{is_minus, is_null_text, without_sign, with_row, without_blanks}
 
 -- the records of a text, without the byte order mark at its start, if it has one
 abbrev pub records_of : List ℕ → List (List (List ℕ))
@@ -29,7 +29,7 @@ bare_number number is_negative digits = refused_if (not (are_digits digits))
 -- the value that a text without blanks spells: null, or an optional sign and then a number
 abbrev pub bare_text : ℕ → List ℕ → Result Value Fault
 bare_text number text = if is_null_text text then Ok None else bare_number number (is_minus text)
-    (unsigned text)
+    (without_sign text)
 
 -- the value of a field, or its error at the record of this number
 unfoldable pub bare_value : ℕ → List ℕ → Result Value Fault

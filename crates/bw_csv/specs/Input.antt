@@ -23,9 +23,9 @@ IsMadeAfter (Ok x) make csv outcome = IsMadeOf (make x) csv outcome
 IsMadeAfter (Err fault) make csv outcome = (csv ≡ NotReached) × (outcome ≡ Err fault)
 
 -- a call that reads a CSV text returned all its bytes, or the error of what its source yielded
-abbrev pub CsvAnswered : Arrival → Result (Vec ℕ Global) Fault → Type 0
-CsvAnswered csv (Ok bytes) = csv ≡ Whole bytes.items
-CsvAnswered csv (Err fault) = IsMadeOf Ok csv (Err fault)
+abbrev pub IsCsvResult : Arrival → Result (Vec ℕ Global) Fault → Type 0
+IsCsvResult csv (Ok bytes) = csv ≡ Whole bytes.items
+IsCsvResult csv (Err fault) = IsMadeOf Ok csv (Err fault)
 
 -- the error is a failed read, out of memory, or a text past the limit
 abbrev pub is_csv_input_fault : Fault → Bool

@@ -58,8 +58,8 @@ is_plus text = slice_index text 0 == 43
 abbrev pub after_minus : List ℕ → List ℕ
 after_minus text = if is_minus text then drop 1 text else text
 
-abbrev pub unsigned : List ℕ → List ℕ
-unsigned text = if is_minus text || is_plus text then drop 1 text else text
+abbrev pub without_sign : List ℕ → List ℕ
+without_sign text = if is_minus text || is_plus text then drop 1 text else text
 
 -- the text is empty, or NULL in any case
 abbrev pub is_null_text : List ℕ → Bool
@@ -71,7 +71,7 @@ abbrev pub text_value : ℕ → Column → List ℕ → Result Value Fault
 text_value number column text =
     if is_null_text text then refused_if (not column.nullable) (at_record NULL_NOT_ALLOWED number)
     (Ok None)
-    else number_value number column (is_minus text) (unsigned text)
+    else number_value number column (is_minus text) (without_sign text)
 
 -- the value of a field in a column, or its error at the record of this number
 unfoldable pub value_of_field : ℕ → Column → List ℕ → Result Value Fault

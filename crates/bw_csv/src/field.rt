@@ -2,7 +2,7 @@
 ghost use Rattle.std.specs.Prelude.{◌≡◌, ℕ, ◌<◌, ◌≤◌, length, IfErr, IsTrue};
 ghost use Rattle.bw_model.specs.Row.{Value};
 ghost use Rattle.bw_csv.specs.Rows.{is_blank, without_front_blanks, without_end_blanks};
-ghost use Rattle.bw_csv.specs.Rows.{without_blanks, is_null_text, is_minus, after_minus, unsigned};
+ghost use Rattle.bw_csv.specs.Rows.{without_blanks, is_null_text, is_minus, after_minus, without_sign};
 ghost use Rattle.bw_csv.specs.Rows.{number_value, text_value, within_bounds, value_of_field};
 ghost use Rattle.bw_csv.specs.Rows.{MatchesUnlessExempt, IsRowsFault, located_at};
 
@@ -35,7 +35,7 @@ fn value_of_text(column: &Column, text: &[u8], number: u32) -> Result<Value, Fau
     ensures place { IfErr result (λ fault. IsTrue (located_at number fault)) }
 {
     if !is_null_text(text) {
-        return number_of(column, is_minus(text), unsigned(text), number);
+        return number_of(column, is_minus(text), without_sign(text), number);
     }
     if column.nullable {
         Ok(None)
@@ -95,8 +95,8 @@ pub(crate) fn after_minus(text: &[u8]) -> &[u8]
 }
 
 /// Returns a text without its sign, if it has one.
-pub(crate) fn unsigned(text: &[u8]) -> &[u8]
-    ensures { result.now ≡ unsigned text.now }
+pub(crate) fn without_sign(text: &[u8]) -> &[u8]
+    ensures { result.now ≡ without_sign text.now }
 {
     if !text.is_empty() && (text[0] == b'-' || text[0] == b'+') {
         &text[1..]

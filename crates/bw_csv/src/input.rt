@@ -4,7 +4,7 @@ ghost use Rattle.bw_csv.specs.Rows.{is_reader_fault};
 ghost use Rattle.bw_io.specs.Sink.{is_write_fault};
 ghost use Rattle.bw_model.specs.Limits.{longest_csv};
 ghost use Rattle.bw_io.specs.Source.{Arrival, ReadOutcome, SourceEffect};
-ghost use Rattle.bw_csv.specs.Input.{is_csv_input_fault, CsvAnswered};
+ghost use Rattle.bw_csv.specs.Input.{is_csv_input_fault, IsCsvResult};
 
 use bw_io::{Input, Source, read_limited};
 use bw_model::{Fault, MAX_CSV_LEN, code};
@@ -20,7 +20,7 @@ pub fn read_csv<C: Source>(alloc: Global, source: &mut C) -> Result<Vec<u8>, Fau
     ensures answered { (came : Arrival)
         × ReadOutcome longest_csv (C.to_come source.old) (C.to_come source.new)
         (C.failures source.old) (C.failures source.new) came
-        × CsvAnswered came result }
+        × IsCsvResult came result }
     ensures source { SourceEffect (longest_csv + 1) (C.to_come source.old) (C.to_come source.new)
         (C.failures source.old) (C.failures source.new) result }
     ensures fault { IfErr result (λ fault. is_write_fault fault ≡ false) }

@@ -15,7 +15,7 @@ use Rattle.std.proofs.lemmas.Nat.Bits.{bit_at-lt}
 use Rattle.std.proofs.lemmas.Option.{option_and_then_some}
 use Rattle.bw_model.specs.declared.column.Column.{Column}
 use Rattle.bw_model.specs.Code.{width_at, has_bit}
-use Rattle.bw_model.specs.Variable.{Assignment, first_variable, bit_variable, spelled}
+use Rattle.bw_model.specs.Variable.{Assignment, first_variable, bit_variable, binary_number}
 use Rattle.bw_model.specs.StoredCodes.{number_spelled}
 use Rattle.bw_model.proofs.BitsLemmas.{both, given}
 use Rattle.bw_model.proofs.VariableLemmas.{width_before_next}
@@ -35,11 +35,11 @@ use Rattle.bw_diagram.proofs.NodeLemmas.{node_value-zero, node_value-one, node_v
 use Rattle.bw_diagram.proofs.NodeLemmas.{node_value-cofactor, node_value-append}
 
 -- this many bits spell a number below that power of 2
-spelled-lt : (assignment : Assignment) (first count : ℕ) → spelled assignment first count < 2 ^ count
+spelled-lt : (assignment : Assignment) (first count : ℕ) → binary_number assignment first count < 2 ^ count
 spelled-lt assignment first zero = omega arith
 spelled-lt assignment first (suc count) = by_bit (assignment first) (spelled-lt assignment (suc first) count)
   where
-    by_bit : (bit : Bool) → spelled assignment (suc first) count < 2 ^ count → cond bit (2 ^ count) 0 + spelled assignment (suc first) count < 2 ^ suc count
+    by_bit : (bit : Bool) → binary_number assignment (suc first) count < 2 ^ count → cond bit (2 ^ count) 0 + binary_number assignment (suc first) count < 2 ^ suc count
     by_bit true lt = omega (arith, pow-succ' 2 count)
     by_bit false lt = omega (arith, pow-succ' 2 count)
 
@@ -58,12 +58,12 @@ padded_number-whole columns col len assignment le =
     let short : min len (width_at columns col) ≡ width_at columns col = omega arith in
     ap (λ count. number_spelled columns col 0 count assignment) short
 
-pub number_spelled-whole : (columns : List Column) (col : ℕ) (assignment : Assignment) → number_spelled columns col 0 (width_at columns col) assignment ≡ spelled assignment (bit_variable columns col (width_at columns col - 1)) (width_at columns col)
+pub number_spelled-whole : (columns : List Column) (col : ℕ) (assignment : Assignment) → number_spelled columns col 0 (width_at columns col) assignment ≡ binary_number assignment (bit_variable columns col (width_at columns col - 1)) (width_at columns col)
 number_spelled-whole columns col assignment = by_width (first_variable columns (suc col)) (width_at columns col)
   where
-    by_width : (next width : ℕ) → spelled assignment (next - (0 + width)) width ≡ spelled assignment (next - suc (width - 1)) width
+    by_width : (next width : ℕ) → binary_number assignment (next - (0 + width)) width ≡ binary_number assignment (next - suc (width - 1)) width
     by_width next zero = refl
-    by_width next (suc width) = let same : next - (0 + suc width) ≡ next - suc (suc width - 1) = omega arith in ap (λ first. spelled assignment first (suc width)) same
+    by_width next (suc width) = let same : next - (0 + suc width) ≡ next - suc (suc width - 1) = omega arith in ap (λ first. binary_number assignment first (suc width)) same
 
 -- a number is its top bit and the number of the bits below
 number_spelled-suc : (columns : List Column) (col start lower : ℕ) (assignment : Assignment) → col < length columns → start + suc lower ≤ width_at columns col →
@@ -72,7 +72,7 @@ number_spelled-suc columns col start lower assignment there within =
     let fits = width_before_next columns col there in
     let top : first_variable columns (suc col) - (start + suc lower) ≡ bit_variable columns col (start + lower) = omega arith in
     let rest : suc (first_variable columns (suc col) - (start + suc lower)) ≡ first_variable columns (suc col) - (start + lower) = omega arith in
-    ap₂ (λ v first. cond (assignment v) (2 ^ lower) 0 + spelled assignment first lower) top rest
+    ap₂ (λ v first. cond (assignment v) (2 ^ lower) 0 + binary_number assignment first lower) top rest
 
 -- a bit that has no variable is 0
 bit_of : Assignment → Option ℕ → Bool
@@ -126,16 +126,16 @@ outcome-compares f z o Equal false true e p c d cp dp is = z ∙ sym (ne_eqb (0 
 outcome-compares f z o Equal true false e p c d cp dp is = z ∙ sym (ne_eqb (p + c) (0 + d) (λ e. omega arith))
 
 -- a number is its top bit and the rest
-bit_worth : (bit k : ℕ) → bit < 2 → cond (bit == 1) k 0 ≡ bit * k
-bit_worth zero k lt = omega arith
-bit_worth (suc zero) k lt = omega arith
-bit_worth (suc (suc bit)) k lt = absurd (omega arith)
+bit_denotes : (bit k : ℕ) → bit < 2 → cond (bit == 1) k 0 ≡ bit * k
+bit_denotes zero k lt = omega arith
+bit_denotes (suc zero) k lt = omega arith
+bit_denotes (suc (suc bit)) k lt = absurd (omega arith)
 
 pub top_bit : (n lower : ℕ) → n < 2 ^ suc lower → cond (has_bit n lower) (2 ^ lower) 0 + n % 2 ^ lower ≡ n
 top_bit n lower lt =
     let next : suc lower ≡ 1 + lower = omega arith in
     let whole : n % 2 ^ (1 + lower) ≡ n = ap (λ k. n % 2 ^ k) (sym next) ∙ mod-eq_of_lt lt in
-    omega (arith, bit_worth (bit_at n lower) (2 ^ lower) (bit_at-lt n lower), mod-pow-add n 1 lower, whole)
+    omega (arith, bit_denotes (bit_at n lower) (2 ^ lower) (bit_at-lt n lower), mod-pow-add n 1 lower, whole)
 
 -- what a choice by a variable is worth
 choice_value : (nodes : List Node) (assignment : Assignment) (v low high n : ℕ) → AreOrdered nodes → is_choice nodes v low high n ≡ true →

@@ -21,15 +21,15 @@ use Rattle.bw_diagram.specs.Chain.{same_kind, tests}
 use Rattle.bw_diagram.specs.Product.{apply_connective, same_connective}
 use Rattle.bw_diagram.specs.Facts.{Facts, AreTrue}
 use Rattle.bw_diagram.specs.References.{third_node, product_node, comparison_node, two_column_node}
-use Rattle.bw_diagram.specs.References.{is_variable, AreWorth}
+use Rattle.bw_diagram.specs.References.{is_variable, HaveStatedValues}
 use Rattle.bw_diagram.proofs.ChainLemmas.{node_of_one-claim, node_of_two-claim}
 use Rattle.bw_diagram.proofs.NodeLemmas.{node_value-zero, node_value-one, node_value-node_at}
 use Rattle.bw_diagram.proofs.NodeLemmas.{node_at-some}
 use Rattle.bw_diagram.proofs.ProductLemmas.{same_connective-true}
 
 -- what a node is worth, as far as it is known
-abbrev Worth : Facts → (Assignment → Bool) → ℕ → Type 0
-Worth facts value n = IsNode facts.nodes n × ((assignment : Assignment) → node_value facts.nodes assignment n ≡ value assignment)
+abbrev Denotes : Facts → (Assignment → Bool) → ℕ → Type 0
+Denotes facts value n = IsNode facts.nodes n × ((assignment : Assignment) → node_value facts.nodes assignment n ≡ value assignment)
 
 -- what stands in a list stands within it
 stands : {A : Type 0} (xs : List A) (k : ℕ) (x : A) → slice_get xs k ≡ Some x → k < length xs
@@ -37,9 +37,9 @@ stands [] k x is = cc
 stands (y ∷ ys) zero x is = omega arith
 stands (y ∷ ys) (suc k) x is = omega (arith, stands ys k x is)
 
-variable_worth : (facts : Facts) (v n : ℕ) → AreTrue facts → is_variable facts v n ≡ true → Worth facts (λ assignment. assignment v) n
+variable_denotes : (facts : Facts) (v n : ℕ) → AreTrue facts → is_variable facts v n ≡ true → Denotes facts (λ assignment. assignment v) n
 unfolding is_variable
-variable_worth facts v n true_facts is = at (node_at facts.nodes n) refl is
+variable_denotes facts v n true_facts is = at (node_at facts.nodes n) refl is
   where
     terminal : (bit : Bool) (low high : ℕ) (assignment : Assignment) → low ≡ 0 → high ≡ 1 → node_value facts.nodes assignment (cond bit high low) ≡ bit
     terminal true low high assignment low_is high_is = ap (node_value facts.nodes assignment) high_is ∙ node_value-one facts.nodes assignment
@@ -49,7 +49,7 @@ variable_worth facts v n true_facts is = at (node_at facts.nodes n) refl is
     chosen true node = refl
     chosen false node = refl
 
-    at : (found : Option Node) → node_at facts.nodes n ≡ found → tests v 0 1 found ≡ true → Worth facts (λ assignment. assignment v) n
+    at : (found : Option Node) → node_at facts.nodes n ≡ found → tests v 0 1 found ≡ true → Denotes facts (λ assignment. assignment v) n
     at None there is = cc
     at (Some node) there is =
         let high_is = both _ _ is in
@@ -63,13 +63,13 @@ variable_worth facts v n true_facts is = at (node_at facts.nodes n) refl is
               ∙ ap assignment v_is,
         )
 
-row_worth : (facts : Facts) (op : Connective) (a b number c : ℕ) → AreTrue facts → product_node facts op a b number ≡ Some c →
-    Worth facts (λ assignment. apply_connective op (node_value facts.nodes assignment a) (node_value facts.nodes assignment b)) c
+row_denotes : (facts : Facts) (op : Connective) (a b number c : ℕ) → AreTrue facts → product_node facts op a b number ≡ Some c →
+    Denotes facts (λ assignment. apply_connective op (node_value facts.nodes assignment a) (node_value facts.nodes assignment b)) c
 unfolding product_node
-row_worth facts op a b number c true_facts is = at (slice_get facts.products number) refl is
+row_denotes facts op a b number c true_facts is = at (slice_get facts.products number) refl is
   where
     at : (found : Option Product) → slice_get facts.products number ≡ found → option_and_then (third_node op a b) found ≡ Some c →
-        Worth facts (λ assignment. apply_connective op (node_value facts.nodes assignment a) (node_value facts.nodes assignment b)) c
+        Denotes facts (λ assignment. apply_connective op (node_value facts.nodes assignment a) (node_value facts.nodes assignment b)) c
     at None there is = cc
     at (Some row) there is =
         let fields = given (same_connective row.op op && eqb row.a a && eqb row.b b) row.c c is in
@@ -92,20 +92,20 @@ two_node : (chain : Chain) (kind : ChainKind) (left right len n : ℕ) → node_
 two_node (One k c s l b node prev) kind left right len n is = cc
 two_node (Two k l r m node prev) kind left right len n is = (given (same_kind k kind && eqb l left && eqb r right && eqb m len) node n is).1
 
-chain_worth : (facts : Facts) (kind : ChainKind) (col start len bound number n : ℕ) → AreTrue facts → comparison_node facts kind col start len bound number ≡ Some n →
-    Worth facts (λ assignment. compares kind (number_spelled facts.columns col start len assignment) bound) n
+chain_denotes : (facts : Facts) (kind : ChainKind) (col start len bound number n : ℕ) → AreTrue facts → comparison_node facts kind col start len bound number ≡ Some n →
+    Denotes facts (λ assignment. compares kind (number_spelled facts.columns col start len assignment) bound) n
 unfolding comparison_node
-chain_worth facts kind col start len bound number n true_facts is =
+chain_denotes facts kind col start len bound number n true_facts is =
     option_and_then_some (node_of_one kind col start len bound) (slice_get facts.chains number) n is
     (λ chain there found. let claim = true_facts.chains number chain there in (
       subst (IsNode facts.nodes) (one_node chain kind col start len bound n found) claim.chain_node,
       λ assignment. node_of_one-claim facts.columns facts.nodes assignment chain kind col start len bound n claim found,
     ))
 
-two_worth : (facts : Facts) (kind : ChainKind) (left right len number n : ℕ) → AreTrue facts → two_column_node facts kind left right len number ≡ Some n →
-    Worth facts (λ assignment. compares kind (padded_number facts.columns left len assignment) (padded_number facts.columns right len assignment)) n
+two_denotes : (facts : Facts) (kind : ChainKind) (left right len number n : ℕ) → AreTrue facts → two_column_node facts kind left right len number ≡ Some n →
+    Denotes facts (λ assignment. compares kind (padded_number facts.columns left len assignment) (padded_number facts.columns right len assignment)) n
 unfolding two_column_node
-two_worth facts kind left right len number n true_facts is =
+two_denotes facts kind left right len number n true_facts is =
     option_and_then_some (node_of_two kind left right len) (slice_get facts.chains number) n is
     (λ chain there found. let claim = true_facts.chains number chain there in (
       subst (IsNode facts.nodes) (two_node chain kind left right len n found) claim.chain_node,
@@ -117,13 +117,13 @@ terminal_node facts n (inl is) = omega (arith, is)
 terminal_node facts n (inr is) = omega (arith, is)
 
 -- if all that is held is true, so is all that can be cited
-pub are_worth : (facts : Facts) → AreTrue facts → AreWorth facts
-are_worth facts true_facts = record {
+pub have_values : (facts : Facts) → AreTrue facts → HaveStatedValues facts
+have_values facts true_facts = record {
   zero = node_value-zero facts.nodes;
   one = node_value-one facts.nodes;
   terminal = terminal_node facts;
-  variable = λ v n. variable_worth facts v n true_facts;
-  row = λ op a b number c. row_worth facts op a b number c true_facts;
-  chain = λ kind col start len bound number n. chain_worth facts kind col start len bound number n true_facts;
-  two = λ kind left right len number n. two_worth facts kind left right len number n true_facts;
+  variable = λ v n. variable_denotes facts v n true_facts;
+  row = λ op a b number c. row_denotes facts op a b number c true_facts;
+  chain = λ kind col start len bound number n. chain_denotes facts kind col start len bound number n true_facts;
+  two = λ kind left right len number n. two_denotes facts kind left right len number n true_facts;
 }

@@ -45,7 +45,7 @@ variable_node facts v number = if is_variable facts v number then Some number el
 
 -- All nodes that can be referenced have the values that the references state: the terminals, nodes
 -- of variables, product rows and chains.
-pub record AreWorth (facts : Facts) : Type 0 where
+pub record HaveStatedValues (facts : Facts) : Type 0 where
   pub zero : (assignment : Assignment) → node_value facts.nodes assignment 0 ≡ false
   pub one : (assignment : Assignment) → node_value facts.nodes assignment 1 ≡ true
   pub terminal : (n : ℕ) → (n ≡ 0) ⊎ (n ≡ 1) → IsNode facts.nodes n

@@ -24,4 +24,4 @@ pub use diagram::{
 };
 pub use node::Node;
 pub use product::{Connective, Product, Reason};
-pub use references::cited_nodes_are_worth;
+pub use references::cited_nodes_have_stated_values;

@@ -1,7 +1,7 @@
 //! The nodes that later lines reference, by the product rows and chains that state their values.
 ghost use Rattle.std.specs.Prelude.{◌≡◌};
 ghost use Rattle.bw_diagram.specs.References.{product_node, comparison_node, two_column_node};
-ghost use Rattle.bw_diagram.specs.References.{variable_node, AreWorth};
+ghost use Rattle.bw_diagram.specs.References.{variable_node, HaveStatedValues};
 ghost use Rattle.bw_diagram.specs.Facts.{Facts, AreTrue};
 
 use crate::chain::ChainKind;
@@ -77,6 +77,6 @@ impl Diagram<'_> {
 
 /// A law: if all facts of a diagram are true, every node that can be referenced has the value that
 /// the reference states.
-pub fn cited_nodes_are_worth()
-    ensures { (facts : Facts) → AreTrue facts → AreWorth facts }
+pub fn cited_nodes_have_stated_values()
+    ensures { (facts : Facts) → AreTrue facts → HaveStatedValues facts }
 {}

@@ -41,7 +41,7 @@ pub struct CommandFailure<'a> {
     pub fault: Fault,
     program: Option<&'a str>,
     unread: Option<(&'a str, Reads)>,
-    unwritten: Option<io::Error>,
+    write_error: Option<io::Error>,
 }
 
 impl<'a> CommandFailure<'a> {
@@ -51,7 +51,7 @@ impl<'a> CommandFailure<'a> {
             fault: Fault::new(code::READ_FAILED),
             program: None,
             unread: Some((path, Reads::Failed(error))),
-            unwritten: None,
+            write_error: None,
         }
     }
 
@@ -65,7 +65,7 @@ impl<'a> CommandFailure<'a> {
             fault,
             program: None,
             unread: failed.copied(),
-            unwritten: None,
+            write_error: None,
         }
     }
 
@@ -78,9 +78,9 @@ impl<'a> CommandFailure<'a> {
     }
 
     /// Adds the system's reason for a failed write.
-    pub fn unwritten(self, error: Option<io::Error>) -> Self {
+    pub fn with_write_error(self, error: Option<io::Error>) -> Self {
         CommandFailure {
-            unwritten: error,
+            write_error: error,
             ..self
         }
     }
@@ -89,7 +89,7 @@ impl<'a> CommandFailure<'a> {
     /// head`.
     pub fn is_closed_pipe(&self) -> bool {
         let is_pipe = self
-            .unwritten
+            .write_error
             .is_some_and(|error| error.kind() == ErrorKind::BrokenPipe);
         self.fault.code == code::WRITE_FAILED && is_pipe
     }
@@ -272,7 +272,7 @@ fn explain_byte(rt: &HostRuntime, sql: &str, byte: u64) {
 fn explain_place(rt: &HostRuntime, ended: &CommandFailure<'_>, file: &str) {
     let _ = match (ended.fault.code, ended.fault.place) {
         (code::READ_FAILED, _) => return explain_read(rt, ended, file),
-        (code::WRITE_FAILED, _) => return explain_failure(rt, file, "written", ended.unwritten),
+        (code::WRITE_FAILED, _) => return explain_failure(rt, file, "written", ended.write_error),
         (_, Place::Byte(byte)) => eprintln!(rt; "    byte {} of {}, from 0", byte, file),
         (_, Place::Line(line)) => eprintln!(rt; "    line {} of {}", line, file),
         (_, Place::Rec(0)) => eprintln!(rt; "    the heading of {}", file),

@@ -106,7 +106,7 @@ impl Columns {
         }
         for ((seen, name), field) in self.seen.iter_mut().zip(heading.iter()).zip(record.iter()) {
             match bare_value_of(field, 0) {
-                Ok(Some(n)) => seen.range = Some(widened(seen.range, n)),
+                Ok(Some(n)) => seen.range = Some(extend_range(seen.range, n)),
                 Ok(None) => {}
                 Err(fault) if !seen.is_unfit => {
                     seen.is_unfit = true;
@@ -136,7 +136,7 @@ impl Columns {
 }
 
 /// Returns a range that has one number more.
-fn widened(range: Option<(i64, i64)>, n: i64) -> (i64, i64) {
+fn extend_range(range: Option<(i64, i64)>, n: i64) -> (i64, i64) {
     match range {
         Some((least, most)) => (least.min(n), most.max(n)),
         None => (n, n),

@@ -11,7 +11,7 @@ pub(crate) struct Shown<'a>(pub(crate) &'a [u8]);
 
 impl fmt::Display for Shown<'_> {
     fn fmt<W: fmt::Write>(&self, f: &mut fmt::Formatter<W>) -> fmt::Result {
-        let part = cut(self.0);
+        let part = first_bytes(self.0);
         f.write_str("\"")?;
         match std::str::from_utf8(part) {
             Ok(text) => show_text(text, f)?,
@@ -26,7 +26,7 @@ impl fmt::Display for Shown<'_> {
 }
 
 /// Returns at most the first 40 bytes, without a part of a UTF-8 character.
-fn cut(bytes: &[u8]) -> &[u8] {
+fn first_bytes(bytes: &[u8]) -> &[u8] {
     if bytes.len() <= MOST {
         return bytes;
     }

@@ -15,7 +15,7 @@ use Rattle.bw_segment.specs.BlockFault as faults
 use Rattle.bw_file.specs.declared.layout.Layout.{Layout}
 use Rattle.bw_file.specs.declared.layout.Layout.TheVariants.{Planes, Slices}
 use Rattle.bw_file.specs.Blocks.{block_fault}
-use Rattle.bw_file.specs.Reading.{Tail, tail, Reading, passed, ◌>>=◌, field, parsed_at, read_field}
+use Rattle.bw_file.specs.Reading.{Tail, tail, Reading, and_then, ◌>>=◌, field, parsed_at, read_field}
 use Rattle.bw_file.specs.Reading.{State, Fails, HasByteMore}
 use Rattle.bw_file.specs.TableReading.{parse_magic, parse_version, parse_layout, parse_count}
 use Rattle.bw_file.specs.TableReading.{parse_row_count, parse_bounds, parse_nullable, parse_name}
@@ -30,7 +30,7 @@ abbrev RefusesOwn : {A : Type 0} → Reading A → Type 0
 RefusesOwn reading = (t : Tail) → IfErr (reading t) IsTableFault
 
 passed_own : {A B : Type 0} (first : Result (A × Tail) Fault) (next : A → Reading B) → IfErr first IsTableFault → ((x : A) → RefusesOwn (next x))
-    → IfErr (passed first next) IsTableFault
+    → IfErr (and_then first next) IsTableFault
 passed_own (Ok x) next here there = there x.0 x.1
 passed_own (Err fault) next here there = here
 

@@ -14,7 +14,7 @@ use Rattle.std.proofs.KnownBytes.{Consumes-trans}
 use Rattle.bw_model.specs.declared.fault.Fault.{Fault}
 use Rattle.bw_model.specs.Fault.{at_byte, no_memory, nowhere}
 use Rattle.bw_io.specs.Source.{is_read_fault}
-use Rattle.bw_file.specs.Reading.{AreBytes, Tail, tail, Reading, passed, at_offset, ◌>>=◌, give}
+use Rattle.bw_file.specs.Reading.{AreBytes, Tail, tail, Reading, and_then, at_offset, ◌>>=◌, give}
 use Rattle.bw_file.specs.Reading.{field, parsed_at, read_field, State, state, HasConsumed, GoesOn}
 use Rattle.bw_file.specs.Reading.{NeedsEach, NeedsMore, HasFault, Fails, Reads}
 
@@ -55,7 +55,7 @@ needs_none reading at n lt = absurd (omega (arith, lt))
 -- what one thing needs is needed by it and another
 needs_first : {A B : Type 0} (first : Reading A) (next : A → Reading B) (at : ℕ) (bytes : List ℕ) → NeedsEach first at bytes
     → NeedsEach (first >>= next) at bytes
-needs_first {A = A} first next at bytes p n lt = ap (λ (r : Result (A × Tail) Fault). passed r next) (p n lt)
+needs_first {A = A} first next at bytes p n lt = ap (λ (r : Result (A × Tail) Fault). and_then r next) (p n lt)
 
 -- what is read of bytes that end too early, at a place
 abbrev short_at : (A : Type 0) → ℕ → Result (A × Tail) Fault
@@ -80,7 +80,7 @@ needs_still : {A B : Type 0} (reading : Reading B) (first : Reading A) (next : A
     → ((rest : List ℕ) → reading (tail at (xs ++ rest)) ≡ (first >>= next) (tail after rest)) → NeedsMore first after ys → NeedsMore reading at (xs ++ ys)
 needs_still {A = A} {B = B} reading first next at after xs ys e on p =
     let place : after + length ys ≡ at + length (xs ++ ys) = omega (arith, e, length-append xs ys) in
-    on ys ∙ ap (λ (r : Result (A × Tail) Fault). passed r next) p ∙ ap (λ (k : ℕ). short_at B k) place
+    on ys ∙ ap (λ (r : Result (A × Tail) Fault). and_then r next) p ∙ ap (λ (k : ℕ). short_at B k) place
 
 -- reading begins where it begins
 pub begins : {A : Type 0} (reading : Reading A) (old : State) → GoesOn reading old reading old
@@ -97,7 +97,7 @@ passes {A = A} reading first next x old mid new p q = record {
   on = λ rest.
       ap (λ (bytes : List ℕ). reading (tail old.offset bytes)) (append_assoc p.bytes q.bytes rest)
       ∙ p.on (q.bytes ++ rest)
-      ∙ ap (λ (r : Result (A × Tail) Fault). passed r next) (q.on rest);
+      ∙ ap (λ (r : Result (A × Tail) Fault). and_then r next) (q.on rest);
 }
 
 -- bytes to come, if they are known
@@ -131,7 +131,7 @@ stops {A = A} reading first next old mid new fault p q = record {
         gives =
             ap (λ (bytes : List ℕ). reading (tail old.offset bytes)) (append_assoc p.bytes q.bytes has.rest)
             ∙ p.on (q.bytes ++ has.rest)
-            ∙ ap (λ (r : Result (A × Tail) Fault). passed r next) has.gives;
+            ∙ ap (λ (r : Result (A × Tail) Fault). and_then r next) has.gives;
       } in
       found;
 }

@@ -19,7 +19,7 @@ use Rattle.bw_segment.specs.Meaning.{Meaning, IsGroup}
 use Rattle.bw_segment.proofs.BytesLemmas.{length-block, block_is_fine, rows_of_bytes}
 use Rattle.bw_file.specs.declared.layout.Layout.{Layout}
 use Rattle.bw_file.specs.Blocks.{form_of, block_size, block_fault}
-use Rattle.bw_file.specs.Reading.{Tail, tail, passed}
+use Rattle.bw_file.specs.Reading.{Tail, tail, and_then}
 use Rattle.bw_file.specs.TableReading.{sound_at, one_block, blocks, segment, group_sizes, end, body}
 use Rattle.bw_file.proofs.ReaderLemmas.{group_sizes-some, group_sizes-none}
 use Rattle.bw_file.proofs.SegmentLemmas.{is_packing}
@@ -40,7 +40,7 @@ module _ (layout : Layout) (columns : List Column) (rows : List (List Value)) (g
       let meaning = group_under columns rows in
       let long = length-block (form_of layout) law meaning group number in
       let fine : block_fault layout columns number (length rows) (block number) ≡ None = block_is_fine (form_of layout) law meaning group number there in
-      ap (λ (r : Result (List ℕ × Tail) Fault). passed r (λ bytes. sound_at at layout columns (length rows) number bytes (block_fault layout columns number (length rows) bytes)))
+      ap (λ (r : Result (List ℕ × Tail) Fault). and_then r (λ bytes. sound_at at layout columns (length rows) number bytes (block_fault layout columns number (length rows) bytes)))
       (field_reads (block_size layout columns number) (block number) long at rest)
       ∙ ap (λ (fault : Option ℕ). sound_at at layout columns (length rows) number (block number) fault (tail (at + length (block number)) rest)) fine
 
@@ -87,7 +87,7 @@ body_reads layout columns (group ∷ groups) before at sized admitted =
     let r = body_reads layout columns groups (before ++ group ∷ []) (at + length text) (All-tail HasSize group groups sized) (All-tail (Admits columns) group groups admitted) in
     let first = segment_reads layout columns group is at others in (
       r.0,
-      ap (λ (x : Result (List (List Value) × Tail) Fault). passed x (λ group. body layout columns (map length groups) (before ++ group ∷ []))) first
+      ap (λ (x : Result (List (List Value) × Tail) Fault). and_then x (λ group. body layout columns (map length groups) (before ++ group ∷ []))) first
           ∙ r.1 ∙ ap (λ (found : List (List (List Value))). Ok (found, r.0)) (append_assoc before (group ∷ []) groups),
     )
 

@@ -23,7 +23,7 @@ use Rattle.bw_file.specs.declared.layout.Layout.{Layout}
 use Rattle.bw_file.specs.declared.layout.Layout.TheVariants.{Planes, Slices}
 use Rattle.bw_file.specs.FileBytes.{magic, layout_byte, flag_byte, front_bytes, name_bytes}
 use Rattle.bw_file.specs.FileBytes.{bound_bytes, column_bytes, are_bounds}
-use Rattle.bw_file.specs.Reading.{Tail, tail, Reading, passed, ◌>>=◌, give, field, parsed_at}
+use Rattle.bw_file.specs.Reading.{Tail, tail, Reading, and_then, ◌>>=◌, give, field, parsed_at}
 use Rattle.bw_file.specs.Reading.{read_field}
 use Rattle.bw_file.specs.TableReading.{parse_magic, parse_version, parse_layout, parse_count}
 use Rattle.bw_file.specs.TableReading.{parse_row_count, bound_in, parse_bounds, parse_nullable}
@@ -43,13 +43,13 @@ pub text_then : {A B : Type 0} (first : Reading A) (next : A → Reading B) (one
     → ReadsText first one x → ReadsText (next x) two y → ReadsText (first >>= next) (one ++ two) y
 text_then {A = A} first next one two x y p q at rest =
     let there : at + length one + length two ≡ at + length (one ++ two) = omega (arith, length-append one two) in
-    ap (λ (bytes : List ℕ). passed (first (tail at bytes)) next) (append_assoc one two rest)
-    ∙ ap (λ (r : Result (A × Tail) Fault). passed r next) (p at (two ++ rest))
+    ap (λ (bytes : List ℕ). and_then (first (tail at bytes)) next) (append_assoc one two rest)
+    ∙ ap (λ (r : Result (A × Tail) Fault). and_then r next) (p at (two ++ rest))
     ∙ q (at + length one) rest ∙ ap (λ (n : ℕ). here y n rest) there
 
 -- a text, of which something is made
 pub text_gives : {A B : Type 0} (first : Reading A) (made : A → B) (text : List ℕ) (x : A) → ReadsText first text x → ReadsText (first >>= λ found. give (made found)) text (made x)
-text_gives {A = A} first made text x p at rest = ap (λ (r : Result (A × Tail) Fault). passed r (λ found. give (made found))) (p at rest)
+text_gives {A = A} first made text x p at rest = ap (λ (r : Result (A × Tail) Fault). and_then r (λ found. give (made found))) (p at rest)
 
 pub text_as : {A : Type 0} (reading : Reading A) (one two : List ℕ) (x : A) → one ≡ two → ReadsText reading one x → ReadsText reading two x
 text_as reading one two x same p = subst (λ (text : List ℕ). ReadsText reading text x) same p
@@ -64,7 +64,7 @@ field_reads size text whole at rest =
 said_reads : {A : Type 0} (at size : ℕ) (says : List ℕ → Result A ℕ) (text : List ℕ) (x : A) → length text ≡ size → says text ≡ Ok x
     → ReadsText (field size >>= λ bytes. parsed_at at (says bytes)) text x
 said_reads {A = A} at size says text x whole said now rest =
-    ap (λ (r : Result (List ℕ × Tail) Fault). passed r (λ bytes. parsed_at at (says bytes))) (field_reads size text whole now rest)
+    ap (λ (r : Result (List ℕ × Tail) Fault). and_then r (λ bytes. parsed_at at (says bytes))) (field_reads size text whole now rest)
     ∙ ap (λ (r : Result A ℕ). parsed_at at r (tail (now + length text) rest)) said
 
 pub read_field_reads : {A : Type 0} (size : ℕ) (says : List ℕ → Result A ℕ) (text : List ℕ) (x : A) → length text ≡ size → says text ≡ Ok x → ReadsText (read_field size says) text x

@@ -26,7 +26,7 @@ use Rattle.bw_file.specs.declared.layout.Layout.{Layout}
 use Rattle.bw_file.specs.declared.layout.Layout.TheVariants.{Planes, Slices}
 use Rattle.bw_file.specs.FileBytes.{magic, layout_byte, flag_byte, front_bytes, name_bytes}
 use Rattle.bw_file.specs.FileBytes.{bound_bytes, column_bytes, are_bounds}
-use Rattle.bw_file.specs.Reading.{Tail, tail, Reading, passed, ◌>>=◌, give, field, parsed_at}
+use Rattle.bw_file.specs.Reading.{Tail, tail, Reading, and_then, ◌>>=◌, give, field, parsed_at}
 use Rattle.bw_file.specs.Reading.{read_field}
 use Rattle.bw_file.specs.TableReading.{parse_magic, parse_version, parse_layout, parse_count}
 use Rattle.bw_file.specs.TableReading.{parse_row_count, bound_in, parse_bounds, parse_nullable}
@@ -57,7 +57,7 @@ pub record TakesBoth (from : Tail) (text : List ℕ) (to : Tail) : Type 0 where
   pub parts : from.bytes ≡ text ++ to.bytes
   pub rest : IsBytes to.bytes
 
-pub bind_ok : {A B : Type 0} (r : Result (A × Tail) Fault) (next : A → Reading B) (y : B × Tail) → passed r next ≡ Ok y
+pub bind_ok : {A B : Type 0} (r : Result (A × Tail) Fault) (next : A → Reading B) (y : B × Tail) → and_then r next ≡ Ok y
     → (x : A × Tail) × (r ≡ Ok x) × (next x.0 x.1 ≡ Ok y)
 bind_ok (Ok x) next y e = (x, refl, e)
 bind_ok (Err fault) next y e = absurd cc

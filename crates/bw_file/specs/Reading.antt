@@ -19,15 +19,15 @@ tail at bytes = record { at = at; bytes = bytes }
 abbrev pub Reading : Type 0 → Type 0
 Reading A = Tail → Result (A × Tail) Fault
 
-abbrev pub passed : {A B : Type 0} → Result (A × Tail) Fault → (A → Reading B)
+abbrev pub and_then : {A B : Type 0} → Result (A × Tail) Fault → (A → Reading B)
     → Result (B × Tail) Fault
-passed (Ok x) next = next x.0 x.1
-passed (Err fault) next = Err fault
+and_then (Ok x) next = next x.0 x.1
+and_then (Err fault) next = Err fault
 
 -- one reading, then another that may depend on its value
 infixl 10 ◌>>=◌
 abbrev pub ◌>>=◌ : {A B : Type 0} → Reading A → (A → Reading B) → Reading B
-◌>>=◌ first next t = passed (first t) next
+◌>>=◌ first next t = and_then (first t) next
 
 -- this value, and no byte is read
 abbrev pub give : {A : Type 0} → A → Reading A

@@ -12,9 +12,9 @@ abbrev pub read_failures : {R : Type 0} → ReadAhead R → ℕ
 read_failures source = source.failures
 
 -- the bytes that were read ahead and not yet delivered
-abbrev pub buffered : {R : Type 0} → ReadAhead R → List ℕ
-buffered source = slice_range source.memory.value.items source.start source.end
+abbrev pub buffered_bytes : {R : Type 0} → ReadAhead R → List ℕ
+buffered_bytes source = slice_range source.memory.value.items source.start source.end
 
 -- the unread bytes: those, followed by the reader's, if these are known
 abbrev pub unread_bytes : {R : Type 0} → (R → Option (List ℕ)) → ReadAhead R → Option (List ℕ)
-unread_bytes remaining source = prepend_known (buffered source) (remaining source.inner)
+unread_bytes remaining source = prepend_known (buffered_bytes source) (remaining source.inner)

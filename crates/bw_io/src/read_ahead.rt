@@ -34,7 +34,7 @@ pub struct ReadAhead<R> {
 impl<R: Drop> ReadAhead<R> {
     ghost use Rattle.std.specs.Prelude.{◌≡◌, [], IfOk, IsOkUnless};
     ghost use Rattle.bw_model.specs.Fault.{no_memory};
-    ghost use Rattle.bw_io.specs.ReadAhead.{buffered, read_failures, reader_of};
+    ghost use Rattle.bw_io.specs.ReadAhead.{buffered_bytes, read_failures, reader_of};
 
     /// Returns a source that reads `piece` bytes at a time, which must be at least 1. Errors: 801
     /// if memory is refused.
@@ -42,7 +42,7 @@ impl<R: Drop> ReadAhead<R> {
         requires { 0 < piece }
         ensures reader { IfOk result (λ source. reader_of source ≡ inner) }
         ensures count { IfOk result (λ source. read_failures source ≡ 0) }
-        ensures empty { IfOk result (λ source. buffered source ≡ []) }
+        ensures empty { IfOk result (λ source. buffered_bytes source ≡ []) }
         ensures only_oom { IsOkUnless result no_memory }
     {
         let size = piece.saturating_add(FRONT);
@@ -64,7 +64,7 @@ impl<R: Read> ReadAhead<R> {
     ghost use Rattle.std.specs.Io.{ReadsAtMost};
     ghost use Rattle.std.specs.Io.KnownBytes.{IsAtEnd, Keeps, ReadConsumes};
     ghost use Rattle.bw_io.specs.Failure.{failures_after};
-    ghost use Rattle.bw_io.specs.ReadAhead.{unread_bytes, buffered, read_failures};
+    ghost use Rattle.bw_io.specs.ReadAhead.{unread_bytes, buffered_bytes, read_failures};
 
     /// Reads a piece if the one before is used up. Returns whether it could: not while others own
     /// the memory.
@@ -73,7 +73,7 @@ impl<R: Read> ReadAhead<R> {
         requires empty { self.old.start ≡ self.old.end }
         ensures bytes { Keeps (unread_bytes R.remaining self.old)
             (unread_bytes R.remaining self.new) }
-        ensures ended { IfOk result (λ read. read ≡ true → buffered self.new ≡ []
+        ensures ended { IfOk result (λ read. read ≡ true → buffered_bytes self.new ≡ []
             → IsAtEnd (unread_bytes R.remaining self.new)) }
         ensures still { IfOk result (λ read. read ≡ false → self.new.start ≡ self.new.end) }
         ensures count { read_failures self.new ≡ failures_after result (read_failures self.old) }
@@ -116,12 +116,12 @@ impl<R: Read> ReadAhead<R> {
 
 impl<R> ReadAhead<R> {
     ghost use Rattle.std.specs.Prelude.{◌≡◌, ◌++◌, length, min, take};
-    ghost use Rattle.bw_io.specs.ReadAhead.{buffered, read_failures, reader_of};
+    ghost use Rattle.bw_io.specs.ReadAhead.{buffered_bytes, read_failures, reader_of};
 
     /// Copies as many bytes as are left and fit the buffer. Returns how many.
     fn hand_over(&mut self, buffer: &mut [u8]) -> usize
-        ensures count { result ≡ min (length (buffered self.old)) (length buffer.old) }
-        ensures bytes { buffered self.old ≡ take result buffer.new ++ buffered self.new }
+        ensures count { result ≡ min (length (buffered_bytes self.old)) (length buffer.old) }
+        ensures bytes { buffered_bytes self.old ≡ take result buffer.new ++ buffered_bytes self.new }
         ensures reader { reader_of self.new ≡ reader_of self.old }
         ensures failures { read_failures self.new ≡ read_failures self.old }
     {
@@ -135,13 +135,13 @@ impl<R> ReadAhead<R> {
 }
 
 impl<R: Read> Source for ReadAhead<R> {
-    ghost use Rattle.bw_io.specs.ReadAhead.{unread_bytes, buffered, read_failures};
+    ghost use Rattle.bw_io.specs.ReadAhead.{unread_bytes, buffered_bytes, read_failures};
 
     ghost to_come = { unread_bytes R.remaining };
 
     ghost failures = { read_failures };
 
-    ghost kept = { buffered };
+    ghost kept = { buffered_bytes };
 
     fn read(&mut self, buffer: &mut [u8]) -> Result<usize, Failed> {
         if self.start == self.end && !(buffer.len() < self.memory.len() && self.fill()?) {

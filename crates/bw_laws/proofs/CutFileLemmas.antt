@@ -15,7 +15,7 @@ use Rattle.bw_model.specs.SchemaText.{ColumnShape, shape, shape_names, schema_sh
 use Rattle.bw_file.specs.declared.layout.Layout.{Layout}
 use Rattle.bw_file.specs.Blocks.{block_size, block_fault, rows_spelled}
 use Rattle.bw_file.specs.FileBytes.{IsFileBytes}
-use Rattle.bw_file.specs.Reading.{Tail, tail, Reading, passed, ◌>>=◌, give, field, parsed_at}
+use Rattle.bw_file.specs.Reading.{Tail, tail, Reading, and_then, ◌>>=◌, give, field, parsed_at}
 use Rattle.bw_file.specs.Reading.{read_field, NeedsEach}
 use Rattle.bw_file.specs.TableReading.{parse_magic, parse_version, parse_layout, parse_count}
 use Rattle.bw_file.specs.TableReading.{parse_row_count, parse_bounds, parse_nullable, parse_name}
@@ -76,18 +76,18 @@ field_takes size at = record {
 
 -- one thing and then another
 then_by : {A B : Type 0} (first : Reading A) (next : A → Reading B) (at : ℕ) (bytes : List ℕ) (read : B × Tail) (found : Result (A × Tail) Fault) → TakesWhole first at
-    → ((x : A) (n : ℕ) → TakesWhole (next x) n) → first (tail at bytes) ≡ found → passed found next ≡ Ok read → Takes (first >>= next) at bytes read
+    → ((x : A) (n : ℕ) → TakesWhole (next x) n) → first (tail at bytes) ≡ found → and_then found next ≡ Ok read → Takes (first >>= next) at bytes read
 then_by first next at bytes read (Err fault) p q is e = absurd (cc e)
 then_by {A = A} first next at bytes read (Ok x) p q is e =
     let one = p.takes bytes x is in
     let two = (q x.0 x.1.at).takes x.1.bytes read e in
-    let on : (rest : List ℕ) → (first >>= next) (tail at (one.taken ++ rest)) ≡ next x.0 (tail x.1.at rest) = λ rest. ap (λ (r : Result (A × Tail) Fault). passed r next) (one.steady rest) in
+    let on : (rest : List ℕ) → (first >>= next) (tail at (one.taken ++ rest)) ≡ next x.0 (tail x.1.at rest) = λ rest. ap (λ (r : Result (A × Tail) Fault). and_then r next) (one.steady rest) in
     record {
       taken = one.taken ++ two.taken;
       split = one.split ∙ ap (λ (l : List ℕ). one.taken ++ l) two.split ∙ sym (append_assoc one.taken two.taken read.1.bytes);
       place = omega (arith, one.place, two.place, length-append one.taken two.taken);
       steady = λ rest. ap (λ (l : List ℕ). (first >>= next) (tail at l)) (append_assoc one.taken two.taken rest) ∙ on (two.taken ++ rest) ∙ two.steady rest;
-      needed = needs_more (first >>= next) (next x.0) at x.1.at one.taken two.taken one.place (λ n less. ap (λ (r : Result (A × Tail) Fault). passed r next) (one.needed n less)) on two.needed;
+      needed = needs_more (first >>= next) (next x.0) at x.1.at one.taken two.taken one.place (λ n less. ap (λ (r : Result (A × Tail) Fault). and_then r next) (one.needed n less)) on two.needed;
     }
 
 then_takes : {A B : Type 0} (first : Reading A) (next : A → Reading B) (at : ℕ) → TakesWhole first at → ((x : A) (n : ℕ) → TakesWhole (next x) n) → TakesWhole (first >>= next) at
@@ -176,13 +176,13 @@ segment_takes layout schema rows at =
 
 -- what is read to the end of the file needs each byte that is left
 then_needs : {A B : Type 0} (first : Reading A) (next : A → Reading B) (at : ℕ) (bytes : List ℕ) (read : B × Tail) (found : Result (A × Tail) Fault) → TakesWhole first at
-    → ((x : A × Tail) → next x.0 x.1 ≡ Ok read → NeedsEach (next x.0) x.1.at x.1.bytes) → first (tail at bytes) ≡ found → passed found next ≡ Ok read → NeedsEach (first >>= next) at bytes
+    → ((x : A × Tail) → next x.0 x.1 ≡ Ok read → NeedsEach (next x.0) x.1.at x.1.bytes) → first (tail at bytes) ≡ found → and_then found next ≡ Ok read → NeedsEach (first >>= next) at bytes
 then_needs first next at bytes read (Err fault) p q is e = absurd (cc e)
 then_needs {A = A} first next at bytes read (Ok x) p q is e =
     let one = p.takes bytes x is in
     subst (NeedsEach (first >>= next) at) (sym one.split)
-    (needs_more (first >>= next) (next x.0) at x.1.at one.taken x.1.bytes one.place (λ n less. ap (λ (r : Result (A × Tail) Fault). passed r next) (one.needed n less))
-    (λ rest. ap (λ (r : Result (A × Tail) Fault). passed r next) (one.steady rest)) (q x e))
+    (needs_more (first >>= next) (next x.0) at x.1.at one.taken x.1.bytes one.place (λ n less. ap (λ (r : Result (A × Tail) Fault). and_then r next) (one.needed n less))
+    (λ rest. ap (λ (r : Result (A × Tail) Fault). and_then r next) (one.steady rest)) (q x e))
 
 last_needs : (before : List (List (List Value))) (at : ℕ) (bytes : List ℕ) (read : List (List (List Value)) × Tail) → (end >>= λ _. give before) (tail at bytes) ≡ Ok read
     → NeedsEach (end >>= λ _. give before) at bytes

@@ -22,7 +22,7 @@ use Rattle.bw_model.proofs.SchemaLemmas.{are_apart-push}
 use Rattle.bw_model.proofs.TotalLemmas.{total_append}
 use Rattle.bw_csv.specs.Bare.{bare_number, bare_row, bare_rows, bare_value, bare_values, records_of}
 use Rattle.bw_csv.specs.Bare.{within_64_bits}
-use Rattle.bw_csv.specs.Rows.{is_minus, is_null_text, unsigned, with_row, without_blanks}
+use Rattle.bw_csv.specs.Rows.{is_minus, is_null_text, without_sign, with_row, without_blanks}
 use Rattle.bw_csv.proofs.BareLemmas.{bound, passed}
 use Rattle.bw_schemas.specs.Heading.{heading_names, names_from, some_names}
 use Rattle.bw_schemas.specs.InferredSchema.{column_over, columns_over, infer_schema, inferred_after}
@@ -45,12 +45,12 @@ within_fits : (number : ℕ) (spelled : Option ℤ) (value : Value) → ((n : �
 within_fits number None value h e = absurd (cc e)
 within_fits number (Some n) value h e = let same : ◌≡◌ {A = Value} (Some n) value = cc e in subst Fits same (h n refl)
 
-text_fits : (number : ℕ) (text : List ℕ) (null : Bool) (value : Value) → (if null then Ok None else bare_number number (is_minus text) (unsigned text)) ≡ Ok value → Fits value
+text_fits : (number : ℕ) (text : List ℕ) (null : Bool) (value : Value) → (if null then Ok None else bare_number number (is_minus text) (without_sign text)) ≡ Ok value → Fits value
 text_fits number text true value e = let same : ◌≡◌ {A = Value} None value = cc e in subst Fits same tt
 text_fits number text false value e =
-    let spelled = number_of (is_minus text) (unsigned text) in
-    let number_read = passed (not (are_digits (unsigned text))) (at_record 204 number) (within_64_bits number spelled) value e in
-    within_fits number spelled value (number_fits (is_minus text) (unsigned text)) number_read.1
+    let spelled = number_of (is_minus text) (without_sign text) in
+    let number_read = passed (not (are_digits (without_sign text))) (at_record 204 number) (within_64_bits number spelled) value e in
+    within_fits number spelled value (number_fits (is_minus text) (without_sign text)) number_read.1
 
 value_fits : (number : ℕ) (field : List ℕ) (value : Value) → bare_value number field ≡ Ok value → Fits value
 unfolding bare_value

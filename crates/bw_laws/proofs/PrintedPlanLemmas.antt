@@ -8,8 +8,8 @@ use Rattle.std.proofs.lemmas.Bool.{and_parts, eqb-true}
 use Rattle.bw_model.specs.declared.column.Column.{Column}
 use Rattle.bw_model.specs.declared.fault.Fault.{Fault}
 use Rattle.bw_text.specs.Lines.{NumberedWords, begins_comment, cut_lines, is_line_feed, is_skipped}
-use Rattle.bw_text.specs.Lines.{numbered, numbered_from, only_of, with_first, words_of}
-use Rattle.bw_text.specs.Printing.{line_text, spaced}
+use Rattle.bw_text.specs.Lines.{numbered_words, numbered_from, only_of, with_first, words_of}
+use Rattle.bw_text.specs.Printing.{line_text, spaced_words}
 use Rattle.bw_text.specs.Text.{same_text}
 use Rattle.bw_program.specs.declared.instr.Instr.{Instr}
 use Rattle.bw_program.specs.PrintText.{instr_words, lines_text, print_text}
@@ -73,7 +73,7 @@ unfolding numbered_from
 said_apart n [] h = refl
 said_apart n (line ∷ lines) h = go (is_skipped (words_of line)) refl h (said_apart (n + 1) lines)
   where
-    go : (b : Bool) → is_skipped (words_of line) ≡ b → are_several (cond b (numbered_from (n + 1) lines) (numbered n (words_of line) ∷ numbered_from (n + 1) lines)) ≡ true
+    go : (b : Bool) → is_skipped (words_of line) ≡ b → are_several (cond b (numbered_from (n + 1) lines) (numbered_words n (words_of line) ∷ numbered_from (n + 1) lines)) ≡ true
         → (are_several (numbered_from (n + 1) lines) ≡ true → none_divides lines ≡ true) → none_divides (line ∷ lines) ≡ true
     go true is h more = rw (skipped_apart (words_of line) is) (more h)
     go false is h more =
@@ -129,7 +129,7 @@ fed_after a b of = record { front = a ++ of.front; is = ap (λ (t : List ℕ). a
 lines_fed : (columns : List Column) (instrs : List Instr) (result : ℕ) → Fed (lines_text columns instrs result)
 unfolding lines_text
 lines_fed columns [] result = record {
-  front = codes "RESULT" ++ spaced ((114 ∷ decimal result) ∷ []);
+  front = codes "RESULT" ++ spaced_words ((114 ∷ decimal result) ∷ []);
   is = refl;
 }
 lines_fed columns (instr ∷ instrs) result = fed_after (line_text (instr_words columns instr)) (lines_text columns instrs result) (lines_fed columns instrs result)

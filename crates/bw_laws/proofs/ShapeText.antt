@@ -8,8 +8,8 @@ use Rattle.std.specs.List.{list_all, AllZip}
 use Rattle.std.proofs.lemmas.Bool.{leb-true}
 use Rattle.std.proofs.lemmas.List.Elements.{All-head, All-tail}
 use Rattle.bw_text.specs.Keyword.{is_reserved}
-use Rattle.bw_text.specs.Lines.{NumberedWords, cut_lines, numbered, numbered_from}
-use Rattle.bw_text.specs.Printing.{is_plain_word, line_text, spaced}
+use Rattle.bw_text.specs.Lines.{NumberedWords, cut_lines, numbered_words, numbered_from}
+use Rattle.bw_text.specs.Printing.{is_plain_word, line_text, spaced_words}
 use Rattle.bw_text.specs.Text.{same_text, is_word}
 use Rattle.bw_text.proofs.SpacedWords.{line_said, plain_word}
 use Rattle.bw_model.specs.Limits.{longest_name}
@@ -50,7 +50,7 @@ short_word text h =
 
 -- the line of a table
 table_said : (name rest : List ℕ) → is_name name ≡ true
-    → numbered_from 1 (cut_lines (line_text (table_line name) ++ rest)) ≡ numbered 1 (table_line name) ∷ numbered_from 2 (cut_lines rest)
+    → numbered_from 1 (cut_lines (line_text (table_line name) ++ rest)) ≡ numbered_words 1 (table_line name) ∷ numbered_from 2 (cut_lines rest)
 table_said name rest is =
     let plain : list_all is_plain_word (name ∷ []) ≡ true = rw ((short_word name is).plain) refl in
     line_said 1 _ (name ∷ []) rest refl refl plain
@@ -60,13 +60,13 @@ unfolding table_words same_text
 table_spelled name = refl
 
 table_short : (name : List ℕ) → is_name name ≡ true → length (line_text (table_line name)) ≤ 70
-unfolding spaced
+unfolding spaced_words
 table_short name is = let n = (short_word name is).short in simp length-append (omega arith)
 
 -- the line of a column
 column_said : (number : ℕ) (name : List ℕ) (lo hi : ℤ) (nullable : Bool) (rest : List ℕ) → IsColumn (shape name lo hi nullable)
     → numbered_from number (cut_lines (line_text (column_line (shape name lo hi nullable)) ++ rest))
-    ≡ numbered number (column_line (shape name lo hi nullable)) ∷ numbered_from (number + 1) (cut_lines rest)
+    ≡ numbered_words number (column_line (shape name lo hi nullable)) ∷ numbered_from (number + 1) (cut_lines rest)
 column_said number name lo hi true rest is =
     line_said number _ (name ∷ signed_decimal lo ∷ signed_decimal hi ∷ []) rest refl refl
     (rw ((short_word name is.name).plain, bound_plain lo is.lo, bound_plain hi is.hi) refl)
@@ -81,7 +81,7 @@ column_spelled name lo hi true is = rw (bound_spelled lo is.lo, bound_spelled hi
 column_spelled name lo hi false is = rw (bound_spelled lo is.lo, bound_spelled hi is.hi) refl
 
 column_short : (name : List ℕ) (lo hi : ℤ) (nullable : Bool) → IsColumn (shape name lo hi nullable) → length (line_text (column_line (shape name lo hi nullable))) ≤ 122
-unfolding spaced
+unfolding spaced_words
 column_short name lo hi true is =
     let n = (short_word name is.name).short in
     let l = bound_length lo is.lo in

@@ -1,8 +1,8 @@
 //! The program and the certificate of a printed plan.
 ghost use Rattle.std.specs.Prelude.{◌≡◌, ℕ, List};
 ghost use Rattle.bw_cert_text.specs.CertificateFields.{certificate_fields};
-ghost use Rattle.bw_cert_text.specs.PrintText.{respelled};
-ghost use Rattle.bw_cert_text.specs.Reprint.{renumbered};
+ghost use Rattle.bw_cert_text.specs.PrintText.{respell};
+ghost use Rattle.bw_cert_text.specs.Reprint.{renumber};
 ghost use Rattle.bw_query.specs.Plan.{IsPlan};
 
 use bw_cert_text::certificates_are_read_as_spelled;
@@ -16,7 +16,7 @@ pub fn a_plan_prints_its_program()
     ensures program { (text sql file : List ℕ) → (plan : IsPlan text sql file)
         → plan.printed.shown ≡ plan.program }
     ensures certificate { (text sql file : List ℕ) → (plan : IsPlan text sql file)
-        → renumbered plan.certifies.first (respelled plan.schema.columns.items plan.printed.stated)
+        → renumber plan.certifies.first (respell plan.schema.columns.items plan.printed.stated)
         ≡ certificate_fields plan.certificate }
 {
     programs_are_read_as_spelled();

@@ -16,7 +16,7 @@ use Rattle.bw_model.specs.Column.{admits_value, admits_values}
 use Rattle.bw_model.specs.Truth.{is_null}
 use Rattle.bw_model.specs.Code.{span_of, width_of, code_of, value_of_code}
 use Rattle.bw_model.specs.Variable.{null_count, variable_count, assignment_of, low_bits, value_bits}
-use Rattle.bw_model.specs.Variable.{bits_of, spelled, value_spelled, row_from, row_of}
+use Rattle.bw_model.specs.Variable.{bits_of, binary_number, value_spelled, row_from, row_of}
 use Rattle.bw_model.proofs.DigitLemmas.{below_width}
 
 pub code_in_span : (lo hi n : ℤ) → (int_le lo n && int_le n hi) ≡ true → unsigned_abs (n -ℤ lo) ≤ unsigned_abs (hi -ℤ lo)
@@ -25,13 +25,13 @@ code_in_span lo hi n within = grind (arith, ints)
 pub value_of_distance : (lo hi n : ℤ) → (int_le lo n && int_le n hi) ≡ true → lo +ℤ pos (unsigned_abs (n -ℤ lo)) ≡ n
 value_of_distance lo hi n within = grind (arith, ints)
 
-pub bit_worth : (bit k : ℕ) → bit < 2 → cond (bit == 1) k 0 ≡ bit * k
-bit_worth zero k lt = omega arith
-bit_worth (suc zero) k lt = omega arith
-bit_worth (suc (suc bit)) k lt = absurd (omega arith)
+pub bit_denotes : (bit k : ℕ) → bit < 2 → cond (bit == 1) k 0 ≡ bit * k
+bit_denotes zero k lt = omega arith
+bit_denotes (suc zero) k lt = omega arith
+bit_denotes (suc (suc bit)) k lt = absurd (omega arith)
 
 -- bits in a row of an assignment spell the number that they are of
-pub spelled_low : (count n : ℕ) (before after : List Bool) → spelled (assignment_of (before ++ (low_bits count n ++ after))) (length before) count ≡ n % 2 ^ count
+pub spelled_low : (count n : ℕ) (before after : List Bool) → binary_number (assignment_of (before ++ (low_bits count n ++ after))) (length before) count ≡ n % 2 ^ count
 spelled_low zero n before after = omega arith
 spelled_low (suc count) n before after =
     let bit = bit_at n count == 1 in
@@ -40,11 +40,11 @@ spelled_low (suc count) n before after =
     let same : before ++ bit ∷ rest ≡ (before ++ bit ∷ []) ++ rest = sym (append_assoc before (bit ∷ []) rest) in
     let longer : length (before ++ bit ∷ []) ≡ suc (length before) = length-append before (bit ∷ []) ∙ add-one (length before) in
     let later = spelled_low count n (before ++ bit ∷ []) after in
-    let worth = bit_worth (bit_at n count) (2 ^ count) (bit_at-lt n count) in
+    let have_values = bit_denotes (bit_at n count) (2 ^ count) (bit_at-lt n count) in
     let split = mod-pow-add n 1 count in
-    let high : cond (get_or (before ++ bit ∷ rest) (length before) false) (2 ^ count) 0 ≡ bit_at n count * 2 ^ count = ap (λ b. cond b (2 ^ count) 0) here ∙ worth in
-    let low : spelled (assignment_of (before ++ bit ∷ rest)) (suc (length before)) count ≡ n % 2 ^ count =
-    ap₂ (λ bits first. spelled (assignment_of bits) first count) same (sym longer) ∙ later in
+    let high : cond (get_or (before ++ bit ∷ rest) (length before) false) (2 ^ count) 0 ≡ bit_at n count * 2 ^ count = ap (λ b. cond b (2 ^ count) 0) here ∙ have_values in
+    let low : binary_number (assignment_of (before ++ bit ∷ rest)) (suc (length before)) count ≡ n % 2 ^ count =
+    ap₂ (λ bits first. binary_number (assignment_of bits) first count) same (sym longer) ∙ later in
     let next : suc count ≡ 1 + count = omega arith in
     ap₂ ◌+◌ high low ∙ sym (ap (λ k. n % 2 ^ k) next ∙ split)
 
@@ -79,20 +79,20 @@ null_bit true null width code before after = get_or-append_seam before null (low
 null_bit false null width code before after = refl
 
 code_bits : (nullable null : Bool) (width code : ℕ) (before after : List Bool) →
-    spelled (assignment_of (before ++ ((cond nullable (null ∷ []) [] ++ low_bits width code) ++ after))) (length before + cond nullable 1 0) width ≡ code % 2 ^ width
+    binary_number (assignment_of (before ++ ((cond nullable (null ∷ []) [] ++ low_bits width code) ++ after))) (length before + cond nullable 1 0) width ≡ code % 2 ^ width
 code_bits true null width code before after =
     let rest = low_bits width code ++ after in
     let same : before ++ null ∷ rest ≡ (before ++ null ∷ []) ++ rest = sym (append_assoc before (null ∷ []) rest) in
     let longer : length (before ++ null ∷ []) ≡ length before + 1 = length-append before (null ∷ []) in
-    ap₂ (λ bits first. spelled (assignment_of bits) first width) same (sym longer) ∙ spelled_low width code (before ++ null ∷ []) after
+    ap₂ (λ bits first. binary_number (assignment_of bits) first width) same (sym longer) ∙ spelled_low width code (before ++ null ∷ []) after
 code_bits false null width code before after =
-    ap (λ first. spelled (assignment_of (before ++ (low_bits width code ++ after))) first width) (add-zero (length before)) ∙ spelled_low width code before after
+    ap (λ first. binary_number (assignment_of (before ++ (low_bits width code ++ after))) first width) (add-zero (length before)) ∙ spelled_low width code before after
 
 -- the value that its bits spell, wherever they are
 value_spelled-value_bits : (column : Column) (value : Value) (before after : List Bool) → admits_value column value ≡ true →
     value_spelled column (assignment_of (before ++ (value_bits column value ++ after))) (length before) ≡ value
 value_spelled-value_bits column None before after nullable =
-    ap (λ test. cond test None (Some (value_of_code column (spelled (assignment_of (before ++ (value_bits column None ++ after))) (length before + null_count column) (width_of column)))))
+    ap (λ test. cond test None (Some (value_of_code column (binary_number (assignment_of (before ++ (value_bits column None ++ after))) (length before + null_count column) (width_of column)))))
     (null_bit column.nullable true (width_of column) 0 before after ∙ ap (λ b. b && true) nullable)
 value_spelled-value_bits column (Some n) before after within =
     let distance = unsigned_abs (n -ℤ column.lo) in

@@ -15,7 +15,7 @@ use Rattle.bw_model.specs.Truth.{is_null}
 use Rattle.bw_model.specs.Code.{width_of, width_at, code_of, code_at, value_at, value_of_code}
 use Rattle.bw_model.specs.Variable.{null_count, variable_count, variables_of, is_nullable}
 use Rattle.bw_model.specs.Variable.{first_variable, null_variable, bit_variable, Assignment}
-use Rattle.bw_model.specs.Variable.{assignment_of, low_bits, value_bits, bits_of, spelled, row_from}
+use Rattle.bw_model.specs.Variable.{assignment_of, low_bits, value_bits, bits_of, binary_number, row_from}
 use Rattle.bw_model.specs.Variable.{row_of, value_assigned}
 use Rattle.bw_model.proofs.BitsLemmas.{both, given, length-value_bits, length_value_list}
 use Rattle.bw_model.proofs.VariableLemmas.{width_before_next, width_positive}
@@ -94,24 +94,24 @@ code_bit_at (c ∷ columns) (value ∷ values) (suc column) bit admitted lt low 
 -- the value that an assignment gives to a column
 pub value_in-row_from : (columns : List Column) (bits : Assignment) (first column : ℕ) → column < length columns →
     value_in (row_from columns bits first) column ≡ cond (is_nullable columns column && bits (first + first_variable columns column)) None
-    (Some (value_at columns column (spelled bits (first + (first_variable columns (suc column) - width_at columns column)) (width_at columns column))))
+    (Some (value_at columns column (binary_number bits (first + (first_variable columns (suc column) - width_at columns column)) (width_at columns column))))
 value_in-row_from [] bits first column lt = absurd (omega arith)
 value_in-row_from (c ∷ columns) bits first zero lt =
     let count : first + (variables_of (c ∷ []) - width_of c) ≡ first + null_count c = omega (arith, sum_by-cons variable_count c []) in
-    ap₂ (λ k j. cond (c.nullable && bits k) None (Some (value_of_code c (spelled bits j (width_of c))))) (sym (add-zero first)) (sym count)
+    ap₂ (λ k j. cond (c.nullable && bits k) None (Some (value_of_code c (binary_number bits j (width_of c))))) (sym (add-zero first)) (sym count)
 value_in-row_from (c ∷ columns) bits first (suc column) lt =
     let lt : column < length columns = omega arith in
     let here : (first + variable_count c) + first_variable columns column ≡ first + variables_of (c ∷ take column columns) = omega (arith, sum_by-cons variable_count c (take column columns)) in
     let bit : (first + variable_count c) + (first_variable columns (suc column) - width_at columns column) ≡ first + (variables_of (c ∷ take (suc column) columns) - width_at columns column) =
     omega (arith, sum_by-cons variable_count c (take (suc column) columns), width_before_next columns column lt) in
     value_in-row_from columns bits (first + variable_count c) column lt
-    ∙ ap₂ (λ k j. cond (is_nullable columns column && bits k) None (Some (value_at columns column (spelled bits j (width_at columns column))))) here bit
+    ∙ ap₂ (λ k j. cond (is_nullable columns column && bits k) None (Some (value_at columns column (binary_number bits j (width_at columns column))))) here bit
 
 pub value_in-row_of : (columns : List Column) (bits : Assignment) (column : ℕ) → column < length columns → value_in (row_of columns bits) column ≡ value_assigned columns bits column
 value_in-row_of columns bits column lt =
     let top : first_variable columns (suc column) - width_at columns column ≡ bit_variable columns column (width_at columns column - 1) = omega (arith, width_positive columns column lt) in
     value_in-row_from columns bits 0 column lt
-    ∙ ap₂ (λ k j. cond (is_nullable columns column && bits k) None (Some (value_at columns column (spelled bits j (width_at columns column))))) (zero-add (first_variable columns column)) (zero-add (first_variable columns (suc column) - width_at columns column) ∙ top)
+    ∙ ap₂ (λ k j. cond (is_nullable columns column && bits k) None (Some (value_at columns column (binary_number bits j (width_at columns column))))) (zero-add (first_variable columns column)) (zero-add (first_variable columns (suc column) - width_at columns column) ∙ top)
 
 pub null_bit_at_variable : (columns : List Column) (values : List Value) (column variable : ℕ) → admits_values columns values ≡ true → column < length columns → null_variable columns column ≡ Some variable →
     assignment_of (bits_of columns values) variable ≡ is_null (value_in values column)

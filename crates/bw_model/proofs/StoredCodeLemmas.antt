@@ -13,10 +13,10 @@ use Rattle.bw_model.specs.declared.column.Column.{Column}
 use Rattle.bw_model.specs.Row.{Value, value_in}
 use Rattle.bw_model.specs.Column.{admits_value, admits_values}
 use Rattle.bw_model.specs.Code.{width_of, width_at, slices_at, stored_code, has_bit}
-use Rattle.bw_model.specs.Variable.{Assignment, first_variable, assignment_of, bits_of, spelled}
+use Rattle.bw_model.specs.Variable.{Assignment, first_variable, assignment_of, bits_of, binary_number}
 use Rattle.bw_model.specs.StoredCodes.{stored_at, number_spelled, byte_of, bits_in_slice}
 use Rattle.bw_model.specs.StoredCodes.{byte_spelled, no_bits}
-use Rattle.bw_model.proofs.BitsLemmas.{both, bit_worth, code_in_span}
+use Rattle.bw_model.proofs.BitsLemmas.{both, bit_denotes, code_in_span}
 use Rattle.bw_model.proofs.DigitLemmas.{below_width}
 use Rattle.bw_model.proofs.PlaceLemmas.{code_bit_at}
 use Rattle.bw_model.proofs.VariableLemmas.{width_before_next}
@@ -46,7 +46,7 @@ bit_above n start count = ap (λ k. n / k % 2) (pow-add 2 start count) ∙ ap (�
 
 -- variables that have the bits of a number spell it, wherever they begin
 spelled_bits : (bits : Assignment) (next width n start count : ℕ) → width ≤ next → ((bit : ℕ) → bit < width → bits (next - suc bit) ≡ has_bit n bit) →
-    start + count ≤ width → spelled bits (next - (start + count)) count ≡ n / 2 ^ start % 2 ^ count
+    start + count ≤ width → binary_number bits (next - (start + count)) count ≡ n / 2 ^ start % 2 ^ count
 spelled_bits bits next width n start zero low has le = omega arith
 spelled_bits bits next width n start (suc count) low has le =
     let m = n / 2 ^ start in
@@ -54,8 +54,8 @@ spelled_bits bits next width n start (suc count) low has le =
     let here : first ≡ next - suc (start + count) = omega arith in
     let after : suc first ≡ next - (start + count) = omega arith in
     let bit : bits first ≡ has_bit m count = ap bits here ∙ has (start + count) (omega arith) ∙ ap (λ b. b == 1) (bit_above n start count) in
-    let high : cond (bits first) (2 ^ count) 0 ≡ bit_at m count * 2 ^ count = ap (λ b. cond b (2 ^ count) 0) bit ∙ bit_worth (bit_at m count) (2 ^ count) (bit_at-lt m count) in
-    let low_part : spelled bits (suc first) count ≡ m % 2 ^ count = ap (λ k. spelled bits k count) after ∙ spelled_bits bits next width n start count low has (omega arith) in
+    let high : cond (bits first) (2 ^ count) 0 ≡ bit_at m count * 2 ^ count = ap (λ b. cond b (2 ^ count) 0) bit ∙ bit_denotes (bit_at m count) (2 ^ count) (bit_at-lt m count) in
+    let low_part : binary_number bits (suc first) count ≡ m % 2 ^ count = ap (λ k. binary_number bits k count) after ∙ spelled_bits bits next width n start count low has (omega arith) in
     let next_count : suc count ≡ 1 + count = omega arith in
     ap₂ ◌+◌ high low_part ∙ sym (ap (λ k. m % 2 ^ k) next_count ∙ mod-pow-add m 1 count)
 
@@ -92,6 +92,6 @@ byte_of_bits columns values column slice admitted lt there =
     ∙ low_byte (stored_at columns column (value_in values column)) (width_at columns column) slice (stored_below columns values column admitted lt) inside
 
 -- zeros spell 0
-pub spelled_zero : (first count : ℕ) → spelled no_bits first count ≡ 0
+pub spelled_zero : (first count : ℕ) → binary_number no_bits first count ≡ 0
 spelled_zero first zero = refl
 spelled_zero first (suc count) = omega (arith, spelled_zero (suc first) count)

@@ -185,76 +185,76 @@ pub data Standing : Type 0 where
   InRecords : Standing
 
 -- a row of the table
-pub record Listed : Type 0 where
+pub record FaultEntry : Type 0 where
   pub number : ℕ
   pub words : List ℕ
   pub standing : Standing
 
-abbrev pub listed : ℕ → List ℕ → Standing → Listed
-listed number words standing = record { number = number; words = words; standing = standing }
+abbrev pub fault_entry : ℕ → List ℕ → Standing → FaultEntry
+fault_entry number words standing = record { number = number; words = words; standing = standing }
 
 -- all errors
-abbrev pub faults : List Listed
+abbrev pub faults : List FaultEntry
 faults =
-    listed SCHEMA_FORM (codes "line form") InLines
-    ∷ listed SCHEMA_NAME (codes "name") InLines
-    ∷ listed SCHEMA_RANGE (codes "range") InLines
-    ∷ listed NAME_TWICE (codes "name twice") InLines
-    ∷ listed COLUMN_COUNT (codes "number of columns") InLines
-    ∷ listed SCHEMA_TOO_LONG (codes "schema too long") Unplaced
-    ∷ listed NO_HEADING (codes "no heading") InRecords
-    ∷ listed HEADING (codes "heading") InRecords
-    ∷ listed RECORD_LENGTH (codes "record length") InRecords
-    ∷ listed NOT_A_NUMBER (codes "not a whole number") InRecords
-    ∷ listed OUT_OF_RANGE (codes "out of range") InRecords
-    ∷ listed NULL_NOT_ALLOWED (codes "null not allowed") InRecords
-    ∷ listed TOO_MANY_ROWS (codes "too many rows") InRecords
-    ∷ listed CSV_TOO_LONG (codes "csv too long") Unplaced
-    ∷ listed CSV_FAULT (codes "csv fault") InRecords
-    ∷ listed MAGIC (codes "magic") InBytes
-    ∷ listed VERSION (codes "version") InBytes
-    ∷ listed LAYOUT (codes "layout") InBytes
-    ∷ listed HEADER (codes "header") InBytes
-    ∷ listed TRUNCATED (codes "truncated") InBytes
-    ∷ listed CODE_TOO_LARGE (codes "code too large") InBytes
-    ∷ listed NULL_WITH_CODE (codes "null with a code") InBytes
-    ∷ listed PADDING (codes "padding") InBytes
-    ∷ listed BYTES_AFTER_END (codes "bytes after the end") InBytes
-    ∷ listed ROW_COUNT (codes "row count") InBytes
-    ∷ listed CHARACTER (codes "character") InBytes
-    ∷ listed SYNTAX (codes "syntax") InBytes
-    ∷ listed UNKNOWN_TABLE (codes "unknown table") InBytes
-    ∷ listed UNKNOWN_COLUMN (codes "unknown column") InBytes
-    ∷ listed LITERAL (codes "literal") InBytes
-    ∷ listed MIXED_ITEMS (codes "columns and aggregates mixed") InBytes
-    ∷ listed STATEMENT_TOO_LONG (codes "statement too long") InBytes
-    ∷ listed NESTING (codes "nesting") InBytes
-    ∷ listed PROGRAM_FORM (codes "line form") InLines
-    ∷ listed REGISTER (codes "register") InLines
-    ∷ listed COLUMN_OR_BIT (codes "column or bit") InLines
-    ∷ listed SKIP_TARGET (codes "skip target") InLines
-    ∷ listed PROGRAM_TOO_LONG (codes "program too long") InLines
-    ∷ listed NO_RESULT (codes "no result") InLines
-    ∷ listed NO_NULLS (codes "column has no nulls") InLines
-    ∷ listed PROGRAM_FILE_TOO_LONG (codes "program file too long") Unplaced
-    ∷ listed NODE (codes "node") InLines
-    ∷ listed PRODUCT_ROW (codes "product row") InLines
-    ∷ listed CHAIN_ROW (codes "chain row") InLines
-    ∷ listed LIMIT (codes "limit") InLines
-    ∷ listed CERTIFICATE_FORM (codes "line form") InLines
-    ∷ listed CONDITION_LINE (codes "condition line") InLines
-    ∷ listed INSTRUCTION_LINE (codes "instruction line") InLines
-    ∷ listed JOIN (codes "join") InLines
-    ∷ listed REGISTER_UNKNOWN (codes "register unknown") InLines
-    ∷ listed END (codes "end") InLines
-    ∷ listed NO_PROGRAM (codes "no program within the limits") Unplaced
-    ∷ listed READ_FAILED (codes "read failed") Unplaced
-    ∷ listed WRITE_FAILED (codes "write failed") Unplaced
-    ∷ listed OUT_OF_MEMORY (codes "out of memory") Unplaced
+    fault_entry SCHEMA_FORM (codes "line form") InLines
+    ∷ fault_entry SCHEMA_NAME (codes "name") InLines
+    ∷ fault_entry SCHEMA_RANGE (codes "range") InLines
+    ∷ fault_entry NAME_TWICE (codes "name twice") InLines
+    ∷ fault_entry COLUMN_COUNT (codes "number of columns") InLines
+    ∷ fault_entry SCHEMA_TOO_LONG (codes "schema too long") Unplaced
+    ∷ fault_entry NO_HEADING (codes "no heading") InRecords
+    ∷ fault_entry HEADING (codes "heading") InRecords
+    ∷ fault_entry RECORD_LENGTH (codes "record length") InRecords
+    ∷ fault_entry NOT_A_NUMBER (codes "not a whole number") InRecords
+    ∷ fault_entry OUT_OF_RANGE (codes "out of range") InRecords
+    ∷ fault_entry NULL_NOT_ALLOWED (codes "null not allowed") InRecords
+    ∷ fault_entry TOO_MANY_ROWS (codes "too many rows") InRecords
+    ∷ fault_entry CSV_TOO_LONG (codes "csv too long") Unplaced
+    ∷ fault_entry CSV_FAULT (codes "csv fault") InRecords
+    ∷ fault_entry MAGIC (codes "magic") InBytes
+    ∷ fault_entry VERSION (codes "version") InBytes
+    ∷ fault_entry LAYOUT (codes "layout") InBytes
+    ∷ fault_entry HEADER (codes "header") InBytes
+    ∷ fault_entry TRUNCATED (codes "truncated") InBytes
+    ∷ fault_entry CODE_TOO_LARGE (codes "code too large") InBytes
+    ∷ fault_entry NULL_WITH_CODE (codes "null with a code") InBytes
+    ∷ fault_entry PADDING (codes "padding") InBytes
+    ∷ fault_entry BYTES_AFTER_END (codes "bytes after the end") InBytes
+    ∷ fault_entry ROW_COUNT (codes "row count") InBytes
+    ∷ fault_entry CHARACTER (codes "character") InBytes
+    ∷ fault_entry SYNTAX (codes "syntax") InBytes
+    ∷ fault_entry UNKNOWN_TABLE (codes "unknown table") InBytes
+    ∷ fault_entry UNKNOWN_COLUMN (codes "unknown column") InBytes
+    ∷ fault_entry LITERAL (codes "literal") InBytes
+    ∷ fault_entry MIXED_ITEMS (codes "columns and aggregates mixed") InBytes
+    ∷ fault_entry STATEMENT_TOO_LONG (codes "statement too long") InBytes
+    ∷ fault_entry NESTING (codes "nesting") InBytes
+    ∷ fault_entry PROGRAM_FORM (codes "line form") InLines
+    ∷ fault_entry REGISTER (codes "register") InLines
+    ∷ fault_entry COLUMN_OR_BIT (codes "column or bit") InLines
+    ∷ fault_entry SKIP_TARGET (codes "skip target") InLines
+    ∷ fault_entry PROGRAM_TOO_LONG (codes "program too long") InLines
+    ∷ fault_entry NO_RESULT (codes "no result") InLines
+    ∷ fault_entry NO_NULLS (codes "column has no nulls") InLines
+    ∷ fault_entry PROGRAM_FILE_TOO_LONG (codes "program file too long") Unplaced
+    ∷ fault_entry NODE (codes "node") InLines
+    ∷ fault_entry PRODUCT_ROW (codes "product row") InLines
+    ∷ fault_entry CHAIN_ROW (codes "chain row") InLines
+    ∷ fault_entry LIMIT (codes "limit") InLines
+    ∷ fault_entry CERTIFICATE_FORM (codes "line form") InLines
+    ∷ fault_entry CONDITION_LINE (codes "condition line") InLines
+    ∷ fault_entry INSTRUCTION_LINE (codes "instruction line") InLines
+    ∷ fault_entry JOIN (codes "join") InLines
+    ∷ fault_entry REGISTER_UNKNOWN (codes "register unknown") InLines
+    ∷ fault_entry END (codes "end") InLines
+    ∷ fault_entry NO_PROGRAM (codes "no program within the limits") Unplaced
+    ∷ fault_entry READ_FAILED (codes "read failed") Unplaced
+    ∷ fault_entry WRITE_FAILED (codes "write failed") Unplaced
+    ∷ fault_entry OUT_OF_MEMORY (codes "out of memory") Unplaced
     ∷ []
 
 -- the words of a number in the first row that has it, or `fault` if there is none
-abbrev pub words_among : List Listed → ℕ → List ℕ
+abbrev pub words_among : List FaultEntry → ℕ → List ℕ
 words_among [] number = codes "fault"
 words_among (row ∷ rows) number = if number == row.number then row.words
     else words_among rows number
@@ -264,7 +264,7 @@ unfoldable pub words_of : ℕ → List ℕ
 words_of number = words_among faults number
 
 -- the kind of place of a number in the first row that has it, or none
-abbrev pub standing_among : List Listed → ℕ → Standing
+abbrev pub standing_among : List FaultEntry → ℕ → Standing
 standing_among [] number = Unplaced
 standing_among (row ∷ rows) number = if number == row.number then row.standing
     else standing_among rows number

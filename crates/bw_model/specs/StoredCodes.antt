@@ -3,7 +3,7 @@ use Rattle.std.specs.Prelude.{ℕ, ◌+◌, ◌-◌, ◌*◌, ◌/◌, ◌%◌, 
 use Rattle.bw_model.specs.declared.column.Column.{Column}
 use Rattle.bw_model.specs.Row.{Value}
 use Rattle.bw_model.specs.Code.{code_at, width_at}
-use Rattle.bw_model.specs.Variable.{Assignment, first_variable, spelled}
+use Rattle.bw_model.specs.Variable.{Assignment, first_variable, binary_number}
 
 -- the stored code of a value of the column of this number, in which null is 0
 abbrev pub stored_at : List Column → ℕ → Value → ℕ
@@ -13,7 +13,7 @@ stored_at columns column value = unwrap_or (code_at columns column value) 0
 -- is its least bit. A column's variables go from its top bit to bit 0, so these bits end `start`
 -- variables before the next column's.
 abbrev pub number_spelled : List Column → ℕ → ℕ → ℕ → Assignment → ℕ
-number_spelled columns column start count bits = spelled bits
+number_spelled columns column start count bits = binary_number bits
     (first_variable columns (suc column) - (start + count)) count
 
 -- the byte `slice` of a number; byte 0 is the least

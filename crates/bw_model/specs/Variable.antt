@@ -62,9 +62,9 @@ bits_of (column ∷ columns) [] = []
 bits_of (column ∷ columns) (value ∷ values) = value_bits column value ++ bits_of columns values
 
 -- the number that `count` variables spell, from the top
-abbrev pub spelled : Assignment → ℕ → ℕ → ℕ
-spelled bits first zero = 0
-spelled bits first (suc count) = (if bits first then 2 ^ count else 0) + spelled bits
+abbrev pub binary_number : Assignment → ℕ → ℕ → ℕ
+binary_number bits first zero = 0
+binary_number bits first (suc count) = (if bits first then 2 ^ count else 0) + binary_number bits
     (suc first) count
 
 -- the value of a column whose first variable is this: null if its null bit is 1, else the value of
@@ -72,7 +72,7 @@ spelled bits first (suc count) = (if bits first then 2 ^ count else 0) + spelled
 abbrev pub value_spelled : Column → Assignment → ℕ → Value
 value_spelled column bits first =
     if column.nullable && bits first then None else Some (value_of_code column
-    (spelled bits (first + null_count column) (width_of column)))
+    (binary_number bits (first + null_count column) (width_of column)))
 
 -- the row of an assignment, for columns whose first variable is this
 abbrev pub row_from : List Column → Assignment → ℕ → List Value
@@ -90,5 +90,5 @@ abbrev pub value_assigned : List Column → Assignment → ℕ → Value
 value_assigned columns bits column =
     if is_nullable columns column && bits (first_variable columns column) then None
     else Some (value_at columns column
-    (spelled bits (bit_variable columns column (width_at columns column - 1))
+    (binary_number bits (bit_variable columns column (width_at columns column - 1))
     (width_at columns column)))

@@ -19,9 +19,9 @@ of_either : (f : List ℕ → List ℕ) (first : Bool) (a b : List ℕ) → cond
 of_either f true a b = refl
 of_either f false a b = refl
 
-bit_worth : (b : Bool) → bool_byte b ≡ cond b 1 0
-bit_worth true = refl
-bit_worth false = refl
+bit_denotes : (b : Bool) → bool_byte b ≡ cond b 1 0
+bit_denotes true = refl
+bit_denotes false = refl
 
 module _ (g : Bool) (width : ℕ) (bytes lanes : List ℕ) where
   abbrev codes_in : List ℕ → List ℕ
@@ -56,5 +56,5 @@ module _ (g : Bool) (width : ℕ) (bytes lanes : List ℕ) where
       ∙ selected_where (λ b. cond g b (not b)) (λ n. has_bit n bit) (lanes_of_words left) (planes_codes width bytes) in
       let before = descended_as g _ (codes_in left) _ (width - place) (suc bit) place code _ refl (omega arith) refl so_far in
       descended_as g _ _ _ bit _ (place + 1) _ head
-      (ap (λ l. cond some l (codes_in left)) (sym are) ∙ of_either codes_in some found left ∙ ap codes_in (sym same_left)) (omega arith) (sym (same_code ∙ ap (λ k. 2 * code + k) (bit_worth (cond some g (not g)))))
+      (ap (λ l. cond some l (codes_in left)) (sym are) ∙ of_either codes_in some found left ∙ ap codes_in (sym same_left)) (omega arith) (sym (same_code ∙ ap (λ k. 2 * code + k) (bit_denotes (cond some g (not g)))))
       (next_descended g (codes_in lanes) (codes_in left) bit place code some (ap is_none (sym are) ∙ no_codes found eight ∙ none) before)

@@ -13,8 +13,8 @@ use Rattle.bw_lanes.specs.Lanes.{lanes_of_bytes}
 use Rattle.bw_lanes.proofs.BitLemmas.{lane_of_bytes}
 use Rattle.bw_model.specs.Code.{has_bit}
 use Rattle.bw_model.specs.Groups.{group_size}
-use Rattle.bw_model.specs.Variable.{spelled}
-use Rattle.bw_model.proofs.BitsLemmas.{bit_worth}
+use Rattle.bw_model.specs.Variable.{binary_number}
+use Rattle.bw_model.proofs.BitsLemmas.{bit_denotes}
 use lib.Lanes.{zip2}
 use Rattle.bw_model.specs.StoredCodes.{byte_of}
 use Rattle.bw_segment.proofs.ByteLemmas.{with_byte, codes_from, top_byte, byte_more, codes_whole}
@@ -31,10 +31,10 @@ pub codes_agree : {A : Type 0} (f g : ℕ → A) (width : ℕ) (bytes : List ℕ
 unfolding planes_codes
 codes_agree f g width bytes same =
     let rows = range_with_len 0 group_size in
-    let code = λ (row : ℕ). spelled (row_bits bytes row) 0 width in
+    let code = λ (row : ℕ). binary_number (row_bits bytes row) 0 width in
     map-map f code rows ∙ (λ i. map (λ row. same (code row) (spelled_below (row_bits bytes row) 0 width) i) rows) ∙ sym (map-map g code rows)
 
-pub small_in_rows : (width : ℕ) (bytes rows : List ℕ) → AllByRecursion (λ code. code < 2 ^ width) (map (λ row. spelled (row_bits bytes row) 0 width) rows)
+pub small_in_rows : (width : ℕ) (bytes rows : List ℕ) → AllByRecursion (λ code. code < 2 ^ width) (map (λ row. binary_number (row_bits bytes row) 0 width) rows)
 small_in_rows width bytes [] = tt
 small_in_rows width bytes (row ∷ rows) = (spelled_below (row_bits bytes row) 0 width, small_in_rows width bytes rows)
 
@@ -54,7 +54,7 @@ bit_in_lane width place lane bytes long there lt =
     let byte_is : get_or (take 64 after) (lane / 8) 0 ≡ byte = get_or-take 64 after (lane / 8) 0 (omega arith) ∙ get_or-drop (64 * place) bytes (lane / 8) 0 in
     let shown = ap (λ b. bit_at b (lane % 8) == 1) (sym byte_is) ∙ sym (lane_of_bytes (take 64 after) lane (omega (arith, size))) ∙ ap (λ k. get_or (plane_lanes bytes k) lane false) plane
     ∙ ap (λ l. get_or l lane false) (plane_of_codes width bit bytes long (omega arith)) ∙ get_or-map (λ code. has_bit code bit) (planes_codes width bytes) lane 0 false (omega (arith, codes_long width bytes)) in
-    omega (arith, shr_and_one byte (lane % 8), bit_worth (bit_at byte (lane % 8)) 1 (bit_at-lt byte (lane % 8)), ap {B = ℕ} (λ b. cond b 1 0) shown)
+    omega (arith, shr_and_one byte (lane % 8), bit_denotes (bit_at byte (lane % 8)) 1 (bit_at-lt byte (lane % 8)), ap {B = ℕ} (λ b. cond b 1 0) shown)
 
 -- the highest bits, this many, of the code in a lane
 unfoldable pub top_bits : ℕ → ℕ → ℕ → List ℕ → ℕ
@@ -64,8 +64,8 @@ pub top_small : (width place lane : ℕ) (bytes : List ℕ) → place ≤ width 
 unfolding top_bits planes_codes group_size
 top_small width place lane bytes le lt =
     let all : width ≡ place + (width - place) = omega arith in
-    let code : get_or (planes_codes width bytes) lane 0 ≡ spelled (row_bits bytes lane) 0 width =
-    get_or-map-range_with_len (λ row. spelled (row_bits bytes row) 0 width) 0 512 lane lane 0 lt (omega arith) in
+    let code : get_or (planes_codes width bytes) lane 0 ≡ binary_number (row_bits bytes lane) 0 width =
+    get_or-map-range_with_len (λ row. binary_number (row_bits bytes row) 0 width) 0 512 lane lane 0 lt (omega arith) in
     shr_lt place (width - place) (subst (λ k. get_or (planes_codes width bytes) lane 0 < 2 ^ k) all (subst (λ n. n < 2 ^ width) (sym code) (spelled_below (row_bits bytes lane) 0 width)))
 
 pub top_fits : (width place lane : ℕ) (bytes : List ℕ) → place < width → width ≤ 63 → lane < 512 → top_bits width place lane bytes < 2 ^ 62

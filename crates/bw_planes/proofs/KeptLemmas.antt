@@ -21,8 +21,8 @@ use Rattle.bw_lanes.proofs.StoredLemmas.{length-bytes_of_lanes}
 use Rattle.bw_lanes.proofs.WordLemmas.{length-lanes_of_bytes}
 use Rattle.bw_model.specs.Code.{has_bit}
 use Rattle.bw_model.specs.Groups.{group_size}
-use Rattle.bw_model.specs.Variable.{Assignment, spelled}
-use Rattle.bw_model.proofs.BitsLemmas.{bit_worth}
+use Rattle.bw_model.specs.Variable.{Assignment, binary_number}
+use Rattle.bw_model.proofs.BitsLemmas.{bit_denotes}
 use Rattle.bw_segment.specs.Packing.{IsPacking}
 use Rattle.bw_segment.proofs.SoundLemmas.{each_below}
 use Rattle.bw_planes.specs.Planes.{plane_lanes, row_bits, planes_bytes, planes_codes, plane_packing}
@@ -32,7 +32,7 @@ pub low_more : (n bit : ℕ) → n % 2 ^ (bit + 1) ≡ cond (has_bit n bit) (2 ^
 low_more n bit =
     let next : bit + 1 ≡ 1 + bit = omega arith in
     ap (λ k. n % 2 ^ k) next ∙ mod-pow-add n 1 bit
-    ∙ ap (λ k. k + n % 2 ^ bit) (sym (bit_worth (bit_at n bit) (2 ^ bit) (bit_at-lt n bit)))
+    ∙ ap (λ k. k + n % 2 ^ bit) (sym (bit_denotes (bit_at n bit) (2 ^ bit) (bit_at-lt n bit)))
 
 -- a bit of the low bits
 pub low_bit : (n count bit : ℕ) → bit < count → has_bit (n % 2 ^ count) bit ≡ has_bit n bit
@@ -44,7 +44,7 @@ low_bit n count bit lt =
     ∙ div-mul-add (n / 2 ^ bit % 2 ^ (rest + 1)) (2 ^ bit) (n % 2 ^ bit) (mod-lt n (pow_pos bit)) in
     ap (λ m. m % 2 == 1) high ∙ ap (λ k. k == 1) (mod-mod-pow (n / 2 ^ bit) rest 1)
 
-pub spelled_below : (bits : Assignment) (first count : ℕ) → spelled bits first count < 2 ^ count
+pub spelled_below : (bits : Assignment) (first count : ℕ) → binary_number bits first count < 2 ^ count
 spelled_below bits first zero = omega arith
 spelled_below bits first (suc count) =
     omega (arith, two-pow-succ count, at_most (bits first) (2 ^ count), spelled_below bits (suc first) count)
@@ -64,14 +64,14 @@ below_high false p s lt = let none : 0 + s ≡ s = omega arith in ap (λ n. n % 
 
 -- a bit of the number that variables spell
 bit_of_spelled : (bits : Assignment) (first count k : ℕ) → k < count
-    → has_bit (spelled bits first count) (count - suc k) ≡ bits (first + k)
+    → has_bit (binary_number bits first count) (count - suc k) ≡ bits (first + k)
 bit_of_spelled bits first zero k lt = absurd (omega arith)
 bit_of_spelled bits first (suc count) zero lt =
     let top : suc count - 1 ≡ count = omega arith in
     let here : first ≡ first + 0 = omega arith in
-    ap (has_bit (spelled bits first (suc count))) top
+    ap (has_bit (binary_number bits first (suc count))) top
     ∙ ap (λ q. q % 2 == 1)
-    (above_low (bits first) (2 ^ count) (spelled bits (suc first) count) (spelled_below bits (suc first) count))
+    (above_low (bits first) (2 ^ count) (binary_number bits (suc first) count) (spelled_below bits (suc first) count))
     ∙ shown (bits first) ∙ ap bits here
   where
     shown : (b : Bool) → (cond b 1 0 % 2 == 1) ≡ b
@@ -81,15 +81,15 @@ bit_of_spelled bits first (suc count) (suc k) lt =
     let bit = count - suc k in
     let same : suc count - suc (suc k) ≡ bit = omega arith in
     let next : suc first + k ≡ first + suc k = omega arith in
-    let low = below_high (bits first) (2 ^ count) (spelled bits (suc first) count)
+    let low = below_high (bits first) (2 ^ count) (binary_number bits (suc first) count)
     (spelled_below bits (suc first) count) in
-    ap (has_bit (spelled bits first (suc count))) same
-    ∙ sym (low_bit (spelled bits first (suc count)) count bit (omega arith)) ∙ ap (λ n. has_bit n bit) low
+    ap (has_bit (binary_number bits first (suc count))) same
+    ∙ sym (low_bit (binary_number bits first (suc count)) count bit (omega arith)) ∙ ap (λ n. has_bit n bit) low
     ∙ bit_of_spelled bits (suc first) count k (omega arith) ∙ ap bits next
 
 -- variables that have the low bits of a number, this many, from the top one, spell these
 spelled_low : (bits : Assignment) (n first count : ℕ)
-    → ((k : ℕ) → k < count → bits (first + k) ≡ has_bit n (count - suc k)) → spelled bits first count ≡ n % 2 ^ count
+    → ((k : ℕ) → k < count → bits (first + k) ≡ has_bit n (count - suc k)) → binary_number bits first count ≡ n % 2 ^ count
 spelled_low bits n first zero each = omega arith
 spelled_low bits n first (suc count) each =
     let here : first + 0 ≡ first = omega arith in
@@ -140,7 +140,7 @@ codes_of_text : (width : ℕ) (codes : List ℕ) → length codes ≡ group_size
 unfolding planes_codes group_size
 codes_of_text width codes long small =
     let text = planes_bytes width codes in
-    sym (fill_by_all (λ row. spelled (row_bits text row) 0 width) codes 512 0 long
+    sym (fill_by_all (λ row. binary_number (row_bits text row) 0 width) codes 512 0 long
     (λ row lt.
     let there : row < length codes = omega (arith, long) in
     sym (spelled_low (row_bits text row) (get_or codes row 0) 0 width
@@ -170,8 +170,8 @@ plane_of_codes width bit bytes long lt =
     let here : 0 + k ≡ k = omega arith in
     fill_by_all (λ row. row_bits bytes row k) (plane_lanes bytes k) 512 false
     (length-plane bytes k (omega (arith, long))) (λ row below. refl)
-    ∙ sym (map-map (λ code. has_bit code bit) (λ row. spelled (row_bits bytes row) 0 width) rows
-    ∙ (λ i. map (λ row. (ap (has_bit (spelled (row_bits bytes row) 0 width)) same
+    ∙ sym (map-map (λ code. has_bit code bit) (λ row. binary_number (row_bits bytes row) 0 width) rows
+    ∙ (λ i. map (λ row. (ap (has_bit (binary_number (row_bits bytes row) 0 width)) same
     ∙ bit_of_spelled (row_bits bytes row) 0 width k (omega arith) ∙ ap (row_bits bytes row) here) i) rows))
 
 -- the planes of the numbers that planes spell, of this many low bits
@@ -193,7 +193,7 @@ text_of_codes width bytes long small (suc bits) le =
 
 pub length-planes_codes : (width : ℕ) (bytes : List ℕ) → length (planes_codes width bytes) ≡ group_size
 unfolding planes_codes
-length-planes_codes width bytes = length-map-range_with_len (λ row. spelled (row_bits bytes row) 0 width) 0 group_size
+length-planes_codes width bytes = length-map-range_with_len (λ row. binary_number (row_bits bytes row) 0 width) 0 group_size
 
 pub planes_keep_codes : IsPacking plane_packing
 planes_keep_codes = record {

@@ -14,9 +14,9 @@ use Rattle.std.proofs.lemmas.List.Sums.{sum_by-cons}
 use Rattle.bw_lanes.specs.Lanes.{bits_from_least, lanes_of_bytes}
 use Rattle.bw_lanes.proofs.WordLemmas.{length-lanes_of_bytes, no_lanes}
 use Rattle.bw_model.specs.Groups.{group_size}
-use Rattle.bw_model.specs.Variable.{spelled}
+use Rattle.bw_model.specs.Variable.{binary_number}
 use Rattle.bw_model.specs.Code.{has_bit}
-use Rattle.bw_model.proofs.BitsLemmas.{bit_worth}
+use Rattle.bw_model.proofs.BitsLemmas.{bit_denotes}
 use Rattle.bw_planes.specs.Planes.{plane_lanes, row_bits, planes_codes, codes_in_word}
 use Rattle.bw_planes.proofs.KeptLemmas.{plane_of_codes}
 use Rattle.bw_segment.proofs.DescentLemmas.{high_more}
@@ -56,8 +56,8 @@ word_of_codes width plane word bytes long there lt =
 number_more : (code bit count : ℕ) → code / 2 ^ bit % 2 ^ (count + 1) ≡ 2 * (code / 2 ^ suc bit % 2 ^ count) + cond (has_bit code bit) 1 0
 number_more code bit count =
     let n = code / 2 ^ bit in
-    let half : n / 2 ^ 1 ≡ code / 2 ^ suc bit = omega (arith, high_more code bit, bit_worth (bit_at code bit) 1 (bit_at-lt code bit), bit_at-lt code bit) in
-    let least : n % 2 ^ 1 ≡ cond (has_bit code bit) 1 0 = omega (arith, bit_worth (bit_at code bit) 1 (bit_at-lt code bit)) in
+    let half : n / 2 ^ 1 ≡ code / 2 ^ suc bit = omega (arith, high_more code bit, bit_denotes (bit_at code bit) 1 (bit_at-lt code bit), bit_at-lt code bit) in
+    let least : n % 2 ^ 1 ≡ cond (has_bit code bit) 1 0 = omega (arith, bit_denotes (bit_at code bit) 1 (bit_at-lt code bit)) in
     mod-pow-add n count 1 ∙ ap₂ (λ h l. (h % 2 ^ count) * 2 + l) half least ∙ omega arith
 
 pub numbers_more : (bit count : ℕ) (codes : List ℕ)
@@ -77,7 +77,7 @@ pub small_in_word : (width word : ℕ) (bytes : List ℕ) → AllByRecursion (λ
 unfolding planes_codes
 small_in_word width word bytes =
     let rows = range_with_len 0 group_size in
-    let code = λ (row : ℕ). spelled (row_bits bytes row) 0 width in
+    let code = λ (row : ℕ). binary_number (row_bits bytes row) 0 width in
     subst (AllByRecursion (λ code. code < 2 ^ width)) (sym (ap (take 64) (drop-map code (64 * word) rows) ∙ take-map code 64 (drop (64 * word) rows))) (small_in_rows width bytes (take 64 (drop (64 * word) rows)))
 
 -- what the low bits of codes and the others add up to

@@ -5,7 +5,7 @@ use Rattle.std.specs.List.{range_with_len}
 use Rattle.bw_lanes.specs.Lanes.{bytes_of_lanes, lanes_of_bytes}
 use Rattle.bw_model.specs.Code.{has_bit}
 use Rattle.bw_model.specs.Groups.{group_size}
-use Rattle.bw_model.specs.Variable.{Assignment, spelled}
+use Rattle.bw_model.specs.Variable.{Assignment, binary_number}
 use Rattle.bw_segment.specs.Packing.{Packing}
 
 -- the lanes of a plane; plane 0 is the first
@@ -24,7 +24,7 @@ planes_bytes (suc bits) codes = bytes_of_lanes (map (λ code. has_bit code bits)
 
 -- the numbers that `count` planes spell in the 512 lanes, from the top plane on
 unfoldable pub planes_codes : ℕ → List ℕ → List ℕ
-planes_codes count bytes = map (λ row. spelled (row_bits bytes row) 0 count)
+planes_codes count bytes = map (λ row. binary_number (row_bits bytes row) 0 count)
     (range_with_len 0 group_size)
 
 -- the codes of the 64 rows whose bits are in one word of each plane

@@ -38,7 +38,7 @@ impl CodeLayout for Planes {
     }
 
     #[tactic(auto, using(crate::proofs::CompareLemmas::used_steps))]
-    fn used(width: u32, bytes: &[u8]) -> Plane {
+    fn nonzero_lanes(width: u32, bytes: &[u8]) -> Plane {
         let mut used = [0; 8];
         for bit in 0..width as usize {
             used = or(&used, &plane_of(width, bytes, bit));
@@ -52,8 +52,8 @@ impl CodeLayout for Planes {
         at_least(width, bytes, low, width - low, (most >> low) + 1)
     }
 
-    fn any_used(width: u32, bytes: &[u8], lanes: &Plane) -> bool {
-        !is_zero(&and(lanes, &Planes::used(width, bytes)))
+    fn any_nonzero(width: u32, bytes: &[u8], lanes: &Plane) -> bool {
+        !is_zero(&and(lanes, &Planes::nonzero_lanes(width, bytes)))
     }
 
     fn any_above(width: u32, bytes: &[u8], most: u64) -> bool {

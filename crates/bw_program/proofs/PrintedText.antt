@@ -14,7 +14,7 @@ use Rattle.std.proofs.lemmas.Slice.Eq.{bytes_eq-Decides}
 use Rattle.bw_model.specs.declared.column.Column.{Column}
 use Rattle.bw_model.specs.Code.{width_of, span_of, width_at, slices_at}
 use Rattle.bw_model.specs.Column.{names_of, column_named}
-use Rattle.bw_text.specs.Lines.{cut_lines, numbered, numbered_from}
+use Rattle.bw_text.specs.Lines.{cut_lines, numbered_words, numbered_from}
 use Rattle.bw_model.specs.Name.{is_name, are_apart}
 use Rattle.bw_text.specs.Text.{same_text}
 use Rattle.bw_model.specs.Variable.{is_nullable}
@@ -175,7 +175,7 @@ module _ (columns : List Column) (named : Named columns) where
 
   -- and its line is cut into them
   instr_said : (line end number : ℕ) (instr : Instr) (rest : List ℕ) → end ≤ 4096 → is_sound end number instr ≡ true → instr_fits columns instr ≡ true →
-      numbered_from line (cut_lines (line_text (instr_words columns instr) ++ rest)) ≡ numbered line (instr_words columns instr) ∷ numbered_from (line + 1) (cut_lines rest)
+      numbered_from line (cut_lines (line_text (instr_words columns instr) ++ rest)) ≡ numbered_words line (instr_words columns instr) ∷ numbered_from (line + 1) (cut_lines rest)
   instr_said line end number (Load r column bit) rest few sound fit =
       let there = both (nat_lt column (length columns)) (nat_lt bit (width_at columns column)) fit in
       let within = ltb-true bit (width_at columns column) there.1 in
@@ -220,7 +220,7 @@ module _ (columns : List Column) (named : Named columns) where
   lines_spelled line end number [] result few lt sound fit =
       let plain : list_all is_plain_word (register_text result ∷ []) ≡ true = rw (plain_register result lt) refl in
       let said = line_said line (opcode_spelling op.Result) (register_text result ∷ []) [] refl refl plain in
-      let whole : numbered_from line (cut_lines (line_text (result_words result))) ≡ numbered line (result_words result) ∷ [] =
+      let whole : numbered_from line (cut_lines (line_text (result_words result))) ≡ numbered_words line (result_words result) ∷ [] =
       ap (λ (text : List ℕ). numbered_from line (cut_lines text)) (sym (append-nil (line_text (result_words result)))) ∙ said in
       rw whole (result_line (opcode_of-spelling op.Result) (register_of-text result lt))
   lines_spelled line end number (instr ∷ instrs) result few lt sound fit =

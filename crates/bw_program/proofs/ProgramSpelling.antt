@@ -24,7 +24,7 @@ use Rattle.bw_text.proofs.RegisterLemmas.{register_is}
 use Rattle.bw_model.proofs.NameLemmas.{named_column_is_there}
 use Rattle.bw_program.specs.ProgramText.{found_on, names_result, opcode_in, is_result_line}
 use Rattle.bw_program.specs.ProgramText.{result_after, last_line, within_end, goes_past, instrs_of}
-use Rattle.bw_program.specs.ProgramText.{ended, finished, instr_on, program_on, program_of}
+use Rattle.bw_program.specs.ProgramText.{program_within, program_with_result, instr_on, program_on, program_of}
 use Rattle.bw_program.specs.ProgramText.{SpellsInstr, SpellsLines, result_line, instr_line}
 use Rattle.bw_program.specs.ProgramText.{IsProgramText}
 use Rattle.bw_text.specs.Register.{register_of}
@@ -93,23 +93,23 @@ result_spelled columns end number line (word ∷ r ∷ []) lines result is e las
 -- the lines after the result's line, and the end
 finished_read : (columns : List Column) (before : List Placed) (line : NumberedWords) (lines : List NumberedWords) (program : ProgramShape) →
     is_result_line line ≡ true → length before ≤ most_instructions →
-    (result_after line.number (drop 1 line.words) >>= λ result. finished before lines result) ≡ Ok program → Read columns before (line ∷ lines) program
+    (result_after line.number (drop 1 line.words) >>= λ result. program_with_result before lines result) ≡ Ok program → Read columns before (line ∷ lines) program
 finished_read columns before line lines program is few e = go (result_after line.number (drop 1 line.words)) lines refl refl e
   where
     go : (r : Result ℕ Fault) (rest : List NumberedWords) → result_after line.number (drop 1 line.words) ≡ r → lines ≡ rest →
-        (r >>= λ result. finished before rest result) ≡ Ok program → Read columns before (line ∷ lines) program
+        (r >>= λ result. program_with_result before rest result) ≡ Ok program → Read columns before (line ∷ lines) program
     go (Err fault) rest read none e = absurd (cc e)
     go (Ok result) (l ∷ rest) read none e = absurd (cc e)
     go (Ok result) [] read none e =
-        let ended = within_read (length before) before (record { instrs = instrs_of before; result = result }) program e in
+        let program_within = within_read (length before) before (record { instrs = instrs_of before; result = result }) program e in
         let same : before ++ [] ≡ before = append-nil before in
         let shape : ProgramShape = record { instrs = instrs_of before; result = result } in
         let spelled = result_spelled columns (length (before ++ [])) (length before) line.number line.words lines result is read none in
-        subst (Read columns before (line ∷ lines)) ended.1 (record {
+        subst (Read columns before (line ∷ lines)) program_within.1 (record {
           rest = [];
           instrs = ap instrs_of (sym same);
           within_limit = subst (λ (p : List Placed). length p ≤ most_instructions) (sym same) few;
-          within = subst (λ (p : List Placed). AllWithin (length p) p) (sym same) ended.0;
+          within = subst (λ (p : List Placed). AllWithin (length p) p) (sym same) program_within.0;
           spelled = spelled;
         })
 
@@ -148,7 +148,7 @@ program_read columns before (line ∷ lines) end program few e =
         }
 
     go : (b : Bool) → is_result_line line ≡ b →
-        cond b (result_after line.number (drop 1 line.words) >>= λ result. finished before lines result)
+        cond b (result_after line.number (drop 1 line.words) >>= λ result. program_with_result before lines result)
         (refused_if (nat_le most_instructions (length before)) (at_line 505 line.number)
         (instr_on columns (length before) line >>= λ instr. program_on columns (before ++ record { line = line.number; instr = instr } ∷ []) lines end)) ≡ Ok program →
         ((instr : Instr) → length (before ++ record { line = line.number; instr = instr } ∷ []) ≤ most_instructions →

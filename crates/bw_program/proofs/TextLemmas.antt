@@ -13,7 +13,7 @@ use Rattle.bw_program.specs.declared.instr.Instr.{Instr}
 use Rattle.bw_program.specs.declared.parse.Placed.{Placed}
 use Rattle.bw_program.specs.Program.{ProgramShape, most_instructions}
 use Rattle.bw_program.specs.ProgramText.{within_end, goes_past, instr_on, is_result_line}
-use Rattle.bw_program.specs.ProgramText.{result_after, finished, program_on}
+use Rattle.bw_program.specs.ProgramText.{result_after, program_with_result, program_on}
 
 -- the skips from an instruction on, by whether it goes past the end itself
 pub within_end-next : (end : ℕ) (placed : List Placed) (i : ℕ) (d : Placed) (x : ProgramShape) → i < length placed → goes_past end (get_or placed i d).instr ≡ false →
@@ -36,7 +36,7 @@ unfolding program_on
 program_on-end columns before lines end none = rw none refl
 
 pub program_on-result : (columns : List Column) (before : List Placed) (lines rest : List NumberedWords) (line : NumberedWords) (end : ℕ) → lines ≡ line ∷ rest → is_result_line line ≡ true →
-    program_on columns before lines end ≡ (result_after line.number (drop 1 line.words) >>= λ result. finished before rest result)
+    program_on columns before lines end ≡ (result_after line.number (drop 1 line.words) >>= λ result. program_with_result before rest result)
 unfolding program_on
 program_on-result columns before lines rest line end e is = rw (e, is) refl
 
@@ -54,9 +54,9 @@ program_on-next columns before lines rest line end e is room = rw (e, is, room) 
 -- the line of the result was read
 pub result_read : (columns : List Column) (before : List Placed) (lines rest : List NumberedWords) (line : NumberedWords) (end : ℕ) (whole : Result ProgramShape Fault) (r : Result ℕ Fault) →
     whole ≡ program_on columns before lines end → lines ≡ line ∷ rest → is_result_line line ≡ true → r ≡ result_after line.number (drop 1 line.words) →
-    IfOk r (λ register. whole ≡ finished before rest register)
+    IfOk r (λ register. whole ≡ program_with_result before rest register)
 result_read columns before lines rest line end whole (Ok register) told e is read =
-    told ∙ program_on-result columns before lines rest line end e is ∙ ap (λ r. r >>= λ result. finished before rest result) (sym read)
+    told ∙ program_on-result columns before lines rest line end e is ∙ ap (λ r. r >>= λ result. program_with_result before rest result) (sym read)
 result_read columns before lines rest line end whole (Err fault) told e is read = tt
 
 pub result_refused : (columns : List Column) (before : List Placed) (lines rest : List NumberedWords) (line : NumberedWords) (end : ℕ) (whole : Result ProgramShape Fault) (r : Result ℕ Fault) →
@@ -64,7 +64,7 @@ pub result_refused : (columns : List Column) (before : List Placed) (lines rest 
     IfErr r (λ fault. is_memory fault ≡ false → whole ≡ Err fault)
 result_refused columns before lines rest line end whole (Ok register) told e is read = tt
 result_refused columns before lines rest line end whole (Err fault) told e is read = λ _.
-    told ∙ program_on-result columns before lines rest line end e is ∙ ap (λ r. r >>= λ result. finished before rest result) (sym read)
+    told ∙ program_on-result columns before lines rest line end e is ∙ ap (λ r. r >>= λ result. program_with_result before rest result) (sym read)
 
 -- an instruction was read, or rejected
 pub instr_read : (columns : List Column) (before : List Placed) (lines rest : List NumberedWords) (line : NumberedWords) (end : ℕ) (instr : Result Instr Fault) →

@@ -158,13 +158,13 @@ within_end end [] x = Ok x
 within_end end (p ∷ placed) x =
     refused_if (goes_past end p.instr) (at_line SKIP_TARGET p.line) (within_end end placed x)
 
-abbrev pub ended : List Placed → ℕ → Result ProgramShape Fault
-ended placed result = within_end (length placed) placed
+abbrev pub program_within : List Placed → ℕ → Result ProgramShape Fault
+program_within placed result = within_end (length placed) placed
     (record { instrs = instrs_of placed; result = result })
 
 -- the program of these instructions and a result register, whose line these lines follow
-abbrev pub finished : List Placed → List NumberedWords → ℕ → Result ProgramShape Fault
-finished placed lines result = last_line lines result >>= λ register. ended placed register
+abbrev pub program_with_result : List Placed → List NumberedWords → ℕ → Result ProgramShape Fault
+program_with_result placed lines result = last_line lines result >>= λ register. program_within placed register
 
 -- the program on these lines, after instructions that came before; `end` is the number of the
 -- text's end
@@ -173,7 +173,7 @@ unfoldable pub program_on : List Column → List Placed → List NumberedWords �
 program_on columns before [] end = Err (at_line NO_RESULT end)
 program_on columns before (line ∷ lines) end =
     if is_result_line line then
-    (result_after line.number (drop 1 line.words) >>= λ result. finished before lines result)
+    (result_after line.number (drop 1 line.words) >>= λ result. program_with_result before lines result)
     else
     (refused_if (nat_le most_instructions (length before)) (at_line PROGRAM_TOO_LONG line.number)
     (instr_on columns (length before) line >>= λ instr.

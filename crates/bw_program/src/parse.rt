@@ -4,7 +4,7 @@ ghost use Rattle.std.specs.Prelude.{IfErr, OnOk, IsTrue};
 ghost use Rattle.bw_model.specs.Fault.{MatchesUnlessOom, is_memory};
 ghost use Rattle.bw_text.specs.Lines.{lines_in, end_in};
 ghost use Rattle.bw_program.specs.Program.{ProgramShape, fits, most_instructions};
-ghost use Rattle.bw_program.specs.ProgramText.{program_of, program_on, last_line, finished};
+ghost use Rattle.bw_program.specs.ProgramText.{program_of, program_on, last_line, program_with_result};
 ghost use Rattle.bw_program.specs.ProgramText.{instrs_of, within_end, goes_past, IsProgramText};
 ghost use Rattle.bw_program.specs.ProgramText.{IsProgramFault};
 
@@ -91,7 +91,7 @@ fn read_lines(
     requires { placed.old.items ≡ [] }
     ensures read { IfOk result
         (λ register. program_on schema.now.columns.items [] (lines_in lines.old) (end_in lines.old)
-        ≡ finished placed.new.items (lines_in lines.new) register) }
+        ≡ program_with_result placed.new.items (lines_in lines.new) register) }
     ensures fault { IfErr result (λ fault. is_memory fault ≡ false
         → program_on schema.now.columns.items [] (lines_in lines.old) (end_in lines.old)
         ≡ Err fault) }

@@ -14,7 +14,7 @@ use Rattle.bw_cert_text.specs.CertificateFields.{CertificateFields}
 use Rattle.bw_cert_text.specs.CertificateShape.{CertificateShape}
 use Rattle.bw_cert_text.specs.CertificateText.{IsCertificateText}
 use Rattle.bw_cert_text.specs.PrintText as certificate_text
-use Rattle.bw_cert_text.specs.Reprint.{renumbered}
+use Rattle.bw_cert_text.specs.Reprint.{renumber}
 use Rattle.bw_cert.specs.FileVerdict.{Certifies}
 use Rattle.bw_sql.specs.Statement.{IsReadAs}
 
@@ -29,7 +29,7 @@ pub record IsPrinted (columns : List Column) (file : List ℕ) : Type 0 where
       ++ certificate_text.print_text columns stated
   pub spells : IsProgramText columns (program_text.print_text columns shown) shown
   pub states : (first : ℕ) → IsCertificateText first (certificate_text.print_text columns stated)
-      (renumbered first (certificate_text.respelled columns stated))
+      (renumber first (certificate_text.respelled columns stated))
 
 -- The first text spells a schema, and the statement a query under it. The file, which is printed as
 -- above, spells a program and a certificate that is valid for it and the query's condition.

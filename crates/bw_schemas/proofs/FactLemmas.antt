@@ -15,7 +15,7 @@ use Rattle.bw_file.specs.Blocks.{segment_size}
 use Rattle.bw_file.specs.FileBytes.{header_bytes}
 use Rattle.bw_schemas.specs.PrintedSchema.{AreComments, schema_text}
 use Rattle.bw_schemas.proofs.PrintedBounds.{natural_plain, natural_short}
-use Rattle.bw_text.specs.Printing.{is_plain_word, spaced}
+use Rattle.bw_text.specs.Printing.{is_plain_word, spaced_words}
 use Rattle.bw_text.proofs.SpacedWords.{line_skipped}
 use Rattle.bw_schemas.proofs.PrintedText.{no_comments}
 use Rattle.bw_schemas.specs.Info.{comment, facts_text, file_size, info_text, layout_word}
@@ -54,7 +54,7 @@ facts_are_comments version layout schema rows small =
     (comment_last (codes "bytes") (decimal (file_size version layout schema rows)) refl (natural_plain (file_size version layout schema rows) small.size)))))
 
 pub facts_short : (version : ℕ) (layout : Layout) (schema : Schema) (rows : ℕ) → AreSmall version layout schema rows → length (facts_text version layout schema rows) ≤ 4096
-unfolding spaced
+unfolding spaced_words
 facts_short version layout schema rows small =
     let a = natural_short rows (omega (arith, small.within_limit)) in
     let b = natural_short (segment_count rows) (omega (arith, small.within_limit)) in

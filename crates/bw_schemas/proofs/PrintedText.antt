@@ -14,7 +14,7 @@ use Rattle.bw_model.specs.declared.schema.Schema.{Schema}
 use Rattle.bw_model.specs.Column.{names_of}
 use Rattle.bw_text.specs.Keyword.{is_reserved}
 use Rattle.bw_model.specs.Limits.{longest_name}
-use Rattle.bw_text.specs.Lines.{NumberedWords, cut_lines, numbered, numbered_from}
+use Rattle.bw_text.specs.Lines.{NumberedWords, cut_lines, numbered_words, numbered_from}
 use Rattle.bw_model.specs.Name.{is_name, are_apart}
 use Rattle.bw_model.specs.Schema.{IsColumn, IsSchema}
 use Rattle.bw_model.specs.SchemaText.{shape, shape_names, column_shape, schema_shape, column_words}
@@ -23,7 +23,7 @@ use Rattle.bw_model.specs.SchemaText.{IsSchemaText}
 use Rattle.bw_text.specs.Text.{same_text, is_word}
 use Rattle.bw_schemas.specs.PrintedSchema.{AreComments, column_line, columns_text, schema_text}
 use Rattle.bw_schemas.specs.PrintedSchema.{table_line}
-use Rattle.bw_text.specs.Printing.{is_plain_word, line_text, spaced}
+use Rattle.bw_text.specs.Printing.{is_plain_word, line_text, spaced_words}
 use Rattle.bw_model.proofs.BitsLemmas.{both}
 use Rattle.bw_text.proofs.SpacedWords.{line_said, plain_word}
 use Rattle.bw_schemas.proofs.PrintedBounds.{bound_spelled, bound_plain, bound_length}
@@ -42,7 +42,7 @@ short_word text h =
 
 -- the line of a table
 table_said : (name rest : List ℕ) → is_name name ≡ true
-    → numbered_from 1 (cut_lines (line_text (table_line name) ++ rest)) ≡ numbered 1 (table_line name) ∷ numbered_from 2 (cut_lines rest)
+    → numbered_from 1 (cut_lines (line_text (table_line name) ++ rest)) ≡ numbered_words 1 (table_line name) ∷ numbered_from 2 (cut_lines rest)
 table_said name rest is =
     let plain : list_all is_plain_word (name ∷ []) ≡ true = rw ((short_word name is).plain) refl in
     line_said 1 _ (name ∷ []) rest refl refl plain
@@ -54,7 +54,7 @@ table_spelled name = refl
 -- the line of a column
 column_said : (number : ℕ) (name : List ℕ) (lo hi : ℤ) (nullable : Bool) (rest : List ℕ) → IsColumn (shape name lo hi nullable)
     → numbered_from number (cut_lines (line_text (column_line (shape name lo hi nullable)) ++ rest))
-    ≡ numbered number (column_line (shape name lo hi nullable)) ∷ numbered_from (number + 1) (cut_lines rest)
+    ≡ numbered_words number (column_line (shape name lo hi nullable)) ∷ numbered_from (number + 1) (cut_lines rest)
 column_said number name lo hi true rest is =
     line_said number _ (name ∷ signed_decimal lo ∷ signed_decimal hi ∷ []) rest refl refl
     (rw ((short_word name is.name).plain, bound_plain lo is.lo, bound_plain hi is.hi) refl)
@@ -69,7 +69,7 @@ column_spelled name lo hi true is = rw (bound_spelled lo is.lo, bound_spelled hi
 column_spelled name lo hi false is = rw (bound_spelled lo is.lo, bound_spelled hi is.hi) refl
 
 column_short : (name : List ℕ) (lo hi : ℤ) (nullable : Bool) → IsColumn (shape name lo hi nullable) → length (line_text (column_line (shape name lo hi nullable))) ≤ 122
-unfolding spaced
+unfolding spaced_words
 column_short name lo hi true is =
     let n = (short_word name is.name).short in
     let l = bound_length lo is.lo in
@@ -124,7 +124,7 @@ names_same [] = refl
 names_same (c ∷ columns) = ap (λ (names : List (List ℕ)). c.name ∷ names) (names_same columns)
 
 table_short : (name : List ℕ) → is_name name ≡ true → length (line_text (table_line name)) ≤ 70
-unfolding spaced
+unfolding spaced_words
 table_short name is = let n = (short_word name is).short in simp length-append (omega arith)
 
 -- the text of a schema with comments after it spells the schema
@@ -137,7 +137,7 @@ text_spells schema comments is none few =
     let more = columns_text (map column_shape columns) in
     let size : length ((first ++ more) ++ comments) ≤ 65536 =
     omega (arith, length-append (first ++ more) comments, length-append first more, table_short schema.name is.name, columns_short columns is.columns, schema.limited) in
-    let lines : numbered_from 1 (cut_lines ((first ++ more) ++ comments)) ≡ numbered 1 (table_line schema.name) ∷ numbered_from 2 (cut_lines (more ++ comments)) =
+    let lines : numbered_from 1 (cut_lines ((first ++ more) ++ comments)) ≡ numbered_words 1 (table_line schema.name) ∷ numbered_from 2 (cut_lines (more ++ comments)) =
     ap (λ (l : List ℕ). numbered_from 1 (cut_lines l)) (append_assoc first more comments) ∙ table_said schema.name (more ++ comments) is.name in
     let apart : are_apart (shape_names (map column_shape columns)) ≡ true = ap are_apart (names_same columns) ∙ schema.apart in (
       size,

@@ -11,7 +11,7 @@ use Rattle.std.proofs.lemmas.Bool.{cases_lt}
 use Rattle.std.proofs.lemmas.Bool.Decides.{nat_tests}
 use Rattle.std.proofs.lemmas.Grind.{pow_more}
 use Rattle.bw_model.specs.Code.{has_bit}
-use Rattle.bw_model.proofs.BitsLemmas.{bit_worth}
+use Rattle.bw_model.proofs.BitsLemmas.{bit_denotes}
 use Rattle.bw_segment.proofs.SelectedLemmas.{is_none}
 
 -- what passes a test
@@ -78,7 +78,7 @@ fold_same g n a (x ∷ xs) all = fold_same g n (choice g a x) xs (of_both (λ k.
 -- a number from a bit on
 pub high_more : (n bit : ℕ) → n / 2 ^ bit ≡ 2 * (n / 2 ^ suc bit) + cond (has_bit n bit) 1 0
 high_more n bit =
-    omega (arith, shr-shr n bit 1 ∙ ap (λ k. n / 2 ^ k) (add-one bit), bit_worth (bit_at n bit) 1 (bit_at-lt n bit))
+    omega (arith, shr-shr n bit 1 ∙ ap (λ k. n / 2 ^ k) (add-one bit), bit_denotes (bit_at n bit) 1 (bit_at-lt n bit))
 
 -- the smaller of two heads is of the smaller number
 pub below : (a b k : ℕ) → 0 < k → a / k < b / k → a < b

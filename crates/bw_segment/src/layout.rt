@@ -35,7 +35,7 @@ pub trait CodeLayout {
         ensures only_oom { IsOkUnless result no_memory };
 
     /// Returns the lanes whose code isn't 0.
-    fn used(width: u32, bytes: &[u8]) -> Plane
+    fn nonzero_lanes(width: u32, bytes: &[u8]) -> Plane
         requires width { (1 ≤ width) × (width ≤ 63) }
         requires size { length bytes.now ≡ packing.size width }
         ensures { lanes_of_words result
@@ -49,7 +49,7 @@ pub trait CodeLayout {
         ensures { lanes_of_words result ≡ map (nat_lt most) (packing.codes width bytes.now) };
 
     /// Returns whether a code in these lanes isn't 0.
-    fn any_used(width: u32, bytes: &[u8], lanes: &Plane) -> bool
+    fn any_nonzero(width: u32, bytes: &[u8], lanes: &Plane) -> bool
         requires width { (1 ≤ width) × (width ≤ 63) }
         requires size { length bytes.now ≡ packing.size width }
         ensures { result ≡ list_any (λ code. not (code == 0))

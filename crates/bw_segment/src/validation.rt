@@ -35,7 +35,7 @@ impl<L: CodeLayout> PackedSegment<L> {
             return None;
         }
         L::keeps_codes();
-        let used = used::<L>(rows, &nulls, width, codes);
+        let used = lanes_with_code::<L>(rows, &nulls, width, codes);
         let above = L::above(width, codes, span);
         fault_of_lanes(rows, &nulls, &used, &above)
     }
@@ -52,12 +52,12 @@ fn are_good<L: CodeLayout>(nulls: &Plane, width: u32, codes: &[u8], span: u64) -
         → lanes_fault span 512 (lanes_of_words nulls.now) (L.packing.codes width codes.now) ≡ None }
 {
     L::keeps_codes();
-    (is_zero(nulls) || !L::any_used(width, codes, nulls)) && !L::any_above(width, codes, span)
+    (is_zero(nulls) || !L::any_nonzero(width, codes, nulls)) && !L::any_above(width, codes, span)
 }
 
 /// Returns the lanes whose code isn't 0. Without padding and null lanes, in which alone it need be
 /// right, it returns zeros.
-fn used<L: CodeLayout>(rows: u32, nulls: &Plane, width: u32, codes: &[u8]) -> Plane
+fn lanes_with_code<L: CodeLayout>(rows: u32, nulls: &Plane, width: u32, codes: &[u8]) -> Plane
     requires width { (1 ≤ width) × (width ≤ 63) }
     requires size { length codes.now ≡ L.packing.size width }
     ensures { TellsCodes rows (lanes_of_words nulls.now) (L.packing.codes width codes.now)
@@ -66,5 +66,5 @@ fn used<L: CodeLayout>(rows: u32, nulls: &Plane, width: u32, codes: &[u8]) -> Pl
     if rows as usize == LANES && is_zero(nulls) {
         return [0; 8];
     }
-    L::used(width, codes)
+    L::nonzero_lanes(width, codes)
 }

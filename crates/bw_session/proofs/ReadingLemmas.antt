@@ -46,7 +46,7 @@ pub begun : (known : Option (List ℕ)) (statement : List ℕ) → statement ≡
 unfolding statement_state_after
 begun known statement none = record {
   bytes = [];
-  came = Consumes-nil known;
+  consumes = Consumes-nil known;
   kept = none;
   stands = refl;
   opened = refl;
@@ -58,7 +58,7 @@ pub more : (old before now : Option (List ℕ)) (statement : List ℕ) (standing
     → Reads old now (with_byte statement byte) (after standing byte)
 more old before now statement standing byte so_far came goes_on = record {
   bytes = so_far.bytes ++ byte ∷ [];
-  came = Consumes-trans old before now so_far.bytes (byte ∷ []) so_far.came came;
+  consumes = Consumes-trans old before now so_far.bytes (byte ∷ []) so_far.consumes came;
   kept = ap (λ kept. with_byte kept byte) so_far.kept ∙ kept_more so_far.bytes byte;
   stands = statement_state_after-snoc Blank so_far.bytes byte ∙ ap (λ now. after now byte) so_far.stands;
   opened = goes_on;
@@ -70,7 +70,7 @@ pub whole : (old before now : Option (List ℕ)) (statement : List ℕ) (standin
     → HasReadStatement old now (with_byte statement byte) true
 whole old before now statement standing byte so_far came end = record {
   bytes = so_far.bytes ++ byte ∷ [];
-  came = Consumes-trans old before now so_far.bytes (byte ∷ []) so_far.came came;
+  consumes = Consumes-trans old before now so_far.bytes (byte ∷ []) so_far.consumes came;
   kept = ap (λ kept. with_byte kept byte) so_far.kept ∙ kept_more so_far.bytes byte;
   whole = λ _. record {
     front = so_far.bytes;
@@ -89,7 +89,7 @@ pub ended : (old before now : Option (List ℕ)) (statement : List ℕ) (standin
     → HasReadStatement old now statement false
 ended old before now statement standing so_far came end = record {
   bytes = so_far.bytes ++ [];
-  came = Consumes-trans old before now so_far.bytes [] so_far.came came;
+  consumes = Consumes-trans old before now so_far.bytes [] so_far.consumes came;
   kept = so_far.kept ∙ ap (take most_stored) (sym (append-nil so_far.bytes));
   whole = λ (p : false ≡ true). no_bool (sym p);
   last = λ _. subst IsOpen (sym (append-nil so_far.bytes)) (opened so_far.bytes (is_open _ _ _ _ so_far));
@@ -107,7 +107,7 @@ pub no_more : (old before now : Option (List ℕ)) (statement : List ℕ) (stand
     → Reads old before statement standing → Consumes before now [] → HasReadBeginning old now
 no_more old before now statement standing so_far same = record {
   bytes = so_far.bytes ++ [];
-  came = Consumes-trans old before now so_far.bytes [] so_far.came same;
+  consumes = Consumes-trans old before now so_far.bytes [] so_far.consumes same;
   begun = record {
     front = so_far.bytes;
     rest = [];
@@ -128,7 +128,7 @@ pub one_more : (old before now : Option (List ℕ)) (statement : List ℕ) (stan
     → Reads old before statement standing → Consumes before now (byte ∷ []) → HasReadBeginning old now
 one_more old before now statement standing byte so_far came = record {
   bytes = so_far.bytes ++ byte ∷ [];
-  came = Consumes-trans old before now so_far.bytes (byte ∷ []) so_far.came came;
+  consumes = Consumes-trans old before now so_far.bytes (byte ∷ []) so_far.consumes came;
   begun = record {
     front = so_far.bytes;
     rest = byte ∷ [];

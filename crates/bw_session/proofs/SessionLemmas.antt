@@ -30,8 +30,8 @@ pub begins : (schema : Schema) (rows : List (List Value)) (known taken : Option 
 begins schema rows known taken = record {
   text = [];
   output = [];
-  came = Consumes-nil known;
-  went = Appends-nil taken;
+  consumes = Consumes-nil known;
+  appends = Appends-nil taken;
   answered = begun;
 }
 
@@ -49,8 +49,8 @@ pub goes_on : (schema : Schema) (rows : List (List Value)) (old before now taken
 goes_on schema rows old before now taken_old taken_before taken_now statement first fault so_far took wrote = record {
   text = so_far.text ++ took.bytes;
   output = so_far.output ++ wrote.out;
-  came = Consumes-trans old before now so_far.text took.bytes so_far.came took.came;
-  went = Appends-trans taken_old taken_before taken_now so_far.output wrote.out so_far.went wrote.went;
+  consumes = Consumes-trans old before now so_far.text took.bytes so_far.consumes took.consumes;
+  appends = Appends-trans taken_old taken_before taken_now so_far.output wrote.out so_far.appends wrote.appends;
   answered = more took.bytes wrote.out fault so_far.answered (took.whole refl)
       (of_all schema rows before now statement true fault wrote.out took wrote.is);
 }
@@ -62,9 +62,9 @@ pub ends : (schema : Schema) (rows : List (List Value)) (old before now taken_ol
 ends schema rows old before now taken_old taken_before taken_now statement first fault so_far took wrote = record {
   text = so_far.text ++ took.bytes;
   output = so_far.output ++ wrote.out;
-  came = Consumes-trans old before now so_far.text took.bytes so_far.came took.came;
+  consumes = Consumes-trans old before now so_far.text took.bytes so_far.consumes took.consumes;
   end = took.end refl;
-  went = Appends-trans taken_old taken_before taken_now so_far.output wrote.out so_far.went wrote.went;
+  appends = Appends-trans taken_old taken_before taken_now so_far.output wrote.out so_far.appends wrote.appends;
   answered = whole took.bytes wrote.out fault so_far.answered (took.last refl)
       (of_all schema rows before now statement false fault wrote.out took wrote.is);
 }
@@ -74,8 +74,8 @@ pub stops : (schema : Schema) (rows : List (List Value)) (old now taken_old take
     (first : Option Fault) (fault : Fault) → RanSoFar schema rows old now taken_old taken_now first
     → IsTrue (is_input_fault fault) → IsStopped schema rows old now taken_old taken_now fault
 stops schema rows old now taken_old taken_now first fault so_far input =
-    reading so_far.text [] so_far.output input so_far.answered (subst (Consumes old now) (sym (append-nil so_far.text)) so_far.came)
-    (record { front = []; rest = []; is = refl; short = omega arith; opened = none_opened }) so_far.went
+    reading so_far.text [] so_far.output input so_far.answered (subst (Consumes old now) (sym (append-nil so_far.text)) so_far.consumes)
+    (record { front = []; rest = []; is = refl; short = omega arith; opened = none_opened }) so_far.appends
 
 -- it ended while the next statement came
 pub stops_reading : (schema : Schema) (rows : List (List Value)) (old before now taken_old taken_now : Option (List ℕ))
@@ -83,7 +83,7 @@ pub stops_reading : (schema : Schema) (rows : List (List Value)) (old before now
     → IsTrue (is_input_fault fault) → HasReadBeginning before now → IsStopped schema rows old now taken_old taken_now fault
 stops_reading schema rows old before now taken_old taken_now first fault so_far input took =
     reading so_far.text took.bytes so_far.output input so_far.answered
-    (Consumes-trans old before now so_far.text took.bytes so_far.came took.came) took.begun so_far.went
+    (Consumes-trans old before now so_far.text took.bytes so_far.consumes took.consumes) took.begun so_far.appends
 
 -- what came is a statement, with what ends it or up to the end of the source
 came_whole : (old new : Option (List ℕ)) (statement : List ℕ) (goes_on : Bool) → (took : HasReadStatement old new statement goes_on)
@@ -109,11 +109,11 @@ pub stops_writing : (schema : Schema) (rows : List (List Value)) (old before now
 stops_writing schema rows old before now taken_old taken_before taken_now statement sql goes first fault so_far took wrote same failed =
     subst (IsStopped schema rows old now taken_old taken_now) (sym failed)
     (writing so_far.text took.bytes so_far.output wrote.out so_far.answered
-    (Consumes-trans old before now so_far.text took.bytes so_far.came took.came)
+    (Consumes-trans old before now so_far.text took.bytes so_far.consumes took.consumes)
     (came_whole before now statement goes took)
     (of_all schema rows before now statement goes wrote.fault wrote.out took
     (subst (λ text. IsOutput schema rows text wrote.fault wrote.out) same wrote.is))
-    (part_after taken_old taken_before taken_now so_far.output wrote.out so_far.went wrote.went))
+    (part_after taken_old taken_before taken_now so_far.output wrote.out so_far.appends wrote.appends))
 
 -- what is read and written once more, as the loop has it
 pub goes_on_as : (schema : Schema) (rows : List (List Value)) (old before now taken_old taken_before taken_now : Option (List ℕ))

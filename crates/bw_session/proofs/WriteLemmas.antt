@@ -65,7 +65,7 @@ answered T schema rows sql old mid new before between after given served (Ok fau
     out = text ++ 10 ∷ [];
     is = subst (λ f. IsOutput schema rows sql f (text ++ 10 ∷ [])) (sym line.0)
         (answer_line schema rows sql text (subst (IsMemoryAnswer (by_statement None sql) schema rows) gave is));
-    went = Appends-trans old mid new text (10 ∷ []) went line.1;
+    appends = Appends-trans old mid new text (10 ∷ []) went line.1;
   },
   line.2 ∙ count,
 )
@@ -75,7 +75,7 @@ answered T schema rows sql old mid new before between after given served (Err fa
     out = text ++ 10 ∷ [];
     fault = None;
     is = answer_line schema rows sql text (subst (IsMemoryAnswer (by_statement None sql) schema rows) gave is);
-    went = part_after old mid new text (10 ∷ []) went line.1;
+    appends = part_after old mid new text (10 ∷ []) went line.1;
   },
   line.2 ∙ ap (λ n. n + 1) count,
 )
@@ -92,7 +92,7 @@ answer_failed T schema rows sql old new before after given _ is (beginning text 
     out = text ++ 10 ∷ [];
     fault = None;
     is = answer_line schema rows sql text (subst (IsMemoryAnswer (by_statement None sql) schema rows) gave is);
-    went = part_before old new text (10 ∷ []) part;
+    appends = part_before old new text (10 ∷ []) part;
   },
   count,
 )
@@ -113,7 +113,7 @@ refused T schema rows sql old mid new before between after given fault (Ok found
     out = 10 ∷ [];
     is = subst (λ f. IsOutput schema rows sql f (10 ∷ [])) (sym line.0)
         (refusal asks (λ no_memory. statement_fault schema sql fault (subst (IsMemoryAnswer (by_statement None sql) schema rows) (gave refl) is no_memory)));
-    went = subst (λ known. Appends known new (10 ∷ [])) same line.1;
+    appends = subst (λ known. Appends known new (10 ∷ [])) same line.1;
   },
   line.2 ∙ count,
 )
@@ -123,7 +123,7 @@ refused T schema rows sql old mid new before between after given fault (Err fail
     out = 10 ∷ [];
     fault = Some fault;
     is = refusal asks (λ no_memory. statement_fault schema sql fault (subst (IsMemoryAnswer (by_statement None sql) schema rows) (gave refl) is no_memory));
-    went = subst (λ known. TookPart known new (10 ∷ [])) same line.1;
+    appends = subst (λ known. TookPart known new (10 ∷ [])) same line.1;
   },
   line.2 ∙ ap (λ n. n + 1) count,
 )

@@ -26,7 +26,7 @@ HasReadByte old new None = Consumes old new [] × IsAtEnd new
 pub record HasReadStatement (old new : Option (List ℕ)) (statement : List ℕ)
     (more : Bool) : Type 0 where
   pub bytes : List ℕ
-  pub came : Consumes old new bytes
+  pub consumes : Consumes old new bytes
   pub kept : statement ≡ take most_stored bytes
   pub whole : more ≡ true → IsWhole bytes
   pub last : more ≡ false → IsOpen bytes
@@ -35,7 +35,7 @@ pub record HasReadStatement (old new : Option (List ℕ)) (statement : List ℕ)
 -- the source yielded bytes that begin a statement, and was read no further
 pub record HasReadBeginning (old new : Option (List ℕ)) : Type 0 where
   pub bytes : List ℕ
-  pub came : Consumes old new bytes
+  pub consumes : Consumes old new bytes
   pub begun : IsBegun bytes
 
 -- The source yielded these bytes of a statement, which hasn't ended, and this is its state after
@@ -43,7 +43,7 @@ pub record HasReadBeginning (old new : Option (List ℕ)) : Type 0 where
 pub record Reads (old new : Option (List ℕ)) (statement : List ℕ)
     (standing : StatementState) : Type 0 where
   pub bytes : List ℕ
-  pub came : Consumes old new bytes
+  pub consumes : Consumes old new bytes
   pub kept : statement ≡ take most_stored bytes
   pub stands : statement_state_after Blank bytes ≡ standing
   pub opened : is_ended standing ≡ false

@@ -40,7 +40,7 @@ pub record HasWrittenOutput (schema : Schema) (rows : List (List Value)) (sql : 
     (fault : Option Fault) : Type 0 where
   pub out : List ℕ
   pub is : IsOutput schema rows sql fault out
-  pub went : Appends old new out
+  pub appends : Appends old new out
 
 -- the sink consumed a prefix of it
 pub record HasWrittenPart (schema : Schema) (rows : List (List Value)) (sql : List ℕ)
@@ -48,7 +48,7 @@ pub record HasWrittenPart (schema : Schema) (rows : List (List Value)) (sql : Li
   pub out : List ℕ
   pub fault : Option Fault
   pub is : IsOutput schema rows sql fault out
-  pub went : TookPart old new out
+  pub appends : TookPart old new out
 
 -- the number of writes that failed in a call with this error: 1 for a failed write, else 0
 abbrev pub failed_writes : Fault → ℕ
@@ -81,8 +81,8 @@ pub record RanSoFar (schema : Schema) (rows : List (List Value))
     (first : Option Fault) : Type 0 where
   pub text : List ℕ
   pub output : List ℕ
-  pub came : Consumes old now text
-  pub went : Appends taken_old taken_now output
+  pub consumes : Consumes old now text
+  pub appends : Appends taken_old taken_now output
   pub answered : AreAnswered schema rows text first output
 
 -- A session over all of a source, whose text it consumed. The sink consumed what the text's
@@ -92,9 +92,9 @@ pub record Ended (schema : Schema) (rows : List (List Value))
     (first : Option Fault) : Type 0 where
   pub text : List ℕ
   pub output : List ℕ
-  pub came : Consumes old new text
+  pub consumes : Consumes old new text
   pub end : IsAtEnd new
-  pub went : Appends taken_old taken_new output
+  pub appends : Appends taken_old taken_new output
   pub answered : IsAnswered schema rows text first output
 
 -- a statement was read completely: with what ends it, or up to the end of the source

@@ -1,8 +1,8 @@
 //! Byte slices as a layout of segments.
 ghost use Rattle.bw_slices.specs.Slices.{slice_packing};
 
-use crate::above::above;
-use crate::any::{is_any_above, is_any_used};
+use crate::any_code::{is_any_above, is_any_nonzero};
+use crate::codes_above::lanes_above;
 use crate::extremes::chosen_code;
 use crate::read::{slice_of, slices_in};
 use crate::sparse_sum::{none_near, sum_of_few};
@@ -37,17 +37,17 @@ impl CodeLayout for Slices {
         Ok(())
     }
 
-    fn used(width: u32, bytes: &[u8]) -> Plane {
+    fn nonzero_lanes(width: u32, bytes: &[u8]) -> Plane {
         not(&bytes_none(bytes, slices_in(width)))
     }
 
     #[tactic(auto, using(crate::proofs::CodeLemmas::within_slices))]
     fn above(width: u32, bytes: &[u8], most: u64) -> Plane {
-        above(bytes, slices_in(width), most)
+        lanes_above(bytes, slices_in(width), most)
     }
 
-    fn any_used(width: u32, bytes: &[u8], lanes: &Plane) -> bool {
-        is_any_used(bytes, slices_in(width), lanes)
+    fn any_nonzero(width: u32, bytes: &[u8], lanes: &Plane) -> bool {
+        is_any_nonzero(bytes, slices_in(width), lanes)
     }
 
     // The lowest bytes of the number that are 255 change nothing, and nor do those of the codes.

@@ -18,8 +18,8 @@
 //! ```
 #![tactic(auto)]
 
-mod above;
-mod any;
+mod any_code;
+mod codes_above;
 mod extremes;
 mod layout;
 mod read;

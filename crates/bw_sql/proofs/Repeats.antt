@@ -6,7 +6,7 @@ use Rattle.bw_sql.specs.declared.reader.Stop.{Stop}
 use Rattle.bw_sql.specs.declared.reader.Stop.TheVariants.{Refused, OutOfMemory}
 use Rattle.bw_sql.specs.Reader.{Halts}
 use Rattle.bw_sql.specs.declared.token.Placed.{Placed}
-use Rattle.bw_sql.specs.Reading.{Halt, repeated, with_front, more_after}
+use Rattle.bw_sql.specs.Reading.{Halt, read_many, with_front, more_after}
 use Rattle.bw_sql.specs.Token.{Lexeme, lexemes}
 
 pub length-lexemes : (tokens : List Placed) → length (lexemes tokens) ≡ length tokens
@@ -18,7 +18,7 @@ pub record Repeats {A : Type 0} (after : List Lexeme → Option (List Lexeme)) (
     (front : List A) (left : ℕ) (tokens : List Lexeme) (whole : Result (List A × List Lexeme) Halt) : Type 0 where
   pub fuel : ℕ
   pub enough : left ≤ fuel
-  pub same : whole ≡ with_front front (repeated fuel after one tokens)
+  pub same : whole ≡ with_front front (read_many fuel after one tokens)
 
 fronts : {A : Type 0} (front : List A) (x : A) (read : Result (List A × List Lexeme) Halt) →
     with_front front (with_front (x ∷ []) read) ≡ with_front (front ++ x ∷ []) read
@@ -28,19 +28,19 @@ fronts front x (Err halt) = refl
 module _ {A : Type 0} {after : List Lexeme → Option (List Lexeme)} {one : List Lexeme → Result (A × List Lexeme) Halt} {front : List A}
     {left : ℕ} {tokens : List Lexeme} {whole : Result (List A × List Lexeme) Halt} (repeats : Repeats after one front left tokens whole) where
   pub ends : after tokens ≡ None → whole ≡ Ok (front, tokens)
-  unfolding repeated
+  unfolding read_many
   ends e = repeats.same ∙ ap (with_front front) (none repeats.fuel) ∙ ap (λ xs. Ok (xs, tokens)) (append-nil front) where
-    none : (fuel : ℕ) → repeated fuel after one tokens ≡ Ok ([], tokens)
+    none : (fuel : ℕ) → read_many fuel after one tokens ≡ Ok ([], tokens)
     none zero = refl
     none (suc fuel) = rw e refl
 
   -- if another follows
   more : {next : List Lexeme} → after tokens ≡ Some next → 0 < left → (fuel : ℕ) × (left ≤ suc fuel) ×
-      (whole ≡ with_front front (more_after (Some next) tokens one (repeated fuel after one)))
-  unfolding repeated
+      (whole ≡ with_front front (more_after (Some next) tokens one (read_many fuel after one)))
+  unfolding read_many
   more {next = next} e some = go repeats.fuel repeats.enough repeats.same where
-    go : (fuel : ℕ) → left ≤ fuel → whole ≡ with_front front (repeated fuel after one tokens) → (fuel : ℕ) × (left ≤ suc fuel) ×
-        (whole ≡ with_front front (more_after (Some next) tokens one (repeated fuel after one)))
+    go : (fuel : ℕ) → left ≤ fuel → whole ≡ with_front front (read_many fuel after one tokens) → (fuel : ℕ) × (left ≤ suc fuel) ×
+        (whole ≡ with_front front (more_after (Some next) tokens one (read_many fuel after one)))
     go zero enough same = absurd (omega arith)
     go (suc fuel) enough same = (fuel, enough, rw e at same)
 
@@ -52,7 +52,7 @@ module _ {A : Type 0} {after : List Lexeme → Option (List Lexeme)} {one : List
       all ≡ front ++ x ∷ [] → fewer < left → Repeats after one all fewer rest whole
   steps {rest = rest} {x = x} e f g less =
       let m = more e (omega arith) in
-      record { fuel = m.0; enough = omega (arith, m.1); same = rw g (m.2 ∙ (rw f (fronts front x (repeated m.0 after one rest)))) }
+      record { fuel = m.0; enough = omega (arith, m.1); same = rw g (m.2 ∙ (rw f (fronts front x (read_many m.0 after one rest)))) }
 
 -- what stops one reader stops the one that calls it
 pub halts_too : {A B : Type 0} (stop : Stop) (r : Result A Halt) (w : Result B Halt) →

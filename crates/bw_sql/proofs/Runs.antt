@@ -24,13 +24,13 @@ use Rattle.bw_model.specs.Column.{column_named}
 use Rattle.bw_sql.specs.Demand.{Depth, is_met, meets}
 use Rattle.bw_sql.specs.Frontier.{is_sign}
 use Rattle.bw_sql.specs.Limits.{deepest_nesting}
-use Rattle.bw_sql.specs.Reading.{Halt, Nested, ◌>>=◌, more_items, same_keyword, after_keyword}
+use Rattle.bw_sql.specs.Reading.{Halt, NestedReaders, ◌>>=◌, more_items, same_keyword, after_keyword}
 use Rattle.bw_sql.specs.Reading.{after_mark, keyword_at, mark_at, name_at, digits_at, sign_at}
-use Rattle.bw_sql.specs.Reading.{literal_at, column_at, table_at, operand_at, repeated, with_front}
+use Rattle.bw_sql.specs.Reading.{literal_at, column_at, table_at, operand_at, read_many, with_front}
 use Rattle.bw_sql.specs.Reading.{operands_at, range_at, list_at, range_or_list_at, null_test_at}
 use Rattle.bw_sql.specs.Reading.{after_comparison, predicate_after, predicate_at, truth_value_at}
 use Rattle.bw_sql.specs.Reading.{truth_test_at, primary_in, test_in, factor_in, part_in, joined_in}
-use Rattle.bw_sql.specs.Reading.{series_at, series_after, term_in, condition_in, nested}
+use Rattle.bw_sql.specs.Reading.{series_at, series_after, term_in, condition_in, nested_readers}
 use Rattle.bw_sql.specs.Reading.{selection_at, table_expression_at, end_at, after_aggregate}
 use Rattle.bw_sql.specs.Reading.{aggregated_at, argument_at, item_at, of_one_kind, next_item_at}
 use Rattle.bw_sql.specs.Reading.{items_at, statement_at}
@@ -145,8 +145,8 @@ record TailLaws (schema : Schema) {A : Type 0} (tail : Symbol) (ones : List Symb
 module _ (schema : Schema) {A : Type 0} (tail : Symbol) (ones : List Symbol → List Symbol) (after : List Lexeme → Option (List Lexeme))
     (one : List Lexeme → Result (A × List Lexeme) Halt) (laws : TailLaws schema tail ones after one) where
   tail_runs : (n : ℕ) (stack : List Symbol) (tokens : List Lexeme) → length tokens ≤ n →
-      run schema false (tail ∷ stack) tokens ≡ (repeated n after one tokens >>= λ xs. run schema false stack xs.1)
-  unfolding repeated
+      run schema false (tail ∷ stack) tokens ≡ (read_many n after one tokens >>= λ xs. run schema false stack xs.1)
+  unfolding read_many
   tail_runs zero stack tokens h = option_cases (after tokens) (laws.ends stack tokens)
       (λ next e. absurd (omega (arith, ap length (laws.comes tokens next e))))
   tail_runs (suc n) stack tokens h = option_cases (after tokens) (λ e. rw e (laws.ends stack tokens e))
@@ -154,7 +154,7 @@ module _ (schema : Schema) {A : Type 0} (tail : Symbol) (ones : List Symbol → 
       ∙ laws.one_runs (tail ∷ stack) next
       ∙ chain (one next) _ _ _ (λ x f. let less = takes schema ones one laws.one_runs next x.1 x.0 f in
       tail_runs n stack x.1 (omega (arith, ap length (laws.comes tokens next e), less))
-      ∙ chain (repeated n after one x.1) _ _ _ (λ xs g. refl))))
+      ∙ chain (read_many n after one x.1) _ _ _ (λ xs g. refl))))
 
 module _ (schema : Schema) (tail : Symbol) (ones : List Symbol → List Symbol) (w : Keyword)
     (one : List Lexeme → Result (CondTree × List Lexeme) Halt) (laws : TailLaws schema tail ones (after_keyword w) one)
@@ -163,8 +163,8 @@ module _ (schema : Schema) (tail : Symbol) (ones : List Symbol → List Symbol) 
       (series_after w join one first (after_keyword w tokens) tokens >>= λ c. run schema false stack c.1)
   joined_tail first stack tokens = option_cases (after_keyword w tokens) (λ e. rw e (laws.ends stack tokens e))
       (λ next e. rw e (tail_runs schema tail ones (after_keyword w) one laws (length tokens) stack tokens (omega arith)
-      ∙ sym (assoc (with_front (first ∷ []) (repeated (length tokens) (after_keyword w) one tokens)) _ _
-      ∙ assoc (repeated (length tokens) (after_keyword w) one tokens) _ _)))
+      ∙ sym (assoc (with_front (first ∷ []) (read_many (length tokens) (after_keyword w) one tokens)) _ _
+      ∙ assoc (read_many (length tokens) (after_keyword w) one tokens) _ _)))
 
   joined_runs : Runs schema (λ stack. ones (tail ∷ stack)) (series_at w join one)
   joined_runs stack tokens = laws.one_runs (tail ∷ stack) tokens ∙ chain (one tokens) _ _ _ (λ c f. joined_tail c.0 stack c.1)
@@ -197,7 +197,7 @@ module _ (schema : Schema) where
   operands_run stack tokens = operand_runs schema _ tokens
       ∙ chain (operand_at schema tokens) _ _ _ (λ y e.
       tail_runs schema (CommaTail None) _ _ _ (comma_laws None _ (operand_runs schema)) (length y.1) stack y.1 (omega arith)
-      ∙ chain (repeated (length y.1) (after_mark mark.Comma) (operand_at schema) y.1) _ _ _ (λ ys f. refl))
+      ∙ chain (read_many (length y.1) (after_mark mark.Comma) (operand_at schema) y.1) _ _ _ (λ ys f. refl))
 
   list_in_runs : (x : Operand) → Runs schema (λ stack. Opening ∷ AnOperand ∷ CommaTail None ∷ Closing ∷ stack)
       (λ tokens. list_at schema x (Reserved word.In ∷ tokens))
@@ -237,7 +237,7 @@ not_too_deep : (n depth : ℕ) → suc n + depth ≡ deepest_nesting → nat_le 
 not_too_deep n depth e = grind (arith, nat_tests)
 
 -- what stands one level deeper, after `(` and after NOT
-pub record LevelRuns (schema : Schema) (depth : ℕ) (inner : Nested) : Type 0 where
+pub record LevelRuns (schema : Schema) (depth : ℕ) (inner : NestedReaders) : Type 0 where
   enclosed_runs : (after stack : List Symbol) (next : List Lexeme) →
       proceed false (ask (is_met schema) (Depth (suc depth) ∷ []) (in_brackets (suc depth) after ++ stack)) (length next)
       (λ s. run schema false s next) ≡
@@ -247,34 +247,34 @@ pub record LevelRuns (schema : Schema) (depth : ℕ) (inner : Nested) : Type 0 w
       (λ s. run schema false s next) ≡
       (inner.negated (Reserved word.Not ∷ next) next >>= λ c. run schema false stack c.1)
 
-module _ (schema : Schema) (n depth : ℕ) (level : LevelRuns schema depth (nested schema n)) where
-  primary_chosen : Chooses schema (primary_choice depth) (primary_in schema (nested schema n))
+module _ (schema : Schema) (n depth : ℕ) (level : LevelRuns schema depth (nested_readers schema n)) where
+  primary_chosen : Chooses schema (primary_choice depth) (primary_in schema (nested_readers schema n))
   unfolding primary_in after_mark predicate_at
   primary_chosen after stack passed (Punct mark.Open) tokens = level.enclosed_runs after stack tokens
   primary_chosen after stack passed t tokens = operand_chosen schema (PredicateTail ∷ after) stack passed t tokens
       ∙ chain (operand_at schema (t ∷ tokens)) _ _ _ (λ x e. predicate_tail schema x.0 (after ++ stack) x.1)
 
-  test_runs : Runs schema (λ stack. APrimary depth ∷ TestTail ∷ stack) (test_in schema (nested schema n))
+  test_runs : Runs schema (λ stack. APrimary depth ∷ TestTail ∷ stack) (test_in schema (nested_readers schema n))
   unfolding run step decide all_may_end may_end test_in primary_in after_mark predicate_at operand_at after_keyword literal_at digits_at sign_at
   test_runs stack [] = refl
   test_runs stack (t ∷ tokens) = primary_chosen [] (TestTail ∷ stack) (step (is_met schema) (TestTail ∷ stack) t) t tokens
-      ∙ chain (primary_in schema (nested schema n) (t ∷ tokens)) _ _ _ (λ c e. test_tail schema c.0 stack c.1)
+      ∙ chain (primary_in schema (nested_readers schema n) (t ∷ tokens)) _ _ _ (λ c e. test_tail schema c.0 stack c.1)
 
-  test_chosen : Chooses schema (λ after. primary_choice depth (TestTail ∷ after)) (test_in schema (nested schema n))
+  test_chosen : Chooses schema (λ after. primary_choice depth (TestTail ∷ after)) (test_in schema (nested_readers schema n))
   unfolding test_in
   test_chosen after stack passed t tokens = primary_chosen (TestTail ∷ after) stack passed t tokens
-      ∙ chain (primary_in schema (nested schema n) (t ∷ tokens)) _ _ _ (λ c e. test_tail schema c.0 (after ++ stack) c.1)
+      ∙ chain (primary_in schema (nested_readers schema n) (t ∷ tokens)) _ _ _ (λ c e. test_tail schema c.0 (after ++ stack) c.1)
 
-  factor_runs : Runs schema (a_part connective.And depth) (part_in schema (nested schema n) connective.And)
+  factor_runs : Runs schema (a_part connective.And depth) (part_in schema (nested_readers schema n) connective.And)
   unfolding run step decide all_may_end may_end factor_in after_keyword part_in test_in primary_in after_mark predicate_at operand_at literal_at digits_at sign_at
   factor_runs stack [] = refl
   factor_runs stack (Reserved word.Not ∷ tokens) = level.negated_runs stack tokens
   factor_runs stack (t ∷ tokens) = test_chosen [] stack (step (is_met schema) stack t) t tokens
 
   abbrev PartLaws : Connective → Type 0
-  PartLaws by = TailLaws schema (PartTail by depth) (a_part by depth) (after_keyword (word_of by)) (part_in schema (nested schema n) by)
+  PartLaws by = TailLaws schema (PartTail by depth) (a_part by depth) (after_keyword (word_of by)) (part_in schema (nested_readers schema n) by)
 
-  part_laws : (by : Connective) → Runs schema (a_part by depth) (part_in schema (nested schema n) by) → PartLaws by
+  part_laws : (by : Connective) → Runs schema (a_part by depth) (part_in schema (nested_readers schema n) by) → PartLaws by
   unfolding run step decide all_may_end may_end after_keyword
   part_laws by runs = record {
     one_runs = runs;
@@ -296,24 +296,24 @@ module _ (schema : Schema) (n depth : ℕ) (level : LevelRuns schema depth (nest
       goes_on connective.Or stack next = refl
 
   series_runs : (by : Connective) → PartLaws by → Runs schema (λ stack. a_part by depth (PartTail by depth ∷ stack))
-      (joined_in schema (nested schema n) by)
+      (joined_in schema (nested_readers schema n) by)
   unfolding joined_in
-  series_runs by laws = joined_runs schema (PartTail by depth) _ (word_of by) (part_in schema (nested schema n) by) laws (join_of by)
+  series_runs by laws = joined_runs schema (PartTail by depth) _ (word_of by) (part_in schema (nested_readers schema n) by) laws (join_of by)
 
-  term_runs : Runs schema (a_part connective.Or depth) (part_in schema (nested schema n) connective.Or)
+  term_runs : Runs schema (a_part connective.Or depth) (part_in schema (nested_readers schema n) connective.Or)
   unfolding joined_in part_in term_in
   term_runs = series_runs connective.And (part_laws connective.And factor_runs)
 
-  pub part_runs : (by : Connective) → Runs schema (a_part by depth) (part_in schema (nested schema n) by)
+  pub part_runs : (by : Connective) → Runs schema (a_part by depth) (part_in schema (nested_readers schema n) by)
   part_runs connective.And = factor_runs
   part_runs connective.Or = term_runs
 
-  condition_runs : Runs schema (λ stack. a_part connective.Or depth (PartTail connective.Or depth ∷ stack)) (condition_in schema (nested schema n))
+  condition_runs : Runs schema (λ stack. a_part connective.Or depth (PartTail connective.Or depth ∷ stack)) (condition_in schema (nested_readers schema n))
   unfolding joined_in part_in condition_in
   condition_runs = series_runs connective.Or (part_laws connective.Or term_runs)
 
-pub level_runs : (schema : Schema) (n depth : ℕ) → n + depth ≡ deepest_nesting → LevelRuns schema depth (nested schema n)
-unfolding nested meets
+pub level_runs : (schema : Schema) (n depth : ℕ) → n + depth ≡ deepest_nesting → LevelRuns schema depth (nested_readers schema n)
+unfolding nested_readers meets
 level_runs schema zero depth e = record {
   enclosed_runs = λ after stack next. rw (too_deep depth e) refl;
   negated_runs = λ stack next. rw (too_deep depth e) refl;
@@ -323,10 +323,10 @@ level_runs schema (suc n) depth e =
     record {
       enclosed_runs = λ after stack next. rw (not_too_deep n depth e)
           (condition_runs schema n (suc depth) level (Closing ∷ after ++ stack) next
-          ∙ chain (condition_in schema (nested schema n) next) _ _ _ (λ c f. closing_runs schema (after ++ stack) c.1
+          ∙ chain (condition_in schema (nested_readers schema n) next) _ _ _ (λ c f. closing_runs schema (after ++ stack) c.1
           ∙ chain (mark_at mark.Close c.1) _ _ _ (λ rest g. refl)));
       negated_runs = λ stack next. rw (not_too_deep n depth e) (test_runs schema n (suc depth) level stack next
-          ∙ chain (test_in schema (nested schema n) next) _ _ _ (λ c f. refl));
+          ∙ chain (test_in schema (nested_readers schema n) next) _ _ _ (λ c f. refl));
     }
 
 module _ (schema : Schema) where

@@ -20,7 +20,7 @@ use Rattle.bw_sql.specs.QueryShape.{QueryShape}
 use Rattle.bw_model.specs.CondTree.{CondTree}
 use Rattle.bw_model.specs.Column.{column_named}
 use Rattle.bw_sql.specs.Demand.{Demand, NamesTable, NamesColumn, Fits, OfOneKind, Depth}
-use Rattle.bw_sql.specs.Demand.{column_number, column_or_first, is_met, meets, refusal, signed}
+use Rattle.bw_sql.specs.Demand.{column_number, column_or_first, is_met, meets, refusal, number_with_sign}
 use Rattle.bw_sql.specs.Grammar.{TruthIs, OperandIs, CommaList, RangeIs, ComparedIs, JoinedIs}
 use Rattle.bw_sql.specs.Grammar.{MoreParts, PartIs, FactorIs, TestIs, PrimaryIs, ItemIs, NextItemIs}
 use Rattle.bw_sql.specs.Grammar.{ItemsAre, SelectionIs, EndIs, StatementIs, IsQuery, true_word}
@@ -33,10 +33,10 @@ use Rattle.bw_sql.specs.Grammar.{bare, statement}
 use Rattle.bw_sql.specs.Limits.{deepest_nesting}
 use Rattle.bw_sql.specs.Reading.{Halt, ◌>>=◌, ok_or_refuse, begins_with_name, after_keyword}
 use Rattle.bw_sql.specs.Reading.{after_mark, keyword_at, mark_at, name_at, digits_at, sign_at}
-use Rattle.bw_sql.specs.Reading.{literal_at, column_at, table_at, operand_at, repeated}
+use Rattle.bw_sql.specs.Reading.{literal_at, column_at, table_at, operand_at, read_many}
 use Rattle.bw_sql.specs.Reading.{range_or_list_at, null_test_at, after_comparison, predicate_after}
 use Rattle.bw_sql.specs.Reading.{predicate_at, truth_value_at, truth_test_at, primary_in, test_in}
-use Rattle.bw_sql.specs.Reading.{factor_in, part_in, term_in, condition_in, joined_in, nested}
+use Rattle.bw_sql.specs.Reading.{factor_in, part_in, term_in, condition_in, joined_in, nested_readers}
 use Rattle.bw_sql.specs.Reading.{selection_at, table_expression_at, end_at, after_aggregate}
 use Rattle.bw_sql.specs.Reading.{aggregated_at, item_at, of_one_kind, next_item_at, items_at}
 use Rattle.bw_sql.specs.Reading.{statement_at}
@@ -54,7 +54,7 @@ pub data Outcome (schema : Schema) (met : Demand → Bool) {A : Type 0} (reading
 
 -- the number of digits that fit is the one that they spell
 pub fitting : (is_negative : Bool) (digits : List ℕ) (n : ℤ) → number_of is_negative digits ≡ Some n →
-    n ≡ signed is_negative digits
+    n ≡ number_with_sign is_negative digits
 unfolding number_of
 fitting true digits n e =
     bool_cases (nat_le (digits_value digits) (2 ^ 63)) (λ b. let f = rw b at e in cc) (λ b. let f = rw b at e in cc)
@@ -109,7 +109,7 @@ module _ (schema : Schema) (met : Demand → Bool) where
       (λ n e. reads (ap (λ o. ok_or_refuse o UnknownColumn tokens) e ∙ ap Ok (sym (ap column_or_first e))))
 
   number_wanted : (is_negative : Bool) (digits : List ℕ) (tokens : List Lexeme) → met (Fits is_negative digits) ≡ true →
-      Outcome schema met (ok_or_refuse (number_of is_negative digits) Literal tokens) (signed is_negative digits)
+      Outcome schema met (ok_or_refuse (number_of is_negative digits) Literal tokens) (number_with_sign is_negative digits)
   unfolding meets
   number_wanted is_negative digits tokens m = option_cases (number_of is_negative digits)
       (λ e. excused (Fits is_negative digits) (length tokens) m (ap is_some e) (ap (λ o. ok_or_refuse o Literal tokens) e))
@@ -128,8 +128,8 @@ module _ (schema : Schema) (met : Demand → Bool) where
       ((tokens rest : List Lexeme) (x : A) → Is tokens rest x → Outcome schema met (one tokens) (x, rest)) →
       ((tokens rest : List Lexeme) (x : A) → one tokens ≡ Ok (x, rest) → length rest ≤ length tokens) →
       {tokens rest : List Lexeme} {xs : List A} → CommaList Is tokens rest xs → (n : ℕ) → length tokens ≤ n →
-      after_mark mark.Comma rest ≡ None → Outcome schema met (repeated n (after_mark mark.Comma) one tokens) (xs, rest)
-  unfolding repeated after_mark
+      after_mark mark.Comma rest ≡ None → Outcome schema met (read_many n (after_mark mark.Comma) one tokens) (xs, rest)
+  unfolding read_many after_mark
   commas_read one reads_one takes no_more zero h e = reads refl
   commas_read one reads_one takes no_more (suc n) h e = rw e (reads refl)
   commas_read one reads_one takes (one_more x xs) zero h e = absurd (omega arith)
@@ -173,11 +173,11 @@ module _ (schema : Schema) (met : Demand → Bool) where
   parts_begin (next_part {by = by} {tokens = next} c cs) e = (word_comes by next).1
 
   mutual
-    unfolding joined_in part_in condition_in term_in factor_in test_in primary_in truth_test_at repeated after_keyword after_mark mark_at nested meets predicate_at
+    unfolding joined_in part_in condition_in term_in factor_in test_in primary_in truth_test_at read_many after_keyword after_mark mark_at nested_readers meets predicate_at
 
     joined_read : {by : Connective} {depth : ℕ} {tokens rest : List Lexeme} {c : CondTree} →
         JoinedIs columns met by depth tokens rest c → (n : ℕ) → n + depth ≡ deepest_nesting → JoinedEnds by rest →
-        Outcome schema met (joined_in schema (nested schema n) by tokens) (c, rest)
+        Outcome schema met (joined_in schema (nested_readers schema n) by tokens) (c, rest)
     joined_read (parts c last_part) n h e = and_then _ (part_read c n h e.0) (rw e.1 (reads refl))
     joined_read (parts c (next_part {by = by} {tokens = next} d ds)) n h e =
         and_then _ (part_read c n h (word_comes by next).1) (rw (word_comes by next).0
@@ -186,25 +186,25 @@ module _ (schema : Schema) (met : Demand → Bool) where
     parts_read : {by : Connective} {depth : ℕ} {tokens rest : List Lexeme} {cs : List CondTree} →
         MoreParts columns met by depth tokens rest cs → (n : ℕ) → n + depth ≡ deepest_nesting → (fuel : ℕ) →
         length tokens ≤ fuel → JoinedEnds by rest →
-        Outcome schema met (repeated fuel (after_keyword (word_of by)) (part_in schema (nested schema n) by) tokens) (cs, rest)
+        Outcome schema met (read_many fuel (after_keyword (word_of by)) (part_in schema (nested_readers schema n) by) tokens) (cs, rest)
     parts_read last_part n h zero l e = reads refl
     parts_read last_part n h (suc fuel) l e = rw e.1 (reads refl)
     parts_read (next_part c cs) n h zero l e = absurd (omega arith)
     parts_read (next_part {by = by} {depth = depth} {tokens = next} c cs) n h (suc fuel) l e =
         let runs = part_runs schema n depth (level_runs schema n depth h) by in
         rw (word_comes by next).0 (and_from _ (part_read c n h (parts_begin cs e.0)) (λ f.
-        let less = takes schema _ (part_in schema (nested schema n) by) runs _ _ _ f in
+        let less = takes schema _ (part_in schema (nested_readers schema n) by) runs _ _ _ f in
         and_then _ (parts_read cs n h fuel (omega (arith, less)) e) (reads refl)))
 
     part_read : {by : Connective} {depth : ℕ} {tokens rest : List Lexeme} {c : CondTree} →
         PartIs columns met by depth tokens rest c → (n : ℕ) → n + depth ≡ deepest_nesting → PartEnds by rest →
-        Outcome schema met (part_in schema (nested schema n) by tokens) (c, rest)
+        Outcome schema met (part_in schema (nested_readers schema n) by tokens) (c, rest)
     part_read (factor c) n h e = factor_read c n h e
     part_read (term c) n h e = joined_read c n h e
 
     factor_read : {depth : ℕ} {tokens rest : List Lexeme} {c : CondTree} → FactorIs columns met depth tokens rest c →
         (n : ℕ) → n + depth ≡ deepest_nesting → after_keyword word.Is rest ≡ None →
-        Outcome schema met (factor_in schema (nested schema n) tokens) (c, rest)
+        Outcome schema met (factor_in schema (nested_readers schema n) tokens) (c, rest)
     factor_read (test (tested c t)) n h e = rw (primary_begins c) (test_read (tested c t) n h e)
     factor_read (not_test {depth = depth} {tokens = tokens} m c) zero h e =
         excused (Depth (suc depth)) (suc (length tokens)) m (too_deep depth h) refl
@@ -212,14 +212,14 @@ module _ (schema : Schema) (met : Demand → Bool) where
 
     test_read : {depth : ℕ} {tokens rest : List Lexeme} {c : CondTree} → TestIs columns met depth tokens rest c →
         (n : ℕ) → n + depth ≡ deepest_nesting → after_keyword word.Is rest ≡ None →
-        Outcome schema met (test_in schema (nested schema n) tokens) (c, rest)
+        Outcome schema met (test_in schema (nested_readers schema n) tokens) (c, rest)
     test_read (tested c untested) n h e = and_then _ (primary_read c n h) (rw e (reads refl))
     test_read (tested c (is t)) n h e = and_then _ (primary_read c n h) (rw ((truth_read t).1, (truth_read t).0) (reads refl))
     test_read (tested c (is_not t)) n h e = and_then _ (primary_read c n h) (rw (truth_read t).0 (reads refl))
 
     primary_read : {depth : ℕ} {tokens rest : List Lexeme} {c : CondTree} →
         PrimaryIs columns met depth tokens rest c → (n : ℕ) → n + depth ≡ deepest_nesting →
-        Outcome schema met (primary_in schema (nested schema n) tokens) (c, rest)
+        Outcome schema met (primary_in schema (nested_readers schema n) tokens) (c, rest)
     primary_read (predicate (compared x c)) n h = rw (operand_begins x).0 (and_then _ (operand_read x) (compared_read c))
     primary_read (bracket {depth = depth} {tokens = tokens} m c) zero h =
         excused (Depth (suc depth)) (suc (length tokens)) m (too_deep depth h) refl

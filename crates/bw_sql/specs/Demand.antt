@@ -60,6 +60,6 @@ abbrev pub column_number : List Column → List ℕ → ℕ
 column_number columns text = column_or_first (column_named columns text)
 
 -- the number that a sign and digits spell
-abbrev pub signed : Bool → List ℕ → ℤ
-signed true digits = pos 0 -ℤ pos (digits_value digits)
-signed false digits = pos (digits_value digits)
+abbrev pub number_with_sign : Bool → List ℕ → ℤ
+number_with_sign true digits = pos 0 -ℤ pos (digits_value digits)
+number_with_sign false digits = pos (digits_value digits)

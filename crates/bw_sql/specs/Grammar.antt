@@ -20,7 +20,7 @@ use Rattle.bw_sql.specs.QueryShape.{QueryShape}
 use Rattle.bw_model.specs.CondTree.{CondTree, CondTrees, Always, Cmp, Between, Among, IsNull, Not}
 use Rattle.bw_model.specs.CondTree.{Test, trees_of}
 use Rattle.bw_sql.specs.Demand.{Demand, NamesTable, NamesColumn, Fits, OfOneKind, Depth}
-use Rattle.bw_sql.specs.Demand.{column_number, every_column, is_met, signed}
+use Rattle.bw_sql.specs.Demand.{column_number, every_column, is_met, number_with_sign}
 use Rattle.bw_sql.specs.Words.{word_of, join_of, aggregate_word, of_column}
 use Rattle.bw_sql.specs.Token.{Lexeme, Name, Digits, Reserved, Compare, Punct}
 
@@ -42,13 +42,13 @@ pub data OperandIs (columns : List Column) (met : Demand → Bool) : List Lexeme
   column : {rest : List Lexeme} {text : List ℕ} → IsTrue (met (NamesColumn text)) →
       OperandIs columns met (Name text ∷ rest) rest (Col (column_number columns text))
   unsigned : {rest : List Lexeme} {digits : List ℕ} → IsTrue (met (Fits false digits)) →
-      OperandIs columns met (Digits digits ∷ rest) rest (Lit (signed false digits))
+      OperandIs columns met (Digits digits ∷ rest) rest (Lit (number_with_sign false digits))
   plus : {rest : List Lexeme} {digits : List ℕ} → IsTrue (met (Fits false digits)) →
       OperandIs columns met (Punct mark.Plus ∷ Digits digits ∷ rest) rest
-      (Lit (signed false digits))
+      (Lit (number_with_sign false digits))
   minus : {rest : List Lexeme} {digits : List ℕ} → IsTrue (met (Fits true digits)) →
       OperandIs columns met (Punct mark.Minus ∷ Digits digits ∷ rest) rest
-      (Lit (signed true digits))
+      (Lit (number_with_sign true digits))
 
 -- { , thing }
 pub data CommaList {A : Type 0} (Is : List Lexeme → List Lexeme → A → Type 0) : List Lexeme

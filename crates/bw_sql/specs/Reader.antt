@@ -5,11 +5,11 @@ use Rattle.bw_sql.specs.declared.reader.Refusal.{Refusal}
 use Rattle.bw_sql.specs.declared.reader.Stop.{Stop}
 use Rattle.bw_sql.specs.declared.reader.Stop.TheVariants.{Refused, OutOfMemory}
 use Rattle.bw_sql.specs.declared.token.Placed.{Placed}
-use Rattle.bw_sql.specs.Reading.{Halt, Read}
+use Rattle.bw_sql.specs.Reading.{Halt, ReadResult}
 use Rattle.bw_sql.specs.Token.{Lexeme, lexemes}
 
-abbrev pub refused : Refusal → ℕ → Stop
-refused why left = Refused why left
+abbrev pub refusal_stop : Refusal → ℕ → Stop
+refusal_stop why left = Refused why left
 
 -- reading stops there too, unless memory ran out
 abbrev pub Halts : {A : Type 0} → Stop → Result A Halt → Type 0
@@ -25,6 +25,6 @@ Reads view (Err stop) reading = Halts stop reading
 -- A reader of these tokens returned what the reading function returns for them: a thing, seen by
 -- `view`, and the tokens after it.
 abbrev pub ReadsFrom : {X A : Type 0} → (X → A) → List Placed →
-    Result (X × Bor (List Placed)) Stop → (List Lexeme → Read A) → Type 0
+    Result (X × Bor (List Placed)) Stop → (List Lexeme → ReadResult A) → Type 0
 ReadsFrom view tokens result reading = Reads (λ read. (view read.0, lexemes read.1.now)) result
     (reading (lexemes tokens))

@@ -13,7 +13,7 @@
 ghost use Rattle.std.specs.Prelude.{◌≡◌, ◌<◌, ◌≤◌, length, map, IfOk};
 ghost use Rattle.bw_model.specs.CondTree.{Test, tree_of, trees_of};
 ghost use Rattle.bw_sql.specs.Reader.{ReadsFrom};
-ghost use Rattle.bw_sql.specs.Reading.{condition_in, factor_in, joined_in, more_parts_in, nested};
+ghost use Rattle.bw_sql.specs.Reading.{condition_in, factor_in, joined_in, more_parts_in, nested_readers};
 ghost use Rattle.bw_sql.specs.Reading.{part_in, primary_in, test_in, truth_test_at, truth_value_at};
 ghost use Rattle.bw_sql.specs.Reading.{value_test_at, with_front};
 ghost use Rattle.bw_sql.specs.Token.{lexemes};
@@ -66,7 +66,7 @@ pub fn condition<'t>(
     tokens: &'t [Placed<'t>],
 ) -> Read<'t, Cond>
     ensures read { ReadsFrom tree_of tokens.now result
-        (condition_in schema.now (nested schema.now levels)) }
+        (condition_in schema.now (nested_readers schema.now levels)) }
     ensures consumes_input { IfOk result (λ read. length read.1.now ≤ length tokens.now) }
 {
     read_connected(alloc, schema, levels, Connective::Or, tokens)
@@ -84,7 +84,7 @@ fn read_connected<'t>(
     tokens: &'t [Placed<'t>],
 ) -> Read<'t, Cond>
     ensures read { ReadsFrom tree_of tokens.now result
-        (joined_in schema.now (nested schema.now levels) connective) }
+        (joined_in schema.now (nested_readers schema.now levels) connective) }
     ensures consumes_input { IfOk result (λ read. length read.1.now ≤ length tokens.now) }
 {
     let (first, rest) = part(alloc, schema, levels, connective, tokens)?;
@@ -108,7 +108,7 @@ fn more_parts<'t>(
 ) -> Read<'t, Vec<Cond>>
     ensures read { ReadsFrom (λ parts. map tree_of parts.items) tokens.now result
         (λ tokens. with_front (map tree_of parts.items)
-        (more_parts_in schema.now (nested schema.now levels) connective tokens)) }
+        (more_parts_in schema.now (nested_readers schema.now levels) connective tokens)) }
     ensures consumes_input { IfOk result (λ read. length read.1.now ≤ length tokens.now) }
 {
     let mut left = Left { tokens };
@@ -131,7 +131,7 @@ fn part<'t>(
     tokens: &'t [Placed<'t>],
 ) -> Read<'t, Cond>
     ensures read { ReadsFrom tree_of tokens.now result
-        (part_in schema.now (nested schema.now levels) connective) }
+        (part_in schema.now (nested_readers schema.now levels) connective) }
     ensures consumes_input { IfOk result (λ read. length read.1.now ≤ length tokens.now) }
 {
     match connective {
@@ -150,7 +150,7 @@ fn factor<'t>(
     tokens: &'t [Placed<'t>],
 ) -> Read<'t, Cond>
     ensures read { ReadsFrom tree_of tokens.now result
-        (factor_in schema.now (nested schema.now levels)) }
+        (factor_in schema.now (nested_readers schema.now levels)) }
     ensures consumes_input { IfOk result (λ read. length read.1.now ≤ length tokens.now) }
 {
     let Some(next) = after_keyword(Keyword::Not, tokens) else {
@@ -173,7 +173,7 @@ fn test<'t>(
     tokens: &'t [Placed<'t>],
 ) -> Read<'t, Cond>
     ensures read { ReadsFrom tree_of tokens.now result
-        (test_in schema.now (nested schema.now levels)) }
+        (test_in schema.now (nested_readers schema.now levels)) }
     ensures consumes_input { IfOk result (λ read. length read.1.now ≤ length tokens.now) }
 {
     let (cond, rest) = primary(alloc, schema, levels, tokens)?;
@@ -241,7 +241,7 @@ fn primary<'t>(
     tokens: &'t [Placed<'t>],
 ) -> Read<'t, Cond>
     ensures read { ReadsFrom tree_of tokens.now result
-        (primary_in schema.now (nested schema.now levels)) }
+        (primary_in schema.now (nested_readers schema.now levels)) }
     ensures consumes_input { IfOk result (λ read. length read.1.now ≤ length tokens.now) }
 {
     let Some(next) = after_mark(Mark::Open, tokens) else {

@@ -3,7 +3,7 @@
 ghost use Rattle.std.specs.Prelude.{◌≡◌, ◌<◌, length, IfOk, IfSome};
 ghost use Rattle.std.specs.Option.{option_map};
 ghost use Rattle.bw_sql.specs.declared.reader.Stop.TheVariants.{OutOfMemory};
-ghost use Rattle.bw_sql.specs.Reader.{Reads, ReadsFrom, refused};
+ghost use Rattle.bw_sql.specs.Reader.{Reads, ReadsFrom, refusal_stop};
 ghost use Rattle.bw_sql.specs.Reading.{after_keyword, after_mark, keyword_at, mark_at, name_at};
 ghost use Rattle.bw_sql.specs.Refusal.{code_of};
 ghost use Rattle.bw_sql.specs.Token.{lexemes};
@@ -52,7 +52,7 @@ pub enum Stop {
 impl Stop {
     /// Returns a refusal at the first of these tokens.
     pub fn at(why: Refusal, tokens: &[Placed<'_>]) -> Self
-        ensures { result ≡ refused why (length tokens.now) }
+        ensures { result ≡ refusal_stop why (length tokens.now) }
     {
         Stop::Refused {
             why,

@@ -8,7 +8,7 @@ use Rattle.std.proofs.lemmas.List.{take_all}
 use Rattle.std.proofs.lemmas.Option.{cond_some}
 use Rattle.std.proofs.Math.ListN.{drop_of_length-le}
 use Rattle.bw_text.specs.Lines.{cut_lines, with_first, is_line_feed, is_skipped, words_of}
-use Rattle.bw_text.specs.Lines.{numbered_from, numbered, NumberedWords, IsFirstLine}
+use Rattle.bw_text.specs.Lines.{numbered_from, numbered_words, NumberedWords, IsFirstLine}
 
 -- one byte more in front, at the list of lines that the rest is cut into
 lines_with : Bool → ℕ → List (List ℕ) → List (List ℕ)
@@ -93,8 +93,8 @@ nothing_in n [] e = (refl, omega arith)
 nothing_in n (c ∷ cs) e = absurd (omega arith)
 
 -- the same words, in front of other lines
-pub cons-words : (n : ℕ) (w v : List (List ℕ)) (rest : List NumberedWords) → w ≡ v → numbered n w ∷ rest ≡ numbered n v ∷ rest
-cons-words n w v rest e = ap (λ (x : List (List ℕ)). numbered n x ∷ rest) e
+pub cons-words : (n : ℕ) (w v : List (List ℕ)) (rest : List NumberedWords) → w ≡ v → numbered_words n w ∷ rest ≡ numbered_words n v ∷ rest
+cons-words n w v rest e = ap (λ (x : List (List ℕ)). numbered_words n x ∷ rest) e
 
 -- before the first line feed there is none, and after it comes the rest
 

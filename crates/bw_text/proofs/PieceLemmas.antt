@@ -4,15 +4,15 @@ use Rattle.std.proofs.Common.{length, drop, get_or, add-one, append_assoc}
 use Rattle.std.proofs.lemmas.List.{append-nil, drop_all}
 use Rattle.std.proofs.Math.Seq.{drop-cons}
 use Rattle.bw_text.specs.declared.piece.Piece.{Piece}
-use Rattle.bw_text.specs.Printing.{piece_text, spaced}
+use Rattle.bw_text.specs.Printing.{piece_text, spaced_words}
 
 pub spaced-next : (pieces : List Piece) (i : ℕ) (d : Piece) → i < length pieces →
-    spaced (map piece_text (drop i pieces)) ≡ (32 ∷ piece_text (get_or pieces i d)) ++ spaced (map piece_text (drop (i + 1) pieces))
-unfolding spaced
+    spaced_words (map piece_text (drop i pieces)) ≡ (32 ∷ piece_text (get_or pieces i d)) ++ spaced_words (map piece_text (drop (i + 1) pieces))
+unfolding spaced_words
 spaced-next pieces i d lt = rw (add-one, drop-cons pieces i d lt) refl
 
-pub spaced-end : (pieces : List Piece) (i : ℕ) → length pieces ≤ i → spaced (map piece_text (drop i pieces)) ≡ []
-unfolding spaced
+pub spaced-end : (pieces : List Piece) (i : ℕ) → length pieces ≤ i → spaced_words (map piece_text (drop i pieces)) ≡ []
+unfolding spaced_words
 spaced-end pieces i le = rw (drop_all i pieces le) refl
 
 -- a piece that is written, and what is left after it

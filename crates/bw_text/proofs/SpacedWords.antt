@@ -9,8 +9,8 @@ use Rattle.std.proofs.lemmas.List.{append-nil}
 use Rattle.std.proofs.lemmas.List.Folds.{list_all-append}
 use Rattle.std.proofs.lemmas.List.Splits.{slice_split-cons_no, slice_split-cons_yes}
 use Rattle.bw_text.specs.Lines.{is_empty, is_blank, cut_lines, words_of, begins_comment}
-use Rattle.bw_text.specs.Lines.{numbered_from, numbered}
-use Rattle.bw_text.specs.Printing.{is_above_blank, is_plain_word, line_text, spaced}
+use Rattle.bw_text.specs.Lines.{numbered_from, numbered_words}
+use Rattle.bw_text.specs.Printing.{is_above_blank, is_plain_word, line_text, spaced_words}
 use Rattle.bw_text.specs.Text.{begins_word, goes_on_in_word, is_word}
 use Rattle.bw_text.proofs.LineLemmas.{numbered_from-said, numbered_from-skipped}
 
@@ -53,13 +53,13 @@ inside (c ∷ word) h =
     rw (lt-ltb 31 c (omega arith)) (inside word here.1)
 
 -- words that are written after another are within a line
-spaced_inside : (words : List (List ℕ)) → list_all is_plain_word words ≡ true → list_all is_inside (spaced words) ≡ true
-unfolding spaced
+spaced_inside : (words : List (List ℕ)) → list_all is_plain_word words ≡ true → list_all is_inside (spaced_words words) ≡ true
+unfolding spaced_words
 spaced_inside [] h = refl
 spaced_inside (word ∷ words) h =
     let here = and_parts (is_plain_word word) (list_all is_plain_word words) h in
     let plain = and_parts (not (is_empty word)) (list_all is_above_blank word) here.0 in
-    rw (list_all-append is_inside word (spaced words), inside word plain.1) (spaced_inside words here.1)
+    rw (list_all-append is_inside word (spaced_words words), inside word plain.1) (spaced_inside words here.1)
 
 -- a word, cut off at the blank after it
 split_word : (word rest : List ℕ) → list_all is_above_blank word ≡ true → slice_split is_blank (word ++ 32 ∷ rest) ≡ word ∷ slice_split is_blank rest
@@ -75,13 +75,13 @@ split_last (c ∷ word) h =
     slice_split-cons_no is_blank c word (not_blank c here.0) ∙ ap (onto_first c) (split_last word here.1)
 
 split_words : (word : List ℕ) (words : List (List ℕ)) → list_all is_above_blank word ≡ true → list_all is_plain_word words ≡ true →
-    slice_split is_blank (word ++ spaced words) ≡ word ∷ words
-unfolding spaced
+    slice_split is_blank (word ++ spaced_words words) ≡ word ∷ words
+unfolding spaced_words
 split_words word [] plain all = rw (append-nil word) (split_last word plain)
 split_words word (next ∷ words) plain all =
     let here = and_parts (is_plain_word next) (list_all is_plain_word words) all in
     let second = and_parts (not (is_empty next)) (list_all is_above_blank next) here.0 in
-    split_word word (next ++ spaced words) plain ∙ ap (λ (ws : List (List ℕ)). word ∷ ws) (split_words next words second.1 here.1)
+    split_word word (next ++ spaced_words words) plain ∙ ap (λ (ws : List (List ℕ)). word ∷ ws) (split_words next words second.1 here.1)
 
 all_kept : (words : List (List ℕ)) → list_all is_plain_word words ≡ true → filter (λ (word : List ℕ). not (is_empty word)) words ≡ words
 all_kept [] all = refl
@@ -99,14 +99,14 @@ no_return (c ∷ line) zero h =
     other c 13 (omega arith)
 no_return (c ∷ line) (suc k) h = no_return line k (and_parts (is_inside c) (list_all is_inside line) h).1
 
-words_of-line : (word : List ℕ) (words : List (List ℕ)) → is_plain_word word ≡ true → list_all is_plain_word words ≡ true → words_of (word ++ spaced words) ≡ word ∷ words
+words_of-line : (word : List ℕ) (words : List (List ℕ)) → is_plain_word word ≡ true → list_all is_plain_word words ≡ true → words_of (word ++ spaced_words words) ≡ word ∷ words
 unfolding words_of
 words_of-line word words plain all =
     let first = and_parts (not (is_empty word)) (list_all is_above_blank word) plain in
-    let line = word ++ spaced words in
-    let within : list_all is_inside (word ++ spaced words) ≡ true = rw (list_all-append is_inside word (spaced words), inside word first.1) (spaced_inside words all) in
+    let line = word ++ spaced_words words in
+    let within : list_all is_inside (word ++ spaced_words words) ≡ true = rw (list_all-append is_inside word (spaced_words words), inside word first.1) (spaced_inside words all) in
     let every : list_all is_plain_word (word ∷ words) ≡ true = rw plain all in
-    rw (no_return (word ++ spaced words) (length (word ++ spaced words) - 1) within, split_words word words first.1 all) (all_kept (word ∷ words) every)
+    rw (no_return (word ++ spaced_words words) (length (word ++ spaced_words words) - 1) within, split_words word words first.1 all) (all_kept (word ∷ words) every)
 
 cut_line : (line rest : List ℕ) → list_all is_inside line ≡ true → cut_lines (line ++ 10 ∷ rest) ≡ line ∷ cut_lines rest
 unfolding cut_lines
@@ -117,28 +117,28 @@ cut_line (c ∷ line) rest h =
     rw (other c 10 (omega arith), cut_line line rest here.1) refl
 
 -- a line that is written, up to its line feed
-up_to_feed : (word : List ℕ) (words : List (List ℕ)) (rest : List ℕ) → line_text (word ∷ words) ++ rest ≡ (word ++ spaced words) ++ 10 ∷ rest
-up_to_feed word words rest = append_assoc word (spaced words ++ 10 ∷ []) rest ∙ ap (λ (t : List ℕ). word ++ t) (append_assoc (spaced words) (10 ∷ []) rest)
-    ∙ sym (append_assoc word (spaced words) (10 ∷ rest))
+up_to_feed : (word : List ℕ) (words : List (List ℕ)) (rest : List ℕ) → line_text (word ∷ words) ++ rest ≡ (word ++ spaced_words words) ++ 10 ∷ rest
+up_to_feed word words rest = append_assoc word (spaced_words words ++ 10 ∷ []) rest ∙ ap (λ (t : List ℕ). word ++ t) (append_assoc (spaced_words words) (10 ∷ []) rest)
+    ∙ sym (append_assoc word (spaced_words words) (10 ∷ rest))
 
 cut_first : (word : List ℕ) (words : List (List ℕ)) (rest : List ℕ) → is_plain_word word ≡ true → list_all is_plain_word words ≡ true →
-    cut_lines (line_text (word ∷ words) ++ rest) ≡ (word ++ spaced words) ∷ cut_lines rest
+    cut_lines (line_text (word ∷ words) ++ rest) ≡ (word ++ spaced_words words) ∷ cut_lines rest
 cut_first word words rest plain all =
     let first = and_parts (not (is_empty word)) (list_all is_above_blank word) plain in
-    let within : list_all is_inside (word ++ spaced words) ≡ true = rw (list_all-append is_inside word (spaced words), inside word first.1) (spaced_inside words all) in
-    ap cut_lines (up_to_feed word words rest) ∙ cut_line (word ++ spaced words) rest within
+    let within : list_all is_inside (word ++ spaced_words words) ≡ true = rw (list_all-append is_inside word (spaced_words words), inside word first.1) (spaced_inside words all) in
+    ap cut_lines (up_to_feed word words rest) ∙ cut_line (word ++ spaced_words words) rest within
 
 -- the first of the lines that say something is that of the words
 pub line_said : (number : ℕ) (word : List ℕ) (words : List (List ℕ)) (rest : List ℕ) → is_plain_word word ≡ true → begins_comment word ≡ false → list_all is_plain_word words ≡ true →
-    numbered_from number (cut_lines (line_text (word ∷ words) ++ rest)) ≡ numbered number (word ∷ words) ∷ numbered_from (number + 1) (cut_lines rest)
+    numbered_from number (cut_lines (line_text (word ∷ words) ++ rest)) ≡ numbered_words number (word ∷ words) ∷ numbered_from (number + 1) (cut_lines rest)
 line_said number word words rest plain says all =
     let read = words_of-line word words plain all in
-    numbered_from-said number _ (word ++ spaced words) (cut_lines rest) (cut_first word words rest plain all) (rw read says)
-    ∙ ap (λ (ws : List (List ℕ)). numbered number ws ∷ numbered_from (number + 1) (cut_lines rest)) read
+    numbered_from-said number _ (word ++ spaced_words words) (cut_lines rest) (cut_first word words rest plain all) (rw read says)
+    ∙ ap (λ (ws : List (List ℕ)). numbered_words number ws ∷ numbered_from (number + 1) (cut_lines rest)) read
 
 -- a line whose first word begins a comment says nothing
 pub line_skipped : (number : ℕ) (word : List ℕ) (words : List (List ℕ)) (rest : List ℕ) → is_plain_word word ≡ true → begins_comment word ≡ true → list_all is_plain_word words ≡ true →
     numbered_from number (cut_lines (line_text (word ∷ words) ++ rest)) ≡ numbered_from (number + 1) (cut_lines rest)
 line_skipped number word words rest plain says all =
     let read = words_of-line word words plain all in
-    numbered_from-skipped number _ (word ++ spaced words) (cut_lines rest) (cut_first word words rest plain all) (rw read says)
+    numbered_from-skipped number _ (word ++ spaced_words words) (cut_lines rest) (cut_first word words rest plain all) (rw read says)

@@ -61,12 +61,12 @@ pub record NumberedWords : Type 0 where
   pub number : ℕ
   pub words : List (List ℕ)
 
-abbrev pub numbered : ℕ → List (List ℕ) → NumberedWords
-numbered n words = record { number = n; words = words }
+abbrev pub numbered_words : ℕ → List (List ℕ) → NumberedWords
+numbered_words n words = record { number = n; words = words }
 
 -- the number and the words of a line of the code
 abbrev pub line_of : Line → NumberedWords
-line_of line = numbered line.number (map (λ word. word.now) line.words.items)
+line_of line = numbered_words line.number (map (λ word. word.now) line.words.items)
 
 -- the lines that aren't skipped, the first of which has number n; those that are skipped are
 -- counted
@@ -74,7 +74,7 @@ unfoldable pub numbered_from : ℕ → List (List ℕ) → List NumberedWords
 numbered_from n [] = []
 numbered_from n (line ∷ lines) =
     if is_skipped (words_of line) then numbered_from (n + 1) lines
-    else numbered n (words_of line) ∷ numbered_from (n + 1) lines
+    else numbered_words n (words_of line) ∷ numbered_from (n + 1) lines
 
 -- the unread part of a text, and the number of its first line
 pub record Unread : Type 0 where

@@ -15,14 +15,14 @@ piece_text (Signed number) = signed_decimal number
 piece_text (Register register) = register_text register
 
 -- more words of a line, each after a blank, which is byte 32
-unfoldable pub spaced : List (List ℕ) → List ℕ
-spaced [] = []
-spaced (word ∷ words) = 32 ∷ word ++ spaced words
+unfoldable pub spaced_words : List (List ℕ) → List ℕ
+spaced_words [] = []
+spaced_words (word ∷ words) = 32 ∷ word ++ spaced_words words
 
 -- a line of words, of which there is at least one, and the line feed after it, which is byte 10
 abbrev pub line_text : List (List ℕ) → List ℕ
 line_text [] = 10 ∷ []
-line_text (word ∷ words) = word ++ (spaced words ++ 10 ∷ [])
+line_text (word ∷ words) = word ++ (spaced_words words ++ 10 ∷ [])
 
 -- a byte above the blank's, which is no blank and ends no line
 abbrev pub is_above_blank : ℕ → Bool

@@ -3,7 +3,7 @@ ghost use Rattle.std.specs.Prelude.{◌≡◌, ◌∷◌, ◌++◌, ◌+◌, ◌
 ghost use Rattle.std.specs.Prelude.{false};
 ghost use Rattle.std.specs.Fmt.{decimal};
 ghost use Rattle.std.specs.List.{list_all};
-ghost use Rattle.bw_text.specs.Lines.{begins_comment, cut_lines, numbered, numbered_from};
+ghost use Rattle.bw_text.specs.Lines.{begins_comment, cut_lines, numbered_words, numbered_from};
 ghost use Rattle.bw_text.specs.Number.{natural_of};
 ghost use Rattle.bw_text.specs.Printing.{is_plain_word, line_text};
 
@@ -14,7 +14,7 @@ pub fn written_lines_are_read()
         → IsTrue (is_plain_word word) → begins_comment word ≡ false
         → IsTrue (list_all is_plain_word words)
         → numbered_from number (cut_lines (line_text (word ∷ words) ++ rest))
-        ≡ numbered number (word ∷ words) ∷ numbered_from (number + 1) (cut_lines rest) }
+        ≡ numbered_words number (word ∷ words) ∷ numbered_from (number + 1) (cut_lines rest) }
     ensures skipped { (number : ℕ) (word : List ℕ) (words : List (List ℕ)) (rest : List ℕ)
         → IsTrue (is_plain_word word) → begins_comment word ≡ true
         → IsTrue (list_all is_plain_word words)

@@ -18,7 +18,7 @@ fn are_digits(text: &[u8]) -> bool
 pub fn whole_number(is_negative: bool, digits: &[u8]) -> Option<i64>
     ensures { result ≡ number_of is_negative digits.now }
 {
-    signed(is_negative, magnitude_of(digits))
+    checked_with_sign(is_negative, magnitude_of(digits))
 }
 
 /// Returns the number of a sign and a text of decimal digits, in one pass. The outer option is None
@@ -50,7 +50,7 @@ fn long_number(is_negative: bool, text: &[u8]) -> Option<Option<i64>>
 {
     match long_magnitude(text) {
         None => None,
-        Some(magnitude) => Some(signed(is_negative, magnitude)),
+        Some(magnitude) => Some(checked_with_sign(is_negative, magnitude)),
     }
 }
 
@@ -170,7 +170,7 @@ pub fn with_sign(is_negative: bool, magnitude: u64) -> i64
 }
 
 /// Returns the number of a sign and a magnitude, if it fits 64 bits.
-fn signed(is_negative: bool, magnitude: u64) -> Option<i64>
+fn checked_with_sign(is_negative: bool, magnitude: u64) -> Option<i64>
     ensures { (digits : List ℕ) → magnitude ≡ min (digits_value digits) (2 ^ 64 - 1) → result
         ≡ number_of is_negative digits }
 {

@@ -1,7 +1,7 @@
 //! Lines of words, written.
 ghost use Rattle.std.specs.Prelude.{◌≡◌, ◌++◌, OnOk, map};
 ghost use Rattle.std.specs.Fmt.{decimal};
-ghost use Rattle.bw_text.specs.Printing.{line_text, piece_text, spaced};
+ghost use Rattle.bw_text.specs.Printing.{line_text, piece_text, spaced_words};
 
 use std::alloc::{AllocError, Global};
 
@@ -35,7 +35,7 @@ pub fn push_spaced(
     pieces: &[Piece<'_>],
     text: &mut Vec<u8>,
 ) -> Result<(), AllocError>
-    ensures { OnOk result (text.new.items ≡ text.old.items ++ spaced (map piece_text pieces.now)) }
+    ensures { OnOk result (text.new.items ≡ text.old.items ++ spaced_words (map piece_text pieces.now)) }
 {
     for piece in pieces {
         text.push(b' ')?;

@@ -5,7 +5,7 @@ ghost use Rattle.std.specs.Prelude.{slice_get};
 ghost use Rattle.bw_model.specs.declared.column.Column.{Column};
 ghost use Rattle.bw_model.specs.Code.{width_at};
 ghost use Rattle.bw_model.specs.StoredCodes.{number_spelled};
-ghost use Rattle.bw_model.specs.Variable.{Assignment, bit_variable, spelled};
+ghost use Rattle.bw_model.specs.Variable.{Assignment, bit_variable, binary_number};
 ghost use Rattle.bw_diagram.specs.declared.chain.Chain.{Chain};
 ghost use Rattle.bw_diagram.specs.declared.node.Node.{Node};
 ghost use Rattle.bw_diagram.specs.declared.product.Product.{Product};
@@ -70,7 +70,7 @@ pub fn whole_columns_are_spelled()
         ≡ number_spelled columns col 0 (width_at columns col) assignment }
     ensures whole { (columns : List Column) (col : ℕ) (assignment : Assignment)
         → let width = width_at columns col in number_spelled columns col 0 width assignment
-        ≡ spelled assignment (bit_variable columns col (width - 1)) width }
+        ≡ binary_number assignment (bit_variable columns col (width - 1)) width }
 {}
 
 /// A law on lists of lines: the facts of accepted lines, beginning with no facts, are true.

@@ -9,7 +9,7 @@ use Rattle.bw_diagram.specs.Node.{node_value}
 use Rattle.bw_program.specs.Machine.{Reaches, end_state}
 use Rattle.bw_program.specs.Program.{instr_fits, fits}
 use Rattle.bw_cert.proofs.ValidLemmas.{stated_columns, stated_true, after_fits, all_so, part_there}
-use Rattle.bw_cert.proofs.ValidLemmas.{map_same, same_worth}
+use Rattle.bw_cert.proofs.ValidLemmas.{map_same, same_denotes}
 use Rattle.bw_cert.proofs.laws.valid_programs_select.Goals as goal
 
 pub returns-clause-fits : goal.returns-clause-fits
@@ -40,10 +40,10 @@ returns-clause-selects c = λ columns cond program certificate named sound valid
     let law = c.accepted_lines_are_true.ensures in
     let right : valid.facts.columns ≡ columns = stated_columns columns certificate valid.facts valid.stated in
     let are_true = stated_true columns certificate valid.facts (law.start columns) law.node law.chain law.row valid.stated in
-    let worth = c.cited_nodes_are_worth.ensures valid.facts are_true in
+    let have_values = c.cited_nodes_have_stated_values.ensures valid.facts are_true in
     let holds = c.skip_soundness.ensures.end valid.facts program valid.parts are_true sound valid.valid_parts lanes in
     let tells = c.pairs_tell_truths.ensures columns valid.facts certificate.end.line cond certificate.body valid.rest valid.pair right are_true named valid.paired in
     ap (λ (columns : List Column). (end_state columns lanes program).registers program.result) (sym right)
     ∙ holds program.result valid.node valid.known
     ∙ map_same (λ assignment. node_value valid.facts.nodes assignment valid.node) (λ assignment. is_truth (truth_of (row_of columns assignment) cond) Yes) lanes
-    (λ assignment. same_worth valid.facts valid.node valid.pair.yes certificate.end.row worth valid.ended assignment ∙ tells.yes assignment)
+    (λ assignment. same_denotes valid.facts valid.node valid.pair.yes certificate.end.row have_values valid.ended assignment ∙ tells.yes assignment)

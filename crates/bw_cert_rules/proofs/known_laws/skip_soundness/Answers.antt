@@ -8,10 +8,10 @@ use Rattle.bw_cert_rules.proofs.known_laws.skip_soundness.Goals as goal
 
 pub returns-clause-reached : goal.returns-clause-reached
 returns-clause-reached c = λ facts program parts true_facts sound valid_parts lanes place state reaches.
-    let holds = holds_after facts lanes program parts reaches.steps (c.cited_nodes_are_worth.ensures facts true_facts) valid_parts (forward program sound) in
+    let holds = holds_after facts lanes program parts reaches.steps (c.cited_nodes_have_stated_values.ensures facts true_facts) valid_parts (forward program sound) in
     subst (λ p. Hold facts lanes (known_before facts program.instrs parts p) state.registers) reaches.at
     (subst (λ (s : State). Hold facts lanes (known_before facts program.instrs parts s.place) s.registers) reaches.after holds)
 
 pub returns-clause-end : goal.returns-clause-end
 returns-clause-end c = λ facts program parts true_facts sound valid_parts lanes.
-    holds_at_end facts lanes program parts (c.cited_nodes_are_worth.ensures facts true_facts) valid_parts (forward program sound)
+    holds_at_end facts lanes program parts (c.cited_nodes_have_stated_values.ensures facts true_facts) valid_parts (forward program sound)

@@ -6,7 +6,7 @@ use Rattle.bw_text.specs.Lines.{Unread, lines_in, end_in}
 use Rattle.bw_program.specs.declared.instr.Instr.{Instr}
 use Rattle.bw_program.specs.declared.parse.Placed.{Placed}
 use Rattle.bw_program.specs.Program.{ProgramShape, registers_of}
-use Rattle.bw_program.specs.ProgramText.{instrs_of, within_end, ended, program_on, program_of}
+use Rattle.bw_program.specs.ProgramText.{instrs_of, within_end, program_within, program_on, program_of}
 use Rattle.bw_program.specs.Step.{AreSteps}
 use Rattle.bw_program.proofs.ProgramSpelling.{text_spelled, text_is_program}
 use Rattle.bw_program.proofs.parse.read_program.Goals as goal
@@ -24,7 +24,7 @@ invariant_of-result c =
     rw c.deref.ensures.value at (c.in_ok-check_targets.ensures.within (record { instrs = instrs_of placed; result = register })) in
     let read : program_of columns c.args.text.now ≡ Ok shape =
     begun ∙ c.in_ok-result.ensures.read
-    ∙ ap (λ (r : Result ℕ Fault). r >>= λ n. ended placed n) (c.in_ok-refuse_more.ensures.none register)
+    ∙ ap (λ (r : Result ℕ Fault). r >>= λ n. program_within placed n) (c.in_ok-refuse_more.ensures.none register)
     ∙ within ∙ ap (λ (is : List Instr). Ok (record { instrs = is; result = register })) instrs in (
       (text_is_program columns c.args.text.now shape (text_spelled columns c.args.text.now shape read)).0,
       (

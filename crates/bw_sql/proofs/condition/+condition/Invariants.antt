@@ -3,7 +3,7 @@ use Rattle.std.proofs.Common.{ℕ, ◌≤◌, ◌+◌, ◌*◌, length, map}
 use Rattle.bw_model.specs.CondTree.{tree_of}
 use Rattle.bw_sql.specs.declared.condition.Connective.{Connective}
 use Rattle.bw_sql.specs.declared.condition.Connective.TheVariants.{And, Or}
-use Rattle.bw_sql.specs.Reading.{after_keyword, more_parts_in, nested, part_in, with_front}
+use Rattle.bw_sql.specs.Reading.{after_keyword, more_parts_in, nested_readers, part_in, with_front}
 use Rattle.bw_sql.specs.Token.{lexemes}
 use Rattle.bw_sql.specs.Words.{word_of}
 use Rattle.bw_sql.proofs.Repeats.{Repeats}
@@ -38,9 +38,9 @@ decreases-condition l = 16 * l.levels + 9
 abbrev pub invariant-more_parts-loop-next : goal.invariant-more_parts-loop-next
 invariant-more_parts-loop-next l = record {
   shorter : length l.left.tokens.now ≤ length l.tokens;
-  read : Repeats (after_keyword (word_of l.connective)) (part_in l.schema (nested l.schema l.levels) l.connective)
+  read : Repeats (after_keyword (word_of l.connective)) (part_in l.schema (nested_readers l.schema l.levels) l.connective)
       (map tree_of l.parts.items) (length l.left.tokens.now) (lexemes l.left.tokens.now)
-      (with_front (map tree_of l.initial.parts.items) (more_parts_in l.schema (nested l.schema l.levels) l.connective (lexemes l.tokens)));
+      (with_front (map tree_of l.initial.parts.items) (more_parts_in l.schema (nested_readers l.schema l.levels) l.connective (lexemes l.tokens)));
 }
 
 abbrev pub decreases-more_parts-loop-next : goal.decreases-more_parts-loop-next

@@ -2,9 +2,9 @@
 use Rattle.std.proofs.Common.{◌∙◌, sym, subst, ℕ, List}
 use Rattle.bw_cert_text.specs.CertificateFields.{certificate_fields}
 use Rattle.bw_cert_text.specs.CertificateShape.{CertificateShape}
-use Rattle.bw_cert_text.specs.PrintText.{respelled}
+use Rattle.bw_cert_text.specs.PrintText.{respell}
 use Rattle.bw_cert_text.specs.CertificateText.{IsCertificateText}
-use Rattle.bw_cert_text.specs.Reprint.{renumbered}
+use Rattle.bw_cert_text.specs.Reprint.{renumber}
 use Rattle.bw_cert_text.proofs.PrintLemmas.{text_written, shape_text, shape_fits}
 use Rattle.bw_cert_text.proofs.PrintedText.{text_spells}
 use Rattle.bw_cert_text.proofs.certificate.Certificate.print.Goals as goal
@@ -31,5 +31,5 @@ returns-clause-spelled c = λ first.
     let body = rw c.body.ensures at c.in_ok-put_body.ensures.fit in
     let last = rw c.end.ensures at c.put_end.ensures.fit in
     let small = shape_fits shape nodes chains products body last in
-    subst (λ (text : List ℕ). IsCertificateText first text (renumbered first (respelled columns (certificate_fields shape)))) (sym (returns-clause-text c))
+    subst (λ (text : List ℕ). IsCertificateText first text (renumber first (respell columns (certificate_fields shape)))) (sym (returns-clause-text c))
     (text_spells columns first (certificate_fields shape) c.has_names_and_bounds.ensures.names small c.requires)
