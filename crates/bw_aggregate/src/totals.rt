@@ -62,7 +62,8 @@ impl Totals {
         ensures item { self.new.selected.item ≡ self.old.selected.item }
         ensures rows { self.new.rows ≡ self.old.rows + length (S.meaning segment.now).rows }
         ensures total { (rows : List (List Value)) → self.old.selected
-            ≡ tally_of self.old.selected.item rows → self.new.selected ≡ tally_of self.old.selected.item
+            ≡ tally_of self.old.selected.item rows
+            → self.new.selected ≡ tally_of self.old.selected.item
             (rows ++ selected_rows (S.meaning segment.now) (lanes_of_words selection.now)) }
     {
         let mut selected = self.selected;

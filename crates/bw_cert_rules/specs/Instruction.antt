@@ -82,7 +82,8 @@ abbrev pub read_on : KnownNodes → ℕ → ℕ → Result ℕ Fault
 read_on known line register = found_on REGISTER_UNKNOWN line (node_of known register)
 
 -- an operation on two registers
-abbrev pub joined_on : Facts → KnownNodes → ℕ → Connective → ℕ → ℕ → InstructionEntry → Result ℕ Fault
+abbrev pub joined_on : Facts → KnownNodes → ℕ → Connective → ℕ → ℕ → InstructionEntry
+    → Result ℕ Fault
 joined_on facts known line op x y given =
     found_on INSTRUCTION_LINE line (operation_row given) >>= λ row.
     read_on known line x >>= λ a. read_on known line y >>= λ b. operation_on facts line op a b row
@@ -152,9 +153,9 @@ check_instruction_line facts known line (Xor r x y) given = set_register known r
 check_instruction_line facts known line (Not r x) given = set_register known r
     (opposite_on facts known line x given)
 check_instruction_line facts known line (ByteLt r column slice k) given =
-    set_register known r (byte_on facts line Less (instr_fits facts.columns (ByteLt r column slice k)) column
-    slice k given)
+    set_register known r (byte_on facts line Less
+    (instr_fits facts.columns (ByteLt r column slice k)) column slice k given)
 check_instruction_line facts known line (ByteEq r column slice k) given =
-    set_register known r (byte_on facts line Equal (instr_fits facts.columns (ByteEq r column slice k))
-    column slice k given)
+    set_register known r (byte_on facts line Equal
+    (instr_fits facts.columns (ByteEq r column slice k)) column slice k given)
 check_instruction_line facts known line (Skip x target) given = check_skip known line x given

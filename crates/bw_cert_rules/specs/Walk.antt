@@ -40,7 +40,8 @@ instruction_on facts known instr line (line_of.Join place) = Err
     (at_line INSTRUCTION_LINE line.line)
 instruction_on facts known instr line (line_of.Keep keep) = Err (at_line INSTRUCTION_LINE line.line)
 
-abbrev pub instruction_taken : Facts → ℕ → KnownNodes → Instr → List BodyLine → Result WalkState Fault
+abbrev pub instruction_taken : Facts → ℕ → KnownNodes → Instr → List BodyLine
+    → Result WalkState Fault
 instruction_taken facts end known instr [] = Err (at_line INSTRUCTION_LINE end)
 instruction_taken facts end known instr (line ∷ lines) =
     instruction_on facts known instr line line.entry

@@ -79,7 +79,8 @@ is_before section (End end) = false
 
 abbrev pub in_section_order : ℕ → ℕ → Option ParsedLine → Result ParsedLine Fault
 in_section_order section line None = Err (form_fault line)
-in_section_order section line (Some said) = refused_if (is_before section said) (form_fault line) (Ok said)
+in_section_order section line (Some said) =
+    refused_if (is_before section said) (form_fault line) (Ok said)
 
 abbrev pub parse_line_on : ℕ → NumberedWords → Result ParsedLine Fault
 parse_line_on section line = in_section_order section line.number (parse_line_in line)
@@ -90,9 +91,10 @@ last_line [] x = Ok x
 last_line (line ∷ lines) x = Err (form_fault line.number)
 
 -- the certificate of a line and the lines after it, given that of the lines after a section
-abbrev pub certificate_after : List NumberedWords → (ℕ → Result CertificateFields Fault) → ParsedLine
-    → Result CertificateFields Fault
-certificate_after lines after (Before part) = after (section_of part) >>= λ rest. Ok (with_part part rest)
+abbrev pub certificate_after : List NumberedWords → (ℕ → Result CertificateFields Fault)
+    → ParsedLine → Result CertificateFields Fault
+certificate_after lines after (Before part) =
+    after (section_of part) >>= λ rest. Ok (with_part part rest)
 certificate_after lines after (End end) = last_line lines (end_alone end)
 
 -- the certificate of these lines, none of which may be of a section before this one, or their first
@@ -100,7 +102,8 @@ certificate_after lines after (End end) = last_line lines (end_alone end)
 unfoldable pub certificate_from : ℕ → List NumberedWords → ℕ → Result CertificateFields Fault
 certificate_from section [] end = Err (form_fault end)
 certificate_from section (line ∷ lines) end =
-    parse_line_on section line >>= λ said. certificate_after lines (λ s. certificate_from s lines end) said
+    parse_line_on section line >>= λ said.
+    certificate_after lines (λ s. certificate_from s lines end) said
 
 -- the certificate of a text, the first line of which has this number, or the text's first error
 abbrev pub certificate_of : ℕ → List ℕ → Result CertificateFields Fault

@@ -2,7 +2,8 @@
 ghost use Rattle.std.specs.Prelude.{◌≡◌, ℕ, ◌<◌, ◌≤◌, length, IfErr, IsTrue};
 ghost use Rattle.bw_model.specs.Row.{Value};
 ghost use Rattle.bw_csv.specs.Rows.{is_blank, without_front_blanks, without_end_blanks};
-ghost use Rattle.bw_csv.specs.Rows.{without_blanks, is_null_text, is_minus, after_minus, without_sign};
+ghost use Rattle.bw_csv.specs.Rows.{without_blanks, is_null_text, is_minus, after_minus};
+ghost use Rattle.bw_csv.specs.Rows.{without_sign};
 ghost use Rattle.bw_csv.specs.Rows.{number_value, text_value, within_bounds, value_of_field};
 ghost use Rattle.bw_csv.specs.Rows.{MatchesUnlessExempt, IsRowsFault, located_at};
 

@@ -121,7 +121,8 @@ impl<R> ReadAhead<R> {
     /// Copies as many bytes as are left and fit the buffer. Returns how many.
     fn hand_over(&mut self, buffer: &mut [u8]) -> usize
         ensures count { result ≡ min (length (buffered_bytes self.old)) (length buffer.old) }
-        ensures bytes { buffered_bytes self.old ≡ take result buffer.new ++ buffered_bytes self.new }
+        ensures bytes { buffered_bytes self.old
+            ≡ take result buffer.new ++ buffered_bytes self.new }
         ensures reader { reader_of self.new ≡ reader_of self.old }
         ensures failures { read_failures self.new ≡ read_failures self.old }
     {

@@ -164,7 +164,8 @@ program_within placed result = within_end (length placed) placed
 
 -- the program of these instructions and a result register, whose line these lines follow
 abbrev pub program_with_result : List Placed → List NumberedWords → ℕ → Result ProgramShape Fault
-program_with_result placed lines result = last_line lines result >>= λ register. program_within placed register
+program_with_result placed lines result =
+    last_line lines result >>= λ register. program_within placed register
 
 -- the program on these lines, after instructions that came before; `end` is the number of the
 -- text's end
@@ -173,7 +174,8 @@ unfoldable pub program_on : List Column → List Placed → List NumberedWords �
 program_on columns before [] end = Err (at_line NO_RESULT end)
 program_on columns before (line ∷ lines) end =
     if is_result_line line then
-    (result_after line.number (drop 1 line.words) >>= λ result. program_with_result before lines result)
+    (result_after line.number (drop 1 line.words) >>= λ result.
+    program_with_result before lines result)
     else
     (refused_if (nat_le most_instructions (length before)) (at_line PROGRAM_TOO_LONG line.number)
     (instr_on columns (length before) line >>= λ instr.

@@ -1,6 +1,6 @@
 -- The cached scans, and the program files that they were chosen among.
-use Rattle.std.specs.Prelude.{All, ◌≡◌, ◌<◌, ℕ, false, List, Some, length, slice_get}
-use Rattle.std.specs.Prelude.{slice_index_or, take}
+use Rattle.std.specs.Prelude.{All, ◌≡◌, ◌<◌, ℕ, false, List, [], ◌∷◌, ◌++◌, Some, length, slice_get}
+use Rattle.std.specs.Prelude.{slice_index_or, take, drop, nat_le, if◌then◌else◌}
 use Rattle.bw_model.specs.declared.column.Column.{Column}
 use Rattle.bw_model.specs.declared.cond.Cond.{Cond}
 use Rattle.bw_model.specs.CondTree.{tree_of}
@@ -36,6 +36,17 @@ abbrev pub IsForEqual : ProgramCache → Cond → ℕ → Type 0
 IsForEqual programs cond number = (number < length programs.kept.items)
     × ((none : CachedScan) → tree_of cond
     ≡ tree_of (slice_index_or programs.kept.items number none).cond)
+
+-- the cached scans that stay if one more is added: all of them, or of 64 all but the first
+abbrev pub with_room : List CachedScan → List CachedScan
+with_room scans = if nat_le 64 (length scans) then drop 1 scans else scans
+
+-- a scan for a condition was added to the cached ones as the last, and has this number
+pub record IsAdded (old new : List CachedScan) (cond : Cond) (number : ℕ) : Type 0 where
+  pub scan : CachedScan
+  pub equal : tree_of scan.cond ≡ tree_of cond
+  pub is : new ≡ with_room old ++ scan ∷ []
+  pub last : number ≡ length (with_room old)
 
 -- the file of a number has this error for every condition, and the files before it are read; or
 -- memory ran out

@@ -35,7 +35,7 @@ pub struct ProgramCache {
 }
 
 impl ProgramCache {
-    ghost use Rattle.std.specs.Prelude.{All, ◌≡◌, ◌<◌, IfOk, IfErr, IfSome, IsTrue, List};
+    ghost use Rattle.std.specs.Prelude.{All, ◌≡◌, ◌<◌, ◌⊎◌, IfOk, IfErr, IfSome, IsTrue, List};
     ghost use Rattle.bw_model.specs.declared.column.Column.{Column};
     ghost use Rattle.bw_model.specs.declared.cond.Cond.{Cond};
     ghost use Rattle.bw_model.specs.Cond.{names_within};
@@ -43,8 +43,8 @@ impl ProgramCache {
     ghost use Rattle.bw_cert.specs.FileVerdict.{is_file_fault};
     ghost use Rattle.bw_memory.specs.MemoryTable.{schema_of};
     ghost use Rattle.bw_query.specs.ProgramChoice.{IsChosenAmong, IsFileRead, texts_of};
-    ghost use Rattle.bw_query.specs.ProgramCache.{HasScan, IsForEqual, IsRejection, Serves};
-    ghost use Rattle.bw_query.specs.ProgramCache.{files_of};
+    ghost use Rattle.bw_query.specs.ProgramCache.{HasScan, IsAdded, IsForEqual, IsRejection};
+    ghost use Rattle.bw_query.specs.ProgramCache.{Serves, files_of, with_room};
     ghost use Rattle.bw_query.specs.Scan.{IsFor};
 
     /// Returns a cache of these program files, which keeps no scan yet.
@@ -83,17 +83,21 @@ impl ProgramCache {
     }
 
     /// Returns the number of the scan for a condition over a table. One that isn't kept is looked
-    /// for, and kept as the last one; then the first of more than 64 is dropped. Errors: 801 if memory is
-    /// refused.
+    /// for, and kept as the last one; if 64 are kept, the first one is dropped. Errors: 801 if
+    /// memory is refused.
     pub(crate) fn find_or_add(
         &mut self,
         alloc: Global,
         table: &MemoryTable,
         cond: &Cond,
     ) -> Result<usize, Fault>
-        requires columns { IsTrue (names_within (length (schema_of table.now).columns.items) cond.now) }
+        requires columns { IsTrue
+            (names_within (length (schema_of table.now).columns.items) cond.now) }
         requires serves { Serves (schema_of table.now).columns.items self.old }
-        ensures found { IfOk result (HasScan (schema_of table.now).columns.items self.new cond.now) }
+        ensures found { IfOk result
+            (HasScan (schema_of table.now).columns.items self.new cond.now) }
+        ensures kept { IfOk result (λ number. (self.new ≡ self.old)
+            ⊎ IsAdded self.old.kept.items self.new.kept.items cond.now number) }
         ensures serves { Serves (schema_of table.now).columns.items self.new }
         ensures files { files_of self.new ≡ files_of self.old }
         ensures only_oom { IfErr result (λ fault. IsTrue (is_memory fault)) }
@@ -132,9 +136,13 @@ impl ProgramCache {
     /// Looks for a scan for a condition, and keeps it as the last one. Returns its number. Errors:
     /// 801 if memory is refused.
     fn add(&mut self, alloc: Global, table: &MemoryTable, cond: &Cond) -> Result<usize, Fault>
-        requires columns { IsTrue (names_within (length (schema_of table.now).columns.items) cond.now) }
+        requires columns { IsTrue
+            (names_within (length (schema_of table.now).columns.items) cond.now) }
         requires serves { Serves (schema_of table.now).columns.items self.old }
-        ensures found { IfOk result (HasScan (schema_of table.now).columns.items self.new cond.now) }
+        ensures found { IfOk result
+            (HasScan (schema_of table.now).columns.items self.new cond.now) }
+        ensures kept { IfOk result
+            (IsAdded self.old.kept.items self.new.kept.items cond.now) }
         ensures serves { Serves (schema_of table.now).columns.items self.new }
         ensures files { files_of self.new ≡ files_of self.old }
         ensures only_oom { IfErr result (λ fault. IsTrue (is_memory fault)) }
@@ -150,6 +158,7 @@ impl ProgramCache {
 
     /// Drops the first scan, if 64 are kept.
     fn drop_oldest(&mut self)
+        ensures kept { self.new.kept.items ≡ with_room self.old.kept.items }
         ensures capacity { length self.new.kept.items < 64 }
         ensures serves { (columns : List Column) → Serves columns self.old
             → Serves columns self.new }

@@ -3,7 +3,7 @@
 //!
 //! All programs that the checker accepts for a condition select the same rows, so any of them may
 //! serve. The one with the fewest loads does.
-ghost use Rattle.std.specs.Prelude.{◌≡◌, ◌<◌, ◌≤◌, min, IfOk, IfErr, IsTrue, None, length};
+ghost use Rattle.std.specs.Prelude.{◌≡◌, ◌<◌, ◌≤◌, ◌⊎◌, min, IfOk, IfErr, IsTrue, None, length};
 ghost use Rattle.bw_cert.specs.declared.certified.Certified.{Certified};
 ghost use Rattle.bw_memory.specs.MemoryTable.{meaning_numbered, schema_of, segments_in};
 ghost use Rattle.bw_model.specs.declared.cond.Cond.{Cond};
@@ -41,9 +41,8 @@ const MOST_ROWS: u64 = 16_384;
 const MOST_INSTRUCTIONS: usize = 512;
 
 /// Returns how a condition is to be scanned over a table in memory: by the planner's program, if it
-/// proposes one that the checker accepts; else row by row. If the condition is an AND or an OR, the
-/// planner also proposes a program that takes its parts by their share of rows, and of the two the
-/// one with the fewest loads in the first 32 segments is returned. Errors: 801 if memory is
+/// proposes one that the checker accepts, or by one that takes the condition's parts in another
+/// order and loads less in the first 32 segments; else row by row. Errors: 801 if memory is
 /// refused.
 pub(crate) fn plan_for_table(alloc: Global, table: &MemoryTable, cond: &Cond) -> Result<Scan, Fault>
     requires { IsTrue (names_within (length (schema_of table.now).columns.items) cond.now) }
@@ -51,46 +50,62 @@ pub(crate) fn plan_for_table(alloc: Global, table: &MemoryTable, cond: &Cond) ->
     ensures chosen { IfOk result (IsChosen None (schema_of table.now).columns.items cond.now) }
     ensures only_oom { IfErr result (λ fault. IsTrue (is_memory fault)) }
 {
-    let schema = table.schema();
-    let written = match plan_and_certify(alloc, schema, cond, cond)? {
-        Scan::Program(certified) => certified,
-        Scan::Rows => return Ok(Scan::Rows),
-    };
+    match plan_and_certify(alloc, table.schema(), cond, cond)? {
+        Scan::Program(written) => {
+            Ok(Scan::Program(try_another_order(alloc, table, cond, written)?))
+        }
+        Scan::Rows => Ok(Scan::Rows),
+    }
+}
+
+/// Returns a condition's program as it is, or one that takes the parts of its AND or OR by their
+/// share of rows, if the planner proposes one, the checker accepts it, and it loads less in the
+/// first 32 segments. Errors: 801 if memory is refused.
+fn try_another_order(
+    alloc: Global,
+    table: &MemoryTable,
+    cond: &Cond,
+    written: Certified,
+) -> Result<Certified, Fault>
+    requires names { IsTrue (names_within (length (schema_of table.now).columns.items) cond.now) }
+    requires certified { IsFor (schema_of table.now).columns.items cond.now (Program written) }
+    requires chosen { IsChosen None (schema_of table.now).columns.items cond.now (Program written) }
+    ensures certified { IfOk result (λ program. IsFor (schema_of table.now).columns.items cond.now
+        (Program program)) }
+    ensures chosen { IfOk result (λ program. IsChosen None (schema_of table.now).columns.items
+        cond.now (Program program)) }
+    ensures at_most { IfOk result (λ program. trial_loads table.now (Program program)
+        ≤ trial_loads table.now (Program written)) }
+    ensures only_oom { IfErr result (λ fault. IsTrue (is_memory fault)) }
+{
     if written.program().len() > MOST_INSTRUCTIONS {
-        return Ok(Scan::Program(written));
+        return Ok(written);
     }
     let Some(order) = order_by_share(alloc, table, cond)? else {
-        return Ok(Scan::Program(written));
+        return Ok(written);
     };
-    match plan_and_certify(alloc, schema, cond, &order)? {
+    match plan_and_certify(alloc, table.schema(), cond, &order)? {
         Scan::Program(other) => cheaper(table, written, other),
-        Scan::Rows => Ok(Scan::Program(written)),
+        Scan::Rows => Ok(written),
     }
 }
 
 /// Returns the program that loads fewer planes and bytes in the first 32 segments, or the first one
 /// if both load as many. Errors: 801 if memory is refused.
-fn cheaper(table: &MemoryTable, first: Certified, second: Certified) -> Result<Scan, Fault>
+fn cheaper(table: &MemoryTable, first: Certified, second: Certified) -> Result<Certified, Fault>
     requires first { first.schema.columns.items ≡ (schema_of table.now).columns.items }
     requires second { second.schema.columns.items ≡ (schema_of table.now).columns.items }
-    ensures certified { (cond : Cond)
-        → IsFor (schema_of table.now).columns.items cond (Program first)
-        → IsFor (schema_of table.now).columns.items cond (Program second)
-        → IfOk result (IsFor (schema_of table.now).columns.items cond) }
-    ensures chosen { (cond : Cond)
-        → IsChosen None (schema_of table.now).columns.items cond (Program first)
-        → IsChosen None (schema_of table.now).columns.items cond (Program second)
-        → IfOk result (IsChosen None (schema_of table.now).columns.items cond) }
-    ensures fewest { IfOk result (λ scan. trial_loads table.now scan
+    ensures one { IfOk result (λ program. (program ≡ first) ⊎ (program ≡ second)) }
+    ensures fewest { IfOk result (λ program. trial_loads table.now (Program program)
         ≡ min (trial_loads table.now (Program first)) (trial_loads table.now (Program second))) }
     ensures only_oom { IfErr result (λ fault. IsTrue (is_memory fault)) }
 {
     let loads = loads_of(table, &first)?;
     let fewer = loads_of(table, &second)?;
     if fewer < loads {
-        Ok(Scan::Program(second))
+        Ok(second)
     } else {
-        Ok(Scan::Program(first))
+        Ok(first)
     }
 }
 
@@ -132,9 +147,9 @@ fn loads_in_segment(table: &MemoryTable, number: u32, certified: &Certified) -> 
 }
 
 /// Returns a condition with its parts in another order, if it is an AND or an OR of at most 16
-/// parts, and the table has 1,024 segments: those of an AND by ascending share of rows on which
-/// they are TRUE in the first 32 segments, those of an OR by descending share. None if they are
-/// written in this order. Errors: 801 if memory is refused.
+/// parts, and the table has at least 1,024 segments: those of an AND by ascending share of rows on
+/// which they are TRUE in the first 32 segments, those of an OR by descending share. None if they
+/// are written in this order. Errors: 801 if memory is refused.
 fn order_by_share(alloc: Global, table: &MemoryTable, cond: &Cond) -> Result<Option<Cond>, Fault>
     ensures only_oom { IfErr result (λ fault. IsTrue (is_memory fault)) }
 {

@@ -115,7 +115,8 @@ pub trait CodeLayout {
             (packing.codes width bytes.now)) }
         ensures bound { IfSome result (λ code. code < 2 ^ 63) };
 
-    /// Returns true only if no code in these lanes is above `other` or, unless `greatest`, below it.
+    /// Returns true only if no code in these lanes is above `other` or, unless `greatest`, below
+    /// it.
     /// It may return false then too: only a few of the highest digits are read.
     fn none_beyond(width: u32, bytes: &[u8], lanes: &Selection, other: u64, greatest: bool) -> bool
         requires width { (1 ≤ width) × (width ≤ 63) }

@@ -162,7 +162,8 @@ operand_at schema tokens = operand_after (after_keyword word.Null tokens) schema
 
 -- what is read repeatedly, as long as its introducing token is first; there are no more of them
 -- than tokens
-abbrev pub more_after : {A : Type 0} → Option (List Lexeme) → List Lexeme → (List Lexeme → ReadResult A) →
+abbrev pub more_after : {A : Type 0} → Option (List Lexeme) → List Lexeme
+    → (List Lexeme → ReadResult A) →
     (List Lexeme → ReadResult (List A)) → ReadResult (List A)
 more_after None tokens one others = Ok ([], tokens)
 more_after (Some next) tokens one others = do
@@ -297,7 +298,8 @@ pub record NestedReaders : Type 0 where
   pub enclosed : List Lexeme → List Lexeme → ReadResult CondTree
   pub negated : List Lexeme → List Lexeme → ReadResult CondTree
 
-abbrev pub primary_after : Schema → NestedReaders → Option (List Lexeme) → List Lexeme → ReadResult CondTree
+abbrev pub primary_after : Schema → NestedReaders → Option (List Lexeme) → List Lexeme
+    → ReadResult CondTree
 primary_after schema inner (Some next) tokens = inner.enclosed tokens next
 primary_after schema inner None tokens = predicate_at schema tokens
 
@@ -309,7 +311,8 @@ test_in schema inner tokens = do
   c ← primary_in schema inner tokens
   truth_test_at c.0 c.1
 
-abbrev pub factor_after : Schema → NestedReaders → Option (List Lexeme) → List Lexeme → ReadResult CondTree
+abbrev pub factor_after : Schema → NestedReaders → Option (List Lexeme) → List Lexeme
+    → ReadResult CondTree
 factor_after schema inner (Some next) tokens = inner.negated tokens next
 factor_after schema inner None tokens = test_in schema inner tokens
 
@@ -344,7 +347,8 @@ part_in schema inner connective.Or = term_in schema inner
 unfoldable pub joined_in : Schema → NestedReaders → Connective → List Lexeme → ReadResult CondTree
 joined_in schema inner c tokens = series_at (word_of c) (join_of c) (part_in schema inner c) tokens
 
-abbrev pub more_parts_in : Schema → NestedReaders → Connective → List Lexeme → ReadResult (List CondTree)
+abbrev pub more_parts_in : Schema → NestedReaders → Connective → List Lexeme
+    → ReadResult (List CondTree)
 more_parts_in schema inner c tokens = read_many (length tokens) (after_keyword (word_of c)) (part_in
     schema inner c) tokens
 
@@ -367,7 +371,8 @@ nested_readers schema (suc n) = record {
 -- the condition after WHERE, if there is one
 abbrev pub after_where : Schema → Option (List Lexeme) → List Lexeme → ReadResult CondTree
 after_where schema None tokens = Ok (Always, tokens)
-after_where schema (Some rest) tokens = condition_in schema (nested_readers schema deepest_nesting) rest
+after_where schema (Some rest) tokens =
+    condition_in schema (nested_readers schema deepest_nesting) rest
 
 unfoldable pub selection_at : Schema → List Lexeme → ReadResult CondTree
 selection_at schema tokens = after_where schema (after_keyword word.Where tokens) tokens
@@ -425,7 +430,8 @@ argument_at schema kind tokens = do
   rest ← mark_at mark.Close item.1
   Ok (item.0, rest)
 
-abbrev pub aggregate_item : Schema → Option (Aggregate × List Lexeme) → List Lexeme → ReadResult Item
+abbrev pub aggregate_item : Schema → Option (Aggregate × List Lexeme) → List Lexeme
+    → ReadResult Item
 aggregate_item schema None tokens = refuse Syntax tokens
 aggregate_item schema (Some found) tokens = argument_at schema found.0 found.1
 

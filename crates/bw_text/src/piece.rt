@@ -35,7 +35,8 @@ pub fn push_spaced(
     pieces: &[Piece<'_>],
     text: &mut Vec<u8>,
 ) -> Result<(), AllocError>
-    ensures { OnOk result (text.new.items ≡ text.old.items ++ spaced_words (map piece_text pieces.now)) }
+    ensures { OnOk result
+        (text.new.items ≡ text.old.items ++ spaced_words (map piece_text pieces.now)) }
 {
     for piece in pieces {
         text.push(b' ')?;
