@@ -24,5 +24,5 @@ returns g c =
     let columns = c.args.placement.now.schema.columns.items in
     let long : length bytes.result.now ≡ packing.size width.result =
     omega (arith, ap length bytes.ensures, length-drop (null_size columns c.args.col) c.args.block.now, c.requires.size, ap packing.size width.ensures.width) in
-    c.fault_of_lanes.ensures c.span-span.result codes (c.keeps_codes.ensures.codes_length width.result bytes.result.now long) c.used-used.ensures c.above-above.ensures
+    c.fault_of_lanes.ensures c.span-span.result codes (c.keeps_codes.ensures.codes_length width.result bytes.result.now long) c.lanes_with_code-used.ensures c.above-above.ensures
     ∙ (λ i. lanes_fault (c.span-span.ensures.span i) c.args.rows (c.nulls_in-nulls.ensures i) (packing.codes (width.ensures.width i) (bytes.ensures i)))
