@@ -12,5 +12,5 @@ returns c =
     let lanes = lanes_of_words c.args.lanes.now in
     let test = λ (code : ℕ). not (code == 0) in
     let codes = planes_codes c.args.width c.args.bytes.now in
-    ap (λ b. not b) (c.is_zero.ensures ∙ ap (list_all not) (c.and.ensures ∙ ap (zip2 (λ x y. x && y) lanes) c.lanes_with_code.ensures)) ∙ sym (any_is (zip2 (λ x y. x && y) lanes (map test codes)))
+    ap (λ b. not b) (c.is_zero.ensures ∙ ap (list_all not) (c.and.ensures ∙ ap (zip2 (λ x y. x && y) lanes) c.nonzero_lanes.ensures)) ∙ sym (any_is (zip2 (λ x y. x && y) lanes (map test codes)))
     ∙ any_selected test lanes codes
