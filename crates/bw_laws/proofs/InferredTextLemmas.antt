@@ -30,7 +30,7 @@ use Rattle.bw_schemas.specs.InferredSchema.{or_zero, check_bounds, ranged_column
 use Rattle.bw_schemas.specs.InferredSchema.{table_of}
 use Rattle.bw_schemas.specs.PrintedSchema.{schema_text}
 use Rattle.bw_schemas.proofs.NarrowLemmas.{greatest_of_one, least_of_one}
-use Rattle.bw_laws.proofs.ShapeText.{IsSound, AreSound, shape_spelled}
+use Rattle.bw_schemas.proofs.PrintedText.{IsSound, AreSound, shape_spelled}
 use Rattle.bw_laws.proofs.SoundSchemaLemmas.{number_fits}
 
 -- a value is null, or a number that 64 bits hold; so is each value of a row, and of rows

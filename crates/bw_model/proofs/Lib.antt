@@ -2,6 +2,7 @@ pub mod BitsLemmas
 pub mod CondLemmas
 pub mod DigitLemmas
 pub mod GroupLemmas
+mod KindLemmas
 pub mod NameLemmas
 pub mod PlaceLemmas
 pub mod SameColumns

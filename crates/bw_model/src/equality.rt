@@ -10,7 +10,8 @@ impl Cond {
     #[cycle(is_same)]
     #[tactic(auto, using(crate::proofs::TreeLemmas::trees))]
     pub fn is_same(&self, other: &Cond) -> bool
-        ensures { IsTrue result → tree_of self.now ≡ tree_of other.now }
+        ensures same { IsTrue result → tree_of self.now ≡ tree_of other.now }
+        ensures complete { tree_of self.now ≡ tree_of other.now → IsTrue result }
     {
         match (self, other) {
             (Cond::Always, Cond::Always) => true,
@@ -38,7 +39,8 @@ impl Cond {
 /// Returns whether two lists of conditions are equal.
 #[cycle(is_same)]
 fn are_same(conds: &[Cond], others: &[Cond]) -> bool
-    ensures { IsTrue result → map tree_of conds.now ≡ map tree_of others.now }
+    ensures same { IsTrue result → map tree_of conds.now ≡ map tree_of others.now }
+    ensures complete { map tree_of conds.now ≡ map tree_of others.now → IsTrue result }
 {
     if conds.len() != others.len() {
         return false;
@@ -53,7 +55,8 @@ fn are_same(conds: &[Cond], others: &[Cond]) -> bool
 
 /// Returns whether two lists of operands are equal.
 fn are_operands(operands: &[Operand], others: &[Operand]) -> bool
-    ensures { IsTrue result → operands.now ≡ others.now }
+    ensures same { IsTrue result → operands.now ≡ others.now }
+    ensures complete { operands.now ≡ others.now → IsTrue result }
 {
     if operands.len() != others.len() {
         return false;
@@ -67,19 +70,22 @@ fn are_operands(operands: &[Operand], others: &[Operand]) -> bool
 }
 
 fn is_op(op: Op, other: Op) -> bool
-    ensures { IsTrue result → op ≡ other }
+    ensures same { IsTrue result → op ≡ other }
+    ensures complete { op ≡ other → IsTrue result }
 {
     op == other
 }
 
 fn is_operand(x: Operand, y: Operand) -> bool
-    ensures { IsTrue result → x ≡ y }
+    ensures same { IsTrue result → x ≡ y }
+    ensures complete { x ≡ y → IsTrue result }
 {
     x == y
 }
 
 fn is_truth(truth: Truth, other: Truth) -> bool
-    ensures { IsTrue result → truth ≡ other }
+    ensures same { IsTrue result → truth ≡ other }
+    ensures complete { truth ≡ other → IsTrue result }
 {
     truth == other
 }

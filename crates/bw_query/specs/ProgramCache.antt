@@ -1,6 +1,6 @@
 -- The cached scans, and the program files that they were chosen among.
 use Rattle.std.specs.Prelude.{All, ◌≡◌, ◌<◌, ℕ, false, List, [], ◌∷◌, ◌++◌, Some, length, slice_get}
-use Rattle.std.specs.Prelude.{slice_index_or, take, drop, nat_le, if◌then◌else◌}
+use Rattle.std.specs.Prelude.{slice_index_or, take, drop, nat_le, if◌then◌else◌, ⊥}
 use Rattle.bw_model.specs.declared.column.Column.{Column}
 use Rattle.bw_model.specs.declared.cond.Cond.{Cond}
 use Rattle.bw_model.specs.CondTree.{tree_of}
@@ -41,8 +41,14 @@ IsForEqual programs cond number = (number < length programs.kept.items)
 abbrev pub with_room : List CachedScan → List CachedScan
 with_room scans = if nat_le 64 (length scans) then drop 1 scans else scans
 
--- a scan for a condition was added to the cached ones as the last, and has this number
+-- no cached scan is for an equal condition
+abbrev pub HasNone : List CachedScan → Cond → Type 0
+HasNone scans cond = All (λ kept. tree_of cond ≡ tree_of kept.cond → ⊥) scans
+
+-- A scan for a condition, for which there was none, was added to the cached ones as the last, and
+-- has this number.
 pub record IsAdded (old new : List CachedScan) (cond : Cond) (number : ℕ) : Type 0 where
+  pub fresh : HasNone old cond
   pub scan : CachedScan
   pub equal : tree_of scan.cond ≡ tree_of cond
   pub is : new ≡ with_room old ++ scan ∷ []

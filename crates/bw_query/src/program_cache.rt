@@ -36,6 +36,7 @@ pub struct ProgramCache {
 
 impl ProgramCache {
     ghost use Rattle.std.specs.Prelude.{All, ◌≡◌, ◌<◌, ◌⊎◌, IfOk, IfErr, IfSome, IsTrue, List};
+    ghost use Rattle.std.specs.Prelude.{None};
     ghost use Rattle.bw_model.specs.declared.column.Column.{Column};
     ghost use Rattle.bw_model.specs.declared.cond.Cond.{Cond};
     ghost use Rattle.bw_model.specs.Cond.{names_within};
@@ -43,8 +44,8 @@ impl ProgramCache {
     ghost use Rattle.bw_cert.specs.FileVerdict.{is_file_fault};
     ghost use Rattle.bw_memory.specs.MemoryTable.{schema_of};
     ghost use Rattle.bw_query.specs.ProgramChoice.{IsChosenAmong, IsFileRead, texts_of};
-    ghost use Rattle.bw_query.specs.ProgramCache.{HasScan, IsAdded, IsForEqual, IsRejection};
-    ghost use Rattle.bw_query.specs.ProgramCache.{Serves, files_of, with_room};
+    ghost use Rattle.bw_query.specs.ProgramCache.{HasNone, HasScan, IsAdded, IsForEqual};
+    ghost use Rattle.bw_query.specs.ProgramCache.{IsRejection, Serves, files_of, with_room};
     ghost use Rattle.bw_query.specs.Scan.{IsFor};
 
     /// Returns a cache of these program files, which keeps no scan yet.
@@ -123,7 +124,8 @@ impl ProgramCache {
 
     /// Returns the number of the scan that is kept for an equal condition, if one is.
     fn find(&self, cond: &Cond) -> Option<usize>
-        ensures { IfSome result (IsForEqual self.now cond.now) }
+        ensures some { IfSome result (IsForEqual self.now cond.now) }
+        ensures none { result ≡ None → HasNone self.now.kept.items cond.now }
     {
         for number in 0..self.kept.len() {
             if cond.is_same(&self.kept[number].cond) {
@@ -133,9 +135,10 @@ impl ProgramCache {
         None
     }
 
-    /// Looks for a scan for a condition, and keeps it as the last one. Returns its number. Errors:
-    /// 801 if memory is refused.
+    /// Looks for a scan for a condition, for which none is kept, and keeps it as the last one.
+    /// Returns its number. Errors: 801 if memory is refused.
     fn add(&mut self, alloc: Global, table: &MemoryTable, cond: &Cond) -> Result<usize, Fault>
+        requires fresh { HasNone self.old.kept.items cond.now }
         requires columns { IsTrue
             (names_within (length (schema_of table.now).columns.items) cond.now) }
         requires serves { Serves (schema_of table.now).columns.items self.old }

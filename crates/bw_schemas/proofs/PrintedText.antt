@@ -17,7 +17,8 @@ use Rattle.bw_model.specs.Limits.{longest_name}
 use Rattle.bw_text.specs.Lines.{NumberedWords, cut_lines, numbered_words, numbered_from}
 use Rattle.bw_model.specs.Name.{is_name, are_apart}
 use Rattle.bw_model.specs.Schema.{IsColumn, IsSchema}
-use Rattle.bw_model.specs.SchemaText.{shape, shape_names, column_shape, schema_shape, column_words}
+use Rattle.bw_model.specs.SchemaText.{ColumnShape, SchemaShape, shape, shape_names, column_shape}
+use Rattle.bw_model.specs.SchemaText.{schema_shape, column_words}
 use Rattle.bw_model.specs.SchemaText.{table_words, is_range, SpellsColumn, SpellsSchema}
 use Rattle.bw_model.specs.SchemaText.{IsSchemaText}
 use Rattle.bw_text.specs.Text.{same_text, is_word}
@@ -81,6 +82,69 @@ column_short name lo hi false is =
     let h = bound_length hi is.hi in
     simp length-append (omega arith)
 
+-- a column that a line spells
+pub record IsSound (column : ColumnShape) : Type 0 where
+  pub is : IsColumn column
+  pub range : is_range column.lo column.hi ≡ true
+
+-- a schema that lines spell
+pub record AreSound (schema : SchemaShape) : Type 0 where
+  pub name : is_name schema.name ≡ true
+  pub columns : All IsSound schema.columns
+  pub nonempty : 1 ≤ length schema.columns
+  pub within_limit : length schema.columns ≤ 64
+  pub apart : are_apart (shape_names schema.columns) ≡ true
+
+-- the lines of columns spell them, with comments after
+columns_spelled : (number : ℕ) (columns : List ColumnShape) (comments : List ℕ) → All IsSound columns → AreComments comments
+    → AllZip SpellsColumn (numbered_from number (cut_lines (columns_text columns ++ comments))) columns
+unfolding columns_text
+columns_spelled number [] comments are none = rw (none number) tt
+columns_spelled number (column ∷ columns) comments are none =
+    let first : IsSound column = All-head IsSound column columns are in
+    let rest = columns_spelled (number + 1) columns comments (All-tail IsSound column columns are) none in
+    let more = columns_text columns in
+    let text : (line_text (column_line column) ++ more) ++ comments ≡ line_text (column_line column) ++ (more ++ comments) =
+    append_assoc (line_text (column_line column)) more comments in
+    let said = column_said number column.name column.lo column.hi column.nullable (more ++ comments) first.is in
+    let lines = ap (λ (l : List ℕ). numbered_from number (cut_lines l)) text ∙ said in
+    subst (λ (l : List NumberedWords). AllZip SpellsColumn l (column ∷ columns)) (sym lines)
+    ((column_spelled column.name column.lo column.hi column.nullable first.is, first.is.name, first.range), rest)
+
+columns_short : (columns : List ColumnShape) → All IsSound columns → length (columns_text columns) ≤ 122 * length columns
+unfolding columns_text
+columns_short [] are = omega arith
+columns_short (column ∷ columns) are =
+    let first : IsSound column = All-head IsSound column columns are in
+    let rest = columns_short columns (All-tail IsSound column columns are) in
+    let here = column_short column.name column.lo column.hi column.nullable first.is in
+    omega (arith, length-append (line_text (column_line column)) (columns_text columns))
+
+table_short : (name : List ℕ) → is_name name ≡ true → length (line_text (table_line name)) ≤ 70
+unfolding spaced_words
+table_short name is = let n = (short_word name is).short in simp length-append (omega arith)
+
+-- the text of a shape with comments after it spells the shape
+shape_with : (schema : SchemaShape) (comments : List ℕ) → AreSound schema → AreComments comments → length comments ≤ 4096 → IsSchemaText (schema_text schema ++ comments) schema
+unfolding schema_text
+shape_with schema comments is none few =
+    let first = line_text (table_line schema.name) in
+    let more = columns_text schema.columns in
+    let size : length ((first ++ more) ++ comments) ≤ 65536 =
+    omega (arith, length-append (first ++ more) comments, length-append first more, table_short schema.name is.name, columns_short schema.columns is.columns, is.within_limit) in
+    let lines : numbered_from 1 (cut_lines ((first ++ more) ++ comments)) ≡ numbered_words 1 (table_line schema.name) ∷ numbered_from 2 (cut_lines (more ++ comments)) =
+    ap (λ (l : List ℕ). numbered_from 1 (cut_lines l)) (append_assoc first more comments) ∙ table_said schema.name (more ++ comments) is.name in (
+      size,
+      subst (λ (l : List NumberedWords). SpellsSchema l schema) (sym lines) (
+        table_spelled schema.name,
+        is.name,
+        columns_spelled 2 schema.columns comments is.columns none,
+        is.nonempty,
+        is.within_limit,
+        is.apart,
+      ),
+    )
+
 ordered : (l h : ℤ) → l ≤ℤ h → int_le l h ≡ true
 ordered l h o = search rules
 
@@ -91,70 +155,39 @@ in_range : (column : Column) → is_range column.lo column.hi ≡ true
 unfolding is_range
 in_range column = rw (ordered column.lo column.hi column.ordered, narrow (column.hi -ℤ column.lo) (pos (2 ^ 63)) column.narrow) refl
 
-abbrev AreColumns : List Column → Type 0
-AreColumns columns = All IsColumn (map column_shape columns)
-
--- the lines of columns spell them, with comments after
-columns_spelled : (number : ℕ) (columns : List Column) (comments : List ℕ) → AreColumns columns → AreComments comments
-    → AllZip SpellsColumn (numbered_from number (cut_lines (columns_text (map column_shape columns) ++ comments))) (map column_shape columns)
-unfolding columns_text
-columns_spelled number [] comments are none = rw (none number) tt
-columns_spelled number (column ∷ columns) comments are none =
-    let first : IsColumn (column_shape column) = All-head IsColumn (column_shape column) (map column_shape columns) are in
-    let rest = columns_spelled (number + 1) columns comments (All-tail IsColumn (column_shape column) (map column_shape columns) are) none in
-    let more = columns_text (map column_shape columns) in
-    let text : (line_text (column_line (column_shape column)) ++ more) ++ comments ≡ line_text (column_line (column_shape column)) ++ (more ++ comments) =
-    append_assoc (line_text (column_line (column_shape column))) more comments in
-    let said = column_said number column.name column.lo column.hi column.nullable (more ++ comments) first in
-    let lines = ap (λ (l : List ℕ). numbered_from number (cut_lines l)) text ∙ said in
-    subst (λ (l : List NumberedWords). AllZip SpellsColumn l (map column_shape (column ∷ columns))) (sym lines)
-    ((column_spelled column.name column.lo column.hi column.nullable first, first.name, in_range column), rest)
-
-columns_short : (columns : List Column) → AreColumns columns → length (columns_text (map column_shape columns)) ≤ 122 * length columns
-unfolding columns_text
-columns_short [] are = omega arith
-columns_short (column ∷ columns) are =
-    let first : IsColumn (column_shape column) = All-head IsColumn (column_shape column) (map column_shape columns) are in
-    let rest = columns_short columns (All-tail IsColumn (column_shape column) (map column_shape columns) are) in
-    let here = column_short column.name column.lo column.hi column.nullable first in
-    omega (arith, length-append (line_text (column_line (column_shape column))) (columns_text (map column_shape columns)))
+are_sound : (columns : List Column) → All IsColumn (map column_shape columns) → All IsSound (map column_shape columns)
+are_sound [] are = tt
+are_sound (column ∷ columns) are =
+    (record { is = All-head IsColumn (column_shape column) (map column_shape columns) are; range = in_range column },
+    are_sound columns (All-tail IsColumn (column_shape column) (map column_shape columns) are))
 
 names_same : (columns : List Column) → shape_names (map column_shape columns) ≡ names_of columns
 names_same [] = refl
 names_same (c ∷ columns) = ap (λ (names : List (List ℕ)). c.name ∷ names) (names_same columns)
 
-table_short : (name : List ℕ) → is_name name ≡ true → length (line_text (table_line name)) ≤ 70
-unfolding spaced_words
-table_short name is = let n = (short_word name is).short in simp length-append (omega arith)
-
--- the text of a schema with comments after it spells the schema
+-- so does that of a schema
 pub text_spells : (schema : Schema) (comments : List ℕ) → IsSchema (schema_shape schema) → AreComments comments → length comments ≤ 4096
     → IsSchemaText (schema_text (schema_shape schema) ++ comments) (schema_shape schema)
-unfolding schema_text
 text_spells schema comments is none few =
     let columns = schema.columns.items in
-    let first = line_text (table_line schema.name) in
-    let more = columns_text (map column_shape columns) in
-    let size : length ((first ++ more) ++ comments) ≤ 65536 =
-    omega (arith, length-append (first ++ more) comments, length-append first more, table_short schema.name is.name, columns_short columns is.columns, schema.limited) in
-    let lines : numbered_from 1 (cut_lines ((first ++ more) ++ comments)) ≡ numbered_words 1 (table_line schema.name) ∷ numbered_from 2 (cut_lines (more ++ comments)) =
-    ap (λ (l : List ℕ). numbered_from 1 (cut_lines l)) (append_assoc first more comments) ∙ table_said schema.name (more ++ comments) is.name in
-    let apart : are_apart (shape_names (map column_shape columns)) ≡ true = ap are_apart (names_same columns) ∙ schema.apart in (
-      size,
-      subst (λ (l : List NumberedWords). SpellsSchema l (schema_shape schema)) (sym lines) (
-        table_spelled schema.name,
-        is.name,
-        columns_spelled 2 columns comments is.columns none,
-        omega (arith, length-map columns column_shape, schema.inhabited),
-        omega (arith, length-map columns column_shape, schema.limited),
-        apart,
-      ),
-    )
+    let sound : AreSound (schema_shape schema) = record {
+      name = is.name;
+      columns = are_sound columns is.columns;
+      nonempty = omega (arith, length-map columns column_shape, schema.inhabited);
+      within_limit = omega (arith, length-map columns column_shape, schema.limited);
+      apart = ap are_apart (names_same columns) ∙ schema.apart;
+    } in
+    shape_with (schema_shape schema) comments sound none few
 
 -- no comments are comments
 pub no_comments : AreComments []
 unfolding cut_lines numbered_from
 no_comments number = refl
+
+-- the text of a shape spells it
+pub shape_spelled : (schema : SchemaShape) → AreSound schema → IsSchemaText (schema_text schema) schema
+shape_spelled schema is =
+    subst (λ (text : List ℕ). IsSchemaText text schema) (append-nil (schema_text schema)) (shape_with schema [] is no_comments (omega arith))
 
 -- the text of columns, one more at a time
 pub columns_text-next : (columns : List Column) (i : ℕ) (d : Column) → i < length columns →

@@ -11,5 +11,5 @@ returns-then-place-conds c = λ same row.
     let x = c.index-conds-place.result in
     let cond = c.args.cond.now in
     member_absorbed (truth_of row) c.args.conds.now c.args.place x (truth_of row cond) c.if-place-conds.true
-    (truth_of-tree_of row cond ∙ ap (tree_truth row) (sym (c.is_same.ensures same)) ∙ sym (truth_of-tree_of row x)
+    (truth_of-tree_of row cond ∙ ap (tree_truth row) (sym (c.is_same.ensures.same same)) ∙ sym (truth_of-tree_of row x)
     ∙ ap (truth_of row) c.index-conds-place.is)
