@@ -13,7 +13,7 @@ ghost use Rattle.bw_csv.specs.Records.{IsOpen, remaining_records};
 ghost use Rattle.bw_csv.specs.Rows.{is_exempt, rows_from, MatchesUnlessExempt, IsRowsFault};
 ghost use Rattle.bw_csv.specs.Rows.{located_at};
 
-use crate::field::{is_minus, is_null_text, unsigned, without_blanks};
+use crate::field::{is_minus, is_null_text, without_blanks, without_sign};
 use crate::records::Records;
 use bw_model::{Fault, MAX_ROWS, Row, Value, code};
 use bw_text::number_in;
@@ -106,7 +106,7 @@ pub fn bare_value_of(field: &[u8], number: u32) -> Result<Value, Fault>
     if is_null_text(text) {
         return Ok(None);
     }
-    match number_in(is_minus(text), unsigned(text)) {
+    match number_in(is_minus(text), without_sign(text)) {
         Some(Some(n)) => Ok(Some(n)),
         Some(None) => Err(Fault::at_record(code::OUT_OF_RANGE, number)),
         None => Err(Fault::at_record(code::NOT_A_NUMBER, number)),
