@@ -34,7 +34,7 @@ pub(crate) fn at_least(width: u32, bytes: &[u8], low: u32, count: u32, c: u64) -
 }
 
 /// Returns the same for at most 8 bits and a byte, which has no more bits than a whole byte of the
-/// code.
+/// code. If it is a multiple of 8, the three lowest of these bits change nothing.
 #[inline(always)]
 pub(crate) fn byte_at_least(width: u32, bytes: &[u8], low: u32, count: u32, c: u8) -> Plane
     requires width { (1 ≤ width) × (width ≤ 63) }
@@ -43,10 +43,12 @@ pub(crate) fn byte_at_least(width: u32, bytes: &[u8], low: u32, count: u32, c: u
     ensures { lanes_of_words result
         ≡ map (λ code. not (nat_lt (code / 2 ^ low % 2 ^ count) c)) (planes_codes width bytes.now) }
 {
-    if count == 8 {
-        low_at_least(width, bytes, low, 8, u64::from(c))
-    } else {
+    if count != 8 {
         at_least(width, bytes, low, count, u64::from(c))
+    } else if c % 8 == 0 {
+        low_at_least(width, bytes, low + 3, 5, u64::from(c / 8))
+    } else {
+        low_at_least(width, bytes, low, 8, u64::from(c))
     }
 }
 
