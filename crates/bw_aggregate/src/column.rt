@@ -48,11 +48,12 @@ pub(crate) fn sum<S: Segment>(segment: &S, col: usize, rows: &Selection) -> Opti
 }
 
 /// Returns the minimum value of the codes in these rows, or None if there are no rows, or none that
-/// changes the minimum so far.
+/// changes the minimum so far. `number` rows were selected, nulls among them.
 pub(crate) fn least<S: Segment>(
     segment: &S,
     col: usize,
     rows: &Selection,
+    number: u32,
     so_far: Option<i128>,
 ) -> Option<i128>
     requires { col < length (S.meaning segment.now).columns }
@@ -60,7 +61,7 @@ pub(crate) fn least<S: Segment>(
         (reduce int_min (values_in (S.meaning segment.now) col (lanes_of_words rows.now))) }
     ensures small { IsTotalOfRows 1 result }
 {
-    if none_beyond(segment, col, rows, so_far, false) {
+    if none_beyond(segment, col, rows, number, so_far, false) {
         return None;
     }
     let code = segment.min_code(col, rows)?;
@@ -68,11 +69,12 @@ pub(crate) fn least<S: Segment>(
 }
 
 /// Returns the maximum value of the codes in these rows, or None if there are no rows, or none that
-/// changes the maximum so far.
+/// changes the maximum so far. `number` rows were selected, nulls among them.
 pub(crate) fn greatest<S: Segment>(
     segment: &S,
     col: usize,
     rows: &Selection,
+    number: u32,
     so_far: Option<i128>,
 ) -> Option<i128>
     requires { col < length (S.meaning segment.now).columns }
@@ -80,20 +82,25 @@ pub(crate) fn greatest<S: Segment>(
         (reduce int_max (values_in (S.meaning segment.now) col (lanes_of_words rows.now))) }
     ensures small { IsTotalOfRows 1 result }
 {
-    if none_beyond(segment, col, rows, so_far, true) {
+    if none_beyond(segment, col, rows, number, so_far, true) {
         return None;
     }
     let code = segment.max_code(col, rows)?;
     Some(value_of_code(lowest(segment, col), code))
 }
 
+/// The highest digits of at most this many rows are often all beside those of a minimum or maximum
+/// so far.
+const SOME: u32 = 16;
+
 /// Returns true only if no value of the codes in these rows is above a total or, unless `greatest`,
-/// below it.
+/// below it. If more than a few rows were selected, `number` of them, the digits aren't looked at.
 #[inline(always)]
 fn none_beyond<S: Segment>(
     segment: &S,
     col: usize,
     rows: &Selection,
+    number: u32,
     so_far: Option<i128>,
     greatest: bool,
 ) -> bool
@@ -104,6 +111,9 @@ fn none_beyond<S: Segment>(
         × (list_any (is_beyond greatest code)
         (codes_in (S.meaning segment.now) col (lanes_of_words rows.now)) ≡ false) }
 {
+    if number > SOME {
+        return false;
+    }
     let Some(total) = so_far else {
         return false;
     };

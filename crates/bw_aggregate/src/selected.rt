@@ -35,18 +35,19 @@ pub fn add_selected<S: Segment>(total: &mut Accumulator, segment: &S, selection:
     totals_join();
     let number = count(selection);
     if number != 0 {
-        let others = total_of(total.item(), segment, selection, total.finish());
+        let others = total_of(total.item(), segment, selection, number, total.finish());
         total.add_total(number, others);
     }
 }
 
-/// Returns the total of the selected rows of a segment, or None if it adds nothing to the total of
-/// earlier rows. A count of rows is computed here: the other totals may need planes, which would be
+/// Returns the total of the selected rows of a segment, `number` of them, or None if it adds nothing
+/// to the total of earlier rows. A count of rows is computed here: the other totals may need planes, which would be
 /// cleared for it too.
 fn total_of<S: Segment>(
     item: Item,
     segment: &S,
     selection: &Selection,
+    number: u32,
     so_far: Option<i128>,
 ) -> Option<i128>
     requires column { IsTrue (item_within (length (S.meaning segment.now).columns) item) }
@@ -58,7 +59,7 @@ fn total_of<S: Segment>(
 {
     match item {
         Item::CountAll => Some(i128::from(count(selection))),
-        _ => total_by_columns(item, segment, selection, so_far),
+        _ => total_by_columns(item, segment, selection, number, so_far),
     }
 }
 
@@ -68,6 +69,7 @@ fn total_by_columns<S: Segment>(
     item: Item,
     segment: &S,
     selection: &Selection,
+    number: u32,
     so_far: Option<i128>,
 ) -> Option<i128>
     requires column { IsTrue (item_within (length (S.meaning segment.now).columns) item) }
@@ -82,7 +84,13 @@ fn total_by_columns<S: Segment>(
         Item::CountAll => Some(i128::from(count(selection))),
         Item::Count(col) => Some(i128::from(count(&present(segment, col, selection)))),
         Item::Sum(col) => sum(segment, col, &present(segment, col, selection)),
-        Item::Min(col) => least(segment, col, &present(segment, col, selection), so_far),
-        Item::Max(col) => greatest(segment, col, &present(segment, col, selection), so_far),
+        Item::Min(col) => {
+            let rows = present(segment, col, selection);
+            least(segment, col, &rows, number, so_far)
+        }
+        Item::Max(col) => {
+            let rows = present(segment, col, selection);
+            greatest(segment, col, &rows, number, so_far)
+        }
     }
 }

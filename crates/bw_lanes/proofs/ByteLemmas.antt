@@ -1,6 +1,6 @@
 -- Words made of bytes, 64 at a time.
 use Rattle.std.proofs.Common.{◌≡◌, ◌∙◌, sym, ap, ap₂, refl, add-one, get_or, bit_or, ◌&&◌, ℕ, zero}
-use Rattle.std.proofs.Common.{suc, ◌+◌, ◌*◌, ◌%◌, ◌^◌, ◌<◌, ◌≤◌, Bool, cond, eqb, leb, ltb, ◌==◌}
+use Rattle.std.proofs.Common.{suc, ◌+◌, ◌*◌, ◌%◌, ◌^◌, ◌<◌, ◌≤◌, Bool, cond, eqb, ltb, max, ◌==◌}
 use Rattle.std.proofs.Common.{List, [], ◌∷◌, ◌++◌, map, length, take, drop, replicate, bit_and}
 use Rattle.std.proofs.Common.{arith, w8, eq-eqb, ne_eqb, drop-cons}
 use Rattle.std.proofs.lemmas.Bool.Decides.{nat_tests}
@@ -29,11 +29,13 @@ pub compared : (t : ℕ → ℕ → Bool) (bytes : List ℕ) (c : ℕ) → lengt
     → bits_from_least 64 (mask_l (map (top 7) (zip2 (λ a b. cond (t a b) 255 0) bytes (replicate 64 c))) % 2 ^ 64) ≡ map (λ byte. t byte c) bytes
 compared t bytes c long = bits_of_flags 64 (map (λ byte. t byte c) bytes) _ (length-map bytes (λ byte. t byte c) ∙ long) (bitmask_splat w8 t bytes 64 c long (omega arith))
 
-pub compared_at_most : (bytes : List ℕ) (c : ℕ) → length bytes ≡ 64
-    → bits_from_least 64 (mask_l (map (top 7) (zip2 (λ a b. cond (leb a b) 255 0) bytes (replicate 64 c))) % 2 ^ 64) ≡ map (λ byte. ltb byte (c + 1)) bytes
-compared_at_most bytes c long = compared leb bytes c long ∙ (λ i. map (λ byte. below byte i) bytes)
+pub compared_at_most : (bytes greater : List ℕ) (c : ℕ) → length bytes ≡ 64 → greater ≡ zip2 max bytes (replicate 64 c)
+    → bits_from_least 64 (mask_l (map (top 7) (zip2 (λ a b. cond (eqb a b) 255 0) greater (replicate 64 c))) % 2 ^ 64) ≡ map (λ byte. ltb byte (c + 1)) bytes
+compared_at_most bytes greater c long is =
+    let same = is ∙ zip2_splat max bytes 64 c long in
+    compared eqb greater c (ap length same ∙ length-map bytes (λ x. max x c) ∙ long) ∙ ap (map (λ x. eqb x c)) same ∙ map-map (λ x. eqb x c) (λ x. max x c) bytes ∙ (λ i. map (λ byte. below byte i) bytes)
   where
-    below : (byte : ℕ) → leb byte c ≡ ltb byte (c + 1)
+    below : (byte : ℕ) → eqb (max byte c) c ≡ ltb byte (c + 1)
     below byte = grind (arith, nat_tests)
 
 pub bit_compared : (bytes : List ℕ) (bit : ℕ) → bit < 8 → length bytes ≡ 64

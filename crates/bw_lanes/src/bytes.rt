@@ -7,6 +7,7 @@ ghost use Rattle.bw_lanes.specs.Lanes.{bits_from_least, lanes_of_words, are_zero
 
 use crate::lanes::LANES;
 use crate::plane::Plane;
+use crate::selected::greater;
 use std::simd::prelude::*;
 
 /// Returns the rows whose byte is less than `c`. Byte i is row i's. The bytes are compared with the
@@ -113,12 +114,14 @@ fn or_slices(slices: &[u8], count: usize, first: usize) -> u8x64
     bytes
 }
 
-/// Returns one bit for each byte: whether it is at most `c`.
+/// Returns one bit for each byte: whether it is at most `c`, which is then the greater of both. The
+/// bytes needn't be copied for this, as they would be to compare the lesser of both with them.
 #[inline(always)]
 fn at_most(bytes: u8x64, c: u8) -> u64
     ensures { bits_from_least 64 result ≡ map (λ byte. nat_lt byte (c + 1)) bytes }
 {
-    bytes.simd_le(u8x64::splat(c)).to_bitmask()
+    let limit = u8x64::splat(c);
+    greater(bytes, limit).simd_eq(limit).to_bitmask()
 }
 
 /// Returns one bit for each byte: whether it is `c`.

@@ -141,7 +141,7 @@ fn lesser<const N: usize>(a: Simd<u8, N>, b: Simd<u8, N>) -> Simd<u8, N>
 
 /// Returns the greater byte in each lane.
 #[tactic(auto, using(crate::proofs::SelectedLemmas::greater_is))]
-fn greater<const N: usize>(a: Simd<u8, N>, b: Simd<u8, N>) -> Simd<u8, N>
+pub(crate) fn greater<const N: usize>(a: Simd<u8, N>, b: Simd<u8, N>) -> Simd<u8, N>
     ensures { result ≡ zip2 max a.entry b.entry }
 {
     a.simd_max(b)

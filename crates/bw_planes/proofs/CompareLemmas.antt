@@ -3,7 +3,7 @@
 use Rattle.std.proofs.Common.{◌≡◌, ◌∙◌, refl, sym, ap, ap₂, subst, ℕ, ◌+◌, ◌-◌, ◌*◌, ◌/◌, ◌%◌, ◌^◌}
 use Rattle.std.proofs.Common.{◌<◌, Bool, true, false, not, cond, ltb, eqb, ◌==◌, ◌&&◌, ◌||◌, List}
 use Rattle.std.proofs.Common.{map, length, bit_and, replicate, min, inl, inr, arith, pow_mono}
-use Rattle.std.proofs.Common.{shr_lt, div-add-mod', shr-shr, pow_pos}
+use Rattle.std.proofs.Common.{shr_lt, div-add-mod', shr-shr, pow_pos, lt-ltb, le-ltb}
 use Rattle.std.proofs.Math.Nat.{div-eq_of_lt, mod-eq_of_lt, mod-lt}
 use Rattle.std.proofs.lemmas.Bool.{cases_lt}
 use Rattle.std.proofs.lemmas.Bool.Decides.{nat_tests}
@@ -35,6 +35,17 @@ above_all n count c some = elim (cases_lt c (2 ^ count)) [
   | inl less ↦ absurd (some (div-eq_of_lt less))
   | inr not_less ↦ omega (arith, mod-lt n (pow_pos count))
 ]
+
+-- a byte of a code is below a multiple of 8 if the eighths are
+eighths : (n c : ℕ) → c % 8 ≡ 0 → ltb (n / 2 ^ 3 % 2 ^ 5) (c / 8) ≡ ltb (n % 2 ^ 8) c
+eighths n c multiple = elim (cases_lt (n % 2 ^ 8) c) [
+  | inl less ↦ lt-ltb _ _ (omega (arith, less, multiple)) ∙ sym (lt-ltb _ _ less)
+  | inr not_less ↦ le-ltb _ _ (omega (arith, not_less, multiple)) ∙ sym (le-ltb _ _ not_less)
+]
+
+pub by_eighths : (low count c eighth : ℕ) → count ≡ 8 → c % 8 ≡ 0 → eighth ≡ c / 8 → (code : ℕ) → ltb (code / 2 ^ (low + 3) % 2 ^ 5) eighth ≡ ltb (code / 2 ^ low % 2 ^ count) c
+by_eighths low count c eighth whole multiple is code =
+    ap₂ (λ k e. ltb (k % 2 ^ 5) e) (sym (shr-shr code low 3)) is ∙ eighths (code / 2 ^ low) c multiple ∙ ap (λ k. ltb (code / 2 ^ low % 2 ^ k) c) (sym whole)
 
 -- A test of numbers by their highest bit and those below it: in codes, with one bit more.
 abbrev pub IsByBit : (ℕ → ℕ → Bool) → (Bool → Bool → Bool → Bool) → Type 0

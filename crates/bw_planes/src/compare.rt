@@ -33,6 +33,25 @@ pub(crate) fn at_least(width: u32, bytes: &[u8], low: u32, count: u32, c: u64) -
     }
 }
 
+/// Returns the same for at most 8 bits and a byte, which has no more bits than a whole byte of the
+/// code. If it is a multiple of 8, the three lowest of these bits change nothing.
+#[inline(always)]
+pub(crate) fn byte_at_least(width: u32, bytes: &[u8], low: u32, count: u32, c: u8) -> Plane
+    requires width { (1 ≤ width) × (width ≤ 63) }
+    requires size { length bytes.now ≡ 64 * width }
+    requires bits { low + count ≤ width }
+    ensures { lanes_of_words result
+        ≡ map (λ code. not (nat_lt (code / 2 ^ low % 2 ^ count) c)) (planes_codes width bytes.now) }
+{
+    if count != 8 {
+        at_least(width, bytes, low, count, u64::from(c))
+    } else if c % 8 == 0 {
+        low_at_least(width, bytes, low + 3, 5, u64::from(c / 8))
+    } else {
+        low_at_least(width, bytes, low, 8, u64::from(c))
+    }
+}
+
 /// Returns the same, with a constant that has no higher bit. It is compiled into its callers, so
 /// that the loop over the planes of a whole byte, the usual case, is unrolled.
 #[tactic(auto, using(crate::proofs::CompareLemmas::comparison))]
@@ -64,14 +83,13 @@ pub(crate) fn eq(width: u32, bytes: &[u8], low: u32, count: u32, c: u8) -> Plane
     ensures { lanes_of_words result
         ≡ map (λ code. code / 2 ^ low % 2 ^ count == c) (planes_codes width bytes.now) }
 {
+    if count == 8 {
+        return low_eq(width, bytes, low, 8, c);
+    }
     if c as u32 >> count != 0 {
         return [0; 8];
     }
-    if count == 8 {
-        low_eq(width, bytes, low, 8, c)
-    } else {
-        low_eq(width, bytes, low, count, c)
-    }
+    low_eq(width, bytes, low, count, c)
 }
 
 /// Returns the same, with a constant that has no higher bit. The loop ends early, and not at the

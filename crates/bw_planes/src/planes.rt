@@ -8,7 +8,7 @@ ghost use Rattle.bw_model.specs.Selection.{selected_items};
 ghost use Rattle.bw_model.specs.StoredCodes.{byte_of};
 ghost use Rattle.bw_planes.specs.Planes.{plane_packing, planes_codes};
 
-use crate::compare::{at_least, eq, equal_step};
+use crate::compare::{at_least, byte_at_least, eq, equal_step};
 use crate::sum::sum_in_word;
 use bw_lanes::{
     LANES, Plane, Selection, and, bytes_bit, is_zero, load, not, or, push_bit, to_bytes,
@@ -70,7 +70,7 @@ impl CodeLayout for Planes {
     #[inline(always)]
     fn byte_lt(width: u32, bytes: &[u8], slice: usize, c: u8) -> Plane {
         let low = 8 * slice as u32;
-        not(&at_least(width, bytes, low, (width - low).min(8), u64::from(c)))
+        not(&byte_at_least(width, bytes, low, (width - low).min(8), c))
     }
 
     #[inline(always)]

@@ -12,15 +12,6 @@ use bw_lanes::{LANES, Selection, count, last_between};
 /// If there are at most this many lanes, their codes are read one by one.
 const FEW: u32 = 4;
 
-/// If there are at most this many lanes, their highest digits alone are often beside those of a
-/// minimum or maximum so far.
-const SOME: u32 = 16;
-
-/// Returns whether the highest digits of the codes in these lanes are worth looking at.
-pub(crate) fn are_few(lanes: &Selection) -> bool {
-    count(lanes) <= SOME
-}
-
 /// Returns the minimum of the codes in some lanes, or None if there are no lanes.
 pub(crate) fn least_in<L: CodeLayout>(width: u32, bytes: &[u8], lanes: &Selection) -> Option<u64>
     requires width { (1 ≤ width) × (width ≤ 63) }

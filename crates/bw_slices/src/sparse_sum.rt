@@ -1,5 +1,6 @@
 //! The sum of the codes in few lanes, one code after the other, and their highest bytes.
 ghost use Rattle.std.specs.Prelude.{All, ◌≡◌, ◌^◌, ◌+◌, ◌*◌, ◌/◌, ◌<◌, ◌≤◌, ℕ, true, false, not};
+ghost use Rattle.std.specs.Int.{bit_at};
 ghost use Rattle.std.specs.Prelude.{drop, length, slice_index, slice_index_or, sum, take};
 ghost use Rattle.bw_lanes.specs.Lanes.{bits_from_least, lanes_of_words};
 ghost use Rattle.bw_model.specs.Selection.{selected_items};
@@ -7,7 +8,7 @@ ghost use Rattle.bw_segment.specs.Selected.{is_beyond};
 ghost use Rattle.bw_slices.specs.Slices.{slices_codes};
 
 use crate::layout::Slices;
-use bw_lanes::{LANES, Selection, last_between};
+use bw_lanes::{LANES, Selection};
 use bw_segment::CodeLayout;
 
 /// Returns the sum of the codes in these lanes.
@@ -53,12 +54,28 @@ pub(crate) fn none_near(bytes: &[u8; LANES], lanes: &Selection, top: u64, greate
         → slice_index_or (lanes_of_words lanes.now) lane false ≡ true
         → is_beyond (not greatest) top (slice_index bytes.now lane) ≡ true }
 {
-    let mut end = LANES;
-    while let Some(lane) = last_between(lanes, 0, end) {
-        if is_near(u64::from(bytes[lane]), top, greatest) {
+    for word in 0..8 {
+        if !none_near_in_word(bytes, word, lanes[word], top, greatest) {
             return false;
         }
-        end = lane;
+    }
+    true
+}
+
+/// Returns the same for the 64 lanes of a word; `rows` has their bits.
+#[inline(always)]
+fn none_near_in_word(bytes: &[u8; LANES], word: usize, rows: u64, top: u64, greatest: bool) -> bool
+    requires { word < 8 }
+    ensures { result ≡ true → (row : ℕ) → row < 64 → bit_at rows row ≡ 1
+        → is_beyond (not greatest) top (slice_index bytes.now (64 * word + row)) ≡ true }
+{
+    let mut left = rows;
+    while left != 0 {
+        let row = left.trailing_zeros();
+        if is_near(u64::from(bytes[64 * word + row as usize]), top, greatest) {
+            return false;
+        }
+        left &= !(1 << row);
     }
     true
 }

@@ -7,6 +7,5 @@ use Rattle.bw_planes.proofs.planes.PlanesCodeLayout.byte_lt.Goals as goal
 pub returns : goal.returns
 returns c =
     let codes = planes_codes c.args.width c.args.bytes.now in
-    let bytes = of_byte (λ n. not (ltb n c.from.result)) c.args.width c.args.slice c.min.result c.args.bytes.now c.requires.slice c.min.ensures in
-    c.not.ensures ∙ ap (map not) (c.at_least.ensures ∙ bytes) ∙ negated (λ code. ltb (byte_of c.args.slice code) c.from.result) codes
-    ∙ ap (λ k. map (λ code. ltb (byte_of c.args.slice code) k) codes) c.from.ensures
+    let bytes = of_byte (λ n. not (ltb n c.args.c)) c.args.width c.args.slice c.min.result c.args.bytes.now c.requires.slice c.min.ensures in
+    c.not.ensures ∙ ap (map not) (c.byte_at_least.ensures ∙ bytes) ∙ negated (λ code. ltb (byte_of c.args.slice code) c.args.c) codes
