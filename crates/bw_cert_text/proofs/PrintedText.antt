@@ -50,6 +50,8 @@ use Rattle.bw_text.proofs.RegisterLemmas.{plain_register, register_of-text}
 use Rattle.bw_text.proofs.SpacedWords.{line_said}
 use Rattle.bw_text.specs.Printing.{is_plain_word}
 use Rattle.bw_model.proofs.NameLemmas.{named_column_is_there, plain_name}
+use Rattle.bw_model.proofs.SchemaLemmas.{negated}
+use Rattle.std.proofs.lemmas.Bool.{and_from}
 
 same_as_itself : (text : List ℕ) → same_text text text ≡ true
 unfolding same_text
@@ -103,15 +105,11 @@ abbrev begins_line : List Token → Bool
 begins_line (Key key ∷ ts) = not (begins_comment key)
 begins_line _ = false
 
-not_true : (b : Bool) → not b ≡ true → b ≡ false
-not_true true e = absurd (cc e)
-not_true false e = refl
-
 tokens_said : (number : ℕ) (ts : List Token) (rest : List ℕ) → begins_line ts ≡ true → list_all is_clear ts ≡ true →
     numbered_from number (cut_lines (token_line ts ++ rest)) ≡ numbered_words number (map token_text ts) ∷ numbered_from (number + 1) (cut_lines rest)
 tokens_said number (Key key ∷ ts) rest begins h =
     let here = both (is_plain_word key) (list_all is_clear ts) h in
-    line_said number key (map token_text ts) rest here.0 (not_true (begins_comment key) begins) (tokens_plain ts here.1)
+    line_said number key (map token_text ts) rest here.0 (negated (begins_comment key) begins) (tokens_plain ts here.1)
 tokens_said number _ rest begins h = absurd (cc begins)
 
 -- so are lines whose numbers fit, with the schema's columns
@@ -159,23 +157,20 @@ entry_begins (Condition Fixed) = refl
 entry_begins (Instruction Fill) = refl
 entry_begins _ = refl
 
-and_true : (a b : Bool) → a ≡ true → b ≡ true → (a && b) ≡ true
-and_true a b x y = rw (x, y) refl
-
 module _ (columns : List stored.Column) (names : list_all is_name (names_of columns) ≡ true) where
   one_clear : (word : List ℕ) (start len bound node : ℕ) (prev : Option ℕ) → list_all is_small (Number start ∷ Number len ∷ Number bound ∷ Number node ∷ Perhaps prev ∷ []) ≡ true →
       is_found (column_named columns word) ≡ true → list_all is_clear (Column (schema_spelling columns word) ∷ Number start ∷ Number len ∷ Number bound ∷ Number node ∷ Perhaps prev ∷ []) ≡ true
   one_clear word start len bound node None h there =
-      and_true (is_plain_word (schema_spelling columns word)) (list_all is_clear (Number start ∷ Number len ∷ Number bound ∷ Number node ∷ Perhaps None ∷ [])) (plain_spelling columns word names there) h
+      and_from (is_plain_word (schema_spelling columns word)) (list_all is_clear (Number start ∷ Number len ∷ Number bound ∷ Number node ∷ Perhaps None ∷ [])) (plain_spelling columns word names there) h
   one_clear word start len bound node (Some prev) h there =
-      and_true (is_plain_word (schema_spelling columns word)) (list_all is_clear (Number start ∷ Number len ∷ Number bound ∷ Number node ∷ Perhaps (Some prev) ∷ [])) (plain_spelling columns word names there) h
+      and_from (is_plain_word (schema_spelling columns word)) (list_all is_clear (Number start ∷ Number len ∷ Number bound ∷ Number node ∷ Perhaps (Some prev) ∷ [])) (plain_spelling columns word names there) h
 
   two_clear : (left right : List ℕ) (len node : ℕ) (prev : Option ℕ) → list_all is_small (Number len ∷ Number node ∷ Perhaps prev ∷ []) ≡ true →
       is_found (column_named columns left) ≡ true → is_found (column_named columns right) ≡ true →
       list_all is_clear (Column (schema_spelling columns left) ∷ Column (schema_spelling columns right) ∷ Number len ∷ Number node ∷ Perhaps prev ∷ []) ≡ true
   two_clear left right len node prev h there too =
-      and_true (is_plain_word (schema_spelling columns left)) (list_all is_clear (Column (schema_spelling columns right) ∷ Number len ∷ Number node ∷ Perhaps prev ∷ [])) (plain_spelling columns left names there)
-      (and_true (is_plain_word (schema_spelling columns right)) (list_all is_clear (Number len ∷ Number node ∷ Perhaps prev ∷ [])) (plain_spelling columns right names too) (go prev h))
+      and_from (is_plain_word (schema_spelling columns left)) (list_all is_clear (Column (schema_spelling columns right) ∷ Number len ∷ Number node ∷ Perhaps prev ∷ [])) (plain_spelling columns left names there)
+      (and_from (is_plain_word (schema_spelling columns right)) (list_all is_clear (Number len ∷ Number node ∷ Perhaps prev ∷ [])) (plain_spelling columns right names too) (go prev h))
     where
       go : (prev : Option ℕ) → list_all is_small (Number len ∷ Number node ∷ Perhaps prev ∷ []) ≡ true → list_all is_clear (Number len ∷ Number node ∷ Perhaps prev ∷ []) ≡ true
       go None h = h
@@ -203,7 +198,7 @@ module _ (columns : List stored.Column) (names : list_all is_name (names_of colu
   chains_clear (x ∷ xs) h g =
       let small = both (list_all is_small (chain_tokens x)) (list_all (λ x. list_all is_small (chain_tokens x)) xs) h in
       let there = both (are_columns columns x.columns) (list_all (λ x. are_columns columns x.columns) xs) g in
-      and_true (list_all is_clear (chain_tokens (respelled_chain columns x))) (list_all (λ x. list_all is_clear (chain_tokens x)) (map (respelled_chain columns) xs))
+      and_from (list_all is_clear (chain_tokens (respelled_chain columns x))) (list_all (λ x. list_all is_clear (chain_tokens x)) (map (respelled_chain columns) xs))
       (chain_clear x small.0 there.0) (chains_clear xs small.1 there.1)
 
 all_clear : {A : Type 0} (tokens : A → List Token) → ((x : A) → list_all is_small (tokens x) ≡ true → list_all is_clear (tokens x) ≡ true) → (xs : List A) →
@@ -211,7 +206,7 @@ all_clear : {A : Type 0} (tokens : A → List Token) → ((x : A) → list_all i
 all_clear tokens clear [] h = refl
 all_clear tokens clear (x ∷ xs) h =
     let here = both (list_all is_small (tokens x)) (list_all (λ x. list_all is_small (tokens x)) xs) h in
-    and_true (list_all is_clear (tokens x)) (list_all (λ x. list_all is_clear (tokens x)) xs) (clear x here.0) (all_clear tokens clear xs here.1)
+    and_from (list_all is_clear (tokens x)) (list_all (λ x. list_all is_clear (tokens x)) xs) (clear x here.0) (all_clear tokens clear xs here.1)
 
 -- a section's lines, before a certificate that follows them
 from_lower : (s t : ℕ) (lines : List NumberedWords) (c : CertificateFields) → t ≤ s → SpellsFrom s lines c → SpellsFrom t lines c
