@@ -23,10 +23,7 @@ use Rattle.bw_file.proofs.FileSpelling.{head_is, shapes_fit}
 use Rattle.bw_file.proofs.SpellingLemmas.{head_bytes, IsHeader}
 use Rattle.bw_file.proofs.SpelledHeader.{IsWhole, header_reads}
 use Rattle.bw_file.proofs.SpelledBody.{groups_read}
-
-names_same : (columns : List Column) → shape_names (map column_shape columns) ≡ names_of columns
-names_same [] = refl
-names_same (c ∷ columns) = ap (λ (names : List (List ℕ)). c.name ∷ names) (names_same columns)
+use Rattle.bw_model.proofs.SchemaLemmas.{shape_names-of}
 
 ordered : (l h : ℤ) → l ≤ℤ h → int_le l h ≡ true
 ordered l h o = search rules
@@ -64,7 +61,7 @@ of_version version bytes layout schema rows one_or_two room file text =
       header = known;
       nonempty = omega (arith, count, schema.inhabited);
       limited = omega (arith, count, schema.limited);
-      apart = ap are_apart (names_same columns) ∙ schema.apart;
+      apart = ap are_apart (shape_names-of columns) ∙ schema.apart;
     } in
     let after = segments_bytes layout columns rows in
     let parts : bytes ≡ head_bytes h ++ after = text ∙ ap (λ (l : List ℕ). l ++ after) (sym (head_is version (length rows) layout schema)) in

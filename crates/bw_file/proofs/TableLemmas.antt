@@ -26,6 +26,8 @@ use Rattle.bw_file.specs.TableReader.{AnswersFault, ReadWhole, found_so_far}
 use Rattle.bw_file.specs.TableReading.{Found, IsReadAs}
 use Rattle.bw_file.specs.FileBytes.{file_bytes}
 use Rattle.bw_file.specs.AnySegment.{any_meaning, any_is_group}
+use Rattle.bw_file.proofs.MemoryAnswers.{together_more}
+use Rattle.bw_segment.proofs.CodeLemmas.{admitted_at}
 
 admitted_in : (columns : List Column) (rows : List (List Value)) (i : ℕ) → list_all (admits_values columns) rows ≡ true → i < length rows
     → admits_values columns (get_or rows i []) ≡ true
@@ -39,20 +41,6 @@ pub row_wide : (segment : AnySegment) (i : ℕ) → i < length (any_meaning segm
 row_wide segment i lt =
     length_admitted (any_meaning segment).columns (get_or (any_meaning segment).rows i [])
     (admitted_in (any_meaning segment).columns (any_meaning segment).rows i (any_is_group segment).admitted lt)
-
--- groups that are put together, and one more
-pub together-push : (groups : List (List (List Value))) (group : List (List Value)) → together (groups ++ group ∷ []) ≡ together groups ++ group
-together-push [] group = append-nil group
-together-push (g ∷ groups) group = ap (λ (rows : List (List Value)). g ++ rows) (together-push groups group) ∙ sym (append_assoc g (together groups) group)
-
--- rows that were admitted in all were admitted one by one
-pub row_admitted : (columns : List Column) (rows : List Row) (i : ℕ) (row : Row) → list_all (admits_values columns) (map values_of rows) ≡ true → i < length rows
-    → row ≡ get_or rows i row → admits_values columns (values_of row) ≡ true
-row_admitted columns [] i row all lt is = absurd (omega (arith, lt))
-row_admitted columns (r ∷ rows) zero row all lt is =
-    ap (λ (x : Row). admits_values columns (values_of x)) is ∙ (both (admits_values columns (values_of r)) (list_all (admits_values columns) (map values_of rows)) all).0
-row_admitted columns (r ∷ rows) (suc i) row all lt is =
-    row_admitted columns rows i row (both (admits_values columns (values_of r)) (list_all (admits_values columns) (map values_of rows)) all).1 (omega (arith, lt)) is
 
 bytes_alike : (a b : Layout) (x y : Schema) (rows : List (List Value)) → a ≡ b → x.name ≡ y.name → x.columns.items ≡ y.columns.items → file_bytes a x rows ≡ file_bytes b y rows
 bytes_alike a b x y rows layout name columns = rw (layout, name, columns) refl
