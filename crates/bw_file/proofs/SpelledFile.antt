@@ -7,10 +7,9 @@ use Rattle.std.proofs.lemmas.List.{length-map}
 use Rattle.bw_model.specs.declared.column.Column.{Column}
 use Rattle.bw_model.specs.declared.fault.Fault.{Fault}
 use Rattle.bw_model.specs.declared.schema.Schema.{Schema}
-use Rattle.bw_model.specs.Column.{names_of}
 use Rattle.bw_model.specs.Name.{are_apart}
 use Rattle.bw_model.specs.Row.{Value}
-use Rattle.bw_model.specs.SchemaText.{column_shape, SchemaShape, schema_shape, shape_names}
+use Rattle.bw_model.specs.SchemaText.{column_shape, SchemaShape, schema_shape}
 use Rattle.bw_model.proofs.GroupLemmas.{groups_of-table}
 use Rattle.bw_file.specs.declared.layout.Layout.{Layout}
 use Rattle.bw_file.specs.FileBytes.{IsFileBytes, bytes_of_version, segments_bytes, version_for}

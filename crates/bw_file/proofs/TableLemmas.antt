@@ -1,7 +1,7 @@
 -- Whole tables, row by row.
 use Rattle.std.proofs.Common.{◌≡◌, ℕ, zero, suc, ◌+◌, ◌<◌, ◌≤◌, true, List, [], ◌∷◌, ◌++◌, length}
 use Rattle.std.proofs.Common.{get_or, map, take, Some, Ok, Err, Bool, false, if◌then◌else◌, refl}
-use Rattle.std.proofs.Common.{sym, ap, ◌∙◌, append_assoc, arith}
+use Rattle.std.proofs.Common.{ap, ◌∙◌, arith}
 use Rattle.std.specs.List.{list_all}
 use Rattle.std.proofs.lemmas.List.{append-nil, take_all}
 use Rattle.bw_model.specs.declared.column.Column.{Column}
@@ -26,8 +26,6 @@ use Rattle.bw_file.specs.TableReader.{AnswersFault, ReadWhole, found_so_far}
 use Rattle.bw_file.specs.TableReading.{Found, IsReadAs}
 use Rattle.bw_file.specs.FileBytes.{file_bytes}
 use Rattle.bw_file.specs.AnySegment.{any_meaning, any_is_group}
-use Rattle.bw_file.proofs.MemoryAnswers.{together_more}
-use Rattle.bw_segment.proofs.CodeLemmas.{admitted_at}
 
 admitted_in : (columns : List Column) (rows : List (List Value)) (i : ℕ) → list_all (admits_values columns) rows ≡ true → i < length rows
     → admits_values columns (get_or rows i []) ≡ true
