@@ -62,10 +62,7 @@ node_read line word (w0 ∷ w1 ∷ w2 ∷ w3 ∷ []) x key e =
     let same : record { line = line; n = n0; v = n1; low = n2; high = n3 } ≡ x = cc e in
     rw (← same) (refl, next key (next p0 (next p1 (next p2 (next p3 none)))))
 node_read line word [] x key e = absurd (cc e)
-node_read line word (w0 ∷ []) x key e = absurd (cc e)
-node_read line word (w0 ∷ w1 ∷ []) x key e = absurd (cc e)
-node_read line word (w0 ∷ w1 ∷ w2 ∷ []) x key e = absurd (cc e)
-node_read line word (w0 ∷ w1 ∷ w2 ∷ w3 ∷ w4 ∷ words) x key e = absurd (cc e)
+node_read line word _ x key e = absurd (cc e)
 
 one_read : (k : ChainKind) (words : List (List ℕ)) (x : ColumnFields) → one_column_in k words ≡ Some x →
     (word : List ℕ) → IsSpelled (one_key k) word → AreSpelled (column_tokens x) (word ∷ words)
@@ -78,12 +75,7 @@ one_read k (w0 ∷ w1 ∷ w2 ∷ w3 ∷ w4 ∷ w5 ∷ []) x e =
     λ word key. let same : One k w0 n1 n2 n3 n4 n5 ≡ x = cc e in
     rw (← same) (next key (next refl (next p1 (next p2 (next p3 (next p4 (next (optional_read w5 n5 p5) none)))))))
 one_read k [] x e = absurd (cc e)
-one_read k (w0 ∷ []) x e = absurd (cc e)
-one_read k (w0 ∷ w1 ∷ []) x e = absurd (cc e)
-one_read k (w0 ∷ w1 ∷ w2 ∷ []) x e = absurd (cc e)
-one_read k (w0 ∷ w1 ∷ w2 ∷ w3 ∷ []) x e = absurd (cc e)
-one_read k (w0 ∷ w1 ∷ w2 ∷ w3 ∷ w4 ∷ []) x e = absurd (cc e)
-one_read k (w0 ∷ w1 ∷ w2 ∷ w3 ∷ w4 ∷ w5 ∷ w6 ∷ words) x e = absurd (cc e)
+one_read k _ x e = absurd (cc e)
 
 two_read : (k : ChainKind) (words : List (List ℕ)) (x : ColumnFields) → two_columns_in k words ≡ Some x →
     (word : List ℕ) → IsSpelled (two_key k) word → AreSpelled (column_tokens x) (word ∷ words)
@@ -94,11 +86,7 @@ two_read k (w0 ∷ w1 ∷ w2 ∷ w3 ∷ w4 ∷ []) x e =
     λ word key. let same : Two k w0 w1 n2 n3 n4 ≡ x = cc e in
     rw (← same) (next key (next refl (next refl (next p2 (next p3 (next (optional_read w4 n4 p4) none))))))
 two_read k [] x e = absurd (cc e)
-two_read k (w0 ∷ []) x e = absurd (cc e)
-two_read k (w0 ∷ w1 ∷ []) x e = absurd (cc e)
-two_read k (w0 ∷ w1 ∷ w2 ∷ []) x e = absurd (cc e)
-two_read k (w0 ∷ w1 ∷ w2 ∷ w3 ∷ []) x e = absurd (cc e)
-two_read k (w0 ∷ w1 ∷ w2 ∷ w3 ∷ w4 ∷ w5 ∷ words) x e = absurd (cc e)
+two_read k _ x e = absurd (cc e)
 
 columns_read : (f : Form) (word : List ℕ) (words : List (List ℕ)) (x : ColumnFields) → form_of word ≡ Some f → columns_after f words ≡ Some x → AreSpelled (column_tokens x) (word ∷ words)
 columns_read form.Less word words x is e = one_read compared.Less words x e word (form_is word form.Less is)
@@ -121,19 +109,16 @@ tested true o y e = (refl, e)
 tested false o y e = absurd (cc e)
 
 reason_read : (words : List (List ℕ)) (x : Reason) → reason_in words ≡ Some x → AreSpelled (reason_tokens x) words
-reason_read [] x e = absurd (cc e)
 reason_read (w0 ∷ []) x e =
     let t = tested (same_text (codes "S") w0) (Some Shortcut) x e in
     let same : Shortcut ≡ x = cc t.1 in rw (← same) (next t.0 none)
-reason_read (w0 ∷ w1 ∷ []) x e = absurd (cc e)
-reason_read (w0 ∷ w1 ∷ w2 ∷ []) x e = absurd (cc e)
 reason_read (w0 ∷ w1 ∷ w2 ∷ w3 ∷ []) x e =
     let t = tested (same_text (codes "V") w0) _ x e in
     opened (natural_of w1) _ x t.1 λ n1 p1 e.
     opened (natural_of w2) _ x e λ n2 p2 e.
     opened (natural_of w3) _ x e λ n3 p3 e.
     let same : Cofactors n1 n2 n3 ≡ x = cc e in rw (← same) (next t.0 (next p1 (next p2 (next p3 none))))
-reason_read (w0 ∷ w1 ∷ w2 ∷ w3 ∷ w4 ∷ words) x e = absurd (cc e)
+reason_read _ x e = absurd (cc e)
 
 row_read : (line : ℕ) (word : List ℕ) (words : List (List ℕ)) (x : ProductLine) → Begins kind.Row word → row_in line words ≡ Some x → IsSaid (Before (Row x)) line (word ∷ words)
 row_read line word (w0 ∷ w1 ∷ w2 ∷ w3 ∷ w4 ∷ words) x key e =
@@ -146,28 +131,22 @@ row_read line word (w0 ∷ w1 ∷ w2 ∷ w3 ∷ w4 ∷ words) x key e =
     let same : record { line = line; n = n0; op = o; a = n2; b = n3; c = n4; reason = reason } ≡ x = cc e in
     rw (← same) (refl, next key (next p0 (next (connective_is w1 o q) (next p2 (next p3 (next p4 (reason_read words reason there)))))))
 row_read line word [] x key e = absurd (cc e)
-row_read line word (w0 ∷ []) x key e = absurd (cc e)
-row_read line word (w0 ∷ w1 ∷ []) x key e = absurd (cc e)
-row_read line word (w0 ∷ w1 ∷ w2 ∷ []) x key e = absurd (cc e)
-row_read line word (w0 ∷ w1 ∷ w2 ∷ w3 ∷ []) x key e = absurd (cc e)
+row_read line word _ x key e = absurd (cc e)
 
 nothing_read : (words : List (List ℕ)) (x : Unit) → nothing_in words ≡ Some x → AreSpelled [] words
 nothing_read [] x e = none
 nothing_read (w0 ∷ words) x e = absurd (cc e)
 
 number_read : (words : List (List ℕ)) (x : ℕ) → number_in words ≡ Some x → AreSpelled (Number x ∷ []) words
-number_read [] x e = absurd (cc e)
 number_read (w0 ∷ []) x e = next e none
-number_read (w0 ∷ w1 ∷ words) x e = absurd (cc e)
+number_read _ x e = absurd (cc e)
 
 pair_read : (words : List (List ℕ)) (x : ℕ × ℕ) → two_in words ≡ Some x → AreSpelled (Number x.0 ∷ Number x.1 ∷ []) words
-pair_read [] x e = absurd (cc e)
-pair_read (w0 ∷ []) x e = absurd (cc e)
 pair_read (w0 ∷ w1 ∷ []) x e =
     opened (natural_of w0) _ x e λ n0 p0 e.
     opened (natural_of w1) _ x e λ n1 p1 e.
     let same : ◌≡◌ {A = ℕ × ℕ} (n0, n1) x = cc e in rw (← same) (next p0 (next p1 none))
-pair_read (w0 ∷ w1 ∷ w2 ∷ words) x e = absurd (cc e)
+pair_read _ x e = absurd (cc e)
 
 compare_read : (word : List ℕ) (words : List (List ℕ)) (x : ConditionEntry) → Begins (kind.Condition condition.Compare) word → compare_in words ≡ Some x → AreSpelled (condition_tokens x) (word ∷ words)
 compare_read word (w0 ∷ w1 ∷ w2 ∷ w3 ∷ []) x key e =
@@ -178,10 +157,7 @@ compare_read word (w0 ∷ w1 ∷ w2 ∷ w3 ∷ []) x key e =
     let same : Compare n0 n1 n2 n3 ≡ x = cc e in
     rw (← same) (next key (next (optional_read w0 n0 p0) (next (optional_read w1 n1 p1) (next p2 (next p3 none)))))
 compare_read word [] x key e = absurd (cc e)
-compare_read word (w0 ∷ []) x key e = absurd (cc e)
-compare_read word (w0 ∷ w1 ∷ []) x key e = absurd (cc e)
-compare_read word (w0 ∷ w1 ∷ w2 ∷ []) x key e = absurd (cc e)
-compare_read word (w0 ∷ w1 ∷ w2 ∷ w3 ∷ w4 ∷ words) x key e = absurd (cc e)
+compare_read word _ x key e = absurd (cc e)
 
 compare_columns_read : (word : List ℕ) (words : List (List ℕ)) (x : ConditionEntry) → Begins (kind.Condition condition.CompareColumns) word → compare_columns_in words ≡ Some x → AreSpelled (condition_tokens x) (word ∷ words)
 compare_columns_read word (w0 ∷ w1 ∷ w2 ∷ w3 ∷ w4 ∷ w5 ∷ []) x key e =
@@ -194,12 +170,7 @@ compare_columns_read word (w0 ∷ w1 ∷ w2 ∷ w3 ∷ w4 ∷ w5 ∷ []) x key e
     let same : CompareColumns n0 n1 n2 n3 n4 n5 ≡ x = cc e in
     rw (← same) (next key (next (optional_read w0 n0 p0) (next (optional_read w1 n1 p1) (next (optional_read w2 n2 p2) (next p3 (next p4 (next p5 none)))))))
 compare_columns_read word [] x key e = absurd (cc e)
-compare_columns_read word (w0 ∷ []) x key e = absurd (cc e)
-compare_columns_read word (w0 ∷ w1 ∷ []) x key e = absurd (cc e)
-compare_columns_read word (w0 ∷ w1 ∷ w2 ∷ []) x key e = absurd (cc e)
-compare_columns_read word (w0 ∷ w1 ∷ w2 ∷ w3 ∷ []) x key e = absurd (cc e)
-compare_columns_read word (w0 ∷ w1 ∷ w2 ∷ w3 ∷ w4 ∷ []) x key e = absurd (cc e)
-compare_columns_read word (w0 ∷ w1 ∷ w2 ∷ w3 ∷ w4 ∷ w5 ∷ w6 ∷ words) x key e = absurd (cc e)
+compare_columns_read word _ x key e = absurd (cc e)
 
 unknown_read : (word : List ℕ) (words : List (List ℕ)) (x : ConditionEntry) → Begins (kind.Condition condition.Is) word → (two_in words >? λ two. Some (IsUnknown two.0 two.1)) ≡ Some x → AreSpelled (condition_tokens x) (word ∷ words)
 unknown_read word words x key e =
@@ -232,12 +203,11 @@ instruction_read instruction.Fill word words x key e =
     opened (nothing_in words) _ x e λ u there e. let same : Fill ≡ x = cc e in rw (← same) (next key (nothing_read words u there))
 instruction_read instruction.Op word words x key e =
     opened (number_in words) _ x e λ i there e. let same : Op i ≡ x = cc e in rw (← same) (next key (number_read words i there))
-instruction_read instruction.Byte word [] x key e = absurd (cc e)
 instruction_read instruction.Byte word (w0 ∷ []) x key e =
     opened (optional_of w0) _ x e λ n0 p0 e. let same : Byte n0 ≡ x = cc e in rw (← same) (next key (next (optional_read w0 n0 p0) none))
-instruction_read instruction.Byte word (w0 ∷ w1 ∷ words) x key e = absurd (cc e)
 instruction_read instruction.Skip word words x key e =
     opened (nothing_in words) _ x e λ u there e. let same : Skip ≡ x = cc e in rw (← same) (next key (nothing_read words u there))
+instruction_read instruction.Byte word _ x key e = absurd (cc e)
 
 edges_read : (words : List (List ℕ)) (x : List EdgeProducts) → edges_in words ≡ Some x → AreSpelled (edge_tokens x) words
 unfolding edges_in edge_tokens
@@ -259,8 +229,7 @@ keep_read word (w0 ∷ w1 ∷ w2 ∷ words) x key e =
     let same : record { register = n0; node = n1; through = n2; edges = edges } ≡ x = cc e in
     rw (← same) (next key (next p0 (next p1 (next p2 (edges_read words edges there)))))
 keep_read word [] x key e = absurd (cc e)
-keep_read word (w0 ∷ []) x key e = absurd (cc e)
-keep_read word (w0 ∷ w1 ∷ []) x key e = absurd (cc e)
+keep_read word _ x key e = absurd (cc e)
 
 after_read : (line : ℕ) (k : LineKind) (word : List ℕ) (words : List (List ℕ)) (x : ParsedLine) → Begins k word → parse_line_after line k words ≡ Some x → IsSaid x line (word ∷ words)
 after_read line kind.Node word words x key e =

@@ -1,6 +1,6 @@
 -- Canonical texts, one line and one place at a time.
 use Rattle.std.proofs.Common.{◌≡◌, ◌∙◌, refl, sym, ap, ℕ, suc, ◌+◌, ◌^◌, ◌<◌, ◌≤◌, Bool, true}
-use Rattle.std.proofs.Common.{false, ◌&&◌, List, [], ◌∷◌, ◌++◌, map, length, take, drop, get_or}
+use Rattle.std.proofs.Common.{◌&&◌, List, [], ◌∷◌, ◌++◌, map, length, take, drop, get_or}
 use Rattle.std.proofs.Common.{nat_lt, add-one, append_assoc}
 use Rattle.std.specs.List.{list_all}
 use Rattle.std.proofs.lemmas.List.{append-nil, drop_all, take_all}
@@ -110,8 +110,7 @@ is_small_edge edge = are_small (Number edge.differs ∷ Number edge.within ∷ [
 
 edges_fit-by : (a b r : Bool) → ((a && (b && true)) && r) ≡ (a && (b && r))
 edges_fit-by true true r = refl
-edges_fit-by true false r = refl
-edges_fit-by false b r = refl
+edges_fit-by _ _ r = refl
 
 pub edges_fit : (edges : List EdgeProducts) → list_all is_small_edge edges ≡ are_small (edge_tokens edges)
 unfolding edge_tokens

@@ -11,7 +11,7 @@ use Rattle.bw_diagram.specs.declared.chain.ChainKind.TheVariants as compared
 use Rattle.bw_diagram.specs.declared.product.Connective.{Connective}
 use Rattle.bw_diagram.specs.declared.product.Connective.TheVariants as op
 use Rattle.bw_diagram.specs.declared.product.Reason.{Reason}
-use Rattle.bw_diagram.specs.declared.product.Reason.TheVariants.{Shortcut, Cofactors}
+use Rattle.bw_diagram.specs.declared.product.Reason.TheVariants.{Shortcut}
 use Rattle.bw_model.specs.declared.column.Column as stored
 use Rattle.bw_model.specs.Column.{names_of, column_named}
 use Rattle.bw_text.specs.Lines.{NumberedWords, begins_comment, cut_lines, numbered_words, numbered_from}
@@ -23,11 +23,9 @@ use Rattle.bw_cert_text.specs.declared.lines.EndLine.{EndLine}
 use Rattle.bw_cert_text.specs.declared.lines.EdgeProducts.{EdgeProducts}
 use Rattle.bw_cert_text.specs.declared.lines.ConditionEntry.{ConditionEntry}
 use Rattle.bw_cert_text.specs.declared.lines.ConditionEntry.TheVariants.{Compare, CompareColumns}
-use Rattle.bw_cert_text.specs.declared.lines.ConditionEntry.TheVariants.{Fixed, NullTest, And, Or}
-use Rattle.bw_cert_text.specs.declared.lines.ConditionEntry.TheVariants.{Not, Is, IsUnknown}
+use Rattle.bw_cert_text.specs.declared.lines.ConditionEntry.TheVariants.{Fixed}
 use Rattle.bw_cert_text.specs.declared.lines.InstructionEntry.{InstructionEntry}
-use Rattle.bw_cert_text.specs.declared.lines.InstructionEntry.TheVariants.{Load, Fill, Op, Byte}
-use Rattle.bw_cert_text.specs.declared.lines.InstructionEntry.TheVariants.{Skip}
+use Rattle.bw_cert_text.specs.declared.lines.InstructionEntry.TheVariants.{Fill, Byte}
 use Rattle.bw_cert_text.specs.CertificateFields.{ColumnFields, One, Two, ChainFields, EntryFields}
 use Rattle.bw_cert_text.specs.CertificateFields.{Condition, Instruction, Join, Kept, BodyFields}
 use Rattle.bw_cert_text.specs.CertificateFields.{CertificateFields}
@@ -52,6 +50,8 @@ use Rattle.bw_text.proofs.RegisterLemmas.{plain_register, register_of-text}
 use Rattle.bw_text.proofs.SpacedWords.{line_said}
 use Rattle.bw_text.specs.Printing.{is_plain_word}
 use Rattle.bw_model.proofs.NameLemmas.{named_column_is_there, plain_name}
+use Rattle.bw_model.proofs.SchemaLemmas.{negated}
+use Rattle.std.proofs.lemmas.Bool.{and_from}
 
 same_as_itself : (text : List ℕ) → same_text text text ≡ true
 unfolding same_text
@@ -81,18 +81,16 @@ is_clear (Register r) = nat_lt r 64
 token_spelled : (t : Token) → is_clear t ≡ true → IsSpelled t (token_text t)
 token_spelled (Key key) h = same_as_itself key
 token_spelled (Number n) h = natural_of-decimal n (ltb-true n (2 ^ 64) h)
-token_spelled (Perhaps None) h = refl
 token_spelled (Perhaps (Some n)) h = natural_of-decimal n (ltb-true n (2 ^ 64) h)
-token_spelled (Column word) h = refl
 token_spelled (Register r) h = register_of-text r (ltb-true r 64 h)
+token_spelled _ h = refl
 
 token_plain : (t : Token) → is_clear t ≡ true → is_plain_word (token_text t) ≡ true
-token_plain (Key key) h = h
 token_plain (Number n) h = plain_number n (ltb-true n (2 ^ 64) h)
 token_plain (Perhaps None) h = refl
 token_plain (Perhaps (Some n)) h = plain_number n (ltb-true n (2 ^ 64) h)
-token_plain (Column word) h = h
 token_plain (Register r) h = plain_register r (ltb-true r 64 h)
+token_plain _ h = h
 
 tokens_spelled : (ts : List Token) → list_all is_clear ts ≡ true → AreSpelled ts (map token_text ts)
 tokens_spelled [] h = none
@@ -104,39 +102,24 @@ tokens_plain (t ∷ ts) h = let here = both (is_clear t) (list_all is_clear ts) 
 
 -- a line begins with a word of the language that begins no comment
 abbrev begins_line : List Token → Bool
-begins_line [] = false
 begins_line (Key key ∷ ts) = not (begins_comment key)
-begins_line (Number n ∷ ts) = false
-begins_line (Perhaps n ∷ ts) = false
-begins_line (Column word ∷ ts) = false
-begins_line (Register r ∷ ts) = false
-
-not_true : (b : Bool) → not b ≡ true → b ≡ false
-not_true true e = absurd (cc e)
-not_true false e = refl
+begins_line _ = false
 
 tokens_said : (number : ℕ) (ts : List Token) (rest : List ℕ) → begins_line ts ≡ true → list_all is_clear ts ≡ true →
     numbered_from number (cut_lines (token_line ts ++ rest)) ≡ numbered_words number (map token_text ts) ∷ numbered_from (number + 1) (cut_lines rest)
-tokens_said number [] rest begins h = absurd (cc begins)
 tokens_said number (Key key ∷ ts) rest begins h =
     let here = both (is_plain_word key) (list_all is_clear ts) h in
-    line_said number key (map token_text ts) rest here.0 (not_true (begins_comment key) begins) (tokens_plain ts here.1)
-tokens_said number (Number n ∷ ts) rest begins h = absurd (cc begins)
-tokens_said number (Perhaps n ∷ ts) rest begins h = absurd (cc begins)
-tokens_said number (Column word ∷ ts) rest begins h = absurd (cc begins)
-tokens_said number (Register r ∷ ts) rest begins h = absurd (cc begins)
+    line_said number key (map token_text ts) rest here.0 (negated (begins_comment key) begins) (tokens_plain ts here.1)
+tokens_said number _ rest begins h = absurd (cc begins)
 
 -- so are lines whose numbers fit, with the schema's columns
 row_clear : (a b c : ℕ) (o : Connective) (r : Reason) → list_all is_small (Key (connective_spelling o) ∷ Number a ∷ Number b ∷ Number c ∷ reason_tokens r) ≡ true →
     list_all is_clear (Key (connective_spelling o) ∷ Number a ∷ Number b ∷ Number c ∷ reason_tokens r) ≡ true
 row_clear a b c op.And Shortcut h = h
-row_clear a b c op.And (Cofactors v i j) h = h
 row_clear a b c op.Or Shortcut h = h
-row_clear a b c op.Or (Cofactors v i j) h = h
 row_clear a b c op.Xor Shortcut h = h
-row_clear a b c op.Xor (Cofactors v i j) h = h
 row_clear a b c op.Diff Shortcut h = h
-row_clear a b c op.Diff (Cofactors v i j) h = h
+row_clear a b c _ _ h = h
 
 edges_clear : (edges : List EdgeProducts) → list_all is_small (edge_tokens edges) ≡ true → list_all is_clear (edge_tokens edges) ≡ true
 unfolding edge_tokens
@@ -153,20 +136,11 @@ perhaps_clear (Some n) = refl
 condition_clear : (x : ConditionEntry) → list_all is_small (condition_tokens x) ≡ true → list_all is_clear (condition_tokens x) ≡ true
 condition_clear (Compare chain value p q) h = rw (perhaps_clear chain, perhaps_clear value) at h
 condition_clear (CompareColumns chain left right both p q) h = rw (perhaps_clear chain, perhaps_clear left, perhaps_clear right) at h
-condition_clear Fixed h = h
-condition_clear (NullTest i) h = h
-condition_clear (And i j) h = h
-condition_clear (Or i j) h = h
-condition_clear Not h = h
-condition_clear (Is i) h = h
-condition_clear (IsUnknown i j) h = h
+condition_clear _ h = h
 
 instruction_clear : (x : InstructionEntry) → list_all is_small (instruction_tokens x) ≡ true → list_all is_clear (instruction_tokens x) ≡ true
-instruction_clear (Load n) h = h
-instruction_clear Fill h = h
-instruction_clear (Op i) h = h
 instruction_clear (Byte chain) h = rw (perhaps_clear chain) at h
-instruction_clear Skip h = h
+instruction_clear _ h = h
 
 entry_clear : (x : EntryFields) → list_all is_small (entry_tokens x) ≡ true → list_all is_clear (entry_tokens x) ≡ true
 entry_clear (Condition x) h = condition_clear x h
@@ -179,40 +153,24 @@ entry_clear (Kept keep) h =
     rw (a.0, b.0, d.0) (edges_clear keep.edges d.1)
 
 entry_begins : (x : EntryFields) → begins_line (entry_tokens x) ≡ true
-entry_begins (Condition (Compare chain value p q)) = refl
-entry_begins (Condition (CompareColumns chain left right both p q)) = refl
 entry_begins (Condition Fixed) = refl
-entry_begins (Condition (NullTest i)) = refl
-entry_begins (Condition (And i j)) = refl
-entry_begins (Condition (Or i j)) = refl
-entry_begins (Condition Not) = refl
-entry_begins (Condition (Is i)) = refl
-entry_begins (Condition (IsUnknown i j)) = refl
-entry_begins (Instruction (Load n)) = refl
 entry_begins (Instruction Fill) = refl
-entry_begins (Instruction (Op i)) = refl
-entry_begins (Instruction (Byte chain)) = refl
-entry_begins (Instruction Skip) = refl
-entry_begins (Join target) = refl
-entry_begins (Kept keep) = refl
-
-and_true : (a b : Bool) → a ≡ true → b ≡ true → (a && b) ≡ true
-and_true a b x y = rw (x, y) refl
+entry_begins _ = refl
 
 module _ (columns : List stored.Column) (names : list_all is_name (names_of columns) ≡ true) where
   one_clear : (word : List ℕ) (start len bound node : ℕ) (prev : Option ℕ) → list_all is_small (Number start ∷ Number len ∷ Number bound ∷ Number node ∷ Perhaps prev ∷ []) ≡ true →
       is_found (column_named columns word) ≡ true → list_all is_clear (Column (schema_spelling columns word) ∷ Number start ∷ Number len ∷ Number bound ∷ Number node ∷ Perhaps prev ∷ []) ≡ true
   one_clear word start len bound node None h there =
-      and_true (is_plain_word (schema_spelling columns word)) (list_all is_clear (Number start ∷ Number len ∷ Number bound ∷ Number node ∷ Perhaps None ∷ [])) (plain_spelling columns word names there) h
+      and_from (is_plain_word (schema_spelling columns word)) (list_all is_clear (Number start ∷ Number len ∷ Number bound ∷ Number node ∷ Perhaps None ∷ [])) (plain_spelling columns word names there) h
   one_clear word start len bound node (Some prev) h there =
-      and_true (is_plain_word (schema_spelling columns word)) (list_all is_clear (Number start ∷ Number len ∷ Number bound ∷ Number node ∷ Perhaps (Some prev) ∷ [])) (plain_spelling columns word names there) h
+      and_from (is_plain_word (schema_spelling columns word)) (list_all is_clear (Number start ∷ Number len ∷ Number bound ∷ Number node ∷ Perhaps (Some prev) ∷ [])) (plain_spelling columns word names there) h
 
   two_clear : (left right : List ℕ) (len node : ℕ) (prev : Option ℕ) → list_all is_small (Number len ∷ Number node ∷ Perhaps prev ∷ []) ≡ true →
       is_found (column_named columns left) ≡ true → is_found (column_named columns right) ≡ true →
       list_all is_clear (Column (schema_spelling columns left) ∷ Column (schema_spelling columns right) ∷ Number len ∷ Number node ∷ Perhaps prev ∷ []) ≡ true
   two_clear left right len node prev h there too =
-      and_true (is_plain_word (schema_spelling columns left)) (list_all is_clear (Column (schema_spelling columns right) ∷ Number len ∷ Number node ∷ Perhaps prev ∷ [])) (plain_spelling columns left names there)
-      (and_true (is_plain_word (schema_spelling columns right)) (list_all is_clear (Number len ∷ Number node ∷ Perhaps prev ∷ [])) (plain_spelling columns right names too) (go prev h))
+      and_from (is_plain_word (schema_spelling columns left)) (list_all is_clear (Column (schema_spelling columns right) ∷ Number len ∷ Number node ∷ Perhaps prev ∷ [])) (plain_spelling columns left names there)
+      (and_from (is_plain_word (schema_spelling columns right)) (list_all is_clear (Number len ∷ Number node ∷ Perhaps prev ∷ [])) (plain_spelling columns right names too) (go prev h))
     where
       go : (prev : Option ℕ) → list_all is_small (Number len ∷ Number node ∷ Perhaps prev ∷ []) ≡ true → list_all is_clear (Number len ∷ Number node ∷ Perhaps prev ∷ []) ≡ true
       go None h = h
@@ -240,7 +198,7 @@ module _ (columns : List stored.Column) (names : list_all is_name (names_of colu
   chains_clear (x ∷ xs) h g =
       let small = both (list_all is_small (chain_tokens x)) (list_all (λ x. list_all is_small (chain_tokens x)) xs) h in
       let there = both (are_columns columns x.columns) (list_all (λ x. are_columns columns x.columns) xs) g in
-      and_true (list_all is_clear (chain_tokens (respelled_chain columns x))) (list_all (λ x. list_all is_clear (chain_tokens x)) (map (respelled_chain columns) xs))
+      and_from (list_all is_clear (chain_tokens (respelled_chain columns x))) (list_all (λ x. list_all is_clear (chain_tokens x)) (map (respelled_chain columns) xs))
       (chain_clear x small.0 there.0) (chains_clear xs small.1 there.1)
 
 all_clear : {A : Type 0} (tokens : A → List Token) → ((x : A) → list_all is_small (tokens x) ≡ true → list_all is_clear (tokens x) ≡ true) → (xs : List A) →
@@ -248,7 +206,7 @@ all_clear : {A : Type 0} (tokens : A → List Token) → ((x : A) → list_all i
 all_clear tokens clear [] h = refl
 all_clear tokens clear (x ∷ xs) h =
     let here = both (list_all is_small (tokens x)) (list_all (λ x. list_all is_small (tokens x)) xs) h in
-    and_true (list_all is_clear (tokens x)) (list_all (λ x. list_all is_clear (tokens x)) xs) (clear x here.0) (all_clear tokens clear xs here.1)
+    and_from (list_all is_clear (tokens x)) (list_all (λ x. list_all is_clear (tokens x)) xs) (clear x here.0) (all_clear tokens clear xs here.1)
 
 -- a section's lines, before a certificate that follows them
 from_lower : (s t : ℕ) (lines : List NumberedWords) (c : CertificateFields) → t ≤ s → SpellsFrom s lines c → SpellsFrom t lines c

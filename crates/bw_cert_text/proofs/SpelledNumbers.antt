@@ -10,7 +10,7 @@ use Rattle.bw_cert_text.specs.LineText.{Node, Chain, Row, Body}
 use Rattle.bw_text.proofs.RegisterLemmas.{register_is}
 use Rattle.bw_cert_text.specs.PrintText.{body_tokens}
 use Rattle.bw_cert_text.specs.Reprint.{is_small, numbers_fit}
-use Rattle.bw_cert_text.specs.Token.{Token, Key, Number, Perhaps, Column, Register, IsSpelled}
+use Rattle.bw_cert_text.specs.Token.{Token, Number, Perhaps, Register, IsSpelled}
 use Rattle.bw_cert_text.specs.Token.{AreSpelled, none, next, node_tokens, chain_tokens, row_tokens}
 use Rattle.bw_cert_text.specs.Token.{end_tokens}
 
@@ -30,12 +30,10 @@ natural_small word n e = go (are_digits word) e
     go false e = absurd (cc e)
 
 token_small : (t : Token) (word : List ℕ) → IsSpelled t word → is_small t ≡ true
-token_small (Key key) word is = refl
 token_small (Number n) word is = natural_small word n is
-token_small (Perhaps None) word is = refl
 token_small (Perhaps (Some n)) word is = natural_small word n is
-token_small (Column column) word is = refl
 token_small (Register r) word is = register_is word r is
+token_small _ word is = refl
 
 tokens_small : (ts : List Token) (words : List (List ℕ)) → AreSpelled ts words → list_all is_small ts ≡ true
 tokens_small _ _ none = refl

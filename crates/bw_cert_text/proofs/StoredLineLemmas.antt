@@ -64,8 +64,6 @@ pub one_more : (kinds : List Kind) (numbers more : List ℕ) (pairs others : Lis
     × (lines_of (kinds ++ kind ∷ []) (numbers ++ more) (pairs ++ others) ≡ lines_of kinds numbers pairs ++ line_of kind more others ∷ [])
 unfolding lines_of are_all
 one_more [] [] more [] others kind all size_is pairs_are = alone kind more others size_is pairs_are
-one_more [] [] more (x ∷ xs) others kind all size_is pairs_are = absurd (cc all)
-one_more [] (n ∷ ns) more pairs others kind all size_is pairs_are = absurd (cc all)
 one_more (first ∷ kinds) numbers more pairs others kind all size_is pairs_are =
     let parts = both (is_there first numbers pairs) _ all in
     let here = there-more first numbers more pairs others parts.0 in
@@ -78,6 +76,7 @@ one_more (first ∷ kinds) numbers more pairs others kind all size_is pairs_are 
     let kept_pairs = take-append-le (pairs_of first own) pairs others paired in
     let left_pairs = drop-append-le (pairs_of first own) pairs others paired in
     (rw (here, kept, left, left_pairs) further.0, rw (here, parts.0, kept, left, kept_pairs, left_pairs) (ap (λ (lines : List BodyLine). line_of first own (take (pairs_of first own) pairs) ∷ lines) further.1))
+one_more [] _ more _ others kind all size_is pairs_are = absurd (cc all)
 
 -- the first line
 module _ (kinds rest : List Kind) (numbers : List ℕ) (pairs : List EdgeProducts) (kind : Kind) (first : kinds ≡ kind ∷ rest) where
@@ -108,13 +107,10 @@ no_kinds (kind ∷ kinds) numbers pairs none = absurd (omega (arith, none))
 -- a line KEEP, of which the register is below 64
 pub keep_read : (r : KeptRegister) (numbers : List ℕ) (pairs : List EdgeProducts) (below : r.register < 64) → length numbers ≡ 3 →
     said.Keep (record { register = r.register; node = get_or numbers 0 0; through = get_or numbers 1 0; edges = pairs; in_range = below }) ≡ entry_of (kind.Keep r) numbers pairs
-keep_read r [] pairs below three = absurd (omega (arith, three))
-keep_read r (a ∷ []) pairs below three = absurd (omega (arith, three))
-keep_read r (a ∷ b ∷ []) pairs below three = absurd (omega (arith, three))
-keep_read r (a ∷ b ∷ c ∷ d ∷ numbers) pairs below three = absurd (omega (arith, three))
 keep_read r (a ∷ b ∷ c ∷ []) pairs below three =
     let one : IsProp (r.register < 64) = hlevel props in
     ap (λ (h : r.register < 64). said.Keep (record { register = r.register; node = a; through = b; edges = pairs; in_range = h })) (one below r.in_range)
+keep_read r _ pairs below three = absurd (omega (arith, three))
 
 pub keep_kept : (keep : Keep) (line count : ℕ) (pairs : List EdgeProducts) (below : keep.register < 64) → pairs ≡ keep.edges →
     line_of (kind.Keep (record { register = keep.register; in_range = below })) (line ∷ keep.node ∷ keep.through ∷ count ∷ []) pairs ≡ record { line = line; entry = said.Keep keep }

@@ -23,9 +23,7 @@ connective_is word o e = found (λ (k : Connective). same_text (connective_spell
 of_its_spelling : (o : Connective) → connective_of (connective_spelling o) ≡ Some o
 unfolding connective_of same_text
 of_its_spelling op.And = refl
-of_its_spelling op.Or = refl
-of_its_spelling op.Xor = refl
-of_its_spelling op.Diff = refl
+of_its_spelling _ = refl
 
 connective_alike : (key word : List ℕ) → same_text key word ≡ true → connective_of word ≡ connective_of key
 unfolding connective_of

@@ -18,7 +18,8 @@ ghost use Rattle.bw_cert_text.specs.PrintText.{token_text, token_words, token_li
 ghost use Rattle.bw_cert_text.specs.PrintText.{body_tokens, schema_spelling, respelled_chain};
 ghost use Rattle.bw_cert_text.specs.PrintText.{respell, print_text};
 ghost use Rattle.bw_text.specs.Printing.{piece_text, spaced_words};
-ghost use Rattle.bw_cert_text.specs.Token.{Key, Number, Perhaps, one_key, two_key, node_tokens};
+ghost use Rattle.bw_cert_text.specs.Token.{Token, Key, Number, Perhaps, one_key, two_key};
+ghost use Rattle.bw_cert_text.specs.Token.{node_tokens};
 ghost use Rattle.bw_cert_text.specs.Token.{chain_tokens, row_tokens, condition_tokens};
 ghost use Rattle.bw_cert_text.specs.Token.{instruction_tokens, edge_tokens, keep_tokens};
 ghost use Rattle.bw_cert_text.specs.Token.{entry_tokens, end_tokens};
@@ -52,9 +53,9 @@ impl Certificate<'_> {
     {
         schema.has_names_and_bounds();
         let mut text = Vec::new(alloc);
-        put_nodes(alloc, self.node_lines(), &mut text)?;
-        put_chains(alloc, schema, self.chain_lines(), &mut text)?;
-        put_rows(alloc, self.product_lines(), &mut text)?;
+        put_lines(alloc, schema, self.node_lines(), &mut text)?;
+        put_lines(alloc, schema, self.chain_lines(), &mut text)?;
+        put_lines(alloc, schema, self.product_lines(), &mut text)?;
         put_body(alloc, self.body(), &mut text)?;
         put_end(alloc, self.end(), &mut text)?;
         Ok(text)
@@ -106,50 +107,103 @@ pub fn spelled_numbers_fit()
         → IsCertificateText first text certificate → IsTrue (numbers_fit certificate) }
 {}
 
-/// Appends the lines of nodes.
-fn put_nodes(alloc: Global, nodes: &[NodeLine], text: &mut Vec<u8>) -> Result<(), AllocError>
-    ensures text { OnOk result (text.new.items ≡ text.old.items
-        ++ lines_text node_tokens nodes.now) }
-    ensures fit { OnOk result (IsTrue (list_all (λ node. are_small (node_tokens node)) nodes.now)) }
-{
-    for node in nodes {
-        put_node(alloc, *node, text)?;
-    }
-    Ok(())
+/// A line of a node, a chain or a product row.
+trait SectionLine {
+    /// Its words, with columns in the schema's spelling.
+    ghost tokens: { List Column → Self → List Token };
+
+    /// Its words as they are.
+    ghost own_tokens: { Self → List Token };
+
+    /// Appends the line.
+    fn put(&self, alloc: Global, schema: &Schema, text: &mut Vec<u8>) -> Result<(), AllocError>
+        ensures text { OnOk result (text.new.items ≡ text.old.items
+            ++ token_line (tokens schema.now.columns.items self.now)) }
+        ensures fit { IsTrue (are_small (own_tokens self.now)) };
 }
 
-/// Appends the line of a node.
-fn put_node(alloc: Global, node: NodeLine, text: &mut Vec<u8>) -> Result<(), AllocError>
-    ensures text { OnOk result (text.new.items ≡ text.old.items ++ token_line (node_tokens node)) }
-    ensures fit { IsTrue (are_small (node_tokens node)) }
-{
-    let pieces = [
-        Piece::Word(b"NODE"),
-        Piece::Number(node.n),
-        Piece::Number(node.v),
-        Piece::Number(node.low),
-        Piece::Number(node.high),
-    ];
-    push_line(alloc, &pieces, text)
-}
-
-/// Appends the lines of chains.
-fn put_chains(
+/// Appends lines, one after another.
+fn put_lines<L: SectionLine>(
     alloc: Global,
     schema: &Schema,
-    chains: &[ChainLine<'_>],
+    lines: &[L],
     text: &mut Vec<u8>,
 ) -> Result<(), AllocError>
     ensures text { OnOk result (text.new.items ≡ text.old.items
-        ++ lines_text (λ chain. chain_tokens (respelled_chain
-        schema.now.columns.items (chain_fields chain))) chains.now) }
+        ++ lines_text (L.tokens schema.now.columns.items) lines.now) }
     ensures fit { OnOk result
-        (IsTrue (list_all (λ chain. are_small (chain_tokens (chain_fields chain))) chains.now)) }
+        (IsTrue (list_all (λ line. are_small (L.own_tokens line)) lines.now)) }
 {
-    for chain in chains {
-        put_chain(alloc, schema, chain, text)?;
+    for line in lines {
+        line.put(alloc, schema, text)?;
     }
     Ok(())
+}
+
+impl SectionLine for NodeLine {
+    ghost tokens = { λ _. node_tokens };
+
+    ghost own_tokens = { node_tokens };
+
+    fn put(&self, alloc: Global, _schema: &Schema, text: &mut Vec<u8>) -> Result<(), AllocError> {
+        let pieces = [
+            Piece::Word(b"NODE"),
+            number(self.n),
+            number(self.v),
+            number(self.low),
+            number(self.high),
+        ];
+        push_line(alloc, &pieces, text)
+    }
+}
+
+impl SectionLine for ChainLine<'_> {
+    ghost tokens = { λ columns chain. chain_tokens (respelled_chain columns (chain_fields chain)) };
+
+    ghost own_tokens = { λ chain. chain_tokens (chain_fields chain) };
+
+    fn put(&self, alloc: Global, schema: &Schema, text: &mut Vec<u8>) -> Result<(), AllocError> {
+        put_chain(alloc, schema, self, text)
+    }
+}
+
+impl SectionLine for ProductLine {
+    ghost tokens = { λ _. row_tokens };
+
+    ghost own_tokens = { row_tokens };
+
+    fn put(&self, alloc: Global, _schema: &Schema, text: &mut Vec<u8>) -> Result<(), AllocError> {
+        let op = connective_spelling(self.op);
+        match self.reason {
+            Reason::Shortcut => {
+                let pieces = [
+                    Piece::Word(b"ROW"),
+                    number(self.n),
+                    Piece::Word(op),
+                    number(self.a),
+                    number(self.b),
+                    number(self.c),
+                    Piece::Word(b"S"),
+                ];
+                push_line(alloc, &pieces, text)
+            }
+            Reason::Cofactors { v, i, j } => {
+                let pieces = [
+                    Piece::Word(b"ROW"),
+                    number(self.n),
+                    Piece::Word(op),
+                    number(self.a),
+                    number(self.b),
+                    number(self.c),
+                    Piece::Word(b"V"),
+                    number(v),
+                    number(i),
+                    number(j),
+                ];
+                push_line(alloc, &pieces, text)
+            }
+        }
+    }
 }
 
 /// Appends the line of a chain.
@@ -238,54 +292,6 @@ fn name_of<'a>(schema: &'a Schema, word: &'a [u8]) -> &'a [u8]
     match schema.column_named(word) {
         None => word,
         Some(column) => schema.columns[column].name.as_bytes(),
-    }
-}
-
-/// Appends the lines of product rows.
-fn put_rows(alloc: Global, rows: &[ProductLine], text: &mut Vec<u8>) -> Result<(), AllocError>
-    ensures text { OnOk result (text.new.items ≡ text.old.items ++ lines_text row_tokens rows.now) }
-    ensures fit { OnOk result (IsTrue (list_all (λ row. are_small (row_tokens row)) rows.now)) }
-{
-    for row in rows {
-        put_row(alloc, *row, text)?;
-    }
-    Ok(())
-}
-
-/// Appends the line of a product row.
-fn put_row(alloc: Global, row: ProductLine, text: &mut Vec<u8>) -> Result<(), AllocError>
-    ensures text { OnOk result (text.new.items ≡ text.old.items ++ token_line (row_tokens row)) }
-    ensures fit { IsTrue (are_small (row_tokens row)) }
-{
-    let op = connective_spelling(row.op);
-    match row.reason {
-        Reason::Shortcut => {
-            let pieces = [
-                Piece::Word(b"ROW"),
-                Piece::Number(row.n),
-                Piece::Word(op),
-                Piece::Number(row.a),
-                Piece::Number(row.b),
-                Piece::Number(row.c),
-                Piece::Word(b"S"),
-            ];
-            push_line(alloc, &pieces, text)
-        }
-        Reason::Cofactors { v, i, j } => {
-            let pieces = [
-                Piece::Word(b"ROW"),
-                Piece::Number(row.n),
-                Piece::Word(op),
-                Piece::Number(row.a),
-                Piece::Number(row.b),
-                Piece::Number(row.c),
-                Piece::Word(b"V"),
-                Piece::Number(v),
-                Piece::Number(i),
-                Piece::Number(j),
-            ];
-            push_line(alloc, &pieces, text)
-        }
     }
 }
 

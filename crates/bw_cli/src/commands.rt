@@ -18,10 +18,9 @@ enum ArgSpec {
     /// A file name: its name in the help, and what the file is.
     File(&'static str, &'static str),
     Statement,
-    /// An option with a value: its name, its value's name, and its help.
-    Valued(&'static str, &'static str, &'static str),
-    /// An option with a value that may be repeated: as above.
-    Repeated(&'static str, &'static str, &'static str),
+    /// An option with a value, which may be repeated if values are appended: its name, its value's
+    /// name, and its help.
+    Valued(ArgAction, &'static str, &'static str, &'static str),
     Layout,
     Stats,
 }
@@ -39,15 +38,22 @@ const OUT: ArgSpec = ArgSpec::File("OUT", "The table file to create or replace")
 
 const FILE: ArgSpec = ArgSpec::File("FILE", "A program file, as written by `bw plan`");
 
-const NAME: ArgSpec = ArgSpec::Valued("table", "NAME", "The table's name (default: t)");
+const NAME: ArgSpec = ArgSpec::Valued(
+    ArgAction::Set,
+    "table",
+    "NAME",
+    "The table's name (default: t)",
+);
 
 const PROGRAM: ArgSpec = ArgSpec::Valued(
+    ArgAction::Set,
     "program",
     "FILE",
     "Scan by this program file instead of the planner's program",
 );
 
-const PROGRAMS: ArgSpec = ArgSpec::Repeated(
+const PROGRAMS: ArgSpec = ArgSpec::Valued(
+    ArgAction::Append,
     "program",
     "FILE",
     "A program file to scan by if it's accepted for a statement; may be given again",
@@ -127,8 +133,8 @@ pub(crate) fn matches_of<'a>(alloc: Global, words: &'a [String]) -> Result<ArgMa
 
 fn with_commands<'a>(alloc: Global) -> Result<Command<'a>, AllocError> {
     let mut program = program(alloc);
-    for told in &COMMANDS {
-        program = with_command(program, command(alloc, told))?;
+    for spec in &COMMANDS {
+        program = with_command(program, command(alloc, spec))?;
     }
     program.arg(explain_option(alloc))
 }
@@ -156,52 +162,41 @@ fn program<'a>(alloc: Global) -> Command<'a> {
         .disable_help_subcommand(true)
 }
 
-fn command<'a>(alloc: Global, told: &CommandSpec) -> Result<Command<'a>, AllocError> {
-    let mut command = Command::new(alloc, told.name)
-        .about(told.about)
-        .after_help(told.example);
-    for taken in told.takes {
-        command = command.arg(argument(alloc, *taken))?;
+fn command<'a>(alloc: Global, spec: &CommandSpec) -> Result<Command<'a>, AllocError> {
+    let mut command = Command::new(alloc, spec.name)
+        .about(spec.about)
+        .after_help(spec.example);
+    for arg in spec.takes {
+        command = command.arg(argument(alloc, *arg))?;
     }
     Ok(command)
 }
 
-fn argument<'a>(alloc: Global, taken: ArgSpec) -> Arg<'a> {
-    match taken {
+/// Returns an argument or an option. A statement may begin with `-`, as a comment does.
+fn argument<'a>(alloc: Global, spec: ArgSpec) -> Arg<'a> {
+    match spec {
         ArgSpec::File(name, help) => Arg::new(alloc, name).required(true).help(help),
-        ArgSpec::Statement => statement(alloc),
-        ArgSpec::Valued(name, value, help) => value_option(
-            alloc,
-            ArgAction::Set,
-            name,
-            value,
-            help,
-        ),
-        ArgSpec::Repeated(name, value, help) => value_option(
-            alloc,
-            ArgAction::Append,
-            name,
-            value,
-            help,
-        ),
-        ArgSpec::Layout => layout(alloc),
-        ArgSpec::Stats => stats(alloc),
+        ArgSpec::Statement => Arg::new(alloc, "SQL")
+            .required(true)
+            .allow_hyphen_values(true)
+            .help("A statement, such as 'SELECT COUNT(*) FROM t WHERE a < 8'"),
+        ArgSpec::Valued(action, name, value, help) => Arg::new(alloc, name)
+            .long(name)
+            .action(action)
+            .value_name(value)
+            .help(help),
+        ArgSpec::Layout => Arg::new(alloc, "layout")
+            .long("layout")
+            .action(ArgAction::Set)
+            .value_parser(["planes", "slices"].as_slice())
+            .help("How to store segments: as bit planes (the default) or byte slices"),
+        ArgSpec::Stats => flag(alloc, "stats").help("Print scan statistics to standard error"),
     }
 }
 
-/// Returns an option with a value.
-fn value_option<'a>(
-    alloc: Global,
-    action: ArgAction,
-    name: &'static str,
-    value: &'static str,
-    help: &'static str,
-) -> Arg<'a> {
-    Arg::new(alloc, name)
-        .long(name)
-        .action(action)
-        .value_name(value)
-        .help(help)
+/// Returns an option without a value.
+fn flag<'a>(alloc: Global, name: &'static str) -> Arg<'a> {
+    Arg::new(alloc, name).long(name).action(ArgAction::SetTrue)
 }
 
 /// Returns the program files that the command line gives a session. Errors: memory is refused.
@@ -227,83 +222,60 @@ pub(crate) fn is_explained(matches: &ArgMatches<'_>) -> bool {
 pub(crate) fn command_args<'a>(matches: &ArgMatches<'a>) -> Option<CommandArgs<'a>> {
     let (name, found) = matches.subcommand()?;
     match name {
-        "direct" => direct_words(found),
-        "infer" => infer_words(found),
-        "load" => load_words(found),
-        "query" => query_words(found),
-        "session" => session_words(found),
-        "info" => info_words(found),
-        "dump" => dump_words(found),
-        "plan" => plan_words(found),
-        "check" => check_words(found),
-        _ => None,
+        "query" | "session" | "info" | "dump" => table_args(name, found),
+        _ => text_args(name, found),
     }
 }
 
-fn direct_words<'a>(found: &ArgMatches<'a>) -> Option<CommandArgs<'a>> {
-    Some(CommandArgs::Direct {
-        schema: found.get_str("SCHEMA")?,
-        csv: found.get_str("CSV")?,
-        sql: found.get_str("SQL")?,
+/// Returns a command over a table file.
+fn table_args<'a>(name: &str, found: &ArgMatches<'a>) -> Option<CommandArgs<'a>> {
+    let table = found.get_str("TABLE")?;
+    Some(match name {
+        "query" => CommandArgs::Query {
+            program: found.get_str("program"),
+            stats: found.get_flag("stats"),
+            table,
+            sql: found.get_str("SQL")?,
+        },
+        "session" => CommandArgs::Session {
+            stats: found.get_flag("stats"),
+            table,
+        },
+        "info" => CommandArgs::Info { table },
+        _ => CommandArgs::Dump { table },
     })
 }
 
-fn infer_words<'a>(found: &ArgMatches<'a>) -> Option<CommandArgs<'a>> {
-    Some(CommandArgs::Infer {
-        name: found.get_str("table"),
-        csv: found.get_str("CSV")?,
-    })
-}
-
-fn load_words<'a>(found: &ArgMatches<'a>) -> Option<CommandArgs<'a>> {
-    Some(CommandArgs::Load {
-        layout: layout_of(found),
-        schema: found.get_str("SCHEMA")?,
-        csv: found.get_str("CSV")?,
-        out: found.get_str("OUT")?,
-    })
-}
-
-fn query_words<'a>(found: &ArgMatches<'a>) -> Option<CommandArgs<'a>> {
-    Some(CommandArgs::Query {
-        program: found.get_str("program"),
-        stats: found.get_flag("stats"),
-        table: found.get_str("TABLE")?,
-        sql: found.get_str("SQL")?,
-    })
-}
-
-fn session_words<'a>(found: &ArgMatches<'a>) -> Option<CommandArgs<'a>> {
-    Some(CommandArgs::Session {
-        stats: found.get_flag("stats"),
-        table: found.get_str("TABLE")?,
-    })
-}
-
-fn info_words<'a>(found: &ArgMatches<'a>) -> Option<CommandArgs<'a>> {
-    Some(CommandArgs::Info {
-        table: found.get_str("TABLE")?,
-    })
-}
-
-fn dump_words<'a>(found: &ArgMatches<'a>) -> Option<CommandArgs<'a>> {
-    Some(CommandArgs::Dump {
-        table: found.get_str("TABLE")?,
-    })
-}
-
-fn plan_words<'a>(found: &ArgMatches<'a>) -> Option<CommandArgs<'a>> {
-    Some(CommandArgs::Plan {
-        schema: found.get_str("SCHEMA")?,
-        sql: found.get_str("SQL")?,
-    })
-}
-
-fn check_words<'a>(found: &ArgMatches<'a>) -> Option<CommandArgs<'a>> {
-    Some(CommandArgs::Check {
-        schema: found.get_str("SCHEMA")?,
-        sql: found.get_str("SQL")?,
-        file: found.get_str("FILE")?,
+/// Returns a command over a CSV file or a schema.
+fn text_args<'a>(name: &str, found: &ArgMatches<'a>) -> Option<CommandArgs<'a>> {
+    if name == "infer" {
+        return Some(CommandArgs::Infer {
+            name: found.get_str("table"),
+            csv: found.get_str("CSV")?,
+        });
+    }
+    let schema = found.get_str("SCHEMA")?;
+    Some(match name {
+        "load" => CommandArgs::Load {
+            layout: layout_of(found),
+            schema,
+            csv: found.get_str("CSV")?,
+            out: found.get_str("OUT")?,
+        },
+        "direct" => CommandArgs::Direct {
+            schema,
+            csv: found.get_str("CSV")?,
+            sql: found.get_str("SQL")?,
+        },
+        "check" => CommandArgs::Check {
+            schema,
+            sql: found.get_str("SQL")?,
+            file: found.get_str("FILE")?,
+        },
+        _ => CommandArgs::Plan {
+            schema,
+            sql: found.get_str("SQL")?,
+        },
     })
 }
 
@@ -315,34 +287,9 @@ fn layout_of(matches: &ArgMatches<'_>) -> Layout {
     }
 }
 
-fn layout<'a>(alloc: Global) -> Arg<'a> {
-    Arg::new(alloc, "layout")
-        .long("layout")
-        .action(ArgAction::Set)
-        .value_parser(["planes", "slices"].as_slice())
-        .help("How to store segments: as bit planes (the default) or byte slices")
-}
-
 /// Returns the option `--explain`, which may precede the command or follow it.
 fn explain_option<'a>(alloc: Global) -> Arg<'a> {
-    Arg::new(alloc, "explain")
-        .long("explain")
-        .action(ArgAction::SetTrue)
+    flag(alloc, "explain")
         .global(true)
         .help("Explain errors below their line, as at a terminal")
-}
-
-fn stats<'a>(alloc: Global) -> Arg<'a> {
-    Arg::new(alloc, "stats")
-        .long("stats")
-        .action(ArgAction::SetTrue)
-        .help("Print scan statistics to standard error")
-}
-
-/// Returns the argument for a statement. It may begin with `-`, as a comment does.
-fn statement<'a>(alloc: Global) -> Arg<'a> {
-    Arg::new(alloc, "SQL")
-        .required(true)
-        .allow_hyphen_values(true)
-        .help("A statement, such as 'SELECT COUNT(*) FROM t WHERE a < 8'")
 }

@@ -27,12 +27,10 @@ use Rattle.bw_file.proofs.ReaderLemmas.{group_sizes-some, group_sizes-none}
 use Rattle.bw_file.proofs.SegmentLemmas.{is_packing}
 use Rattle.bw_file.proofs.SpellingLemmas.{IsBytes, Takes, TakesBoth, bind_ok, not_refused}
 use Rattle.bw_file.proofs.SpellingLemmas.{field_takes, takes_then, both_of}
+use Rattle.bw_file.proofs.SpellingLemmas.{ok_is}
 
 abbrev done : {A : Type 0} → A → Result A Fault
 done x = Ok x
-
-ok_is : {A : Type 0} (x y : A) → done x ≡ done y → x ≡ y
-ok_is x y e = cc
 
 abbrev pair : List ℕ → Tail → List ℕ × Tail
 pair bytes t = (bytes, t)

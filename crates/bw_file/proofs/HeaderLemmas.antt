@@ -16,6 +16,7 @@ use Rattle.bw_file.specs.TableReading.{parse_version, parse_layout, parse_count,
 use Rattle.bw_file.specs.TableReading.{parse_bounds, parse_nullable, FrontShape, front_of, front}
 use Rattle.bw_file.specs.TableReading.{header_of, header}
 use Rattle.bw_file.proofs.ReadingLemmas.{took_nothing, needs_none, begins, passes, stops, refuses}
+use Rattle.bw_model.proofs.SchemaLemmas.{shape_names-of}
 
 -- a name begins with the byte for its length
 pub name_begins : (before : List (List ℕ)) (old : State)
@@ -107,10 +108,6 @@ pub columns_read : (version count i : ℕ) (before : List ColumnShape) (old new 
 unfolding columns
 columns_read version count i before old new le p =
     let e : count - i ≡ 0 = omega arith in rw e at p
-
-pub shape_names-of : (found : List Column) → shape_names (map column_shape found) ≡ names_of found
-shape_names-of [] = refl
-shape_names-of (c ∷ found) = ap (λ (names : List (List ℕ)). c.name ∷ names) (shape_names-of found)
 
 -- the names of columns that are found in a slice of the same ones
 pub names_in : (slice found : List Column) → slice ≡ found → names_of slice ≡ shape_names (map column_shape found)

@@ -26,14 +26,11 @@ use Rattle.bw_file.proofs.ReadingLemmas.{passes, stops, took_more, coming_of, is
 -- the sizes of groups don't hang on how many groups there may be
 sizes-same : (a b rows : ℕ) → rows ≤ a → rows ≤ b → sizes_within a rows ≡ sizes_within b rows
 unfolding group_size
-sizes-same zero zero rows la lb = refl
-sizes-same zero (suc b) zero la lb = refl
 sizes-same zero (suc b) (suc rows) la lb = absurd (omega (arith, la))
-sizes-same (suc a) zero zero la lb = refl
 sizes-same (suc a) zero (suc rows) la lb = absurd (omega (arith, lb))
-sizes-same (suc a) (suc b) zero la lb = refl
 sizes-same (suc a) (suc b) (suc rows) la lb =
     ap (λ (sizes : List ℕ). min group_size (suc rows) ∷ sizes) (sizes-same a b (suc rows - group_size) (omega (arith, la)) (omega (arith, lb)))
+sizes-same _ _ _ la lb = refl
 
 -- they are the first, and those of the rows after it
 pub group_sizes-some : (rows : ℕ) → 0 < rows → group_sizes rows ≡ min group_size rows ∷ group_sizes (rows - group_size)

@@ -27,9 +27,8 @@ one_byte_more c bytes first each zero = first
 one_byte_more c bytes first each (suc i) = each i
 
 pub front_bytes : (n : ℕ) (bytes : List ℕ) → AreBytes bytes → AreBytes (take n bytes)
-front_bytes zero bytes each = no_bytes
-front_bytes (suc n) [] each = no_bytes
 front_bytes (suc n) (c ∷ bytes) each = one_byte_more c (take n bytes) (each 0) (front_bytes n bytes (λ k. each (suc k)))
+front_bytes _ _ each = no_bytes
 
 both_bytes : (xs ys : List ℕ) → AreBytes xs → AreBytes ys → AreBytes (xs ++ ys)
 both_bytes [] ys p q = q

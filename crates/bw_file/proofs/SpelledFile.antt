@@ -7,10 +7,9 @@ use Rattle.std.proofs.lemmas.List.{length-map}
 use Rattle.bw_model.specs.declared.column.Column.{Column}
 use Rattle.bw_model.specs.declared.fault.Fault.{Fault}
 use Rattle.bw_model.specs.declared.schema.Schema.{Schema}
-use Rattle.bw_model.specs.Column.{names_of}
 use Rattle.bw_model.specs.Name.{are_apart}
 use Rattle.bw_model.specs.Row.{Value}
-use Rattle.bw_model.specs.SchemaText.{column_shape, SchemaShape, schema_shape, shape_names}
+use Rattle.bw_model.specs.SchemaText.{column_shape, SchemaShape, schema_shape}
 use Rattle.bw_model.proofs.GroupLemmas.{groups_of-table}
 use Rattle.bw_file.specs.declared.layout.Layout.{Layout}
 use Rattle.bw_file.specs.FileBytes.{IsFileBytes, bytes_of_version, segments_bytes, version_for}
@@ -23,10 +22,7 @@ use Rattle.bw_file.proofs.FileSpelling.{head_is, shapes_fit}
 use Rattle.bw_file.proofs.SpellingLemmas.{head_bytes, IsHeader}
 use Rattle.bw_file.proofs.SpelledHeader.{IsWhole, header_reads}
 use Rattle.bw_file.proofs.SpelledBody.{groups_read}
-
-names_same : (columns : List Column) → shape_names (map column_shape columns) ≡ names_of columns
-names_same [] = refl
-names_same (c ∷ columns) = ap (λ (names : List (List ℕ)). c.name ∷ names) (names_same columns)
+use Rattle.bw_model.proofs.SchemaLemmas.{shape_names-of}
 
 ordered : (l h : ℤ) → l ≤ℤ h → int_le l h ≡ true
 ordered l h o = search rules
@@ -64,7 +60,7 @@ of_version version bytes layout schema rows one_or_two room file text =
       header = known;
       nonempty = omega (arith, count, schema.inhabited);
       limited = omega (arith, count, schema.limited);
-      apart = ap are_apart (names_same columns) ∙ schema.apart;
+      apart = ap are_apart (shape_names-of columns) ∙ schema.apart;
     } in
     let after = segments_bytes layout columns rows in
     let parts : bytes ≡ head_bytes h ++ after = text ∙ ap (λ (l : List ℕ). l ++ after) (sym (head_is version (length rows) layout schema)) in

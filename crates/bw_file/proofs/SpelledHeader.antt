@@ -155,9 +155,8 @@ column_reads version before c is room apart =
 
 -- a name among others that are apart is none of those before it
 not_any : (a b : Bool) → (not (a || b)) ≡ true → (a ≡ false) × (b ≡ false)
-not_any true b e = absurd cc
-not_any false true e = absurd cc
 not_any false false e = (refl, refl)
+not_any _ _ e = absurd cc
 
 apart_there : (text name : List ℕ) (before after : List (List ℕ)) → not (list_any (same_text name) (before ++ text ∷ after)) ≡ true → same_text name text ≡ false
 apart_there text name [] after e = (not_any (same_text name text) (list_any (same_text name) after) e).0

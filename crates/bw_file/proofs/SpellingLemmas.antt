@@ -69,7 +69,7 @@ not_refused false fault r x e = (refl, e)
 abbrev done : {A : Type 0} → A → Result A Fault
 done x = Ok x
 
-ok_is : {A : Type 0} (x y : A) → done x ≡ done y → x ≡ y
+pub ok_is : {A : Type 0} (x y : A) → done x ≡ done y → x ≡ y
 ok_is x y e = cc
 
 pub field_takes : (size : ℕ) (t : Tail) (x : List ℕ × Tail) → IsBytes t.bytes → field size t ≡ Ok x → Takes t x.0 x.1 × (length x.0 ≡ size)
@@ -102,9 +102,8 @@ read_field_takes size says t x fits e =
 
 -- a single byte
 single : (text : List ℕ) → length text ≡ 1 → text ≡ get_or text 0 0 ∷ []
-single [] e = absurd (omega (arith, e))
 single (byte ∷ []) e = refl
-single (byte ∷ other ∷ more) e = absurd (omega (arith, e))
+single _ e = absurd (omega (arith, e))
 
 abbrev said : {A : Type 0} → A → Result A ℕ
 said x = Ok x
@@ -142,30 +141,25 @@ version_is text version long e =
     let g = chosen (eqb (get_or text 0 0) 1 || eqb (get_or text 0 0) 2) (get_or text 0 0) version 302 e in
     (single text long ∙ ap (λ (b : ℕ). b ∷ []) g.1, elim (either _ _ g.0) [ inl a ↦ inl (sym g.1 ∙ eqb-true _ _ a) | inr b ↦ inr (sym g.1 ∙ eqb-true _ _ b) ])
 
-two_layouts : (zero_is one_is : Bool) (layout : Layout) → cond zero_is (Ok Planes) (cond one_is (Ok Slices) (Err 303)) ≡ said layout
-    → ((zero_is ≡ true) × (layout ≡ Planes)) ⊎ ((one_is ≡ true) × (layout ≡ Slices))
-two_layouts true one_is layout e = inl (refl, sym (said_is Planes layout e))
-two_layouts false true layout e = inr (refl, sym (said_is Slices layout e))
-two_layouts false false layout e = absurd cc
+-- one of two values, by a byte that is 0 or 1
+two_values : {A : Type 0} (a b : A) (code : ℕ) (zero_is one_is : Bool) (x : A) → cond zero_is (Ok a) (cond one_is (Ok b) (Err code)) ≡ said x
+    → ((zero_is ≡ true) × (x ≡ a)) ⊎ ((one_is ≡ true) × (x ≡ b))
+two_values a b code true one_is x e = inl (refl, sym (said_is a x e))
+two_values a b code false true x e = inr (refl, sym (said_is b x e))
+two_values a b code false false x e = absurd cc
 
 layout_is : (text : List ℕ) (layout : Layout) → length text ≡ 1 → parse_layout text ≡ Ok layout → text ≡ layout_byte layout ∷ []
 unfolding parse_layout
 layout_is text layout long e =
-    elim (two_layouts (eqb (get_or text 0 0) 0) (eqb (get_or text 0 0) 1) layout e) [
+    elim (two_values Planes Slices 303 (eqb (get_or text 0 0) 0) (eqb (get_or text 0 0) 1) layout e) [
       | inl a ↦ single text long ∙ rw (eqb-true _ _ a.0, a.1) refl
       | inr b ↦ single text long ∙ rw (eqb-true _ _ b.0, b.1) refl
     ]
 
-two_flags : (zero_is one_is nullable : Bool) → cond zero_is (Ok false) (cond one_is (Ok true) (Err 304)) ≡ said nullable
-    → ((zero_is ≡ true) × (nullable ≡ false)) ⊎ ((one_is ≡ true) × (nullable ≡ true))
-two_flags true one_is nullable e = inl (refl, sym (said_is false nullable e))
-two_flags false true nullable e = inr (refl, sym (said_is true nullable e))
-two_flags false false nullable e = absurd cc
-
 nullable_is : (text : List ℕ) (nullable : Bool) → length text ≡ 1 → parse_nullable text ≡ Ok nullable → text ≡ flag_byte nullable ∷ []
 unfolding parse_nullable
 nullable_is text nullable long e =
-    elim (two_flags (eqb (get_or text 0 0) 0) (eqb (get_or text 0 0) 1) nullable e) [
+    elim (two_values false true 304 (eqb (get_or text 0 0) 0) (eqb (get_or text 0 0) 1) nullable e) [
       | inl a ↦ single text long ∙ rw (eqb-true _ _ a.0, a.1) refl
       | inr b ↦ single text long ∙ rw (eqb-true _ _ b.0, b.1) refl
     ]

@@ -1,7 +1,7 @@
 -- Whole tables, row by row.
 use Rattle.std.proofs.Common.{◌≡◌, ℕ, zero, suc, ◌+◌, ◌<◌, ◌≤◌, true, List, [], ◌∷◌, ◌++◌, length}
 use Rattle.std.proofs.Common.{get_or, map, take, Some, Ok, Err, Bool, false, if◌then◌else◌, refl}
-use Rattle.std.proofs.Common.{sym, ap, ◌∙◌, append_assoc, arith}
+use Rattle.std.proofs.Common.{ap, ◌∙◌, arith}
 use Rattle.std.specs.List.{list_all}
 use Rattle.std.proofs.lemmas.List.{append-nil, take_all}
 use Rattle.bw_model.specs.declared.column.Column.{Column}
@@ -39,20 +39,6 @@ pub row_wide : (segment : AnySegment) (i : ℕ) → i < length (any_meaning segm
 row_wide segment i lt =
     length_admitted (any_meaning segment).columns (get_or (any_meaning segment).rows i [])
     (admitted_in (any_meaning segment).columns (any_meaning segment).rows i (any_is_group segment).admitted lt)
-
--- groups that are put together, and one more
-pub together-push : (groups : List (List (List Value))) (group : List (List Value)) → together (groups ++ group ∷ []) ≡ together groups ++ group
-together-push [] group = append-nil group
-together-push (g ∷ groups) group = ap (λ (rows : List (List Value)). g ++ rows) (together-push groups group) ∙ sym (append_assoc g (together groups) group)
-
--- rows that were admitted in all were admitted one by one
-pub row_admitted : (columns : List Column) (rows : List Row) (i : ℕ) (row : Row) → list_all (admits_values columns) (map values_of rows) ≡ true → i < length rows
-    → row ≡ get_or rows i row → admits_values columns (values_of row) ≡ true
-row_admitted columns [] i row all lt is = absurd (omega (arith, lt))
-row_admitted columns (r ∷ rows) zero row all lt is =
-    ap (λ (x : Row). admits_values columns (values_of x)) is ∙ (both (admits_values columns (values_of r)) (list_all (admits_values columns) (map values_of rows)) all).0
-row_admitted columns (r ∷ rows) (suc i) row all lt is =
-    row_admitted columns rows i row (both (admits_values columns (values_of r)) (list_all (admits_values columns) (map values_of rows)) all).1 (omega (arith, lt)) is
 
 bytes_alike : (a b : Layout) (x y : Schema) (rows : List (List Value)) → a ≡ b → x.name ≡ y.name → x.columns.items ≡ y.columns.items → file_bytes a x rows ≡ file_bytes b y rows
 bytes_alike a b x y rows layout name columns = rw (layout, name, columns) refl

@@ -1,5 +1,6 @@
 //! The fields of a table file's header: their values and errors.
-ghost use Rattle.std.specs.Prelude.{◌≡◌, ◌≤◌, ◌^◌, ◌≤ℤ◌, ◌<ℤ◌, ◌-ℤ◌, pos, length, IfOk, IsTrue};
+ghost use Rattle.std.specs.Prelude.{◌≡◌, ◌≤◌, ◌^◌, ◌≤ℤ◌, ◌<ℤ◌, ◌-ℤ◌, pos, length, ℕ, List};
+ghost use Rattle.std.specs.Prelude.{Result, IfOk, IsTrue};
 ghost use Rattle.bw_model.specs.Limits.{most_rows};
 ghost use Rattle.bw_file.specs.FileBytes.{are_bounds};
 ghost use Rattle.bw_file.specs.Reading.{at_offset};
@@ -23,68 +24,121 @@ pub(crate) fn at_offset<T>(at: u64, said: Result<T, u16>) -> Result<T, Fault>
     }
 }
 
-/// Checks the magic. Errors: 301.
-#[tactic(auto, unfolding(crate::specs::TableReading::parse_magic, crate::specs::FileBytes::magic))]
-pub(crate) fn parse_magic(bytes: &[u8; 8]) -> Result<(), u16>
-    ensures { result ≡ parse_magic bytes.now }
-{
-    if bytes == MAGIC {
-        Ok(())
-    } else {
-        Err(code::MAGIC)
+/// A field of `N` bytes.
+pub(crate) trait Field<const N: usize> {
+    type Value;
+
+    /// The value of the field's bytes, or the number of its error.
+    ghost value_of: { Self → List ℕ → Result Self.Value ℕ };
+
+    /// What holds of each value.
+    ghost valid: { Self.Value → Type 0 } = { λ _. Unit {0} };
+
+    /// Returns the value of the field's bytes.
+    fn parse(&self, bytes: &[u8; N]) -> Result<Self::Value, u16>
+        ensures value { result ≡ value_of self.now bytes.now }
+        ensures valid { IfOk result valid };
+}
+
+/// The magic. Errors: 301.
+#[derive(Clone, Copy)]
+pub(crate) struct Magic;
+
+impl Field<8> for Magic {
+    type Value = ();
+
+    ghost value_of = { λ _. parse_magic };
+
+    #[tactic(auto, unfolding(crate::specs::TableReading::parse_magic, crate::specs::FileBytes::magic))]
+    fn parse(&self, bytes: &[u8; 8]) -> Result<(), u16> {
+        if bytes == MAGIC {
+            Ok(())
+        } else {
+            Err(code::MAGIC)
+        }
     }
 }
 
-/// Returns the version, 1 or 2. Errors: 302.
-#[tactic(auto, unfolding(crate::specs::TableReading::parse_version))]
-pub(crate) fn parse_version(bytes: &[u8; 1]) -> Result<u8, u16>
-    ensures { result ≡ parse_version bytes.now }
-{
-    let version = bytes[0];
-    if version == 1 || version == 2 {
-        Ok(version)
-    } else {
-        Err(code::VERSION)
+/// The version, 1 or 2. Errors: 302.
+#[derive(Clone, Copy)]
+pub(crate) struct Version;
+
+impl Field<1> for Version {
+    type Value = u8;
+
+    ghost value_of = { λ _. parse_version };
+
+    #[tactic(auto, unfolding(crate::specs::TableReading::parse_version))]
+    fn parse(&self, bytes: &[u8; 1]) -> Result<u8, u16> {
+        let version = bytes[0];
+        if version == 1 || version == 2 {
+            Ok(version)
+        } else {
+            Err(code::VERSION)
+        }
     }
 }
 
-/// Returns the layout. Errors: 303.
-#[tactic(auto, unfolding(crate::specs::TableReading::parse_layout))]
-pub(crate) fn parse_layout(bytes: &[u8; 1]) -> Result<Layout, u16>
-    ensures { result ≡ parse_layout bytes.now }
-{
-    match bytes[0] {
-        0 => Ok(Layout::Planes),
-        1 => Ok(Layout::Slices),
-        _ => Err(code::LAYOUT),
+/// The layout. Errors: 303.
+#[derive(Clone, Copy)]
+pub(crate) struct LayoutByte;
+
+impl Field<1> for LayoutByte {
+    type Value = Layout;
+
+    ghost value_of = { λ _. parse_layout };
+
+    #[tactic(auto, unfolding(crate::specs::TableReading::parse_layout))]
+    fn parse(&self, bytes: &[u8; 1]) -> Result<Layout, u16> {
+        match bytes[0] {
+            0 => Ok(Layout::Planes),
+            1 => Ok(Layout::Slices),
+            _ => Err(code::LAYOUT),
+        }
     }
 }
 
-/// Returns the number of columns, 1 to 64. Errors: 304.
-#[tactic(auto, unfolding(crate::specs::TableReading::parse_count))]
-pub(crate) fn parse_count(bytes: [u8; 2]) -> Result<u16, u16>
-    ensures count { result ≡ parse_count bytes }
-    ensures bounds { IfOk result (λ count. (1 ≤ count) × (count ≤ 64)) }
-{
-    let count = u16::from_le_bytes(bytes);
-    if count == 0 || count > 64 {
-        Err(code::HEADER)
-    } else {
-        Ok(count)
+/// The number of columns, 1 to 64. Errors: 304.
+#[derive(Clone, Copy)]
+pub(crate) struct ColumnCount;
+
+impl Field<2> for ColumnCount {
+    type Value = u16;
+
+    ghost value_of = { λ _. parse_count };
+
+    ghost valid = { λ count. (1 ≤ count) × (count ≤ 64) };
+
+    #[tactic(auto, unfolding(crate::specs::TableReading::parse_count))]
+    fn parse(&self, bytes: &[u8; 2]) -> Result<u16, u16> {
+        let count = u16::from_le_bytes(*bytes);
+        if count == 0 || count > 64 {
+            Err(code::HEADER)
+        } else {
+            Ok(count)
+        }
     }
 }
 
-/// Returns the number of rows, at most 2^24. Errors: 310.
-#[tactic(auto, unfolding(crate::specs::TableReading::parse_row_count))]
-pub(crate) fn parse_row_count(bytes: [u8; 4]) -> Result<u32, u16>
-    ensures rows { result ≡ parse_row_count bytes }
-    ensures within_limit { IfOk result (λ rows. rows ≤ most_rows) }
-{
-    let rows = u32::from_le_bytes(bytes);
-    if rows > MAX_ROWS {
-        Err(code::ROW_COUNT)
-    } else {
-        Ok(rows)
+/// The number of rows, at most 2^24. Errors: 310.
+#[derive(Clone, Copy)]
+pub(crate) struct RowCount;
+
+impl Field<4> for RowCount {
+    type Value = u32;
+
+    ghost value_of = { λ _. parse_row_count };
+
+    ghost valid = { λ rows. rows ≤ most_rows };
+
+    #[tactic(auto, unfolding(crate::specs::TableReading::parse_row_count))]
+    fn parse(&self, bytes: &[u8; 4]) -> Result<u32, u16> {
+        let rows = u32::from_le_bytes(*bytes);
+        if rows > MAX_ROWS {
+            Err(code::ROW_COUNT)
+        } else {
+            Ok(rows)
+        }
     }
 }
 
@@ -95,20 +149,28 @@ pub(crate) struct Bounds {
     pub(crate) hi: i64,
 }
 
-/// Returns the bounds of a column, in a file of this version. Errors: 304 if they are out of order
-/// or too far apart.
-#[tactic(auto, unfolding(crate::specs::TableReading::parse_bounds))]
-pub(crate) fn parse_bounds(version: u8, bytes: &[u8; 16]) -> Result<Bounds, u16>
-    ensures bounds { result ≡ parse_bounds version bytes.now }
-    ensures ordered { IfOk result (λ bounds. bounds.lo ≤ℤ bounds.hi) }
-    ensures narrow { IfOk result (λ bounds. (bounds.hi -ℤ bounds.lo) <ℤ pos (2 ^ 63)) }
-{
-    let lo = bound_in(&bytes[..8]);
-    let hi = bound_in(&bytes[8..]);
-    if are_bounds(version, lo, hi) {
-        Ok(Bounds { lo, hi })
-    } else {
-        Err(code::HEADER)
+/// The bounds of a column, in a file of this version. Errors: 304 if they are out of order or too
+/// far apart.
+#[derive(Clone, Copy)]
+pub(crate) struct ColumnBounds(pub(crate) u8);
+
+impl Field<16> for ColumnBounds {
+    type Value = Bounds;
+
+    ghost value_of = { λ field. parse_bounds field.0 };
+
+    ghost valid = { λ bounds. (bounds.lo ≤ℤ bounds.hi)
+        × ((bounds.hi -ℤ bounds.lo) <ℤ pos (2 ^ 63)) };
+
+    #[tactic(auto, unfolding(crate::specs::TableReading::parse_bounds))]
+    fn parse(&self, bytes: &[u8; 16]) -> Result<Bounds, u16> {
+        let lo = bound_in(&bytes[..8]);
+        let hi = bound_in(&bytes[8..]);
+        if are_bounds(self.0, lo, hi) {
+            Ok(Bounds { lo, hi })
+        } else {
+            Err(code::HEADER)
+        }
     }
 }
 
@@ -141,14 +203,21 @@ pub(crate) fn are_bounds(version: u8, lo: i64, hi: i64) -> bool
     }
 }
 
-/// Returns whether a column is nullable, from a byte that is 0 or 1. Errors: 304.
-#[tactic(auto, unfolding(crate::specs::TableReading::parse_nullable))]
-pub(crate) fn parse_nullable(bytes: &[u8; 1]) -> Result<bool, u16>
-    ensures { result ≡ parse_nullable bytes.now }
-{
-    match bytes[0] {
-        0 => Ok(false),
-        1 => Ok(true),
-        _ => Err(code::HEADER),
+/// Whether a column is nullable, from a byte that is 0 or 1. Errors: 304.
+#[derive(Clone, Copy)]
+pub(crate) struct Nullable;
+
+impl Field<1> for Nullable {
+    type Value = bool;
+
+    ghost value_of = { λ _. parse_nullable };
+
+    #[tactic(auto, unfolding(crate::specs::TableReading::parse_nullable))]
+    fn parse(&self, bytes: &[u8; 1]) -> Result<bool, u16> {
+        match bytes[0] {
+            0 => Ok(false),
+            1 => Ok(true),
+            _ => Err(code::HEADER),
+        }
     }
 }

@@ -1,5 +1,5 @@
 //! A table file's header, read field by field from a source.
-ghost use Rattle.std.specs.Prelude.{◌≡◌, ◌+◌, ◌-◌, ◌*◌, ◌^◌, ◌<◌, ◌≤◌, ◌≤ℤ◌, ◌<ℤ◌, ◌-ℤ◌, pos, []};
+ghost use Rattle.std.specs.Prelude.{◌≡◌, ◌+◌, ◌-◌, ◌*◌, ◌^◌, ◌<◌, ◌≤◌, []};
 ghost use Rattle.std.specs.Prelude.{map, length, false, true, Ok, Err, if◌then◌else◌, OnOk, IfOk};
 ghost use Rattle.std.specs.Prelude.{IsTrue};
 ghost use Rattle.std.specs.List.{list_any};
@@ -11,14 +11,11 @@ ghost use Rattle.bw_model.specs.SchemaText.{column_shape};
 ghost use Rattle.bw_text.specs.Text.{same_text};
 ghost use Rattle.bw_file.specs.Header.{header_shape};
 ghost use Rattle.bw_file.specs.Reading.{Reads, state, read_field};
-ghost use Rattle.bw_file.specs.TableReading.{parse_magic, parse_version, parse_layout, parse_count};
-ghost use Rattle.bw_file.specs.TableReading.{parse_row_count, parse_bounds, parse_nullable};
 ghost use Rattle.bw_file.specs.TableReading.{parse_name, name, column, columns, front_of, front};
 ghost use Rattle.bw_file.specs.TableReading.{header_of, header};
 
 use crate::fields::{
-    Bounds, at_offset, parse_bounds, parse_count, parse_layout, parse_magic, parse_nullable,
-    parse_row_count, parse_version,
+    ColumnBounds, ColumnCount, Field, LayoutByte, Magic, Nullable, RowCount, Version, at_offset,
 };
 use crate::layout::Layout;
 use crate::take::take;
@@ -26,113 +23,25 @@ use bw_io::Source;
 use bw_model::{Column, Fault, Name, Schema, code, is_name};
 use std::alloc::Global;
 
-/// Reads the magic.
-fn read_magic<S: Source>(source: &mut S, offset: &mut u64) -> Result<(), Fault>
+/// Reads a field. Errors: its own, at its first byte.
+fn read_field<F: Field<N>, S: Source, const N: usize>(
+    field: &F,
+    source: &mut S,
+    offset: &mut u64,
+) -> Result<F::Value, Fault>
     requires counter_fits { S.failures source.old < 2 ^ 64 - 1 }
     requires capacity { offset.old < 2 ^ 63 }
-    ensures reads { Reads (λ x. x) (read_field 8 parse_magic)
+    requires small { N ≤ 16 }
+    ensures reads { Reads (λ x. x) (read_field N (F.value_of field.now))
         (state (S.to_come source.old) offset.old (S.failures source.old))
         (state (S.to_come source.new) offset.new (S.failures source.new)) result }
-    ensures advanced { OnOk result (offset.new ≡ offset.old + 8) }
+    ensures advanced { OnOk result (offset.new ≡ offset.old + N) }
+    ensures valid { IfOk result F.valid }
 {
     let at = *offset;
-    let mut bytes = [0; 8];
+    let mut bytes = [0; N];
     take(source, offset, &mut bytes)?;
-    at_offset(at, parse_magic(&bytes))
-}
-
-/// Reads the version.
-fn read_version<S: Source>(source: &mut S, offset: &mut u64) -> Result<u8, Fault>
-    requires counter_fits { S.failures source.old < 2 ^ 64 - 1 }
-    requires capacity { offset.old < 2 ^ 63 }
-    ensures reads { Reads (λ x. x) (read_field 1 parse_version)
-        (state (S.to_come source.old) offset.old (S.failures source.old))
-        (state (S.to_come source.new) offset.new (S.failures source.new)) result }
-    ensures advanced { OnOk result (offset.new ≡ offset.old + 1) }
-{
-    let at = *offset;
-    let mut bytes = [0; 1];
-    take(source, offset, &mut bytes)?;
-    at_offset(at, parse_version(&bytes))
-}
-
-/// Reads the layout.
-fn read_layout<S: Source>(source: &mut S, offset: &mut u64) -> Result<Layout, Fault>
-    requires counter_fits { S.failures source.old < 2 ^ 64 - 1 }
-    requires capacity { offset.old < 2 ^ 63 }
-    ensures reads { Reads (λ x. x) (read_field 1 parse_layout)
-        (state (S.to_come source.old) offset.old (S.failures source.old))
-        (state (S.to_come source.new) offset.new (S.failures source.new)) result }
-    ensures advanced { OnOk result (offset.new ≡ offset.old + 1) }
-{
-    let at = *offset;
-    let mut bytes = [0; 1];
-    take(source, offset, &mut bytes)?;
-    at_offset(at, parse_layout(&bytes))
-}
-
-/// Reads the number of columns.
-fn read_count<S: Source>(source: &mut S, offset: &mut u64) -> Result<u16, Fault>
-    requires counter_fits { S.failures source.old < 2 ^ 64 - 1 }
-    requires capacity { offset.old < 2 ^ 63 }
-    ensures reads { Reads (λ x. x) (read_field 2 parse_count)
-        (state (S.to_come source.old) offset.old (S.failures source.old))
-        (state (S.to_come source.new) offset.new (S.failures source.new)) result }
-    ensures advanced { OnOk result (offset.new ≡ offset.old + 2) }
-    ensures bounds { IfOk result (λ count. (1 ≤ count) × (count ≤ 64)) }
-{
-    let at = *offset;
-    let mut bytes = [0; 2];
-    take(source, offset, &mut bytes)?;
-    at_offset(at, parse_count(bytes))
-}
-
-/// Reads the number of rows.
-fn read_rows<S: Source>(source: &mut S, offset: &mut u64) -> Result<u32, Fault>
-    requires counter_fits { S.failures source.old < 2 ^ 64 - 1 }
-    requires capacity { offset.old < 2 ^ 63 }
-    ensures reads { Reads (λ x. x) (read_field 4 parse_row_count)
-        (state (S.to_come source.old) offset.old (S.failures source.old))
-        (state (S.to_come source.new) offset.new (S.failures source.new)) result }
-    ensures advanced { OnOk result (offset.new ≡ offset.old + 4) }
-    ensures within_limit { IfOk result (λ rows. rows ≤ most_rows) }
-{
-    let at = *offset;
-    let mut bytes = [0; 4];
-    take(source, offset, &mut bytes)?;
-    at_offset(at, parse_row_count(bytes))
-}
-
-/// Reads the bounds of a column.
-fn read_bounds<S: Source>(version: u8, source: &mut S, offset: &mut u64) -> Result<Bounds, Fault>
-    requires counter_fits { S.failures source.old < 2 ^ 64 - 1 }
-    requires capacity { offset.old < 2 ^ 63 }
-    ensures reads { Reads (λ x. x) (read_field 16 (parse_bounds version))
-        (state (S.to_come source.old) offset.old (S.failures source.old))
-        (state (S.to_come source.new) offset.new (S.failures source.new)) result }
-    ensures advanced { OnOk result (offset.new ≡ offset.old + 16) }
-    ensures ordered { IfOk result (λ bounds. bounds.lo ≤ℤ bounds.hi) }
-    ensures narrow { IfOk result (λ bounds. (bounds.hi -ℤ bounds.lo) <ℤ pos (2 ^ 63)) }
-{
-    let at = *offset;
-    let mut bytes = [0; 16];
-    take(source, offset, &mut bytes)?;
-    at_offset(at, parse_bounds(version, &bytes))
-}
-
-/// Reads whether a column is nullable.
-fn read_nullable<S: Source>(source: &mut S, offset: &mut u64) -> Result<bool, Fault>
-    requires counter_fits { S.failures source.old < 2 ^ 64 - 1 }
-    requires capacity { offset.old < 2 ^ 63 }
-    ensures reads { Reads (λ x. x) (read_field 1 parse_nullable)
-        (state (S.to_come source.old) offset.old (S.failures source.old))
-        (state (S.to_come source.new) offset.new (S.failures source.new)) result }
-    ensures advanced { OnOk result (offset.new ≡ offset.old + 1) }
-{
-    let at = *offset;
-    let mut bytes = [0; 1];
-    take(source, offset, &mut bytes)?;
-    at_offset(at, parse_nullable(&bytes))
+    at_offset(at, field.parse(&bytes))
 }
 
 /// Reads a name, which follows a byte for its length. Errors: 304 at that byte, if the text isn't a
@@ -203,8 +112,8 @@ fn read_column<S: Source>(
         (λ found. list_any (λ other. same_text other found.name) (names_of before.now) ≡ false) }
 {
     let name = read_name(alloc, before, source, offset)?;
-    let bounds = read_bounds(version, source, offset)?;
-    let nullable = read_nullable(source, offset)?;
+    let bounds = read_field(&ColumnBounds(version), source, offset)?;
+    let nullable = read_field(&Nullable, source, offset)?;
     Ok(Column {
         name,
         lo: bounds.lo,
@@ -257,11 +166,11 @@ fn read_front<S: Source>(source: &mut S, offset: &mut u64) -> Result<Front, Faul
     ensures bounds { IfOk result (λ found. (1 ≤ found.columns) × (found.columns ≤ 64)) }
     ensures within_limit { IfOk result (λ found. found.rows ≤ most_rows) }
 {
-    read_magic(source, offset)?;
-    let version = read_version(source, offset)?;
-    let layout = read_layout(source, offset)?;
-    let columns = read_count(source, offset)?;
-    let rows = read_rows(source, offset)?;
+    read_field(&Magic, source, offset)?;
+    let version = read_field(&Version, source, offset)?;
+    let layout = read_field(&LayoutByte, source, offset)?;
+    let columns = read_field(&ColumnCount, source, offset)?;
+    let rows = read_field(&RowCount, source, offset)?;
     Ok(Front {
         version,
         layout,

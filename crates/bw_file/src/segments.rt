@@ -26,107 +26,70 @@ pub enum AnySegment {
     Slices(SliceSegment),
 }
 
+/// The same expression on the segment in either layout.
+macro_rules! either {
+    ($any:expr, $segment:ident => $value:expr) => {
+        match $any {
+            AnySegment::Planes($segment) => $value,
+            AnySegment::Slices($segment) => $value,
+        }
+    };
+}
+
+#[tactic(auto, unfolding(crate::specs::AnySegment::any_meaning))]
 impl Segment for AnySegment {
     ghost use Rattle.bw_file.specs.AnySegment.{any_meaning, any_is_group};
 
     ghost meaning = { any_meaning };
 
-    #[tactic(auto, unfolding(crate::specs::AnySegment::any_meaning))]
     fn schema(&self) -> &Schema {
-        match self {
-            AnySegment::Planes(segment) => segment.schema(),
-            AnySegment::Slices(segment) => segment.schema(),
-        }
+        either!(self, segment => segment.schema())
     }
 
-    #[tactic(auto, unfolding(crate::specs::AnySegment::any_meaning))]
     fn rows_in(&self) -> u32 {
-        match self {
-            AnySegment::Planes(segment) => segment.rows_in(),
-            AnySegment::Slices(segment) => segment.rows_in(),
-        }
+        either!(self, segment => segment.rows_in())
     }
 
     #[inline(always)]
-    #[tactic(auto, unfolding(crate::specs::AnySegment::any_meaning))]
     fn bit(&self, col: usize, bit: u32) -> Plane {
-        match self {
-            AnySegment::Planes(segment) => segment.bit(col, bit),
-            AnySegment::Slices(segment) => segment.bit(col, bit),
-        }
+        either!(self, segment => segment.bit(col, bit))
     }
 
     #[inline(always)]
-    #[tactic(auto, unfolding(crate::specs::AnySegment::any_meaning))]
     fn nulls(&self, col: usize) -> Plane {
-        match self {
-            AnySegment::Planes(segment) => segment.nulls(col),
-            AnySegment::Slices(segment) => segment.nulls(col),
-        }
+        either!(self, segment => segment.nulls(col))
     }
 
-    #[tactic(auto, unfolding(crate::specs::AnySegment::any_meaning))]
     fn byte_lt(&self, col: usize, slice: usize, c: u8) -> Plane {
-        match self {
-            AnySegment::Planes(segment) => segment.byte_lt(col, slice, c),
-            AnySegment::Slices(segment) => segment.byte_lt(col, slice, c),
-        }
+        either!(self, segment => segment.byte_lt(col, slice, c))
     }
 
-    #[tactic(auto, unfolding(crate::specs::AnySegment::any_meaning))]
     fn byte_eq(&self, col: usize, slice: usize, c: u8) -> Plane {
-        match self {
-            AnySegment::Planes(segment) => segment.byte_eq(col, slice, c),
-            AnySegment::Slices(segment) => segment.byte_eq(col, slice, c),
-        }
+        either!(self, segment => segment.byte_eq(col, slice, c))
     }
 
-    #[tactic(auto, unfolding(crate::specs::AnySegment::any_meaning))]
     fn sum_of_codes(&self, col: usize, rows: &Selection) -> u128 {
-        match self {
-            AnySegment::Planes(segment) => segment.sum_of_codes(col, rows),
-            AnySegment::Slices(segment) => segment.sum_of_codes(col, rows),
-        }
+        either!(self, segment => segment.sum_of_codes(col, rows))
     }
 
-    #[tactic(auto, unfolding(crate::specs::AnySegment::any_meaning))]
     fn min_code(&self, col: usize, rows: &Selection) -> Option<u64> {
-        match self {
-            AnySegment::Planes(segment) => segment.min_code(col, rows),
-            AnySegment::Slices(segment) => segment.min_code(col, rows),
-        }
+        either!(self, segment => segment.min_code(col, rows))
     }
 
-    #[tactic(auto, unfolding(crate::specs::AnySegment::any_meaning))]
     fn max_code(&self, col: usize, rows: &Selection) -> Option<u64> {
-        match self {
-            AnySegment::Planes(segment) => segment.max_code(col, rows),
-            AnySegment::Slices(segment) => segment.max_code(col, rows),
-        }
+        either!(self, segment => segment.max_code(col, rows))
     }
 
-    #[tactic(auto, unfolding(crate::specs::AnySegment::any_meaning))]
     fn none_beyond(&self, col: usize, rows: &Selection, other: u64, greatest: bool) -> bool {
-        match self {
-            AnySegment::Planes(segment) => segment.none_beyond(col, rows, other, greatest),
-            AnySegment::Slices(segment) => segment.none_beyond(col, rows, other, greatest),
-        }
+        either!(self, segment => segment.none_beyond(col, rows, other, greatest))
     }
 
-    #[tactic(auto, unfolding(crate::specs::AnySegment::any_meaning))]
     fn codes(&self, col: usize, codes: &mut [u64; LANES]) {
-        match self {
-            AnySegment::Planes(segment) => segment.codes(col, codes),
-            AnySegment::Slices(segment) => segment.codes(col, codes),
-        }
+        either!(self, segment => segment.codes(col, codes))
     }
 
-    #[tactic(auto, unfolding(crate::specs::AnySegment::any_meaning))]
     fn value(&self, col: usize, row: usize) -> Value {
-        match self {
-            AnySegment::Planes(segment) => segment.value(col, row),
-            AnySegment::Slices(segment) => segment.value(col, row),
-        }
+        either!(self, segment => segment.value(col, row))
     }
 
     ghost is_group = { any_is_group };

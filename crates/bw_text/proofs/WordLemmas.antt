@@ -19,6 +19,5 @@ first_kept p (x ∷ xs) e =
 
 -- of no words, or several, there is no only one
 pub none_alone : (xs : List (List ℕ)) → (length xs ≡ 1 → ⊥) → None ≡ only_of xs
-none_alone [] other = refl
 none_alone (x ∷ []) other = absurd (other refl)
-none_alone (x ∷ y ∷ xs) other = refl
+none_alone _ other = refl

@@ -43,37 +43,13 @@ same_found {A} spelling all key word same =
 pub keyword_of-spelling : (k : Keyword) → keyword_of (spelling k) ≡ Some k
 unfolding keyword_of same_text
 keyword_of-spelling keyword.And = refl
-keyword_of-spelling keyword.Between = refl
-keyword_of-spelling keyword.Count = refl
-keyword_of-spelling keyword.False = refl
-keyword_of-spelling keyword.From = refl
-keyword_of-spelling keyword.In = refl
-keyword_of-spelling keyword.Is = refl
-keyword_of-spelling keyword.Max = refl
-keyword_of-spelling keyword.Min = refl
-keyword_of-spelling keyword.Not = refl
-keyword_of-spelling keyword.Null = refl
-keyword_of-spelling keyword.Or = refl
-keyword_of-spelling keyword.Select = refl
-keyword_of-spelling keyword.Sum = refl
-keyword_of-spelling keyword.True = refl
-keyword_of-spelling keyword.Unknown = refl
-keyword_of-spelling keyword.Where = refl
+keyword_of-spelling _ = refl
 
 -- the words of program texts
 pub opcode_of-spelling : (o : Opcode) → opcode_of (opcode_spelling o) ≡ Some o
 unfolding opcode_of same_text
 opcode_of-spelling op.Load = refl
-opcode_of-spelling op.Nulls = refl
-opcode_of-spelling op.Fill = refl
-opcode_of-spelling op.And = refl
-opcode_of-spelling op.Or = refl
-opcode_of-spelling op.Xor = refl
-opcode_of-spelling op.Not = refl
-opcode_of-spelling op.ByteLt = refl
-opcode_of-spelling op.ByteEq = refl
-opcode_of-spelling op.Skip = refl
-opcode_of-spelling op.Result = refl
+opcode_of-spelling _ = refl
 
 -- the words of certificate texts
 pub kind_is : (word : List ℕ) (kind : LineKind) → kind_of word ≡ Some kind → same_text (kind_spelling kind) word ≡ true
@@ -82,25 +58,9 @@ kind_is word kind e = found (λ (k : LineKind). same_text (kind_spelling k) word
 
 pub kind_of-spelling : (k : LineKind) → kind_of (kind_spelling k) ≡ Some k
 unfolding kind_of same_text
-kind_of-spelling kind.Node = refl
-kind_of-spelling kind.Chain = refl
-kind_of-spelling kind.Row = refl
 kind_of-spelling (kind.Condition condition.Compare) = refl
-kind_of-spelling (kind.Condition condition.CompareColumns) = refl
-kind_of-spelling (kind.Condition condition.Fixed) = refl
-kind_of-spelling (kind.Condition condition.NullTest) = refl
-kind_of-spelling (kind.Condition condition.And) = refl
-kind_of-spelling (kind.Condition condition.Or) = refl
-kind_of-spelling (kind.Condition condition.Not) = refl
-kind_of-spelling (kind.Condition condition.Is) = refl
 kind_of-spelling (kind.Instruction instruction.Load) = refl
-kind_of-spelling (kind.Instruction instruction.Fill) = refl
-kind_of-spelling (kind.Instruction instruction.Op) = refl
-kind_of-spelling (kind.Instruction instruction.Byte) = refl
-kind_of-spelling (kind.Instruction instruction.Skip) = refl
-kind_of-spelling kind.Join = refl
-kind_of-spelling kind.Keep = refl
-kind_of-spelling kind.End = refl
+kind_of-spelling _ = refl
 
 kind_alike : (key word : List ℕ) → same_text key word ≡ true → kind_of word ≡ kind_of key
 unfolding kind_of
@@ -116,9 +76,7 @@ form_is word f e = found (λ (k : Form). same_text (form_spelling k) word) forms
 pub form_of-spelling : (f : Form) → form_of (form_spelling f) ≡ Some f
 unfolding form_of same_text
 form_of-spelling form.Less = refl
-form_of-spelling form.Equal = refl
-form_of-spelling form.LessTwo = refl
-form_of-spelling form.EqualTwo = refl
+form_of-spelling _ = refl
 
 form_alike : (key word : List ℕ) → same_text key word ≡ true → form_of word ≡ form_of key
 unfolding form_of

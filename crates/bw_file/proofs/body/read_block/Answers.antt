@@ -1,12 +1,11 @@
 use Rattle.std.proofs.Common.{sym, arith}
-use Rattle.std.proofs.lemmas.Result.{err_from_is_err_and}
+use Rattle.bw_file.proofs.ErrLemmas.{err_passed_on}
 use Rattle.bw_file.proofs.BodyLemmas.{block_good, block_bad, block_stops}
 use Rattle.bw_file.proofs.body.read_block.Goals as goal
 
 pub returns-in_err-take-clause-reads : goal.returns-in_err-take-clause-reads
 returns-in_err-take-clause-reads g c =
-    let p = err_from_is_err_and c.from_residual.result c.from_residual.ensures.1 in
-    rw (p.1, p.2) (block_stops c.args.layout c.args.placement.now.schema.columns.items c.args.rows c.args.col _ _ _ (rw c.block_size-size.ensures.size at c.in_err-take.ensures.reads))
+    rw (err_passed_on _ c.from_residual.ensures.1) (block_stops c.args.layout c.args.placement.now.schema.columns.items c.args.rows c.args.col _ _ _ (rw c.block_size-size.ensures.size at c.in_err-take.ensures.reads))
 
 pub returns-in-None-clause-reads : goal.returns-in-None-clause-reads
 returns-in-None-clause-reads g c =

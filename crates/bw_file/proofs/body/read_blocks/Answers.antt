@@ -1,9 +1,9 @@
 use Rattle.std.proofs.Common.{◌≡◌, ◌<◌, ◌+◌, ◌-◌, ◌++◌, ℕ, drop, take, length, length-take}
 use Rattle.std.proofs.Common.{length-drop, ap, ◌∙◌, arith}
 use Rattle.std.proofs.lemmas.List.{take_all}
-use Rattle.std.proofs.lemmas.Result.{err_from_is_err_and}
 use Rattle.bw_file.specs.Blocks.{block_from, block_size, bytes_before, segment_size}
 use Rattle.bw_file.specs.SegmentBytes.{bytes_held}
+use Rattle.bw_file.proofs.ErrLemmas.{err_passed_on}
 use Rattle.bw_file.proofs.BodyLemmas.{blocks_more, blocks_stop, blocks_read, sound_more}
 use Rattle.bw_file.proofs.BodyLemmas.{before_more}
 use Rattle.bw_file.proofs.SegmentBytesLemmas.{with_part}
@@ -11,9 +11,8 @@ use Rattle.bw_file.proofs.body.read_blocks.Goals as goal
 
 pub returns-in_err-read_block-clause-reads : goal.returns-in_err-read_block-clause-reads
 returns-in_err-read_block-clause-reads g c =
-    let p = err_from_is_err_and c.from_residual.result c.from_residual.ensures.1 in
     let lt : c.loop-col.col < length c.args.placement.now.schema.columns.items = omega (arith, c.len-col-end.ensures, c.args.placement.now.schema.columns.ok.0) in
-    rw (p.1, p.2) (blocks_stop c.args.layout c.args.placement.now.schema.columns.items c.args.rows _ c.loop-col.col (take c.loop-col.start (bytes_held c.loop-col.bytes)) _ _ _ _ lt
+    rw (err_passed_on _ c.from_residual.ensures.1) (blocks_stop c.args.layout c.args.placement.now.schema.columns.items c.args.rows _ c.loop-col.col (take c.loop-col.start (bytes_held c.loop-col.bytes)) _ _ _ _ lt
     c.loop-col.invariant.on c.in_err-read_block.ensures.reads)
 
 pub read_block-requires-clause-within : goal.read_block-requires-clause-within

@@ -1,11 +1,11 @@
 use Rattle.std.proofs.Common.{◌≡◌, ◌++◌, ◌∷◌, [], map, length, ap, ◌∙◌, refl, arith}
 use Rattle.std.proofs.lemmas.List.{map_push, length_push}
-use Rattle.std.proofs.lemmas.Result.{err_from_is_err_and}
 use Rattle.bw_model.specs.declared.column.Column.{Column}
 use Rattle.bw_model.specs.Column.{names_of}
 use Rattle.bw_model.specs.Name.{are_apart}
 use Rattle.bw_model.specs.SchemaText.{column_shape}
 use Rattle.bw_model.proofs.SchemaLemmas.{are_apart-push}
+use Rattle.bw_file.proofs.ErrLemmas.{err_passed_on}
 use Rattle.bw_file.proofs.HeaderLemmas.{columns_more, columns_stop, columns_begin, columns_read}
 use Rattle.bw_file.proofs.HeaderLemmas.{names_in}
 use Rattle.bw_file.proofs.ReadingLemmas.{stops_memory}
@@ -23,13 +23,11 @@ loop-init g c = record {
 
 pub returns-in_err-column-clause-reads : goal.returns-in_err-column-clause-reads
 returns-in_err-column-clause-reads g c =
-    let p = err_from_is_err_and c.from_residual.result c.from_residual.ensures.1 in
-    rw (p.1, p.2) (columns_stop c.args.version c.args.count c.loop.counter (map column_shape c.loop.found.items) _ _ _ _ _ c.loop-test.true (names_in _ _ c.deref.ensures.value) c.loop.invariant.on c.in_err-column.ensures.reads)
+    rw (err_passed_on _ c.from_residual.ensures.1) (columns_stop c.args.version c.args.count c.loop.counter (map column_shape c.loop.found.items) _ _ _ _ _ c.loop-test.true (names_in _ _ c.deref.ensures.value) c.loop.invariant.on c.in_err-column.ensures.reads)
 
 pub returns-in_err-push-clause-reads : goal.returns-in_err-push-clause-reads
 returns-in_err-push-clause-reads g c =
-    let p = err_from_is_err_and c.from_residual-in_err-push.result c.from_residual-in_err-push.ensures.1 in
-    rw (p.1, p.2) (stops_memory _ _ _ _ (columns_more c.args.version c.args.count c.loop.counter (map column_shape c.loop.found.items) (column_shape c.in_ok-column.column) _ _ _ _ c.loop-test.true (names_in _ _ c.deref.ensures.value) c.loop.invariant.on c.in_ok-column.ensures.reads))
+    rw (err_passed_on _ c.from_residual-in_err-push.ensures.1) (stops_memory _ _ _ _ (columns_more c.args.version c.args.count c.loop.counter (map column_shape c.loop.found.items) (column_shape c.in_ok-column.column) _ _ _ _ c.loop-test.true (names_in _ _ c.deref.ensures.value) c.loop.invariant.on c.in_ok-column.ensures.reads))
 
 pub loop-preserved : goal.loop-preserved
 loop-preserved g c =

@@ -1,36 +1,31 @@
-use Rattle.std.proofs.lemmas.Result.{err_from_is_err_and}
 use Rattle.bw_file.specs.TableReading.{front}
+use Rattle.bw_file.proofs.ErrLemmas.{err_passed_on}
 use Rattle.bw_file.proofs.HeaderLemmas.{magic_read, version_read, layout_read, count_read}
 use Rattle.bw_file.proofs.HeaderLemmas.{front_read}
 use Rattle.bw_file.proofs.ReadingLemmas.{begins, stops}
 use Rattle.bw_file.proofs.header.read_front.Goals as goal
 
-pub returns-in_err-read_magic-clause-reads : goal.returns-in_err-read_magic-clause-reads
+pub returns-in_err-read_field-clause-reads : goal.returns-in_err-read_field-clause-reads
 unfolding front
-returns-in_err-read_magic-clause-reads g c =
-    let p = err_from_is_err_and c.from_residual.result c.from_residual.ensures.1 in
-    rw (p.1, p.2) (stops front _ _ _ _ _ _ (begins front _) c.in_err-read_magic.ensures.reads)
+returns-in_err-read_field-clause-reads g c =
+    rw (err_passed_on _ c.from_residual.ensures.1) (stops front _ _ _ _ _ _ (begins front _) c.in_err-read_field.ensures.reads)
 
 pub returns-in_err-version-clause-reads : goal.returns-in_err-version-clause-reads
 returns-in_err-version-clause-reads g c =
-    let p = err_from_is_err_and c.from_residual-in_err-version.result c.from_residual-in_err-version.ensures.1 in
-    rw (p.1, p.2) (stops _ _ _ _ _ _ _ (magic_read _ _ c.in_ok-read_magic.ensures.reads) c.in_err-version.ensures.reads)
+    rw (err_passed_on _ c.from_residual-in_err-version.ensures.1) (stops _ _ _ _ _ _ _ (magic_read _ _ c.in_ok-read_field.ensures.reads) c.in_err-version.ensures.reads)
 
 pub returns-in_err-layout-clause-reads : goal.returns-in_err-layout-clause-reads
 returns-in_err-layout-clause-reads g c =
-    let p = err_from_is_err_and c.from_residual-in_err-layout.result c.from_residual-in_err-layout.ensures.1 in
-    rw (p.1, p.2) (stops _ _ _ _ _ _ _ (version_read _ _ _ _ c.in_ok-read_magic.ensures.reads c.in_ok-version.ensures.reads) c.in_err-layout.ensures.reads)
+    rw (err_passed_on _ c.from_residual-in_err-layout.ensures.1) (stops _ _ _ _ _ _ _ (version_read _ _ _ _ c.in_ok-read_field.ensures.reads c.in_ok-version.ensures.reads) c.in_err-layout.ensures.reads)
 
 pub returns-in_err-columns-clause-reads : goal.returns-in_err-columns-clause-reads
 returns-in_err-columns-clause-reads g c =
-    let p = err_from_is_err_and c.from_residual-in_err-columns.result c.from_residual-in_err-columns.ensures.1 in
-    rw (p.1, p.2) (stops _ _ _ _ _ _ _ (layout_read _ _ _ _ _ _ c.in_ok-read_magic.ensures.reads c.in_ok-version.ensures.reads c.in_ok-layout.ensures.reads) c.in_err-columns.ensures.reads)
+    rw (err_passed_on _ c.from_residual-in_err-columns.ensures.1) (stops _ _ _ _ _ _ _ (layout_read _ _ _ _ _ _ c.in_ok-read_field.ensures.reads c.in_ok-version.ensures.reads c.in_ok-layout.ensures.reads) c.in_err-columns.ensures.reads)
 
 pub returns-in_err-rows-clause-reads : goal.returns-in_err-rows-clause-reads
 returns-in_err-rows-clause-reads g c =
-    let p = err_from_is_err_and c.from_residual-in_err-rows.result c.from_residual-in_err-rows.ensures.1 in
-    rw (p.1, p.2) (stops _ _ _ _ _ _ _ (count_read _ _ _ _ _ _ _ _ c.in_ok-read_magic.ensures.reads c.in_ok-version.ensures.reads c.in_ok-layout.ensures.reads c.in_ok-columns.ensures.reads) c.in_err-rows.ensures.reads)
+    rw (err_passed_on _ c.from_residual-in_err-rows.ensures.1) (stops _ _ _ _ _ _ _ (count_read _ _ _ _ _ _ _ _ c.in_ok-read_field.ensures.reads c.in_ok-version.ensures.reads c.in_ok-layout.ensures.reads c.in_ok-columns.ensures.reads) c.in_err-rows.ensures.reads)
 
 pub returns-clause-reads : goal.returns-clause-reads
 returns-clause-reads g c =
-    front_read _ _ _ _ _ _ _ _ _ _ c.in_ok-read_magic.ensures.reads c.in_ok-version.ensures.reads c.in_ok-layout.ensures.reads c.in_ok-columns.ensures.reads c.in_ok-rows.ensures.reads
+    front_read _ _ _ _ _ _ _ _ _ _ c.in_ok-read_field.ensures.reads c.in_ok-version.ensures.reads c.in_ok-layout.ensures.reads c.in_ok-columns.ensures.reads c.in_ok-rows.ensures.reads

@@ -1,19 +1,19 @@
 use Rattle.std.proofs.Common.{◌++◌, ◌∷◌, [], List, map, ap, sym, ◌∙◌, refl, arith}
-use Rattle.std.proofs.lemmas.Result.{err_from_is_err_and}
 use Rattle.bw_model.specs.declared.schema.Schema.{Schema}
 use Rattle.bw_model.specs.Row.{Value, values_of}
 use Rattle.bw_file.specs.AnySegment.{any_meaning, any_is_group}
+use Rattle.bw_file.proofs.ErrLemmas.{err_passed_on}
 use Rattle.bw_file.proofs.FileSpelling.{read_is_spelled_by}
 use Rattle.bw_file.proofs.NextLemmas.{segment_of, end_of, refusal_of}
 use Rattle.bw_file.proofs.SpelledFile.{bytes_read}
-use Rattle.bw_file.proofs.TableLemmas.{fault_seen, whole_seen, found_same, together-push}
+use Rattle.bw_file.proofs.TableLemmas.{fault_seen, whole_seen, found_same}
+use Rattle.bw_file.proofs.MemoryAnswers.{together_more}
 use Rattle.bw_file.proofs.table.decode.Goals as goal
 
 pub returns-in_err-segment-clause-fault : goal.returns-in_err-segment-clause-fault
 returns-in_err-segment-clause-fault c =
-    let p = err_from_is_err_and c.from_residual-in_err-segment.result c.from_residual-in_err-segment.ensures.1 in
     let came = c.loop-rows.invariant.came in
-    rw (p.1, p.2) (fault_seen c.args.bytes.now _ _ _ _ refl ((refusal_of c.in_err-segment.ensures c.loop-rows.invariant.goes_on).answers _ came.0 came.1))
+    rw (err_passed_on _ c.from_residual-in_err-segment.ensures.1) (fault_seen c.args.bytes.now _ _ _ _ refl ((refusal_of c.in_err-segment.ensures c.loop-rows.invariant.goes_on).answers _ came.0 came.1))
 
 pub loop-rows-smaller-in_ok-push_rows : goal.loop-rows-smaller-in_ok-push_rows
 loop-rows-smaller-in_ok-push_rows c =
@@ -31,7 +31,7 @@ loop-rows-preserved-in_ok-push_rows c =
       came = (
         came.0 ++ rows ∷ [],
         gave.after _ came.0 came.1,
-        c.in_ok-push_rows.ensures.rows ∙ ap (λ (front : List (List Value)). front ++ rows) came.2 ∙ sym (together-push came.0 rows),
+        c.in_ok-push_rows.ensures.rows ∙ ap (λ (front : List (List Value)). front ++ rows) came.2 ∙ sym (together_more came.0 rows),
       );
     }
 
@@ -51,7 +51,7 @@ loop-rows-preserved c =
       came = (
         came.0 ++ rows ∷ [],
         gave.after _ came.0 came.1,
-        c.in_ok-push_rows.ensures.rows ∙ ap (λ (front : List (List Value)). front ++ rows) came.2 ∙ sym (together-push came.0 rows),
+        c.in_ok-push_rows.ensures.rows ∙ ap (λ (front : List (List Value)). front ++ rows) came.2 ∙ sym (together_more came.0 rows),
       );
     }
 
@@ -74,19 +74,16 @@ returns-clause-accepted c = λ layout schema rows file. bytes_read c.args.bytes.
 
 pub returns-in_err-segment-clause-accepted : goal.returns-in_err-segment-clause-accepted
 returns-in_err-segment-clause-accepted c =
-    let p = err_from_is_err_and c.from_residual-in_err-segment.result c.from_residual-in_err-segment.ensures.1 in
     let came = c.loop-rows.invariant.came in
-    rw (p.1, p.2) (λ layout schema rows file kept.
+    rw (err_passed_on _ c.from_residual-in_err-segment.ensures.1) (λ layout schema rows file kept.
     bytes_read c.args.bytes.now layout schema rows _ file (fault_seen c.args.bytes.now _ _ _ _ refl ((refusal_of c.in_err-segment.ensures c.loop-rows.invariant.goes_on).answers _ came.0 came.1) kept))
 
 pub returns-in_err-reader-clause-accepted : goal.returns-in_err-reader-clause-accepted
 returns-in_err-reader-clause-accepted c =
-    let p = err_from_is_err_and c.from_residual.result c.from_residual.ensures.1 in
     let refused = c.in_err-reader.ensures.refused in
-    rw (p.1, p.2) (λ layout schema rows file kept.
+    rw (err_passed_on _ c.from_residual.ensures.1) (λ layout schema rows file kept.
     bytes_read c.args.bytes.now layout schema rows _ file (fault_seen c.args.bytes.now _ _ refused.0 _ refl refused.1 kept))
 
 pub returns-in_err-segment-clause-code : goal.returns-in_err-segment-clause-code
 returns-in_err-segment-clause-code c =
-    let p = err_from_is_err_and c.from_residual-in_err-segment.result c.from_residual-in_err-segment.ensures.1 in
-    rw (p.1, p.2) (refusal_of c.in_err-segment.ensures c.loop-rows.invariant.goes_on).own
+    rw (err_passed_on _ c.from_residual-in_err-segment.ensures.1) (refusal_of c.in_err-segment.ensures c.loop-rows.invariant.goes_on).own

@@ -4,12 +4,13 @@ use Rattle.std.proofs.lemmas.Result.{IfOk-weaker}
 use Rattle.bw_model.specs.declared.row.Row.{Row}
 use Rattle.bw_model.specs.declared.schema.Schema.{Schema}
 use Rattle.bw_model.specs.Row.{values_of}
-use Rattle.bw_file.proofs.TableLemmas.{row_admitted, bytes_of_all}
+use Rattle.bw_file.proofs.TableLemmas.{bytes_of_all}
+use Rattle.bw_segment.proofs.CodeLemmas.{admitted_at}
 use Rattle.bw_file.proofs.table.encode.Goals as goal
 
 pub add-requires-clause-admitted : goal.add-requires-clause-admitted
 add-requires-clause-admitted c =
-    rw c.loop-row.invariant.columns (row_admitted c.args.schema.now.columns.items c.args.rows.now c.loop-row.row-index c.row-item.result c.requires.admitted c.loop-row-test.true c.row-item.is)
+    rw c.loop-row.invariant.columns (admitted_at c.args.schema.now.columns.items c.args.rows.now c.loop-row.row-index c.row-item.result c.requires.admitted c.loop-row-test.true c.row-item.is)
 
 pub loop-row-preserved : goal.loop-row-preserved
 loop-row-preserved c =

@@ -13,9 +13,9 @@ pub returns-clause-text : goal.returns-clause-text
 returns-clause-text c =
     let columns = c.args.schema.now.columns.items in
     let shape : CertificateShape = c.args.self.now in
-    let nodes = rw c.node_lines.ensures at c.in_ok-put_nodes.ensures.text in
-    let chains = rw c.chain_lines.ensures at c.in_ok-put_chains.ensures.text in
-    let products = rw c.product_lines.ensures at c.in_ok-put_rows.ensures.text in
+    let nodes = rw c.node_lines.ensures at c.in_ok-put_lines.ensures.text in
+    let chains = rw c.chain_lines.ensures at c.in_ok-put_lines-2.ensures.text in
+    let products = rw c.product_lines.ensures at c.in_ok-put_lines-3.ensures.text in
     let body = rw c.body.ensures at c.in_ok-put_body.ensures.text in
     let last = rw c.end.ensures at c.in_ok-put_end.ensures.text in
     text_written _ _ _ _ _ c.put_end.new.text.items _ _ _ _ _ c.new-text.ensures.items nodes chains products body last
@@ -25,9 +25,9 @@ pub returns-clause-spelled : goal.returns-clause-spelled
 returns-clause-spelled c = λ first.
     let columns = c.args.schema.now.columns.items in
     let shape : CertificateShape = c.args.self.now in
-    let nodes = rw c.node_lines.ensures at c.in_ok-put_nodes.ensures.fit in
-    let chains = rw c.chain_lines.ensures at c.in_ok-put_chains.ensures.fit in
-    let products = rw c.product_lines.ensures at c.in_ok-put_rows.ensures.fit in
+    let nodes = rw c.node_lines.ensures at c.in_ok-put_lines.ensures.fit in
+    let chains = rw c.chain_lines.ensures at c.in_ok-put_lines-2.ensures.fit in
+    let products = rw c.product_lines.ensures at c.in_ok-put_lines-3.ensures.fit in
     let body = rw c.body.ensures at c.in_ok-put_body.ensures.fit in
     let last = rw c.end.ensures at c.put_end.ensures.fit in
     let small = shape_fits shape nodes chains products body last in
