@@ -168,8 +168,8 @@ map_same {B = B} f g (x ∷ xs) same = ap₂ (λ (y : B) (ys : List B). y ∷ ys
 
 -- of two nodes whose XOR is the node 0 by a row, the values are the same
 pub same_denotes : (facts : Facts) (a b row : ℕ) → HaveStatedValues facts → is_zero (product_node facts Xor a b row) ≡ true → (assignment : Assignment) → node_value facts.nodes assignment a ≡ node_value facts.nodes assignment b
-same_denotes facts a b row have_values is assignment =
-    xor_zero _ _ (sym ((have_values.row Xor a b row 0 (zero_is _ is)).1 assignment) ∙ have_values.zero assignment)
+same_denotes facts a b row denoted is assignment =
+    xor_zero _ _ (sym ((denoted.row Xor a b row 0 (zero_is _ is)).1 assignment) ∙ denoted.zero assignment)
   where
     zero_is : (found : Option ℕ) → is_zero found ≡ true → found ≡ Some 0
     zero_is None is = cc

@@ -46,17 +46,17 @@ use Rattle.bw_cert_rules.proofs.NumberLemmas.{compares_to, turned_bit, lt_low, l
 use Rattle.bw_cert_rules.proofs.NumberLemmas.{eq_high, lt_within, eq_within, holds_moved}
 use Rattle.bw_cert_rules.proofs.NumberLemmas.{holds_turned, lt_apart, le_apart, eq_apart, equal-lo}
 use Rattle.bw_cert_rules.proofs.RowLemmas.{Denotes, zero_denotes, one_denotes, denotes_so, if_both-is}
-use Rattle.bw_cert_rules.proofs.RowLemmas.{product_node-have_values, has_value, value_node-have_values}
+use Rattle.bw_cert_rules.proofs.RowLemmas.{product_node-denoted, has_value, value_node-denoted}
 
 -- a pair whose nodes are worth this tells it
 pub tells_by : (nodes : List Node) (truth : Assignment → Truth) (pair : TruthPair) → Denotes nodes (λ assignment. is_truth (truth assignment) Yes) pair.yes → Denotes nodes (λ assignment. is_truth (truth assignment) No) pair.no → Tells nodes truth pair
-tells_by nodes truth pair t f = record { yes_node = t.is_node; no_node = f.is_node; yes = t.have_values; no = f.have_values }
+tells_by nodes truth pair t f = record { yes_node = t.is_node; no_node = f.is_node; yes = t.denoted; no = f.denoted }
 
 pub tells_yes : (nodes : List Node) (truth : Assignment → Truth) (pair : TruthPair) → Tells nodes truth pair → Denotes nodes (λ assignment. is_truth (truth assignment) Yes) pair.yes
-tells_yes nodes truth pair t = record { is_node = t.yes_node; have_values = t.yes }
+tells_yes nodes truth pair t = record { is_node = t.yes_node; denoted = t.yes }
 
 pub tells_no : (nodes : List Node) (truth : Assignment → Truth) (pair : TruthPair) → Tells nodes truth pair → Denotes nodes (λ assignment. is_truth (truth assignment) No) pair.no
-tells_no nodes truth pair t = record { is_node = t.no_node; have_values = t.no }
+tells_no nodes truth pair t = record { is_node = t.no_node; denoted = t.no }
 
 pub tells_so : (nodes : List Node) (truth other : Assignment → Truth) (pair : TruthPair) → ((assignment : Assignment) → truth assignment ≡ other assignment) → Tells nodes truth pair → Tells nodes other pair
 tells_so nodes truth other pair same t = record {
@@ -116,9 +116,9 @@ value_in-assigned columns col lt assignment =
     by_null false v = refl
 
 -- the terminal of a comparison with a bound that no number of the bits is compared to
-terminal-have_values : (nodes : List Node) (x : Assignment → ℕ) (kind : ChainKind) (limit : ℤ) (width e : ℕ) → ((assignment : Assignment) → x assignment < 2 ^ width) → terminal_of kind limit width ≡ Some e →
+terminal-denoted : (nodes : List Node) (x : Assignment → ℕ) (kind : ChainKind) (limit : ℤ) (width e : ℕ) → ((assignment : Assignment) → x assignment < 2 ^ width) → terminal_of kind limit width ≡ Some e →
     Denotes nodes (λ assignment. compares_to kind (pos (x assignment)) limit) e
-terminal-have_values nodes x Less limit width e below is = by_low (int_le limit (pos 0)) refl is
+terminal-denoted nodes x Less limit width e below is = by_low (int_le limit (pos 0)) refl is
   where
     by_high : (high : Bool) → int_le (pos (2 ^ width)) limit ≡ high → cond high (Some 1) None ≡ Some e → Denotes nodes (λ assignment. int_lt (pos (x assignment)) limit) e
     by_high true high is = subst (Denotes nodes (λ assignment. int_lt (pos (x assignment)) limit)) (cc)
@@ -129,14 +129,14 @@ terminal-have_values nodes x Less limit width e below is = by_low (int_le limit 
     by_low true low is = subst (Denotes nodes (λ assignment. int_lt (pos (x assignment)) limit)) (cc)
         (denotes_so nodes (λ assignment. false) _ 0 (λ assignment. sym (lt_low (x assignment) limit low)) (zero_denotes nodes))
     by_low false low is = by_high (int_le (pos (2 ^ width)) limit) refl is
-terminal-have_values nodes x Equal limit width e below is = by_tests (int_lt limit (pos 0)) (int_le (pos (2 ^ width)) limit) refl refl is
+terminal-denoted nodes x Equal limit width e below is = by_tests (int_lt limit (pos 0)) (int_le (pos (2 ^ width)) limit) refl refl is
   where
-    have_values : ((assignment : Assignment) → int_eq (pos (x assignment)) limit ≡ false) → 0 ≡ e → Denotes nodes (λ assignment. int_eq (pos (x assignment)) limit) e
-    have_values unequal is = subst (Denotes nodes (λ assignment. int_eq (pos (x assignment)) limit)) is (denotes_so nodes (λ assignment. false) _ 0 (λ assignment. sym (unequal assignment)) (zero_denotes nodes))
+    denoted : ((assignment : Assignment) → int_eq (pos (x assignment)) limit ≡ false) → 0 ≡ e → Denotes nodes (λ assignment. int_eq (pos (x assignment)) limit) e
+    denoted unequal is = subst (Denotes nodes (λ assignment. int_eq (pos (x assignment)) limit)) is (denotes_so nodes (λ assignment. false) _ 0 (λ assignment. sym (unequal assignment)) (zero_denotes nodes))
 
     by_tests : (low high : Bool) → int_lt limit (pos 0) ≡ low → int_le (pos (2 ^ width)) limit ≡ high → cond (low || high) (Some 0) None ≡ Some e → Denotes nodes (λ assignment. int_eq (pos (x assignment)) limit) e
-    by_tests true high low_is high_is is = have_values (λ assignment. eq_low (x assignment) limit low_is) (cc)
-    by_tests false true low_is high_is is = have_values (λ assignment. eq_high (x assignment) (2 ^ width) limit (below assignment) high_is) (cc)
+    by_tests true high low_is high_is is = denoted (λ assignment. eq_low (x assignment) limit low_is) (cc)
+    by_tests false true low_is high_is is = denoted (λ assignment. eq_high (x assignment) (2 ^ width) limit (below assignment) high_is) (cc)
     by_tests false false low_is high_is is = cc
 
 -- other bounds are natural numbers
@@ -191,10 +191,10 @@ module _ (facts : Facts) (have_values : HaveStatedValues facts) where
   split-tells negated (Some m) (Some e) p q pair there bit m_denotes e_denotes is = by_turn negated (if_both (product_node facts And m e p) (product_node facts Diff m e q)) refl is
     where
       t_denotes : (made : TruthPair) → if_both (product_node facts And m e p) (product_node facts Diff m e q) ≡ Some made → Denotes facts.nodes (λ assignment. there assignment && bit assignment) made.yes
-      t_denotes made is = product_node-have_values facts have_values And m e made.yes p there bit (m_denotes m refl) (e_denotes e refl) (if_both-is _ _ made is).0
+      t_denotes made is = product_node-denoted facts have_values And m e made.yes p there bit (m_denotes m refl) (e_denotes e refl) (if_both-is _ _ made is).0
 
       f_denotes : (made : TruthPair) → if_both (product_node facts And m e p) (product_node facts Diff m e q) ≡ Some made → Denotes facts.nodes (λ assignment. there assignment && not (bit assignment)) made.no
-      f_denotes made is = product_node-have_values facts have_values Diff m e made.no q there bit (m_denotes m refl) (e_denotes e refl) (if_both-is _ _ made is).1
+      f_denotes made is = product_node-denoted facts have_values Diff m e made.no q there bit (m_denotes m refl) (e_denotes e refl) (if_both-is _ _ made is).1
 
       both_yes : (there bit : Bool) → (there && bit) ≡ is_truth (split_truth false there bit) Yes
       both_yes true true = refl
@@ -232,9 +232,9 @@ module _ (facts : Facts) (have_values : HaveStatedValues facts) where
           (denotes_so facts.nodes _ _ found.yes (λ assignment. turned_no (there assignment) (bit assignment)) (t_denotes found made)))
 
   -- the node of a comparison of a column's code with a bound
-  bound_node-have_values : (col : ℕ) (bound : Bound) (chain : Option ℕ) (e : ℕ) → bound_node facts.columns facts col bound chain ≡ Some e →
+  bound_node-denoted : (col : ℕ) (bound : Bound) (chain : Option ℕ) (e : ℕ) → bound_node facts.columns facts col bound chain ≡ Some e →
       Denotes facts.nodes (λ assignment. compares_to bound.kind (pos (code_spelled facts.columns col assignment)) bound.limit) e
-  bound_node-have_values col bound chain e is = by_terminal (terminal_of bound.kind bound.limit (width_at facts.columns col)) refl chain is
+  bound_node-denoted col bound chain e is = by_terminal (terminal_of bound.kind bound.limit (width_at facts.columns col)) refl chain is
     where
       cite : ℕ → Option ℕ
       cite = comparison_node facts bound.kind col 0 (width_at facts.columns col) (unsigned_abs bound.limit)
@@ -244,13 +244,13 @@ module _ (facts : Facts) (have_values : HaveStatedValues facts) where
 
       by_terminal : (terminal : Option ℕ) → terminal_of bound.kind bound.limit (width_at facts.columns col) ≡ terminal → (chain : Option ℕ) → terminal_or_cited terminal cite chain ≡ Some e → P e
       by_terminal (Some terminal) which None is =
-          subst P (cc) (terminal-have_values facts.nodes (code_spelled facts.columns col) bound.kind bound.limit (width_at facts.columns col) terminal (code_spelled-lt facts.columns col) which)
+          subst P (cc) (terminal-denoted facts.nodes (code_spelled facts.columns col) bound.kind bound.limit (width_at facts.columns col) terminal (code_spelled-lt facts.columns col) which)
       by_terminal (Some terminal) which (Some number) is = cc
       by_terminal None which None is = cc
       by_terminal None which (Some number) is =
           let found = have_values.chain bound.kind col 0 (width_at facts.columns col) (unsigned_abs bound.limit) number e is in
           denotes_so facts.nodes _ _ e (λ assignment. terminal_of-compares bound.kind bound.limit (width_at facts.columns col) (code_spelled facts.columns col assignment) which)
-          (record { is_node = found.0; have_values = found.1 })
+          (record { is_node = found.0; denoted = found.1 })
 
   -- CMP
   pub with_literal-tells : (op : Op) (col : ℕ) (n : ℤ) (entry : ConditionEntry) (pair : TruthPair) → col < length facts.columns → with_literal facts.columns facts op col n entry ≡ Some pair →
@@ -260,7 +260,7 @@ module _ (facts : Facts) (have_values : HaveStatedValues facts) where
       tells_so facts.nodes _ _ pair same
       (split-tells bound.negated (value_node facts (null_variable facts.columns col) value) (bound_node facts.columns facts col bound chain) p q pair (has_value facts.columns col)
       (λ assignment. compares_to bound.kind (pos (code_spelled facts.columns col assignment)) bound.limit)
-      (λ m found. value_node-have_values facts.columns facts have_values col value m found) (λ e found. bound_node-have_values col bound chain e found) is)
+      (λ m found. value_node-denoted facts.columns facts have_values col value m found) (λ e found. bound_node-denoted col bound chain e found) is)
     where
       bound : Bound
       bound = bound_of op (n -ℤ lo_at facts.columns col)
@@ -275,9 +275,9 @@ module _ (facts : Facts) (have_values : HaveStatedValues facts) where
   with_literal-tells op col n _ pair lt is = cc
 
   -- the node of a comparison of the codes of two columns
-  order_node-have_values : (order : Order) (chain : Option ℕ) (e : ℕ) → order_node facts.columns facts order chain ≡ Some e →
+  order_node-denoted : (order : Order) (chain : Option ℕ) (e : ℕ) → order_node facts.columns facts order chain ≡ Some e →
       Denotes facts.nodes (λ assignment. compares order.kind (code_spelled facts.columns order.left assignment) (code_spelled facts.columns order.right assignment)) e
-  order_node-have_values order chain e is = by_same (eqb order.left order.right) refl chain is
+  order_node-denoted order chain e is = by_same (eqb order.left order.right) refl chain is
     where
       len : ℕ
       len = max (width_at facts.columns order.left) (width_at facts.columns order.right)
@@ -308,13 +308,13 @@ module _ (facts : Facts) (have_values : HaveStatedValues facts) where
       by_same false same None is = cc
       by_same false same (Some number) is =
           let found = have_values.two order.kind order.left order.right len number e is in
-          denotes_so facts.nodes _ _ e whole (record { is_node = found.0; have_values = found.1 })
+          denotes_so facts.nodes _ _ e whole (record { is_node = found.0; denoted = found.1 })
 
-  both_node-have_values : (left right : Option ℕ) (number m : ℕ) (x y : Assignment → Bool) → ((n : ℕ) → left ≡ Some n → Denotes facts.nodes x n) → ((n : ℕ) → right ≡ Some n → Denotes facts.nodes y n) →
+  both_node-denoted : (left right : Option ℕ) (number m : ℕ) (x y : Assignment → Bool) → ((n : ℕ) → left ≡ Some n → Denotes facts.nodes x n) → ((n : ℕ) → right ≡ Some n → Denotes facts.nodes y n) →
       both_node facts left right number ≡ Some m → Denotes facts.nodes (λ assignment. x assignment && y assignment) m
-  both_node-have_values (Some left) (Some right) number m x y x_denotes y_denotes is = product_node-have_values facts have_values And left right m number x y (x_denotes left refl) (y_denotes right refl) is
-  both_node-have_values (Some left) None number m x y x_denotes y_denotes is = cc
-  both_node-have_values None right number m x y x_denotes y_denotes is = cc
+  both_node-denoted (Some left) (Some right) number m x y x_denotes y_denotes is = product_node-denoted facts have_values And left right m number x y (x_denotes left refl) (y_denotes right refl) is
+  both_node-denoted (Some left) None number m x y x_denotes y_denotes is = cc
+  both_node-denoted None right number m x y x_denotes y_denotes is = cc
 
   -- CMP2
   pub with_column-tells : (op : Op) (c d : ℕ) (entry : ConditionEntry) (pair : TruthPair) → c < length facts.columns → d < length facts.columns → with_column facts.columns facts op c d entry ≡ Some pair →
@@ -353,8 +353,8 @@ module _ (facts : Facts) (have_values : HaveStatedValues facts) where
           (split-tells order.negated m (order_node facts.columns facts order chain) p q pair
           (λ assignment. has_value facts.columns c assignment && has_value facts.columns d assignment)
           (λ assignment. compares order.kind (code assignment order.left) (code assignment order.right))
-          (λ n found. both_node-have_values _ _ number n _ _ (λ n found. value_node-have_values facts.columns facts have_values c left n found) (λ n found. value_node-have_values facts.columns facts have_values d right n found) found)
-          (λ e found. order_node-have_values order chain e found) is)
+          (λ n found. both_node-denoted _ _ number n _ _ (λ n found. value_node-denoted facts.columns facts have_values c left n found) (λ n found. value_node-denoted facts.columns facts have_values d right n found) found)
+          (λ e found. order_node-denoted order chain e found) is)
   with_column-tells op c d _ pair c_lt d_lt is = cc
 
   -- a comparison

@@ -62,7 +62,7 @@ holds_nothing facts lanes registers register node is = absurd (nothing register 
 -- a register that is given a node, and holds its values
 pub holds_written : (facts : Facts) (lanes : List Assignment) (known : KnownNodes) (registers : ℕ → List Bool) (r node : ℕ) (bits : List Bool) → Hold facts lanes known registers →
     bits ≡ map (λ assignment. node_value facts.nodes assignment node) lanes → Hold facts lanes (with_node known r node) (with_register registers r bits)
-holds_written facts lanes known registers r node bits holds have_values register n is = at (looked known r register node n is)
+holds_written facts lanes known registers r node bits holds denoted register n is = at (looked known r register node n is)
   where
     value : ℕ → List Bool
     value n = map (λ assignment. node_value facts.nodes assignment n) lanes
@@ -72,19 +72,19 @@ holds_written facts lanes known registers r node bits holds have_values register
     other false same differs there = holds register n there
 
     at : ((register ≡ r) × (node ≡ n)) ⊎ ((register ≢ r) × (node_of known register ≡ Some n)) → with_register registers r bits register ≡ value n
-    at (inl (same, node_is)) = ap (λ k. with_register registers r bits k) same ∙ ap (λ b. cond b bits (registers r)) (eq-eqb r r refl) ∙ have_values ∙ ap value node_is
+    at (inl (same, node_is)) = ap (λ k. with_register registers r bits k) same ∙ ap (λ b. cond b bits (registers r)) (eq-eqb r r refl) ∙ denoted ∙ ap value node_is
     at (inr (differs, there)) = other (eqb register r) refl differs there
 
 -- a kept register that holds the values of its node
 pub holds_kept : (facts : Facts) (lanes : List Assignment) (known : KnownNodes) (registers : ℕ → List Bool) (r node : ℕ) → Hold facts lanes known registers →
     registers r ≡ map (λ assignment. node_value facts.nodes assignment node) lanes → Hold facts lanes (with_node known r node) registers
-holds_kept facts lanes known registers r node holds have_values register n is = at (looked known r register node n is)
+holds_kept facts lanes known registers r node holds denoted register n is = at (looked known r register node n is)
   where
     value : ℕ → List Bool
     value n = map (λ assignment. node_value facts.nodes assignment n) lanes
 
     at : ((register ≡ r) × (node ≡ n)) ⊎ ((register ≢ r) × (node_of known register ≡ Some n)) → registers register ≡ value n
-    at (inl (same, node_is)) = ap registers same ∙ have_values ∙ ap value node_is
+    at (inl (same, node_is)) = ap registers same ∙ denoted ∙ ap value node_is
     at (inr (differs, there)) = holds register n there
 
 -- this many bits spell a number below this many powers of two

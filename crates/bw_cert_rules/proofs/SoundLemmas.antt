@@ -52,41 +52,41 @@ chained (Some x) f y is = (x, refl, is)
 
 -- of two nodes whose XOR is the node 0, the values are the same
 same_denotes : (facts : Facts) (f h row : ℕ) → HaveStatedValues facts → product_node facts connective.Xor f h row ≡ Some 0 → (assignment : Assignment) → node_value facts.nodes assignment f ≡ node_value facts.nodes assignment h
-same_denotes facts f h row have_values is assignment =
-    xor_zero _ _ (sym ((have_values.row connective.Xor f h row 0 is).1 assignment) ∙ have_values.zero assignment)
+same_denotes facts f h row denoted is assignment =
+    xor_zero _ _ (sym ((denoted.row connective.Xor f h row 0 is).1 assignment) ∙ denoted.zero assignment)
 
 -- falling through, a kept register holds the values of its node
 kept_through : (facts : Facts) (lanes : List Assignment) (through : KnownNodes) (registers : ℕ → List Bool) (keep : Keep) → HaveStatedValues facts → Hold facts lanes through registers → keeps_through facts through keep ≡ true →
     registers keep.register ≡ values facts lanes keep.node
-kept_through facts lanes through registers keep have_values holds is =
+kept_through facts lanes through registers keep denoted holds is =
     let node = chained (node_of through keep.register) (λ f. product_node facts connective.Xor f keep.node keep.through) 0 (zero_is _ is) in
-    holds keep.register node.0 node.1 ∙ map_same _ _ lanes (same_denotes facts node.0 keep.node keep.through have_values node.2)
+    holds keep.register node.0 node.1 ∙ map_same _ _ lanes (same_denotes facts node.0 keep.node keep.through denoted node.2)
 
 -- if a node is 0 in all lanes, and another is 1 only if it is 1, two nodes that differ only
 -- if the other is 1 have the same values
 same_where_zero : (facts : Facts) (lanes : List Assignment) (g h z q differs within : ℕ) → HaveStatedValues facts → product_node facts connective.Xor g h differs ≡ Some z → product_node facts connective.Diff z q within ≡ Some 0 →
     is_zero_in_all (values facts lanes q) ≡ true → values facts lanes g ≡ values facts lanes h
-same_where_zero facts [] g h z q differs within have_values xor diff zeros = refl
-same_where_zero facts (lane ∷ lanes) g h z q differs within have_values xor diff zeros =
+same_where_zero facts [] g h z q differs within denoted xor diff zeros = refl
+same_where_zero facts (lane ∷ lanes) g h z q differs within denoted xor diff zeros =
     let each = both (not (node_value facts.nodes lane q)) (is_zero_in_all (values facts lanes q)) zeros in
     ap₂ (λ (b : Bool) (bs : List Bool). b ∷ bs) (at (node_value facts.nodes lane z) (node_value facts.nodes lane q) refl
-    (sym ((have_values.row connective.Diff z q within 0 diff).1 lane) ∙ have_values.zero lane) each.0)
-    (same_where_zero facts lanes g h z q differs within have_values xor diff each.1)
+    (sym ((denoted.row connective.Diff z q within 0 diff).1 lane) ∙ denoted.zero lane) each.0)
+    (same_where_zero facts lanes g h z q differs within denoted xor diff each.1)
   where
     at : (zv qv : Bool) → node_value facts.nodes lane z ≡ zv → apply_connective connective.Diff zv qv ≡ false → not qv ≡ true → node_value facts.nodes lane g ≡ node_value facts.nodes lane h
-    at false qv zv_is none q_is = xor_zero _ _ (sym ((have_values.row connective.Xor g h differs z xor).1 lane) ∙ zv_is)
+    at false qv zv_is none q_is = xor_zero _ _ (sym ((denoted.row connective.Xor g h differs z xor).1 lane) ∙ zv_is)
     at true true zv_is none q_is = cc
     at true false zv_is none q_is = cc
 
 -- by a skip that is taken, a kept register holds the values of its node
 kept_by_skip : (facts : Facts) (lanes : List Assignment) (registers : ℕ → List Bool) (keep : Keep) (edge : Edge) (rows : EdgeProducts) → HaveStatedValues facts → Hold facts lanes edge.known registers →
     is_zero_in_all (registers edge.register) ≡ true → keeps_by_skip facts keep edge rows ≡ true → registers keep.register ≡ values facts lanes keep.node
-kept_by_skip facts lanes registers keep edge rows have_values holds zeros is =
+kept_by_skip facts lanes registers keep edge rows denoted holds zeros is =
     let z = chained (option_and_then (λ g. product_node facts connective.Xor g keep.node rows.differs) (node_of edge.known keep.register)) _ 0 (zero_is _ is) in
     let q = chained (node_of edge.known edge.register) (λ skipped. product_node facts connective.Diff z.0 skipped rows.within) 0 z.2 in
     let g = chained (node_of edge.known keep.register) (λ g. product_node facts connective.Xor g keep.node rows.differs) z.0 z.1 in
     holds keep.register g.0 g.1
-    ∙ same_where_zero facts lanes g.0 keep.node z.0 q.0 rows.differs rows.within have_values g.2 q.2 (ap is_zero_in_all (sym (holds edge.register q.0 q.1)) ∙ zeros)
+    ∙ same_where_zero facts lanes g.0 keep.node z.0 q.0 rows.differs rows.within denoted g.2 q.2 (ap is_zero_in_all (sym (holds edge.register q.0 q.1)) ∙ zeros)
 
 -- an edge stands among others
 In : Edge → List Edge → Type 0
@@ -123,21 +123,21 @@ all_kept facts lanes through registers edges least known (k ∷ keeps) each hold
 -- what is known after an instruction holds on falling through to its join, if it has one
 past_through : (facts : Facts) (lanes : List Assignment) (through : KnownNodes) (registers : ℕ → List Bool) (edges : List Edge) (join : Option JoinLines) → HaveStatedValues facts → Hold facts lanes through registers →
     is_valid_join facts through edges join ≡ true → Hold facts lanes (known_after_join through join) registers
-past_through facts lanes through registers edges None have_values holds is = holds
-past_through facts lanes through registers [] (Some join) have_values holds is = cc
-past_through facts lanes through registers (e ∷ edges) (Some join) have_values holds is =
-    all_kept facts lanes through registers (e ∷ edges) 0 nothing_known join.keeps (λ keep falls skips. kept_through facts lanes through registers keep have_values holds falls) (holds_nothing facts lanes registers) is
+past_through facts lanes through registers edges None denoted holds is = holds
+past_through facts lanes through registers [] (Some join) denoted holds is = cc
+past_through facts lanes through registers (e ∷ edges) (Some join) denoted holds is =
+    all_kept facts lanes through registers (e ∷ edges) 0 nothing_known join.keeps (λ keep falls skips. kept_through facts lanes through registers keep denoted holds falls) (holds_nothing facts lanes registers) is
 
 -- and by a skip into it that is taken
 past_skip : (facts : Facts) (lanes : List Assignment) (through : KnownNodes) (registers : ℕ → List Bool) (edge : Edge) (edges : List Edge) (join : Option JoinLines) → HaveStatedValues facts → In edge edges → Hold facts lanes edge.known registers →
     is_zero_in_all (registers edge.register) ≡ true → is_valid_join facts through edges join ≡ true → Hold facts lanes (known_after_join through join) registers
 unfolding In
-past_skip facts lanes through registers edge [] join have_values there holds zeros is = absurd there
-past_skip facts lanes through registers edge (e ∷ edges) None have_values there holds zeros is = cc
-past_skip facts lanes through registers edge (e ∷ edges) (Some join) have_values there holds zeros is =
+past_skip facts lanes through registers edge [] join denoted there holds zeros is = absurd there
+past_skip facts lanes through registers edge (e ∷ edges) None denoted there holds zeros is = cc
+past_skip facts lanes through registers edge (e ∷ edges) (Some join) denoted there holds zeros is =
     all_kept facts lanes through registers (e ∷ edges) 0 nothing_known join.keeps
     (λ keep falls skips. let pair = pair_there facts keep edge (e ∷ edges) keep.edges there skips in
-    kept_by_skip facts lanes registers keep edge pair.0 have_values holds zeros pair.1)
+    kept_by_skip facts lanes registers keep edge pair.0 denoted holds zeros pair.1)
     (holds_nothing facts lanes registers) is
 
 in_append : (edge e : Edge) (edges : List Edge) → In edge edges → In edge (edges ++ e ∷ [])
@@ -223,11 +223,11 @@ HoldsAt facts lanes instrs parts state = Hold facts lanes (known_before facts in
 fell : (facts : Facts) (lanes : List Assignment) (instrs : List Instr) (parts : List Part) (state : State) (instr : Instr) (next : State) → HaveStatedValues facts → AreValidParts facts instrs parts → slice_get instrs state.place ≡ Some instr →
     HoldsAt facts lanes instrs parts state → next.place ≡ suc state.place → next.registers ≡ (step facts.columns lanes instr state).registers → HoldsAt facts lanes instrs parts next
 unfolding HoldsAt
-fell facts lanes instrs parts state instr next have_values valid_parts there holds place registers =
+fell facts lanes instrs parts state instr next denoted valid_parts there holds place registers =
     let part = part_there instrs parts state.place instr valid_parts.part_count there in
     let known : KnownNodes = known_before facts instrs parts state.place in
-    let stepped = holds_after_instr facts lanes known (known_on_fallthrough facts known instr part.0) state part.0.line instr part.0.entry have_values holds (valid_parts.instruction state.place instr part.0 there part.1) in
-    let past_join = past_through facts lanes (known_on_fallthrough facts known instr part.0) (step facts.columns lanes instr state).registers _ part.0.join have_values stepped (valid_parts.join state.place instr part.0 there part.1) in
+    let stepped = holds_after_instr facts lanes known (known_on_fallthrough facts known instr part.0) state part.0.line instr part.0.entry denoted holds (valid_parts.instruction state.place instr part.0 there part.1) in
+    let past_join = past_through facts lanes (known_on_fallthrough facts known instr part.0) (step facts.columns lanes instr state).registers _ part.0.join denoted stepped (valid_parts.join state.place instr part.0 there part.1) in
     let here = past_is facts instrs parts state.place instr part.0 there part.1 in
     subst (λ p. Hold facts lanes (known_before facts instrs parts p) next.registers) (sym place)
     (subst (λ rs. Hold facts lanes (known_before facts instrs parts (suc state.place)) rs) (sym registers) (subst (λ k. Hold facts lanes k (step facts.columns lanes instr state).registers) (sym here) past_join))
@@ -236,53 +236,53 @@ fell facts lanes instrs parts state instr next have_values valid_parts there hol
 skipped : (facts : Facts) (lanes : List Assignment) (instrs : List Instr) (parts : List Part) (state : State) (x target : ℕ) → HaveStatedValues facts → AreValidParts facts instrs parts → Forward instrs → slice_get instrs state.place ≡ Some (Skip x target) →
     is_zero_in_all (state.registers x) ≡ true → HoldsAt facts lanes instrs parts state → Hold facts lanes (known_before facts instrs parts target) state.registers
 unfolding HoldsAt
-skipped facts lanes instrs parts state x zero have_values valid_parts forward there zeros holds = absurd (omega (arith, (forward state.place x 0 there).0))
-skipped facts lanes instrs parts state x (suc place) have_values valid_parts forward there zeros holds =
+skipped facts lanes instrs parts state x zero denoted valid_parts forward there zeros holds = absurd (omega (arith, (forward state.place x 0 there).0))
+skipped facts lanes instrs parts state x (suc place) denoted valid_parts forward there zeros holds =
     let ahead = forward state.place x (suc place) there in
     let instr = instr_there instrs place (omega (arith, ahead.1)) in
     let part = part_there instrs parts place instr.0 valid_parts.part_count instr.1 in
     let edge : Edge = record { target = suc place; register = x; known = known_before facts instrs parts state.place } in
     let among = in_into edge (edges_before facts instrs parts (suc place)) (suc place) refl (skip_before facts instrs parts state.place x (suc place) (suc place) there ahead.0) in
     subst (λ k. Hold facts lanes k state.registers) (sym (past_is facts instrs parts place instr.0 part.0 instr.1 part.1))
-    (past_skip facts lanes (known_on_fallthrough facts (known_before facts instrs parts place) instr.0 part.0) state.registers edge _ part.0.join have_values among holds zeros (valid_parts.join place instr.0 part.0 instr.1 part.1))
+    (past_skip facts lanes (known_on_fallthrough facts (known_before facts instrs parts place) instr.0 part.0) state.registers edge _ part.0.join denoted among holds zeros (valid_parts.join place instr.0 part.0 instr.1 part.1))
 
 -- one step more
 stepped : (facts : Facts) (lanes : List Assignment) (instrs : List Instr) (parts : List Part) (state : State) (instr : Instr) → HaveStatedValues facts → AreValidParts facts instrs parts → Forward instrs → slice_get instrs state.place ≡ Some instr →
     HoldsAt facts lanes instrs parts state → HoldsAt facts lanes instrs parts (step facts.columns lanes instr state)
 unfolding HoldsAt
-stepped facts lanes instrs parts state (Load r column bit) have_values valid_parts forward there holds = fell facts lanes instrs parts state (Load r column bit) (step facts.columns lanes (Load r column bit) state) have_values valid_parts there holds (omega arith) refl
-stepped facts lanes instrs parts state (Nulls r column) have_values valid_parts forward there holds = fell facts lanes instrs parts state (Nulls r column) (step facts.columns lanes (Nulls r column) state) have_values valid_parts there holds (omega arith) refl
-stepped facts lanes instrs parts state (Fill r bit) have_values valid_parts forward there holds = fell facts lanes instrs parts state (Fill r bit) (step facts.columns lanes (Fill r bit) state) have_values valid_parts there holds (omega arith) refl
-stepped facts lanes instrs parts state (And r x y) have_values valid_parts forward there holds = fell facts lanes instrs parts state (And r x y) (step facts.columns lanes (And r x y) state) have_values valid_parts there holds (omega arith) refl
-stepped facts lanes instrs parts state (Or r x y) have_values valid_parts forward there holds = fell facts lanes instrs parts state (Or r x y) (step facts.columns lanes (Or r x y) state) have_values valid_parts there holds (omega arith) refl
-stepped facts lanes instrs parts state (Xor r x y) have_values valid_parts forward there holds = fell facts lanes instrs parts state (Xor r x y) (step facts.columns lanes (Xor r x y) state) have_values valid_parts there holds (omega arith) refl
-stepped facts lanes instrs parts state (Not r x) have_values valid_parts forward there holds = fell facts lanes instrs parts state (Not r x) (step facts.columns lanes (Not r x) state) have_values valid_parts there holds (omega arith) refl
-stepped facts lanes instrs parts state (ByteLt r column slice k) have_values valid_parts forward there holds = fell facts lanes instrs parts state (ByteLt r column slice k) (step facts.columns lanes (ByteLt r column slice k) state) have_values valid_parts there holds (omega arith) refl
-stepped facts lanes instrs parts state (ByteEq r column slice k) have_values valid_parts forward there holds = fell facts lanes instrs parts state (ByteEq r column slice k) (step facts.columns lanes (ByteEq r column slice k) state) have_values valid_parts there holds (omega arith) refl
-stepped facts lanes instrs parts state (Skip x target) have_values valid_parts forward there holds = at (is_zero_in_all (state.registers x)) refl
+stepped facts lanes instrs parts state (Load r column bit) denoted valid_parts forward there holds = fell facts lanes instrs parts state (Load r column bit) (step facts.columns lanes (Load r column bit) state) denoted valid_parts there holds (omega arith) refl
+stepped facts lanes instrs parts state (Nulls r column) denoted valid_parts forward there holds = fell facts lanes instrs parts state (Nulls r column) (step facts.columns lanes (Nulls r column) state) denoted valid_parts there holds (omega arith) refl
+stepped facts lanes instrs parts state (Fill r bit) denoted valid_parts forward there holds = fell facts lanes instrs parts state (Fill r bit) (step facts.columns lanes (Fill r bit) state) denoted valid_parts there holds (omega arith) refl
+stepped facts lanes instrs parts state (And r x y) denoted valid_parts forward there holds = fell facts lanes instrs parts state (And r x y) (step facts.columns lanes (And r x y) state) denoted valid_parts there holds (omega arith) refl
+stepped facts lanes instrs parts state (Or r x y) denoted valid_parts forward there holds = fell facts lanes instrs parts state (Or r x y) (step facts.columns lanes (Or r x y) state) denoted valid_parts there holds (omega arith) refl
+stepped facts lanes instrs parts state (Xor r x y) denoted valid_parts forward there holds = fell facts lanes instrs parts state (Xor r x y) (step facts.columns lanes (Xor r x y) state) denoted valid_parts there holds (omega arith) refl
+stepped facts lanes instrs parts state (Not r x) denoted valid_parts forward there holds = fell facts lanes instrs parts state (Not r x) (step facts.columns lanes (Not r x) state) denoted valid_parts there holds (omega arith) refl
+stepped facts lanes instrs parts state (ByteLt r column slice k) denoted valid_parts forward there holds = fell facts lanes instrs parts state (ByteLt r column slice k) (step facts.columns lanes (ByteLt r column slice k) state) denoted valid_parts there holds (omega arith) refl
+stepped facts lanes instrs parts state (ByteEq r column slice k) denoted valid_parts forward there holds = fell facts lanes instrs parts state (ByteEq r column slice k) (step facts.columns lanes (ByteEq r column slice k) state) denoted valid_parts there holds (omega arith) refl
+stepped facts lanes instrs parts state (Skip x target) denoted valid_parts forward there holds = at (is_zero_in_all (state.registers x)) refl
   where
     same : (taken : Bool) → (after_skip state taken target).registers ≡ state.registers
     same true = refl
     same false = refl
 
     at : (taken : Bool) → is_zero_in_all (state.registers x) ≡ taken → HoldsAt facts lanes instrs parts (after_skip state taken target)
-    at true is = skipped facts lanes instrs parts state x target have_values valid_parts forward there is holds
-    at false is = fell facts lanes instrs parts state (Skip x target) (after_skip state false target) have_values valid_parts there holds (omega arith) (sym (same (is_zero_in_all (state.registers x))))
+    at true is = skipped facts lanes instrs parts state x target denoted valid_parts forward there is holds
+    at false is = fell facts lanes instrs parts state (Skip x target) (after_skip state false target) denoted valid_parts there holds (omega arith) (sym (same (is_zero_in_all (state.registers x))))
 
 -- after any number of steps
 pub holds_after : (facts : Facts) (lanes : List Assignment) (program : ProgramShape) (parts : List Part) (steps : ℕ) → HaveStatedValues facts → AreValidParts facts program.instrs parts → Forward program.instrs →
     let state : State = state_after facts.columns lanes program steps in Hold facts lanes (known_before facts program.instrs parts state.place) state.registers
 unfolding HoldsAt steps_from known_before
-holds_after facts lanes program parts zero have_values valid_parts forward = holds_nothing facts lanes _
-holds_after facts lanes program parts (suc steps) have_values valid_parts forward =
-    at (slice_get program.instrs (state_after facts.columns lanes program steps).place) refl (holds_after facts lanes program parts steps have_values valid_parts forward)
+holds_after facts lanes program parts zero denoted valid_parts forward = holds_nothing facts lanes _
+holds_after facts lanes program parts (suc steps) denoted valid_parts forward =
+    at (slice_get program.instrs (state_after facts.columns lanes program steps).place) refl (holds_after facts lanes program parts steps denoted valid_parts forward)
   where
     last : State
     last = state_after facts.columns lanes program steps
 
     at : (instr : Option Instr) → slice_get program.instrs last.place ≡ instr → HoldsAt facts lanes program.instrs parts last → HoldsAt facts lanes program.instrs parts (step_of facts.columns lanes instr last)
     at None there holds = holds
-    at (Some instr) there holds = stepped facts lanes program.instrs parts last instr have_values valid_parts forward there holds
+    at (Some instr) there holds = stepped facts lanes program.instrs parts last instr denoted valid_parts forward there holds
 
 -- an instruction of a program is sound
 sound_at : (end number : ℕ) (instrs : List Instr) (k : ℕ) (instr : Instr) → are_sound end number instrs ≡ true → slice_get instrs k ≡ Some instr → is_sound end (number + k) instr ≡ true
@@ -347,9 +347,9 @@ come_far columns lanes program (suc steps) forward = at (slice_get program.instr
 -- at the end, what is known there holds
 pub holds_at_end : (facts : Facts) (lanes : List Assignment) (program : ProgramShape) (parts : List Part) → HaveStatedValues facts → AreValidParts facts program.instrs parts → Forward program.instrs →
     Hold facts lanes (known_before facts program.instrs parts (length program.instrs)) (end_state facts.columns lanes program).registers
-holds_at_end facts lanes program parts have_values valid_parts forward =
+holds_at_end facts lanes program parts denoted valid_parts forward =
     subst (λ p. Hold facts lanes (known_before facts program.instrs parts p) (end_state facts.columns lanes program).registers) (there (come_far facts.columns lanes program (length program.instrs) forward))
-    (holds_after facts lanes program parts (length program.instrs) have_values valid_parts forward)
+    (holds_after facts lanes program parts (length program.instrs) denoted valid_parts forward)
   where
     there : ((end_state facts.columns lanes program).place ≤ length program.instrs) × ((length program.instrs ≤ (end_state facts.columns lanes program).place) ⊎ ((end_state facts.columns lanes program).place ≡ length program.instrs)) →
         (end_state facts.columns lanes program).place ≡ length program.instrs

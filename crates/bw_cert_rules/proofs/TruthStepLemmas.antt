@@ -37,7 +37,7 @@ use Rattle.bw_cert_rules.specs.Pair.{unknown_pair, tested_pair, one_more, more_p
 use Rattle.bw_cert_rules.proofs.ComparisonLemmas.{tells_by, tells_yes, tells_no, tells_so}
 use Rattle.bw_cert_rules.proofs.ComparisonLemmas.{fixed-tells, value_if, value_in-assigned}
 use Rattle.bw_cert_rules.proofs.RowLemmas.{Denotes, denotes_so, one_denotes, if_both-is}
-use Rattle.bw_cert_rules.proofs.RowLemmas.{product_node-have_values, null_pair-have_values}
+use Rattle.bw_cert_rules.proofs.RowLemmas.{product_node-denoted, null_pair-denoted}
 
 -- a step that was taken has a line that makes its pair
 expect_line-is : {G : Type 0} (end : ℕ) (made : Option TruthPair) (lines rest : List BodyLine) (pair : TruthPair) → expect_line end made lines ≡ Ok (pair, rest) → (made ≡ Some pair → G) → G
@@ -160,13 +160,13 @@ module _ (facts : Facts) (have_values : HaveStatedValues facts) where
   joined_pair-tells All a b pair t u (And i j) t_told u_told is =
       let made = if_both-is _ _ pair is in
       tells_by facts.nodes _ pair
-      (denotes_so facts.nodes _ _ pair.yes (λ assignment. all-yes (t assignment) (u assignment)) (product_node-have_values facts have_values connective.And a.yes b.yes pair.yes i _ _ (tells_yes facts.nodes t a t_told) (tells_yes facts.nodes u b u_told) made.0))
-      (denotes_so facts.nodes _ _ pair.no (λ assignment. all-no (t assignment) (u assignment)) (product_node-have_values facts have_values connective.Or a.no b.no pair.no j _ _ (tells_no facts.nodes t a t_told) (tells_no facts.nodes u b u_told) made.1))
+      (denotes_so facts.nodes _ _ pair.yes (λ assignment. all-yes (t assignment) (u assignment)) (product_node-denoted facts have_values connective.And a.yes b.yes pair.yes i _ _ (tells_yes facts.nodes t a t_told) (tells_yes facts.nodes u b u_told) made.0))
+      (denotes_so facts.nodes _ _ pair.no (λ assignment. all-no (t assignment) (u assignment)) (product_node-denoted facts have_values connective.Or a.no b.no pair.no j _ _ (tells_no facts.nodes t a t_told) (tells_no facts.nodes u b u_told) made.1))
   joined_pair-tells Any a b pair t u (Or i j) t_told u_told is =
       let made = if_both-is _ _ pair is in
       tells_by facts.nodes _ pair
-      (denotes_so facts.nodes _ _ pair.yes (λ assignment. any-yes (t assignment) (u assignment)) (product_node-have_values facts have_values connective.Or a.yes b.yes pair.yes i _ _ (tells_yes facts.nodes t a t_told) (tells_yes facts.nodes u b u_told) made.0))
-      (denotes_so facts.nodes _ _ pair.no (λ assignment. any-no (t assignment) (u assignment)) (product_node-have_values facts have_values connective.And a.no b.no pair.no j _ _ (tells_no facts.nodes t a t_told) (tells_no facts.nodes u b u_told) made.1))
+      (denotes_so facts.nodes _ _ pair.yes (λ assignment. any-yes (t assignment) (u assignment)) (product_node-denoted facts have_values connective.Or a.yes b.yes pair.yes i _ _ (tells_yes facts.nodes t a t_told) (tells_yes facts.nodes u b u_told) made.0))
+      (denotes_so facts.nodes _ _ pair.no (λ assignment. any-no (t assignment) (u assignment)) (product_node-denoted facts have_values connective.And a.no b.no pair.no j _ _ (tells_no facts.nodes t a t_told) (tells_no facts.nodes u b u_told) made.1))
   joined_pair-tells _ a b pair t u _ t_told u_told is = cc
 
   -- NOT
@@ -181,21 +181,21 @@ module _ (facts : Facts) (have_values : HaveStatedValues facts) where
 
   -- a node and its opposite tell what the node is worth
   with_opposite-tells : (node number : ℕ) (pair : TruthPair) (b : Assignment → Bool) → Denotes facts.nodes b node → with_opposite facts node number ≡ Some pair → Tells facts.nodes (λ assignment. truth_from (b assignment)) pair
-  with_opposite-tells node number pair b have_values is =
+  with_opposite-tells node number pair b denoted is =
       let made = if_both-is (Some node) _ pair is in
       tells_by facts.nodes _ pair
-      (denotes_so facts.nodes _ _ pair.yes (λ assignment. truth_from-yes (b assignment)) (subst (Denotes facts.nodes b) (cc) have_values))
-      (denotes_so facts.nodes _ _ pair.no (λ assignment. truth_from-no (b assignment)) (product_node-have_values facts have_values connective.Diff 1 node pair.no number (λ assignment. true) b (one_denotes facts.nodes) have_values made.1))
+      (denotes_so facts.nodes _ _ pair.yes (λ assignment. truth_from-yes (b assignment)) (subst (Denotes facts.nodes b) (cc) denoted))
+      (denotes_so facts.nodes _ _ pair.no (λ assignment. truth_from-no (b assignment)) (product_node-denoted facts have_values connective.Diff 1 node pair.no number (λ assignment. true) b (one_denotes facts.nodes) denoted made.1))
 
   unknown-tells : (a pair : TruthPair) (t : Assignment → Truth) (known : Option ℕ) (i j : ℕ) → Tells facts.nodes t a → product_node facts connective.Or a.yes a.no i ≡ known → unknown_pair facts known j ≡ Some pair →
       Tells facts.nodes (λ assignment. truth_from (is_truth (t assignment) Unknown)) pair
   unknown-tells a pair t None i j told cites is = cc
   unknown-tells a pair t (Some known) i j told cites is =
       let made = if_both-is _ (Some known) pair is in
-      let have_values = product_node-have_values facts have_values connective.Or a.yes a.no known i _ _ (tells_yes facts.nodes t a told) (tells_no facts.nodes t a told) cites in
+      let denoted = product_node-denoted facts have_values connective.Or a.yes a.no known i _ _ (tells_yes facts.nodes t a told) (tells_no facts.nodes t a told) cites in
       tells_by facts.nodes _ pair
-      (denotes_so facts.nodes _ _ pair.yes (λ assignment. unknown-yes (t assignment)) (product_node-have_values facts have_values connective.Diff 1 known pair.yes j (λ assignment. true) _ (one_denotes facts.nodes) have_values made.0))
-      (denotes_so facts.nodes _ _ pair.no (λ assignment. unknown-no (t assignment)) (subst (Denotes facts.nodes (λ assignment. is_truth (t assignment) Yes || is_truth (t assignment) No)) (cc) have_values))
+      (denotes_so facts.nodes _ _ pair.yes (λ assignment. unknown-yes (t assignment)) (product_node-denoted facts have_values connective.Diff 1 known pair.yes j (λ assignment. true) _ (one_denotes facts.nodes) denoted made.0))
+      (denotes_so facts.nodes _ _ pair.no (λ assignment. unknown-no (t assignment)) (subst (Denotes facts.nodes (λ assignment. is_truth (t assignment) Yes || is_truth (t assignment) No)) (cc) denoted))
 
   -- IS TRUE, IS FALSE and IS UNKNOWN
   pub tested_pair-tells : (wanted : Truth) (a pair : TruthPair) (t : Assignment → Truth) (entry : ConditionEntry) → Tells facts.nodes t a → tested_pair facts wanted a entry ≡ Some pair →
@@ -224,10 +224,10 @@ module _ (facts : Facts) (have_values : HaveStatedValues facts) where
         where
           by_entry : (entry : ConditionEntry) → null_test facts (Some (first_variable facts.columns col)) entry ≡ Some pair → Tells facts.nodes (λ assignment. truth_from (assignment (first_variable facts.columns col))) pair
           by_entry (NullTest number) is =
-              let have_values = null_pair-have_values facts have_values (first_variable facts.columns col) number pair is in
+              let denoted = null_pair-denoted facts have_values (first_variable facts.columns col) number pair is in
               tells_by facts.nodes _ pair
-              (denotes_so facts.nodes _ _ pair.yes (λ assignment. truth_from-yes (assignment (first_variable facts.columns col))) have_values.0)
-              (denotes_so facts.nodes _ _ pair.no (λ assignment. truth_from-no (assignment (first_variable facts.columns col))) have_values.1)
+              (denotes_so facts.nodes _ _ pair.yes (λ assignment. truth_from-yes (assignment (first_variable facts.columns col))) denoted.0)
+              (denotes_so facts.nodes _ _ pair.no (λ assignment. truth_from-no (assignment (first_variable facts.columns col))) denoted.1)
           by_entry _ is = cc
 
   pub is_null_test-tells : (x : Operand) (entry : ConditionEntry) (pair : TruthPair) → is_within (length facts.columns) x ≡ true → is_null_test facts.columns facts x entry ≡ Some pair →

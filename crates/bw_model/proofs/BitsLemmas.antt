@@ -40,9 +40,9 @@ spelled_low (suc count) n before after =
     let same : before ++ bit ∷ rest ≡ (before ++ bit ∷ []) ++ rest = sym (append_assoc before (bit ∷ []) rest) in
     let longer : length (before ++ bit ∷ []) ≡ suc (length before) = length-append before (bit ∷ []) ∙ add-one (length before) in
     let later = spelled_low count n (before ++ bit ∷ []) after in
-    let have_values = bit_denotes (bit_at n count) (2 ^ count) (bit_at-lt n count) in
+    let denoted = bit_denotes (bit_at n count) (2 ^ count) (bit_at-lt n count) in
     let split = mod-pow-add n 1 count in
-    let high : cond (get_or (before ++ bit ∷ rest) (length before) false) (2 ^ count) 0 ≡ bit_at n count * 2 ^ count = ap (λ b. cond b (2 ^ count) 0) here ∙ have_values in
+    let high : cond (get_or (before ++ bit ∷ rest) (length before) false) (2 ^ count) 0 ≡ bit_at n count * 2 ^ count = ap (λ b. cond b (2 ^ count) 0) here ∙ denoted in
     let low : binary_number (assignment_of (before ++ bit ∷ rest)) (suc (length before)) count ≡ n % 2 ^ count =
     ap₂ (λ bits first. binary_number (assignment_of bits) first count) same (sym longer) ∙ later in
     let next : suc count ≡ 1 + count = omega arith in

@@ -40,10 +40,10 @@ returns-clause-selects c = λ columns cond program certificate named sound valid
     let law = c.accepted_lines_are_true.ensures in
     let right : valid.facts.columns ≡ columns = stated_columns columns certificate valid.facts valid.stated in
     let are_true = stated_true columns certificate valid.facts (law.start columns) law.node law.chain law.row valid.stated in
-    let have_values = c.cited_nodes_have_stated_values.ensures valid.facts are_true in
+    let denoted = c.cited_nodes_have_stated_values.ensures valid.facts are_true in
     let holds = c.skip_soundness.ensures.end valid.facts program valid.parts are_true sound valid.valid_parts lanes in
     let tells = c.pairs_tell_truths.ensures columns valid.facts certificate.end.line cond certificate.body valid.rest valid.pair right are_true named valid.paired in
     ap (λ (columns : List Column). (end_state columns lanes program).registers program.result) (sym right)
     ∙ holds program.result valid.node valid.known
     ∙ map_same (λ assignment. node_value valid.facts.nodes assignment valid.node) (λ assignment. is_truth (truth_of (row_of columns assignment) cond) Yes) lanes
-    (λ assignment. same_denotes valid.facts valid.node valid.pair.yes certificate.end.row have_values valid.ended assignment ∙ tells.yes assignment)
+    (λ assignment. same_denotes valid.facts valid.node valid.pair.yes certificate.end.row denoted valid.ended assignment ∙ tells.yes assignment)
