@@ -16,7 +16,9 @@ use Rattle.bw_answer.specs.Aggregates.{aggregates_of, answer_for, column_in, eac
 use Rattle.bw_answer.specs.Aggregates.{is_same}
 use Rattle.bw_answer.specs.Answer.{value_text}
 use Rattle.bw_answer.specs.Totals.{is_of}
-use Rattle.bw_answer.proofs.TotalsLemmas.{and_true, both}
+use Rattle.bw_model.proofs.BitsLemmas.{both}
+use Rattle.std.proofs.lemmas.Bool.{and_from}
+use Rattle.std.proofs.lemmas.Bool.{or_right}
 
 -- a function and a column are an item's
 abbrev item_from : ℕ → ℕ → Item
@@ -29,11 +31,7 @@ item_from (suc (suc (suc (suc (suc n))))) column = Max column
 
 item_again : (item : Item) → item_from (function_of item) (column_in item) ≡ item
 item_again (Plain column) = refl
-item_again CountAll = refl
-item_again (Count column) = refl
-item_again (Sum column) = refl
-item_again (Min column) = refl
-item_again (Max column) = refl
+item_again _ = refl
 
 same_is : (a b : Item) → is_same a b ≡ true → a ≡ b
 same_is a b e =
@@ -42,7 +40,7 @@ same_is a b e =
     ∙ ap (item_from (function_of b)) (eqb-true (column_in a) (column_in b) parts.1) ∙ item_again b
 
 is_itself : (a b : Item) → a ≡ b → is_same a b ≡ true
-is_itself a b e = and_true _ _ (eq-eqb (function_of a) (function_of b) (ap function_of e)) (eq-eqb (column_in a) (column_in b) (ap column_in e))
+is_itself a b e = and_from _ _ (eq-eqb (function_of a) (function_of b) (ap function_of e)) (eq-eqb (column_in a) (column_in b) (ap column_in e))
 
 -- what is the same as an item isn't the same as another one
 apart_by : (b : Bool) (x item other : Item) → is_same other x ≡ b → is_same x item ≡ false → is_same other item ≡ true → not (is_same other x) ≡ true
@@ -92,11 +90,7 @@ with_one items item found is f =
 
 pub is_aggregate-unless_plain : (item : Item) → ((column : ℕ) → item ≢ Plain column) → is_aggregate item ≡ true
 is_aggregate-unless_plain (Plain column) other = absurd (other column refl)
-is_aggregate-unless_plain CountAll other = refl
-is_aggregate-unless_plain (Count column) other = refl
-is_aggregate-unless_plain (Sum column) other = refl
-is_aggregate-unless_plain (Min column) other = refl
-is_aggregate-unless_plain (Max column) other = refl
+is_aggregate-unless_plain _ other = refl
 
 pub known_left_out : (items : List Item) (item : Item) → is_aggregate item ≡ true → list_any (λ (tally : Tally). is_same tally.item item) (map (λ item. tally_of item []) (aggregates_of items)) ≡ true
     → aggregates_of (items ++ item ∷ []) ≡ aggregates_of items
@@ -112,7 +106,7 @@ all_kept p q [] e = refl
 all_kept p q (item ∷ items) e = let parts = both (p item) (list_all p items) e in by item (filter q items) (q item) parts.0 (all_kept p q items parts.1)
   where
     by : (y : Item) (ys : List Item) (b : Bool) → p y ≡ true → list_all p ys ≡ true → list_all p (cond b (y ∷ ys) ys) ≡ true
-    by y ys true here rest = and_true _ _ here rest
+    by y ys true here rest = and_from _ _ here rest
     by y ys false here rest = rest
 
 all_once : (p : Item → Bool) (items : List Item) → list_all p items ≡ true → list_all p (each_once items) ≡ true
@@ -120,7 +114,7 @@ unfolding each_once
 all_once p [] e = refl
 all_once p (item ∷ items) e =
     let parts = both (p item) (list_all p items) e in
-    and_true _ _ parts.0 (all_kept p (λ other. not (is_same other item)) (each_once items) (all_once p items parts.1))
+    and_from _ _ parts.0 (all_kept p (λ other. not (is_same other item)) (each_once items) (all_once p items parts.1))
 
 pub all_asked : (p : Item → Bool) (items : List Item) → list_all p items ≡ true → list_all p (aggregates_of items) ≡ true
 all_asked p items e = all_once p (filter is_aggregate items) (all_kept p is_aggregate items e)
@@ -130,7 +124,7 @@ is_of-none : (width : ℕ) (items : List Item) → list_all (item_within width) 
 is_of-none width [] e = refl
 is_of-none width (item ∷ items) e =
     let parts = both (item_within width item) (list_all (item_within width) items) e in
-    and_true _ _ (and_true _ _ parts.0 refl) (is_of-none width items parts.1)
+    and_from _ _ (and_from _ _ parts.0 refl) (is_of-none width items parts.1)
 
 pub is_of-new : (width : ℕ) (items : List Item) → list_all (item_within width) items ≡ true → list_all (is_of width 0) (map (λ item. tally_of item []) (aggregates_of items)) ≡ true
 is_of-new width items e = is_of-none width (aggregates_of items) (all_asked (item_within width) items e)
@@ -180,15 +174,11 @@ among_more : (x : Item) (items those : List Item) → list_all (λ item. list_an
 among_more x items [] e = refl
 among_more x items (item ∷ those) e =
     let parts = both (list_any (λ other. is_same other item) items) (list_all (λ item. list_any (λ other. is_same other item) items) those) e in
-    and_true _ _ (later (is_same x item) _ parts.0) (among_more x items those parts.1)
-  where
-    later : (a b : Bool) → b ≡ true → (a || b) ≡ true
-    later true b e = refl
-    later false b e = e
+    and_from _ _ (or_right (is_same x item) _ parts.0) (among_more x items those parts.1)
 
 among_all : (items : List Item) → list_all (λ item. list_any (λ other. is_same other item) items) items ≡ true
 among_all [] = refl
-among_all (x ∷ items) = and_true _ _ (ap (λ b. b || list_any (λ other. is_same other x) items) (is_itself x x refl)) (among_more x items items (among_all items))
+among_all (x ∷ items) = and_from _ _ (ap (λ b. b || list_any (λ other. is_same other x) items) (is_itself x x refl)) (among_more x items items (among_all items))
 
 found_all : (rows : List (List Value)) (items those : List Item) → list_all (λ item. list_any (λ other. is_same other item) items) those ≡ true
     → map (λ item. value_text (answer_for (map (λ item. tally_of item rows) (each_once items)) item)) those ≡ map (λ item. value_text (total item rows)) those

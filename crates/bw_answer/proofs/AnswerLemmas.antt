@@ -17,11 +17,8 @@ use Rattle.bw_answer.specs.Aggregates.{aggregates_of, answer_for, each_once}
 use Rattle.bw_answer.specs.TextAndTotals.{text_over}
 use Rattle.bw_answer.proofs.AggregateLemmas.{answers_for}
 use Rattle.bw_answer.proofs.Rows.{listed_more}
-use Rattle.bw_answer.proofs.TotalsLemmas.{both}
-
-one_record : (fields : List (List ℕ)) → csv_text (fields ∷ []) ≡ record_text fields
-unfolding csv_text
-one_record fields = append-nil (record_text fields)
+use Rattle.bw_model.proofs.BitsLemmas.{both}
+use Rattle.bw_answer.proofs.Rows.{one_record}
 
 -- the heading's record and then those of the rows
 pub meaning_with_rows : (names : List (List ℕ)) (query : Query) (rows : List (List Value)) → lists_rows query.items.items ≡ true
@@ -62,11 +59,7 @@ pub aggregates : (items : List Item) → AreOfOneKind items → lists_rows items
 aggregates items (false, kind) e = kind
 aggregates [] (true, kind) e = refl
 aggregates (Plain column ∷ items) (true, kind) e = absurd (cc e)
-aggregates (CountAll ∷ items) (true, kind) e = absurd (cc kind)
-aggregates (Count column ∷ items) (true, kind) e = absurd (cc kind)
-aggregates (Sum column ∷ items) (true, kind) e = absurd (cc kind)
-aggregates (Min column ∷ items) (true, kind) e = absurd (cc kind)
-aggregates (Max column ∷ items) (true, kind) e = absurd (cc kind)
+aggregates _ (true, kind) e = absurd (cc kind)
 
 -- the totals of aggregates
 all_aggregates : (items : List Item) → list_all is_aggregate items ≡ true → filter is_aggregate items ≡ items

@@ -15,7 +15,7 @@ use Rattle.bw_answer.specs.Answer.{field_of, lists_rows, value_text}
 use Rattle.bw_answer.specs.Columns.{column_of, columns_of, fields_of}
 use Rattle.bw_answer.specs.LaneFields.{HasSelected, fields_in_lane, value_in_lane}
 use Rattle.bw_answer.specs.declared.lanes.ColumnValues.{ColumnValues}
-use Rattle.bw_answer.proofs.TotalsLemmas.{both}
+use Rattle.bw_model.proofs.BitsLemmas.{both}
 
 -- one more item
 columns_more : (items : List Item) (i : ℕ) → i < length items → columns_of (take (i + 1) items) ≡ columns_of (take i items) ++ columns_of (get_or items i (Plain 0) ∷ [])
@@ -28,11 +28,7 @@ column_named items i column within here = rw (columns_more items i within, here)
 -- or names none
 no_column : (item : Item) → ((column : ℕ) → item ≢ Plain column) → columns_of (item ∷ []) ≡ []
 no_column (Plain column) other = absurd (other column refl)
-no_column CountAll other = refl
-no_column (Count column) other = refl
-no_column (Sum column) other = refl
-no_column (Min column) other = refl
-no_column (Max column) other = refl
+no_column _ other = refl
 
 pub no_column_named : (items : List Item) (i : ℕ) → i < length items → ((column : ℕ) → get_or items i (Plain 0) ≢ Plain column) → columns_of (take i items) ≡ columns_of (take (i + 1) items)
 no_column_named items i within other =
@@ -56,13 +52,8 @@ columns_within width (Max column ∷ items) e = columns_within width items (both
 
 -- a listing has a column
 pub some_column : (items : List Item) → lists_rows items ≡ true → 1 ≤ length (columns_of items)
-some_column [] e = absurd (cc e)
 some_column (Plain column ∷ items) e = omega arith
-some_column (CountAll ∷ items) e = absurd (cc e)
-some_column (Count column ∷ items) e = absurd (cc e)
-some_column (Sum column ∷ items) e = absurd (cc e)
-some_column (Min column ∷ items) e = absurd (cc e)
-some_column (Max column ∷ items) e = absurd (cc e)
+some_column _ e = absurd (cc e)
 
 -- a row's fields in the columns are its fields for the items
 pub fields_listed : (items : List Item) (row : List Value) → fields_of (columns_of items) row ≡ filter_map (field_of row) items

@@ -13,7 +13,8 @@ use Rattle.bw_model.specs.Total.{item_within}
 use Rattle.bw_rowwise.specs.Accumulator.{Tally, tally_of, count_rows}
 use Rattle.bw_answer.specs.Answer.{is_count_all, lists_rows}
 use Rattle.bw_answer.specs.Totals.{is_of}
-use Rattle.bw_answer.proofs.TotalsLemmas.{and_true, both}
+use Rattle.bw_model.proofs.BitsLemmas.{both}
+use Rattle.std.proofs.lemmas.Bool.{and_from}
 
 -- if a condition matches every row, all match
 pub every_kept : (cond : Cond) (rows : List (List Value)) → ((row : List Value) → is_match cond row ≡ true) → matching_rows cond rows ≡ rows
@@ -24,11 +25,7 @@ every_kept cond (row ∷ rows) every = rw (every row) (ap (λ (l : List (List Va
 pub counts_list_nothing : (items : List Item) → 1 ≤ length items → list_all is_count_all items ≡ true → lists_rows items ≡ false
 counts_list_nothing [] some e = absurd (omega (arith, some))
 counts_list_nothing (Plain column ∷ items) some e = absurd (cc e)
-counts_list_nothing (CountAll ∷ items) some e = refl
-counts_list_nothing (Count column ∷ items) some e = refl
-counts_list_nothing (Sum column ∷ items) some e = refl
-counts_list_nothing (Min column ∷ items) some e = refl
-counts_list_nothing (Max column ∷ items) some e = refl
+counts_list_nothing _ some e = refl
 
 -- counts of rows, and this many more
 one_counted : (rows more : List (List Value)) (n : ℕ) → length more ≡ length rows + n → count_rows (tally_of CountAll rows) n ≡ tally_of CountAll more
@@ -37,12 +34,8 @@ one_counted rows more n e = rw e refl
 pub all_counted : (items : List Item) (rows more : List (List Value)) (n : ℕ) → length more ≡ length rows + n → list_all is_count_all items ≡ true
     → map (λ (tally : Tally). count_rows tally n) (map (λ item. tally_of item rows) items) ≡ map (λ item. tally_of item more) items
 all_counted [] rows more n e all = refl
-all_counted (Plain column ∷ items) rows more n e all = absurd (cc all)
 all_counted (CountAll ∷ items) rows more n e all = λ i. one_counted rows more n e i ∷ all_counted items rows more n e all i
-all_counted (Count column ∷ items) rows more n e all = absurd (cc all)
-all_counted (Sum column ∷ items) rows more n e all = absurd (cc all)
-all_counted (Min column ∷ items) rows more n e all = absurd (cc all)
-all_counted (Max column ∷ items) rows more n e all = absurd (cc all)
+all_counted _ rows more n e all = absurd (cc all)
 
 -- totals of this many rows and more
 pub is_of-counted : (width rows n : ℕ) (tallies : List Tally) → list_all (is_of width rows) tallies ≡ true
@@ -52,4 +45,4 @@ is_of-counted width rows n (t ∷ ts) e =
     let parts = both (is_of width rows t) (list_all (is_of width rows) ts) e in
     let here = both (item_within width t.item) (nat_le t.count rows) parts.0 in
     let count : t.count + n ≤ rows + n = omega (arith, leb-true t.count rows here.1) in
-    and_true _ _ (and_true _ _ here.0 (le-leb _ _ count)) (is_of-counted width rows n ts parts.1)
+    and_from _ _ (and_from _ _ here.0 (le-leb _ _ count)) (is_of-counted width rows n ts parts.1)

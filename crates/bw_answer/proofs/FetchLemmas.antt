@@ -13,11 +13,9 @@ values_put (lane ∷ lanes) zero kept lt = refl
 values_put (lane ∷ lanes) (suc column) kept lt = values_put lanes column kept (omega arith)
 
 values_of_others : (lanes : List ColumnValues) (column other : ℕ) (kept : ColumnValues) → other ≢ column → values_in (set lanes column kept) other ≡ values_in lanes other
-values_of_others [] column other kept ne = refl
 values_of_others (lane ∷ lanes) zero zero kept ne = absurd (ne refl)
-values_of_others (lane ∷ lanes) zero (suc other) kept ne = refl
-values_of_others (lane ∷ lanes) (suc column) zero kept ne = refl
 values_of_others (lane ∷ lanes) (suc column) (suc other) kept ne = values_of_others lanes column other kept (λ e. ne (ap suc e))
+values_of_others _ _ _ kept ne = refl
 
 -- a column that is fetched, also if it was before, and those before it
 pub column_more : (P : ℕ → List Value → Type 0) (columns : List ℕ) (lanes : List ColumnValues) (i : ℕ) (kept : ColumnValues) → get_or columns i 0 < length lanes

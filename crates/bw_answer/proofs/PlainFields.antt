@@ -35,9 +35,8 @@ plain_shows (c ∷ cs) e = rw (ne_eqb (length (c ∷ cs)) 0 (λ z. omega (arith,
 -- one more field after those of a record
 join_more : (fields : List (List ℕ)) (field : List ℕ)
     → join_with_byte 44 (fields ++ field ∷ []) ≡ join_with_byte 44 fields ++ ((if not (is_begun fields) then [] else 44 ∷ []) ++ field)
-join_more [] field = refl
-join_more (x ∷ []) field = refl
 join_more (x ∷ y ∷ more) field = rw (join_more (y ∷ more) field) (sym (append_assoc x (44 ∷ join_with_byte 44 (y ∷ more)) ((44 ∷ []) ++ field)))
+join_more _ field = refl
 
 begun_more : (fields : List (List ℕ)) (field : List ℕ) → is_begun (fields ++ field ∷ []) ≡ true
 begun_more [] field = refl

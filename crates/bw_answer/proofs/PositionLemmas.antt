@@ -22,17 +22,14 @@ positions_none number bits = ap (positions_from number) (nothing number bits)
     nothing (suc n) (bit ∷ bits) = nothing n bits
 
 found : (n k : ℕ) (bits : List Bool) → get_or bits k false ≡ true → positions_from n (drop k bits) ≡ n ∷ positions_from (suc n) (drop (suc k) bits)
-found n k [] e = absurd (cc e)
 found n zero (true ∷ bits) e = refl
-found n zero (false ∷ bits) e = absurd (cc e)
 found n (suc k) (bit ∷ bits) e = found n k bits e
+found n _ _ e = absurd (cc e)
 
 passed : (n k : ℕ) (bits : List Bool) → get_or bits k false ≡ false → positions_from n (drop k bits) ≡ positions_from (suc n) (drop (suc k) bits)
-passed n zero [] e = refl
-passed n (suc k) [] e = refl
 passed n zero (true ∷ bits) e = absurd (cc e)
-passed n zero (false ∷ bits) e = refl
 passed n (suc k) (bit ∷ bits) e = passed n k bits e
+passed n _ _ e = refl
 
 -- lanes that are 0 are passed
 clear_by : (k here past : ℕ) (bits : List Bool) → here + k ≤ past → AreClear bits here (here + k) → positions_between here past bits ≡ positions_between (here + k) past bits

@@ -13,7 +13,7 @@ use Rattle.bw_model.specs.Selection.{matching_rows}
 use Rattle.bw_answer.specs.Answer.{csv_text, field_of, row_records, record_text}
 
 -- the text of one row: its record if it matches, and else nothing
-one_record : (record_ : List (List ℕ)) → csv_text (record_ ∷ []) ≡ record_text record_
+pub one_record : (record_ : List (List ℕ)) → csv_text (record_ ∷ []) ≡ record_text record_
 unfolding csv_text
 one_record record_ = append-nil (record_text record_)
 

@@ -19,13 +19,13 @@ use Rattle.bw_model.specs.Truth.{is_truth}
 use Rattle.bw_model.specs.declared.cond.Truth.TheVariants.{Yes}
 use Rattle.bw_aggregate.specs.Selected.{with_selected}
 use Rattle.bw_answer.specs.Totals.{is_of}
-use Rattle.bw_answer.proofs.TotalsLemmas.{and_true, both}
+use Rattle.bw_model.proofs.BitsLemmas.{both}
+use Rattle.std.proofs.lemmas.Bool.{and_from}
 
 -- the lanes of a selection, and zeros, pick what is kept
 zeros_pick_none : (n : ℕ) (rows : List (List Value)) → selected_items (replicate n false) rows ≡ []
-zeros_pick_none zero rows = refl
-zeros_pick_none (suc n) [] = refl
 zeros_pick_none (suc n) (row ∷ rows) = zeros_pick_none n rows
+zeros_pick_none _ _ = refl
 
 kept_by : (b : Bool) (row : List Value) (bits : List Bool) (rows those : List (List Value)) → selected_items bits rows ≡ those → selected_items (b ∷ bits) (row ∷ rows) ≡ cond b (row ∷ those) those
 kept_by true row bits rows those e = ap (λ (l : List (List Value)). row ∷ l) e
@@ -37,10 +37,9 @@ selected_as_kept c (row ∷ rows) n = kept_by (is_match c row) row (selection c 
 
 -- if no lane is 1, no row is selected
 pub none_selected : (lanes : List Bool) (rows : List (List Value)) → list_all not lanes ≡ true → selected_items lanes rows ≡ []
-none_selected [] rows e = refl
-none_selected (lane ∷ lanes) [] e = refl
 none_selected (true ∷ lanes) (row ∷ rows) e = absurd (cc e)
 none_selected (false ∷ lanes) (row ∷ rows) e = none_selected lanes rows e
+none_selected _ _ e = refl
 
 -- totals of some rows are those of the selected rows too
 one_total : (item : Item) (rows more : List (List Value)) → ((item : Item) (a b : List (List Value)) → total item (a ++ b) ≡ combine_totals item (total item a) (total item b))
@@ -73,7 +72,7 @@ is_of-selected width rows n more (t ∷ ts) few e =
     let here = both (item_within width t.item) (nat_le t.count rows) parts.0 in
     let count : (with_selected t more).count ≤ rows + n = omega (arith, leb-true t.count rows here.1, selected_count t more, few) in
     let item : item_within width (with_selected t more).item ≡ true = ap (item_within width) (selected_item t more) ∙ here.0 in
-    and_true _ _ (and_true _ _ item (le-leb _ _ count)) (is_of-selected width rows n more ts few parts.1)
+    and_from _ _ (and_from _ _ item (le-leb _ _ count)) (is_of-selected width rows n more ts few parts.1)
 
 pub is_of-later : (width rows n : ℕ) (tallies : List Tally) → list_all (is_of width rows) tallies ≡ true → list_all (is_of width (rows + n)) tallies ≡ true
 is_of-later width rows n [] e = refl
@@ -81,7 +80,7 @@ is_of-later width rows n (t ∷ ts) e =
     let parts = both (is_of width rows t) (list_all (is_of width rows) ts) e in
     let here = both (item_within width t.item) (nat_le t.count rows) parts.0 in
     let count : t.count ≤ rows + n = omega (arith, leb-true t.count rows here.1) in
-    and_true _ _ (and_true _ _ here.0 (le-leb _ _ count)) (is_of-later width rows n ts parts.1)
+    and_from _ _ (and_from _ _ here.0 (le-leb _ _ count)) (is_of-later width rows n ts parts.1)
 
 -- no more rows are kept than there are
 pub few_kept : (c : Cond) (rows : List (List Value)) → length (matching_rows c rows) ≤ length rows

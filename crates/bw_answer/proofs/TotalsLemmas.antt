@@ -14,18 +14,12 @@ use Rattle.bw_answer.specs.Totals.{is_of, has_room}
 use Rattle.std.proofs.lemmas.List.{append-nil, drop_all, get_or_default, take_all}
 use Rattle.std.proofs.lemmas.List.Elements.{filter-append}
 use Rattle.std.proofs.lemmas.Bool.{leb-true, ltb-true, le-leb, lt-ltb}
+use Rattle.bw_model.proofs.BitsLemmas.{both}
+use Rattle.std.proofs.lemmas.Bool.{and_from}
 
 -- if the total is that of some rows, one more row makes it the total of those and that row
 abbrev pub AddsRow : List Value → Tally → Type 0
 AddsRow row tally = (rows : List (List Value)) → tally ≡ tally_of tally.item rows → tally_with tally row ≡ tally_of tally.item (rows ++ row ∷ [])
-
-pub both : (a b : Bool) → (a && b) ≡ true → (a ≡ true) × (b ≡ true)
-both true b e = (refl, e)
-both false b e = absurd (cc e)
-
-pub and_true : (a b : Bool) → a ≡ true → b ≡ true → (a && b) ≡ true
-and_true true b e f = f
-and_true false b e f = absurd (cc e)
 
 -- totals of fewer rows than a table may have can take one more
 pub has_room-from : (width rows : ℕ) (tallies : List Tally) → rows < 2 ^ 24 → list_all (is_of width rows) tallies ≡ true → list_all (has_room width) tallies ≡ true
@@ -34,7 +28,7 @@ has_room-from width rows (t ∷ ts) few e =
     let parts = both (is_of width rows t) (list_all (is_of width rows) ts) e in
     let here = both (item_within width t.item) (nat_le t.count rows) parts.0 in
     let count : t.count < 2 ^ 24 = omega (arith, leb-true t.count rows here.1) in
-    and_true _ _ (and_true _ _ here.0 (lt-ltb _ _ count)) (has_room-from width rows ts few parts.1)
+    and_from _ _ (and_from _ _ here.0 (lt-ltb _ _ count)) (has_room-from width rows ts few parts.1)
 
 -- with or without one more row they are totals of one row more
 pub is_of-more : (width rows : ℕ) (tallies : List Tally) → list_all (is_of width rows) tallies ≡ true → list_all (is_of width (rows + 1)) tallies ≡ true
@@ -43,7 +37,7 @@ is_of-more width rows (t ∷ ts) e =
     let parts = both (is_of width rows t) (list_all (is_of width rows) ts) e in
     let here = both (item_within width t.item) (nat_le t.count rows) parts.0 in
     let count : t.count ≤ rows + 1 = omega (arith, leb-true t.count rows here.1) in
-    and_true _ _ (and_true _ _ here.0 (le-leb _ _ count)) (is_of-more width rows ts parts.1)
+    and_from _ _ (and_from _ _ here.0 (le-leb _ _ count)) (is_of-more width rows ts parts.1)
 
 pub is_of-with : (width rows : ℕ) (row : List Value) (tallies : List Tally) → list_all (is_of width rows) tallies ≡ true
     → list_all (is_of width (rows + 1)) (map (λ tally. tally_with tally row) tallies) ≡ true
@@ -52,7 +46,7 @@ is_of-with width rows row (t ∷ ts) e =
     let parts = both (is_of width rows t) (list_all (is_of width rows) ts) e in
     let here = both (item_within width t.item) (nat_le t.count rows) parts.0 in
     let count : t.count + 1 ≤ rows + 1 = omega (arith, leb-true t.count rows here.1) in
-    and_true _ _ (and_true _ _ here.0 (le-leb _ _ count)) (is_of-with width rows row ts parts.1)
+    and_from _ _ (and_from _ _ here.0 (le-leb _ _ count)) (is_of-with width rows row ts parts.1)
 
 -- while f is written over the elements of a list, the one at hand is as it was
 pub untouched : {X : Type 0} (f : X → X) (xs : List X) (i : ℕ) (d : X) → i < length xs → get_or (map f (take i xs) ++ drop i xs) i d ≡ get_or xs i d
