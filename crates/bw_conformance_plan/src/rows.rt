@@ -154,7 +154,7 @@ fn select_rows(
     Ok(Cost {
         loads: counts.loads,
         skips: counts.skips,
-        select_rows,
+        selected,
     })
 }
 
