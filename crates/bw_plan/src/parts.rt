@@ -165,11 +165,7 @@ fn combine(
     for column in 0..64 {
         merge(facts, any, &mut parts, column, only_short)?;
     }
-    for _ in 1..parts.len() {
-        if matches!(parts.last(), Some(Part::Done)) {
-            parts.pop();
-        }
-    }
+    parts.retain(|part| !matches!(part, Part::Done));
     if parts.len() > 1 {
         return Ok(Part::All(any, parts));
     }

@@ -73,7 +73,7 @@ impl Code<'_> {
         let made = self.truths(part, wanted)?;
         let mut growth = Growth::of(parts.len().saturating_sub(1), &self.facts);
         for (number, part) in parts.iter().enumerate() {
-            if number == leading || matches!(part, Part::Done) {
+            if number == leading {
                 continue;
             }
             if number < SKIPPED_PARTS && self.skips_parts && !part.is_quick() {
