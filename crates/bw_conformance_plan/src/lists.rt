@@ -43,6 +43,16 @@ fn among(alloc: Global, column: &str, numbers: &[i64]) -> Result<String, Fail> {
     Ok(text)
 }
 
+/// Returns the same condition as an OR of equations.
+fn equations(alloc: Global, column: &str, numbers: &[i64]) -> Result<String, Fail> {
+    let mut text = String::new(alloc);
+    for (at, number) in numbers.iter().enumerate() {
+        let word = if at == 0 { "" } else { " OR " };
+        text.push_str(format!(in alloc; "{word}{column} = {number}")?.as_str())?;
+    }
+    Ok(text)
+}
+
 /// Ends the test unless lists of this many numbers have a program, negated and combined too.
 fn assert_served(
     rt: &(impl Abort + AllocGlobal),
@@ -84,6 +94,33 @@ fn lists_over_three_bytes_are_served(rt: HostRuntime) -> Result<(), Fail> {
 fn lists_over_four_bytes_are_served(rt: HostRuntime) -> Result<(), Fail> {
     assert_served(&rt, "d", 26, &[60, 129])?;
     assert_served(&rt, "e", 32, &[100])
+}
+
+/// Ends the test unless equations cost as much as the list of their numbers.
+fn assert_as_list(
+    rt: &impl Abort,
+    alloc: Global,
+    column: &str,
+    bits: u32,
+    count: u64,
+) -> Result<(), Fail> {
+    let schema = Schema::parse(alloc, WIDTHS.as_bytes())?;
+    let numbers = scatter_numbers(alloc, count, bits)?;
+    let rows = rows_of(alloc, &mut Numbers::new(count), &schema, &numbers, 1200)?;
+    let list = among(alloc, column, &numbers)?;
+    let list = cost_of(rt, alloc, &schema, list.as_str(), &rows)?;
+    let text = equations(alloc, column, &numbers)?;
+    let cost = cost_of(rt, alloc, &schema, text.as_str(), &rows)?;
+    assert_eq!(rt; cost.loads, list.loads, "{text}");
+    assert_eq!(rt; cost.skips, list.skips, "{text}");
+    Ok(())
+}
+
+#[test]
+fn equations_of_one_column_cost_what_a_list_costs(rt: HostRuntime) -> Result<(), Fail> {
+    assert_as_list(&rt, rt.alloc(), "a", 8, 300)?;
+    assert_as_list(&rt, rt.alloc(), "b", 16, 60)?;
+    assert_as_list(&rt, rt.alloc(), "c", 20, 40)
 }
 
 /// Ends the test unless a list of this many numbers has a program, and one of one more has none.

@@ -1,14 +1,9 @@
 //! Chains: nodes that compare the codes of columns, each computed once.
-use crate::ledger::{Entry, Ledger};
-use crate::nodes::Nodes;
-use crate::products::Cited;
+use crate::facts::{Cited, Facts};
+use crate::ledger::{Entry, Key};
 use crate::refusal::Refusal;
 use bw_diagram::ChainKind;
-use bw_model::Schema;
 use bw_program::ColumnIndex;
-
-/// A certificate has at most this many chains.
-pub(crate) const MAX_CHAINS: u32 = 65_536;
 
 /// A chain: `len` bits of a column's code from bit `start` are compared with a number, or if there
 /// is a right column, the `len` low bits of both. It has the number of its node, and of the chain
@@ -26,25 +21,36 @@ pub(crate) struct Link {
 }
 
 impl Entry for Link {
-    fn words(self) -> [u64; 2] {
+    fn key(self) -> Key {
         let right = self.right.map_or(0, |right| u64::from(right) + 1);
-        let columns = u64::from(self.left) << 8 | right;
+        let columns = u64::from(self.left) << 16 | right;
         let bits = u64::from(self.start) << 8 | u64::from(self.len);
         let kind = u64::from(self.kind == ChainKind::Less);
-        [self.bound, (columns << 16 | bits) << 1 | kind]
-    }
-
-    fn is_alike(self, other: Self) -> bool {
-        self.kind == other.kind
-            && self.left == other.left
-            && self.right == other.right
-            && self.start == other.start
-            && self.len == other.len
-            && self.bound == other.bound
+        (self.bound, (columns << 16 | bits) << 1 | kind)
     }
 }
 
 impl Link {
+    /// Returns the comparison of `len` bits of a column's code from bit `start` with a number.
+    pub(crate) fn bound(
+        kind: ChainKind,
+        left: ColumnIndex,
+        start: u32,
+        len: u32,
+        bound: u64,
+    ) -> Self {
+        Link {
+            kind,
+            left,
+            right: None,
+            start,
+            len,
+            bound,
+            node: 0,
+            prev: None,
+        }
+    }
+
     /// Returns the same comparison of this many bits, without a node.
     fn with_len(self, len: u32) -> Self {
         Link {
@@ -53,46 +59,6 @@ impl Link {
             ..self
         }
     }
-
-    /// Returns the node of the comparison, from that of the bits below the top bit, `lower`.
-    fn node_above(self, schema: &Schema, nodes: &mut Nodes, lower: u32) -> Result<u32, Refusal> {
-        let place = self.len.saturating_sub(1);
-        let left = variable(schema, self.left, self.start.saturating_add(place));
-        let Some(right) = self.right else {
-            let top = self.bound >> place.min(63) & 1 == 1;
-            let low = outcome(self.kind, false, top, lower);
-            let high = outcome(self.kind, true, top, lower);
-            return nodes.choice(left.ok_or(Refusal::NoProgram)?, low, high);
-        };
-        let right = variable(schema, right, place);
-        let low = self.node_right(nodes, false, right, lower)?;
-        let Some(left) = left else {
-            return Ok(low);
-        };
-        let high = self.node_right(nodes, true, right, lower)?;
-        nodes.choice(left, low, high)
-    }
-
-    /// Returns the same node if the left column's bit is `x`. The right column may have no variable
-    /// there.
-    fn node_right(
-        self,
-        nodes: &mut Nodes,
-        x: bool,
-        right: Option<u32>,
-        lower: u32,
-    ) -> Result<u32, Refusal> {
-        let low = outcome(self.kind, x, false, lower);
-        let Some(right) = right else {
-            return Ok(low);
-        };
-        nodes.choice(right, low, outcome(self.kind, x, true, lower))
-    }
-}
-
-/// Returns the node of a comparison of numbers without bits.
-fn first_node(kind: ChainKind) -> u32 {
-    u32::from(kind == ChainKind::Equal)
 }
 
 /// Returns the node of a comparison of numbers with top bits `x` and `y`, from that of the bits
@@ -105,45 +71,76 @@ fn outcome(kind: ChainKind, x: bool, y: bool, lower: u32) -> u32 {
     }
 }
 
-/// Returns the chain of a comparison, and adds it and those of fewer bits if they are missing.
-pub(crate) fn chain(
-    schema: &Schema,
-    nodes: &mut Nodes,
-    chains: &mut Ledger<Link>,
-    whole: Link,
-) -> Result<Cited, Refusal> {
-    let mut last: Option<Cited> = None;
-    for len in 0..=whole.len.min(63) {
-        let wanted = whole.with_len(len);
-        let cited = match chains.find(wanted) {
-            Some((number, link)) => Cited {
-                number,
-                node: link.node,
-            },
-            None => {
-                let node = match last {
-                    Some(lower) => wanted.node_above(schema, nodes, lower.node)?,
-                    None => first_node(wanted.kind),
-                };
-                let prev = last.map(|lower| lower.number);
-                let number = chains.push(Link {
-                    node,
-                    prev,
-                    ..wanted
-                })?;
-                Cited { number, node }
-            }
-        };
-        last = Some(cited);
+impl Facts<'_> {
+    /// Returns the chain that compares the codes of two columns, the shorter one with zeros above
+    /// its top bit.
+    ///
+    /// Errors: `NoProgram` past 65,534 nodes or 65,536 chains.
+    pub(crate) fn columns(
+        &mut self,
+        kind: ChainKind,
+        left: ColumnIndex,
+        right: ColumnIndex,
+    ) -> Result<Cited, Refusal> {
+        let len = self.width(left).max(self.width(right));
+        self.chain(Link {
+            right: Some(right),
+            ..Link::bound(kind, left, 0, len, 0)
+        })
     }
-    last.ok_or(Refusal::NoProgram)
-}
 
-/// Returns the variable of a column's bit, if the column has that bit.
-pub(crate) fn variable(schema: &Schema, column: ColumnIndex, bit: u32) -> Option<u32> {
-    let column = column as usize;
-    if column >= schema.columns.len() || bit >= schema.width(column) {
-        return None;
+    /// Returns the chain of a comparison, and adds it and those of fewer bits if they are missing.
+    ///
+    /// Errors: `NoProgram` past 65,534 nodes or 65,536 chains.
+    pub(crate) fn chain(&mut self, whole: Link) -> Result<Cited, Refusal> {
+        let mut last: Option<Cited> = None;
+        for len in 0..=whole.len.min(63) {
+            let link = whole.with_len(len);
+            last = Some(match self.chains.find(link.key()) {
+                Some((number, found)) => Cited {
+                    number,
+                    node: found.node,
+                },
+                None => self.add_chain(link, last)?,
+            });
+        }
+        last.ok_or(Refusal::NoProgram)
     }
-    Some(schema.var_bit(column, bit))
+
+    /// Adds a chain, from the one with one bit less.
+    fn add_chain(&mut self, link: Link, lower: Option<Cited>) -> Result<Cited, Refusal> {
+        let node = match lower {
+            Some(lower) => self.node_above(link, lower.node)?,
+            None => u32::from(link.kind == ChainKind::Equal),
+        };
+        let prev = lower.map(|lower| lower.number);
+        let number = self.chains.push(Link { node, prev, ..link })?;
+        Ok(Cited { number, node })
+    }
+
+    /// Returns the node of a comparison, from that of the bits below the top bit, `lower`. The left
+    /// column may have no variable there.
+    fn node_above(&mut self, link: Link, lower: u32) -> Result<u32, Refusal> {
+        let place = link.len.saturating_sub(1);
+        let low = self.node_right(link, place, false, lower)?;
+        let Some(left) = self.variable(link.left, link.start.saturating_add(place)) else {
+            return Ok(low);
+        };
+        let high = self.node_right(link, place, true, lower)?;
+        self.choice(left, low, high)
+    }
+
+    /// Returns the same node if the left column's bit is `x`. The right column may have no variable
+    /// there.
+    fn node_right(&mut self, link: Link, place: u32, x: bool, lower: u32) -> Result<u32, Refusal> {
+        let Some(right) = link.right else {
+            let top = link.bound >> place.min(63) & 1 == 1;
+            return Ok(outcome(link.kind, x, top, lower));
+        };
+        let low = outcome(link.kind, x, false, lower);
+        let Some(right) = self.variable(right, place) else {
+            return Ok(low);
+        };
+        self.choice(right, low, outcome(link.kind, x, true, lower))
+    }
 }

@@ -45,11 +45,7 @@ impl LiteralComparison {
 impl ColumnComparison {
     /// Returns the terminal that says how a column's code compares to itself.
     pub(crate) fn terminal(self) -> Option<u32> {
-        match self.kind {
-            _ if self.left != self.right => None,
-            ChainKind::Less => Some(0),
-            ChainKind::Equal => Some(1),
-        }
+        (self.left == self.right).then_some(u32::from(self.kind == ChainKind::Equal))
     }
 
     /// Returns the order in which the comparison's nodes test variables.
@@ -77,30 +73,20 @@ pub(crate) fn compare(
     y: Operand,
 ) -> Result<Comparison, Refusal> {
     match (x, y) {
-        (Operand::Col(column), Operand::Lit(n)) => {
-            Ok(Comparison::Literal(with_literal(facts, op, column, n)?))
-        }
+        (Operand::Col(column), Operand::Lit(n)) => with_literal(facts, op, column, n),
         (Operand::Lit(n), Operand::Col(column)) => {
-            Ok(Comparison::Literal(with_literal(facts, op.swap_operands(), column, n)?))
+            with_literal(facts, op.swap_operands(), column, n)
         }
-        (Operand::Col(left), Operand::Col(right)) => {
-            Ok(Comparison::Columns(with_column(facts, op, left, right)?))
-        }
-        (Operand::Lit(m), Operand::Lit(n)) if op.holds(m, n) => Ok(Comparison::Fixed(Truth::Yes)),
-        (Operand::Lit(_), Operand::Lit(_)) => Ok(Comparison::Fixed(Truth::No)),
+        (Operand::Col(left), Operand::Col(right)) => with_column(facts, op, left, right),
+        (Operand::Lit(m), Operand::Lit(n)) => Ok(Comparison::Fixed(Truth::of(op.holds(m, n)))),
         _ => Ok(Comparison::Fixed(Truth::Unknown)),
     }
 }
 
 /// Returns the comparison of a column with a literal.
-fn with_literal(
-    facts: &Facts<'_>,
-    op: Op,
-    column: usize,
-    n: i64,
-) -> Result<LiteralComparison, Refusal> {
-    let column = facts.column(column)?;
-    let distance = i128::from(n) - i128::from(facts.lo(column)?);
+fn with_literal(facts: &Facts<'_>, op: Op, column: usize, n: i64) -> Result<Comparison, Refusal> {
+    let (column, lo) = facts.column(column)?;
+    let distance = i128::from(n) - i128::from(lo);
     let (kind, limit, negated) = match op {
         Op::Lt => (ChainKind::Less, distance, false),
         Op::Ge => (ChainKind::Less, distance, true),
@@ -109,33 +95,30 @@ fn with_literal(
         Op::Eq => (ChainKind::Equal, distance, false),
         Op::Ne => (ChainKind::Equal, distance, true),
     };
-    Ok(LiteralComparison {
+    Ok(Comparison::Literal(LiteralComparison {
         column,
         kind,
         limit,
         negated,
-    })
+    }))
 }
 
 /// Returns the comparison of two columns of the same minimum.
-fn with_column(facts: &Facts<'_>, op: Op, c: usize, d: usize) -> Result<ColumnComparison, Refusal> {
-    let (c, d) = (facts.column(c)?, facts.column(d)?);
-    if facts.lo(c)? != facts.lo(d)? {
+fn with_column(facts: &Facts<'_>, op: Op, c: usize, d: usize) -> Result<Comparison, Refusal> {
+    let ((c, lo), (d, other)) = (facts.column(c)?, facts.column(d)?);
+    if lo != other {
         return Err(Refusal::NoProgram);
     }
-    let (kind, left, right, negated) = match op {
-        Op::Lt => (ChainKind::Less, c, d, false),
-        Op::Ge => (ChainKind::Less, c, d, true),
-        Op::Gt => (ChainKind::Less, d, c, false),
-        Op::Le => (ChainKind::Less, d, c, true),
-        Op::Eq => (ChainKind::Equal, c, d, false),
-        Op::Ne => (ChainKind::Equal, c, d, true),
+    let (kind, left, right) = match op {
+        Op::Lt | Op::Ge => (ChainKind::Less, c, d),
+        Op::Gt | Op::Le => (ChainKind::Less, d, c),
+        Op::Eq | Op::Ne => (ChainKind::Equal, c, d),
     };
-    Ok(ColumnComparison {
+    Ok(Comparison::Columns(ColumnComparison {
         kind,
         left,
         right,
-        negated,
+        negated: matches!(op, Op::Ge | Op::Le | Op::Ne),
         columns: [c, d],
-    })
+    }))
 }

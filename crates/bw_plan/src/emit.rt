@@ -6,18 +6,17 @@ ghost use Rattle.bw_cert_text.specs.Columns.{has_columns, is_column};
 ghost use Rattle.bw_plan.specs.ChainNames.{is_chain_named, are_chains_named};
 
 use crate::chains::Link;
-use crate::facts::Facts;
+use crate::code::Code;
 use crate::ledger::Ledger;
 use crate::line::PlannedLine;
-use crate::nodes::Branch;
 use crate::products::Row;
 use crate::refusal::Refusal;
 use bw_cert_text::{
     Body, BodyLine, Certificate, ChainLine, EdgeProducts, EndLine, NodeLine, ProductLine,
 };
-use bw_diagram::{ChainColumns, Reason};
+use bw_diagram::{ChainColumns, Node, Reason};
 use bw_model::{Schema, code};
-use bw_program::{ColumnIndex, Instr, Program, Register, SliceIndex};
+use bw_program::{ColumnIndex, Instr, Program, Register};
 use bw_text::{Opcode, Piece, push_line};
 use std::alloc::{AllocError, Global};
 
@@ -50,67 +49,56 @@ fn put_instr(
     instr: Instr,
     text: &mut Vec<u8>,
 ) -> Result<(), AllocError> {
-    use Piece::{Number, Register};
+    use Piece::Register;
+    let (opcode, r) = opcode_of(instr);
     match instr {
-        Instr::Load(r, col, bit) => {
-            let (col, bit) = (name_of(schema, col), Number(u64::from(bit)));
-            let pieces = [word(Opcode::Load), Register(r), col, bit];
+        Instr::Load(_, col, bit) => {
+            let pieces = [word(opcode), Register(r), name_of(schema, col), number(bit)];
             push_line(alloc, &pieces, text)
         }
-        Instr::Nulls(r, col) => {
-            let pieces = [word(Opcode::Nulls), Register(r), name_of(schema, col)];
+        Instr::Nulls(_, col) => {
+            let pieces = [word(opcode), Register(r), name_of(schema, col)];
             push_line(alloc, &pieces, text)
         }
-        Instr::Fill(r, bit) => {
-            let bit = Number(u64::from(bit));
-            push_line(alloc, &[word(Opcode::Fill), Register(r), bit], text)
-        }
-        Instr::And(r, x, y) => put_three(alloc, Opcode::And, [r, x, y], text),
-        Instr::Or(r, x, y) => put_three(alloc, Opcode::Or, [r, x, y], text),
-        Instr::Xor(r, x, y) => put_three(alloc, Opcode::Xor, [r, x, y], text),
-        Instr::Not(r, x) => {
-            let pieces = [word(Opcode::Not), Register(r), Register(x)];
+        Instr::Fill(_, bit) => {
+            let pieces = [word(opcode), Register(r), number(u8::from(bit))];
             push_line(alloc, &pieces, text)
         }
-        Instr::ByteLt(r, col, slice, k) => {
-            put_byte(alloc, schema, Opcode::ByteLt, (r, col, slice, k), text)
+        Instr::And(_, x, y) | Instr::Or(_, x, y) | Instr::Xor(_, x, y) => {
+            let pieces = [word(opcode), Register(r), Register(x), Register(y)];
+            push_line(alloc, &pieces, text)
         }
-        Instr::ByteEq(r, col, slice, k) => {
-            put_byte(alloc, schema, Opcode::ByteEq, (r, col, slice, k), text)
+        Instr::Not(_, x) => { push_line(alloc, &[word(opcode), Register(r), Register(x)], text) }
+        Instr::ByteLt(_, col, slice, k) | Instr::ByteEq(_, col, slice, k) => {
+            let (col, slice, k) = (name_of(schema, col), number(slice), number(k));
+            push_line(alloc, &[word(opcode), Register(r), col, slice, k], text)
         }
-        Instr::Skip(x, target) => {
-            let target = Number(target as u64);
-            push_line(alloc, &[word(Opcode::Skip), Register(x), target], text)
+        Instr::Skip(_, target) => {
+            let target = Piece::Number(target as u64);
+            push_line(alloc, &[word(opcode), Register(r), target], text)
         }
     }
 }
 
-/// Appends the line of a connective of registers.
-fn put_three(
-    alloc: Global,
-    opcode: Opcode,
-    registers: [Register; 3],
-    text: &mut Vec<u8>,
-) -> Result<(), AllocError> {
-    use Piece::Register;
-    let [r, x, y] = registers;
-    let pieces = [word(opcode), Register(r), Register(x), Register(y)];
-    push_line(alloc, &pieces, text)
+/// Returns an instruction's opcode and its first register.
+fn opcode_of(instr: Instr) -> (Opcode, Register) {
+    match instr {
+        Instr::Load(r, ..) => (Opcode::Load, r),
+        Instr::Nulls(r, _) => (Opcode::Nulls, r),
+        Instr::Fill(r, _) => (Opcode::Fill, r),
+        Instr::And(r, ..) => (Opcode::And, r),
+        Instr::Or(r, ..) => (Opcode::Or, r),
+        Instr::Xor(r, ..) => (Opcode::Xor, r),
+        Instr::Not(r, _) => (Opcode::Not, r),
+        Instr::ByteLt(r, ..) => (Opcode::ByteLt, r),
+        Instr::ByteEq(r, ..) => (Opcode::ByteEq, r),
+        Instr::Skip(x, _) => (Opcode::Skip, x),
+    }
 }
 
-/// Appends the line of a byte comparison.
-fn put_byte(
-    alloc: Global,
-    schema: &Schema,
-    opcode: Opcode,
-    operands: (Register, ColumnIndex, SliceIndex, u8),
-    text: &mut Vec<u8>,
-) -> Result<(), AllocError> {
-    use Piece::{Number, Register};
-    let (r, col, slice, k) = operands;
-    let (slice, k) = (Number(u64::from(slice)), Number(u64::from(k)));
-    let pieces = [word(opcode), Register(r), name_of(schema, col), slice, k];
-    push_line(alloc, &pieces, text)
+/// Returns a number as a piece of a line.
+fn number(number: u8) -> Piece<'static> {
+    Piece::Number(u64::from(number))
 }
 
 /// Returns an opcode as the first piece of a line.
@@ -126,27 +114,25 @@ fn name_of(schema: &Schema, column: ColumnIndex) -> Piece<'_> {
     }
 }
 
-/// Returns the certificate of facts and lines, numbered as in a program file.
+/// Returns the certificate of the instructions, numbered as in a program file: its lines come after
+/// those of the program, and `row` ends it.
 pub(crate) fn certificate<'a>(
-    alloc: Global,
     schema: &'a Schema,
-    facts: &Facts<'_>,
-    entries: &[PlannedLine],
-    edges: &[EdgeProducts],
+    code: &Code<'_>,
     row: u32,
-    before: usize,
 ) -> Result<Certificate<'a>, Refusal>
     ensures { IfOk result (λ certificate.
         IsTrue (has_columns schema.now.columns.items (certificate_fields certificate))) }
 {
-    let line = (before as u64).saturating_add(1);
-    let nodes = node_lines(alloc, facts.nodes(), line)?;
+    let (alloc, facts) = (code.alloc, &code.facts);
+    let line = (code.instrs.len() as u64).saturating_add(3);
+    let nodes = node_lines(alloc, &facts.nodes, line)?;
     let line = line.saturating_add(nodes.len() as u64);
-    let chains = chain_lines(alloc, schema, facts.chains(), line)?;
+    let chains = chain_lines(alloc, schema, &facts.chains, line)?;
     let line = line.saturating_add(chains.len() as u64);
-    let rows = product_lines(alloc, facts.products(), line)?;
+    let rows = product_lines(alloc, &facts.products, line)?;
     let line = line.saturating_add(rows.len() as u64);
-    let body = body_lines(alloc, entries, edges, line)?;
+    let body = body_lines(alloc, &code.lines, &code.edges, line)?;
     let end = EndLine {
         line: line.saturating_add(body.len() as u64),
         row: u64::from(row),
@@ -155,11 +141,19 @@ pub(crate) fn certificate<'a>(
 }
 
 /// Returns the lines of nodes. The first line has the number `first`.
-fn node_lines(alloc: Global, nodes: &[Branch], first: u64) -> Result<Vec<NodeLine>, Refusal> {
+fn node_lines(alloc: Global, nodes: &Ledger<Node>, first: u64) -> Result<Vec<NodeLine>, Refusal> {
     let mut lines = Vec::with_capacity(alloc, nodes.len())?;
-    for node in nodes {
-        let number = lines.len() as u64;
-        lines.push(node_line(first.saturating_add(number), number, *node))?;
+    for number in 0..nodes.len() {
+        let Some(node) = nodes.get(number) else {
+            break;
+        };
+        lines.push(NodeLine {
+            line: first.saturating_add(number as u64),
+            n: (number as u64).saturating_add(2),
+            v: u64::from(node.v),
+            low: u64::from(node.low),
+            high: u64::from(node.high),
+        })?;
     }
     Ok(lines)
 }
@@ -197,8 +191,7 @@ fn product_lines(
         let Some(row) = rows.get(number) else {
             break;
         };
-        let number = number as u64;
-        lines.push(row_line(first.saturating_add(number), number, row))?;
+        lines.push(row_line(first, number as u64, row))?;
     }
     Ok(lines)
 }
@@ -221,19 +214,8 @@ fn body_lines(
     Ok(lines)
 }
 
-/// Returns the line of a node.
-fn node_line(line: u64, number: u64, node: Branch) -> NodeLine {
-    NodeLine {
-        line,
-        n: number.saturating_add(2),
-        v: u64::from(node.variable),
-        low: u64::from(node.low),
-        high: u64::from(node.high),
-    }
-}
-
 /// Returns the line of a product row.
-fn row_line(line: u64, number: u64, row: Row) -> ProductLine {
+fn row_line(first: u64, number: u64, row: Row) -> ProductLine {
     let reason = match row.reason {
         None => Reason::Shortcut,
         Some(cofactors) => Reason::Cofactors {
@@ -243,7 +225,7 @@ fn row_line(line: u64, number: u64, row: Row) -> ProductLine {
         },
     };
     ProductLine {
-        line,
+        line: first.saturating_add(number),
         n: number,
         op: row.question.op,
         a: u64::from(row.question.a),

@@ -1,14 +1,36 @@
-//! What a certificate states: nodes, chains and product rows.
-use crate::chains::{self, Link, MAX_CHAINS};
-use crate::ledger::Ledger;
-use crate::nodes::{Branch, Nodes};
-use crate::order::{Ranks, VariableOrder};
-use crate::products::{self, Cited, MAX_PRODUCTS, Pending, Question, Row};
+//! What a certificate states: nodes, chains and product rows, and the nodes of single variables.
+use crate::chains::Link;
+use crate::ledger::{Entry, Key, Ledger};
+use crate::order::Ranks;
+use crate::products::{MAX_PRODUCTS, Pending, Row};
 use crate::refusal::Refusal;
-use bw_diagram::{ChainKind, Connective};
+use bw_diagram::Node;
 use bw_model::{Cond, Schema};
 use bw_program::ColumnIndex;
 use std::alloc::Global;
+
+/// The most nodes of a certificate, besides the two terminals.
+pub(crate) const MAX_NODES: u32 = 65_534;
+
+/// The most chains of a certificate.
+const MAX_CHAINS: u32 = 65_536;
+
+impl Entry for Node {
+    fn key(self) -> Key {
+        (
+            u64::from(self.v),
+            u64::from(self.low) << 32 | u64::from(self.high),
+        )
+    }
+}
+
+/// A chain or a product row as a line references it: its number, from 0, and the number of its
+/// node.
+#[derive(Clone, Copy)]
+pub(crate) struct Cited {
+    pub(crate) number: u32,
+    pub(crate) node: u32,
+}
 
 /// How many nodes, chains and product rows there are.
 #[derive(Clone, Copy)]
@@ -24,11 +46,12 @@ pub(crate) struct Extent {
 pub(crate) struct Facts<'a> {
     pub(crate) alloc: Global,
     schema: &'a Schema,
-    nodes: Nodes,
-    chains: Ledger<Link>,
-    products: Ledger<Row>,
-    pending: Vec<Pending>,
-    ranks: Ranks,
+    /// The nodes from number 2 on. Numbers 0 and 1 are the terminals.
+    pub(crate) nodes: Ledger<Node>,
+    pub(crate) chains: Ledger<Link>,
+    pub(crate) products: Ledger<Row>,
+    pub(crate) pending: Vec<Pending>,
+    pub(crate) ranks: Ranks,
 }
 
 impl<'a> Facts<'a> {
@@ -38,7 +61,7 @@ impl<'a> Facts<'a> {
         Ok(Facts {
             alloc,
             schema,
-            nodes: Nodes::new(alloc),
+            nodes: Ledger::new(alloc, MAX_NODES),
             chains: Ledger::new(alloc, MAX_CHAINS),
             products: Ledger::new(alloc, MAX_PRODUCTS),
             pending: Vec::new(alloc),
@@ -49,7 +72,7 @@ impl<'a> Facts<'a> {
     /// Returns how many there are so far.
     pub(crate) fn extent(&self) -> Extent {
         Extent {
-            nodes: self.nodes().len(),
+            nodes: self.nodes.len(),
             chains: self.chains.len(),
             products: self.products.len(),
         }
@@ -62,95 +85,30 @@ impl<'a> Facts<'a> {
         self.nodes.truncate(extent.nodes);
     }
 
-    /// Returns the nodes. The first has number 2.
-    pub(crate) fn nodes(&self) -> &[Branch] {
-        self.nodes.as_slice()
+    /// Returns the node of a number, if it isn't a terminal.
+    pub(crate) fn node(&self, number: u32) -> Option<Node> {
+        self.nodes.get((number as usize).checked_sub(2)?)
     }
 
-    /// Returns the chains. The first has number 0.
-    pub(crate) fn chains(&self) -> &Ledger<Link> {
-        &self.chains
-    }
-
-    /// Returns the product rows. The first has number 0.
-    pub(crate) fn products(&self) -> &Ledger<Row> {
-        &self.products
-    }
-
-    /// Sets the limit of product rows.
-    pub(crate) fn limit_products(&mut self, limit: u32) {
-        self.products.set_limit(limit);
-    }
-
-    /// Returns the product row of a connective of nodes `a` and `b`, whose variables are tested in
-    /// this order.
+    /// Returns the number of a node that tests a variable, which is added if it is missing.
     ///
-    /// Errors: `NoProgram` past 65,534 nodes or the limit of rows.
-    pub(crate) fn row(
-        &mut self,
-        order: VariableOrder,
-        op: Connective,
-        a: u32,
-        b: u32,
-    ) -> Result<Cited, Refusal> {
-        let asked = Question { order, op, a, b };
-        products::find_row(
-            &self.ranks,
-            &mut self.nodes,
-            &mut self.products,
-            &mut self.pending,
-            asked,
-        )
+    /// Errors: `NoProgram` past 65,534 nodes.
+    fn test(&mut self, v: u32, low: u32, high: u32) -> Result<u32, Refusal> {
+        let node = Node { v, low, high };
+        let number = match self.nodes.find(node.key()) {
+            Some((number, _)) => number,
+            None => self.nodes.push(node)?,
+        };
+        Ok(number.saturating_add(2))
     }
 
-    /// Returns the chain that compares `len` bits of a column's code, at most 63, from bit `start`,
-    /// with the low bits of a number.
-    ///
-    /// Errors: `NoProgram` if the column lacks the bits, or past 65,534 nodes or 65,536 chains.
-    pub(crate) fn bound(
-        &mut self,
-        kind: ChainKind,
-        column: ColumnIndex,
-        start: u32,
-        len: u32,
-        bound: u64,
-    ) -> Result<Cited, Refusal> {
-        self.chain(Link {
-            kind,
-            left: column,
-            right: None,
-            start,
-            len,
-            bound,
-            node: 0,
-            prev: None,
-        })
-    }
-
-    /// Returns the chain that compares the codes of two columns, the shorter one with zeros above
-    /// its top bit.
-    ///
-    /// Errors: `NoProgram` past 65,534 nodes or 65,536 chains.
-    pub(crate) fn columns(
-        &mut self,
-        kind: ChainKind,
-        left: ColumnIndex,
-        right: ColumnIndex,
-    ) -> Result<Cited, Refusal> {
-        self.chain(Link {
-            kind,
-            left,
-            right: Some(right),
-            start: 0,
-            len: self.width(left).max(self.width(right)),
-            bound: 0,
-            node: 0,
-            prev: None,
-        })
-    }
-
-    fn chain(&mut self, whole: Link) -> Result<Cited, Refusal> {
-        chains::chain(self.schema, &mut self.nodes, &mut self.chains, whole)
+    /// Returns the node that tests a variable and has these children. If they are the same node, it
+    /// is that node, unless that tests the same variable.
+    pub(crate) fn choice(&mut self, v: u32, low: u32, high: u32) -> Result<u32, Refusal> {
+        if low == high && self.node(low).map(|node| node.v) != Some(v) {
+            return Ok(low);
+        }
+        self.test(v, low, high)
     }
 
     /// Returns the node that is 1 if a column is null, if it has a null variable.
@@ -162,7 +120,7 @@ impl<'a> Facts<'a> {
             return Ok(None);
         }
         match self.schema.var_null(column) {
-            Some(variable) => Ok(Some(self.nodes.test(variable, 0, 1)?)),
+            Some(variable) => Ok(Some(self.test(variable, 0, 1)?)),
             None => Ok(None),
         }
     }
@@ -171,20 +129,17 @@ impl<'a> Facts<'a> {
     ///
     /// Errors: `NoProgram` if the column lacks the bit, or past 65,534 nodes.
     pub(crate) fn bit(&mut self, column: ColumnIndex, bit: u32) -> Result<u32, Refusal> {
-        match chains::variable(self.schema, column, bit) {
-            Some(variable) => self.nodes.test(variable, 0, 1),
-            None => Err(Refusal::NoProgram),
+        let variable = self.variable(column, bit).ok_or(Refusal::NoProgram)?;
+        self.test(variable, 0, 1)
+    }
+
+    /// Returns the variable of a column's bit, if the column has that bit.
+    pub(crate) fn variable(&self, column: ColumnIndex, bit: u32) -> Option<u32> {
+        let column = column as usize;
+        if column >= self.schema.columns.len() || bit >= self.schema.width(column) {
+            return None;
         }
-    }
-
-    /// Returns how many comparisons of two different columns the condition has.
-    pub(crate) fn relations(&self) -> usize {
-        self.ranks.relations
-    }
-
-    /// Returns how many bits the codes of the condition's columns have.
-    pub(crate) fn bits(&self) -> u32 {
-        self.ranks.bits
+        Some(self.schema.var_bit(column, bit))
     }
 
     /// Returns how many bits a column's codes have, or 0 if there is no such column.
@@ -197,23 +152,13 @@ impl<'a> Facts<'a> {
         }
     }
 
-    /// Returns the minimum of a column, whose code is 0.
+    /// Returns a column's number as instructions store it, and its minimum.
     ///
     /// Errors: `NoProgram` if the schema lacks the column.
-    pub(crate) fn lo(&self, column: ColumnIndex) -> Result<i64, Refusal> {
-        match self.schema.columns.get(column as usize) {
-            Some(column) => Ok(column.lo),
-            None => Err(Refusal::NoProgram),
+    pub(crate) fn column(&self, column: usize) -> Result<(ColumnIndex, i64), Refusal> {
+        match (u8::try_from(column), self.schema.columns.get(column)) {
+            (Ok(number), Some(column)) => Ok((number, column.lo)),
+            _ => Err(Refusal::NoProgram),
         }
-    }
-
-    /// Returns a column's number as instructions store it.
-    ///
-    /// Errors: `NoProgram` if the schema lacks the column.
-    pub(crate) fn column(&self, column: usize) -> Result<ColumnIndex, Refusal> {
-        if column >= self.schema.columns.len() {
-            return Err(Refusal::NoProgram);
-        }
-        u8::try_from(column).map_err(|_| Refusal::NoProgram)
     }
 }

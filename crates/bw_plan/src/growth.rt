@@ -1,6 +1,5 @@
 //! How many facts the parts of a condition take, forecast before all are joined.
-use crate::facts::{Extent, Facts};
-use crate::nodes::MAX_NODES;
+use crate::facts::{Extent, Facts, MAX_NODES};
 use crate::refusal::Refusal;
 
 /// No forecast is made before the first parts have taken this fraction of the limit of product
@@ -50,12 +49,12 @@ impl Growth {
     pub(crate) fn join(&mut self, facts: &Facts<'_>) -> Result<(), Refusal> {
         self.joined = self.joined.saturating_add(1);
         let now = facts.extent();
-        let limit = facts.products().limit();
+        let limit = facts.products.limit as usize;
         if now.products.saturating_sub(self.start.products) >= limit / FIRST_ROWS {
             let early = self.early.extent;
             let nodes = self.forecast(early.nodes, now.nodes);
             let rows = self.forecast(early.products, now.products);
-            if nodes > MAX_NODES || rows > limit {
+            if nodes > MAX_NODES as usize || rows > limit {
                 return Err(Refusal::NoProgram);
             }
         }

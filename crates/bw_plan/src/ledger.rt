@@ -2,13 +2,13 @@
 use crate::refusal::Refusal;
 use std::alloc::Global;
 
-/// An entry of a ledger, in which it occurs once.
-pub(crate) trait Entry: Copy {
-    /// Returns two words of its key. Most entries with different keys have different words.
-    fn words(self) -> [u64; 2];
+/// What distinguishes an entry from others.
+pub(crate) type Key = (u64, u64);
 
-    /// Returns whether it has the same key as another.
-    fn is_alike(self, other: Self) -> bool;
+/// An entry of a ledger, in which its key occurs once.
+pub(crate) trait Entry: Copy {
+    /// Returns its key.
+    fn key(self) -> Key;
 }
 
 /// An entry, and the number of the one before it with the same hash, plus 1, or 0.
@@ -27,7 +27,8 @@ pub(crate) struct Ledger<T: Entry> {
     /// For each hash the number of the last entry that has it, from 1 on, or 0; a power of two of
     /// them.
     last: Vec<u32>,
-    limit: u32,
+    /// How many entries there may be.
+    pub(crate) limit: u32,
 }
 
 /// The number of hashes at first.
@@ -43,16 +44,6 @@ impl<T: Entry> Ledger<T> {
         }
     }
 
-    /// Sets how many there may be.
-    pub(crate) fn set_limit(&mut self, limit: u32) {
-        self.limit = limit;
-    }
-
-    /// Returns how many there may be.
-    pub(crate) fn limit(&self) -> usize {
-        self.limit as usize
-    }
-
     /// Returns how many there are.
     pub(crate) fn len(&self) -> usize {
         self.slots.len()
@@ -64,13 +55,14 @@ impl<T: Entry> Ledger<T> {
         Some(slot.entry)
     }
 
-    /// Returns the entry with the same key as another, and its number.
-    pub(crate) fn find(&self, wanted: T) -> Option<(u32, T)> {
+    /// Returns the entry with a key, and its number.
+    pub(crate) fn find(&self, wanted: Key) -> Option<(u32, T)> {
         let mut next = *self.last.get(place(wanted, self.last.len()))?;
         for _ in 0..self.slots.len() {
             let number = next.checked_sub(1)?;
             let slot = self.slots.get(number as usize)?;
-            if slot.entry.is_alike(wanted) {
+            let key = slot.entry.key();
+            if key.0 == wanted.0 && key.1 == wanted.1 {
                 return Some((number, slot.entry));
             }
             next = slot.before;
@@ -89,7 +81,7 @@ impl<T: Entry> Ledger<T> {
         if self.slots.len() >= self.last.len() {
             self.spread()?;
         }
-        let at = place(entry, self.last.len());
+        let at = place(entry.key(), self.last.len());
         let mut before = 0;
         if let Some(last) = self.last.get_mut(at) {
             before = *last;
@@ -101,11 +93,11 @@ impl<T: Entry> Ledger<T> {
 
     /// Removes the entries from this number on.
     pub(crate) fn truncate(&mut self, number: usize) {
-        for _ in 0..self.slots.len().saturating_sub(number) {
+        for _ in number..self.slots.len() {
             let Some(slot) = self.slots.pop() else {
                 break;
             };
-            let at = place(slot.entry, self.last.len());
+            let at = place(slot.entry.key(), self.last.len());
             if let Some(last) = self.last.get_mut(at) {
                 *last = slot.before;
             }
@@ -120,7 +112,7 @@ impl<T: Entry> Ledger<T> {
         let mut after = 0u32;
         for slot in self.slots.iter_mut() {
             after = after.saturating_add(1);
-            if let Some(last) = self.last.get_mut(place(slot.entry, count)) {
+            if let Some(last) = self.last.get_mut(place(slot.entry.key(), count)) {
                 slot.before = *last;
                 *last = after;
             }
@@ -129,11 +121,10 @@ impl<T: Entry> Ledger<T> {
     }
 }
 
-/// Returns the place of an entry's hash among a power of two of them: bits of products with odd
+/// Returns the place of a key's hash among a power of two of them: bits of products with odd
 /// numbers (Knuth, The Art of Computer Programming, 6.4).
-fn place<T: Entry>(entry: T, count: usize) -> usize {
-    let [first, second] = entry.words();
-    let mixed = first.wrapping_mul(0x9E37_79B9_7F4A_7C15) ^ second;
+fn place(key: Key, count: usize) -> usize {
+    let mixed = key.0.wrapping_mul(0x9E37_79B9_7F4A_7C15) ^ key.1;
     let hash = mixed.wrapping_mul(0xD6E8_FEB8_6659_FD93) >> 40;
     hash as usize & count.saturating_sub(1)
 }

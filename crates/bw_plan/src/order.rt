@@ -1,7 +1,7 @@
 //! The orders in which diagrams test variables.
 use crate::refusal::Refusal;
-use crate::sequence::{Sequence, sequence_of};
-use bw_model::{Cond, Operand, Schema};
+use crate::sequence::{Pairs, Sequence};
+use bw_model::{Cond, Schema};
 use bw_program::ColumnIndex;
 use std::alloc::Global;
 
@@ -40,9 +40,10 @@ pub(crate) struct Ranks {
 impl Ranks {
     /// Returns the ranks under a condition.
     pub(crate) fn new(alloc: Global, schema: &Schema, cond: &Cond) -> Result<Self, Refusal> {
-        let mut compared = Vec::new(alloc);
-        collect(cond, &mut compared)?;
-        let sequence = sequence_of(schema, cond);
+        let pairs = Vec::new(alloc);
+        let mut compared = Pairs { schema, pairs };
+        let sequence = compared.sequence_of(cond)?;
+        let compared = compared.pairs;
         let groups = Groups::of(&sequence, &compared);
         let mut positions = Vec::new(alloc);
         for (column, each) in schema.columns.iter().enumerate() {
@@ -140,61 +141,4 @@ impl Groups {
             rank: rank + u32::from(column),
         }
     }
-}
-
-/// Appends the columns that a condition compares with one another, left with right.
-#[cycle(collect)]
-fn collect(cond: &Cond, compared: &mut Vec<(ColumnIndex, ColumnIndex)>) -> Result<(), Refusal> {
-    match cond {
-        Cond::Always | Cond::IsNull(_) => Ok(()),
-        Cond::Cmp(op, x, y) => {
-            if matches!(op, bw_model::Op::Gt | bw_model::Op::Le) {
-                collect_pair(*y, *x, compared)
-            } else {
-                collect_pair(*x, *y, compared)
-            }
-        }
-        Cond::Between(x, y, z) => {
-            collect_pair(*x, *y, compared)?;
-            collect_pair(*z, *x, compared)
-        }
-        Cond::Among(x, items) => {
-            for item in items {
-                collect_pair(*x, *item, compared)?;
-            }
-            Ok(())
-        }
-        Cond::And(parts) | Cond::Or(parts) => collect_all(parts, compared),
-        Cond::Not(part) | Cond::Test(part, _) => collect(part, compared),
-    }
-}
-
-/// Appends the same of each of some parts.
-#[cycle(collect)]
-fn collect_all(
-    parts: &[Cond],
-    compared: &mut Vec<(ColumnIndex, ColumnIndex)>,
-) -> Result<(), Refusal> {
-    for part in parts {
-        collect(part, compared)?;
-    }
-    Ok(())
-}
-
-/// Appends two operands that are different columns.
-fn collect_pair(
-    left: Operand,
-    right: Operand,
-    compared: &mut Vec<(ColumnIndex, ColumnIndex)>,
-) -> Result<(), Refusal> {
-    let (Operand::Col(left), Operand::Col(right)) = (left, right) else {
-        return Ok(());
-    };
-    let (Ok(left), Ok(right)) = (u8::try_from(left), u8::try_from(right)) else {
-        return Ok(());
-    };
-    if left != right {
-        compared.push((left, right))?;
-    }
-    Ok(())
 }

@@ -9,9 +9,9 @@ ghost use Rattle.bw_plan.specs.Refusal.{IsRefusal};
 use crate::code::Code;
 use crate::emit;
 use crate::facts::Facts;
-use crate::order::VariableOrder;
+use crate::parts::{Part, part_of};
 use crate::refusal::Refusal;
-use crate::truths::WantedTruths;
+use crate::truth_pair::TruthPair;
 use bw_cert_text::Certificate;
 use bw_diagram::Connective;
 use bw_model::{Cond, Fault, Schema};
@@ -79,7 +79,7 @@ fn plan<'a>(
 {
     let mut code = Code::new(alloc, Facts::new(alloc, schema, cond)?);
     let (program, row) = program_of(schema, cond, order, &mut code)?;
-    match certificate_of(schema, code, row) {
+    match emit::certificate(schema, &code, row) {
         Ok(certificate) => Ok(Proposal {
             program,
             certificate,
@@ -98,10 +98,11 @@ fn program_of(
     ensures { IfOk result (λ made. IsTrue (fits schema.now.columns.items made.0)) }
 {
     let node = code.begin(cond)?;
-    match emit_program(schema, order, node, code) {
+    let part = part_of(&mut code.facts, order)?;
+    match emit_program(schema, &part, node, code) {
         Err(Refusal::NoProgram) => {
             code.begin_again();
-            emit_program(schema, order, node, code)
+            emit_program(schema, &part, node, code)
         }
         made => made,
     }
@@ -111,60 +112,29 @@ fn program_of(
 /// has it too.
 fn emit_program(
     schema: &Schema,
-    cond: &Cond,
+    part: &Part,
     node: u32,
     code: &mut Code<'_>,
 ) -> Result<(Program, u32), Refusal>
     ensures { IfOk result (λ made. IsTrue (fits schema.now.columns.items made.0)) }
 {
-    let answer = emit_condition(code, cond)?;
-    let row = agreement_row(code, answer, node)?;
-    let program = emit::program(code.alloc, schema, &code.instrs, answer)?;
-    Ok((program, row))
-}
-
-/// Returns the row that proves that a register has a node.
-fn agreement_row(code: &mut Code<'_>, register: Register, wanted: u32) -> Result<u32, Refusal> {
-    let node = code.node(register)?;
-    let row = code
-        .facts
-        .row(VariableOrder::Whole, Connective::Xor, node, wanted)?;
-    if row.node == 0 {
-        Ok(row.number)
-    } else {
-        Err(Refusal::NoProgram)
+    let answer = emit_condition(code, part)?;
+    let made = code.node(answer)?;
+    let row = code.row(Connective::Xor, made, node)?;
+    if row.node != 0 {
+        return Err(Refusal::NoProgram);
     }
-}
-
-/// Returns the certificate of the instructions. Its lines come after those of the program, and
-/// `row` ends it.
-fn certificate_of<'a>(
-    schema: &'a Schema,
-    code: Code<'_>,
-    row: u32,
-) -> Result<Certificate<'a>, Refusal>
-    ensures { IfOk result (λ certificate.
-        IsTrue (has_columns schema.now.columns.items (certificate_fields certificate))) }
-{
-    let Code {
-        alloc,
-        facts,
-        lines,
-        instrs,
-        edges,
-        ..
-    } = code;
-    let before = instrs.len().saturating_add(2);
-    emit::certificate(alloc, schema, &facts, &lines, &edges, row, before)
+    let program = emit::program(code.alloc, schema, &code.instrs, answer)?;
+    Ok((program, row.number))
 }
 
 /// Appends the instructions of a condition, and returns the result register.
-fn emit_condition(code: &mut Code<'_>, cond: &Cond) -> Result<Register, Refusal> {
-    let wanted = WantedTruths {
+fn emit_condition(code: &mut Code<'_>, part: &Part) -> Result<Register, Refusal> {
+    let wanted = TruthPair {
         yes: true,
         no: false,
     };
-    let made = code.truths(cond, wanted)?;
+    let made = code.truths(part, wanted)?;
     let answer = made.yes.ok_or(Refusal::NoProgram)?;
     code.meet()?;
     if !code.has_skips_from(0) {

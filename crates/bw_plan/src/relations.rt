@@ -15,14 +15,6 @@ struct Bits {
     below: Option<Register>,
 }
 
-/// The result of the top bits of two columns: whether the left code is less by them, if that is
-/// wanted, and whether they are equal.
-#[derive(Clone, Copy)]
-struct Tops {
-    less: Option<Register>,
-    same: Register,
-}
-
 impl Code<'_> {
     /// Returns a register that is 1 if the code of a column is less than (equal to) that of
     /// another. Their top bits are compared from the top down, with skips to the end of the
@@ -31,44 +23,10 @@ impl Code<'_> {
         let left = self.facts.width(relation.left);
         let bits = left.max(self.facts.width(relation.right));
         let low = bits.saturating_sub(self.skipped_bits());
-        let Some(tops) = self.tops(relation, low, bits)? else {
-            return self.lows(relation, low);
-        };
-        let Tops { less, same } = tops;
-        let rest = if low > 0 {
-            Some(self.lows(relation, low)?)
-        } else {
-            None
-        };
-        match (less, rest) {
-            (Some(less), Some(rest)) => {
-                self.join_into(Connective::And, rest, same)?;
-                self.join_into(Connective::Or, less, rest)?;
-            }
-            (None, Some(rest)) => self.join_into(Connective::And, same, rest)?,
-            _ => {}
+        let mut less = None;
+        if relation.kind == ChainKind::Less && low < bits {
+            less = Some(self.fill(false)?);
         }
-        let Some(less) = less else {
-            return Ok(same);
-        };
-        self.release(same);
-        Ok(less)
-    }
-
-    /// Returns the result of the bits of two columns from the top down to `low`, if there are any.
-    fn tops(
-        &mut self,
-        relation: ColumnComparison,
-        low: u32,
-        bits: u32,
-    ) -> Result<Option<Tops>, Refusal> {
-        if low >= bits {
-            return Ok(None);
-        }
-        let less = match relation.kind {
-            ChainKind::Less => Some(self.fill(false)?),
-            ChainKind::Equal => None,
-        };
         let mut same = None;
         for bit in (low..bits).rev() {
             let now = self.next_below(relation, bit, less, same)?;
@@ -77,7 +35,35 @@ impl Code<'_> {
             }
             same = Some(now);
         }
-        Ok(same.map(|same| Tops { less, same }))
+        match same {
+            Some(same) => self.relation_below(relation, low, less, same),
+            None => self.lows(relation, low),
+        }
+    }
+
+    /// Returns the same, if it is known whether the code is less by the bits from `low` on, if that
+    /// is wanted, and whether it has the same bits there.
+    fn relation_below(
+        &mut self,
+        relation: ColumnComparison,
+        low: u32,
+        less: Option<Register>,
+        same: Register,
+    ) -> Result<Register, Refusal> {
+        if low > 0 {
+            let rest = self.lows(relation, low)?;
+            let Some(less) = less else {
+                self.join_into(Connective::And, same, rest)?;
+                return Ok(same);
+            };
+            self.join_into(Connective::And, rest, same)?;
+            self.join_into(Connective::Or, less, rest)?;
+        }
+        let Some(less) = less else {
+            return Ok(same);
+        };
+        self.release(same);
+        Ok(less)
     }
 
     /// Adds the next bit below to a comparison from the top down. Updates whether the code is less
@@ -135,32 +121,25 @@ impl Code<'_> {
 
     /// Returns the registers of one bit of two columns, of which at least one has it.
     fn bits(&mut self, relation: ColumnComparison, bit: u32) -> Result<Bits, Refusal> {
-        let on_left = bit < self.facts.width(relation.left);
-        let on_right = bit < self.facts.width(relation.right);
+        let (mut left, mut right) = (None, None);
+        if bit < self.facts.width(relation.right) {
+            right = Some(self.bit(relation.right, bit)?);
+        }
+        if bit < self.facts.width(relation.left) {
+            left = Some(self.bit(relation.left, bit)?);
+        }
         let is_less = relation.kind == ChainKind::Less;
-        if !on_right {
-            let differs = self.bit(relation.left, bit)?;
-            return Ok(Bits {
-                differs,
-                below: None,
-            });
+        let below = if is_less { right } else { None };
+        match (left, right) {
+            (Some(differs), Some(right)) => {
+                self.join(Connective::Xor, differs, differs, right)?;
+                if !is_less {
+                    self.release(right);
+                }
+                Ok(Bits { differs, below })
+            }
+            (Some(differs), None) | (None, Some(differs)) => Ok(Bits { differs, below }),
+            (None, None) => Err(Refusal::NoProgram),
         }
-        let right = self.bit(relation.right, bit)?;
-        if !on_left {
-            let below = if is_less { Some(right) } else { None };
-            return Ok(Bits {
-                differs: right,
-                below,
-            });
-        }
-        let left = self.bit(relation.left, bit)?;
-        self.join(Connective::Xor, left, left, right)?;
-        if !is_less {
-            self.release(right);
-        }
-        Ok(Bits {
-            differs: left,
-            below: if is_less { Some(right) } else { None },
-        })
     }
 }

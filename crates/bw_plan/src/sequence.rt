@@ -1,5 +1,6 @@
-//! The best order of a condition's columns.
-use bw_model::{Cond, Operand, Schema};
+//! The best order of a condition's columns, and which of them it compares with one another.
+use crate::refusal::Refusal;
+use bw_model::{Cond, Op, Operand, Schema};
 use bw_program::ColumnIndex;
 
 /// Some columns, the one that is tested first at the front, and how much is compared with them.
@@ -53,8 +54,8 @@ impl Sequence {
         }
     }
 
-    /// Appends the column of an operand, which is compared this many times.
-    fn push_operand(&mut self, schema: &Schema, operand: Operand, times: usize) {
+    /// Appends the column of an operand, which is compared once more.
+    fn push_operand(&mut self, schema: &Schema, operand: Operand) {
         let Operand::Col(column) = operand else {
             return;
         };
@@ -62,9 +63,7 @@ impl Sequence {
             return;
         }
         let width = u64::from(schema.width(column));
-        self.weight = self
-            .weight
-            .saturating_add(width.saturating_mul(times as u64));
+        self.weight = self.weight.saturating_add(width);
         if let Ok(column) = u8::try_from(column) {
             self.push(column);
         }
@@ -72,56 +71,81 @@ impl Sequence {
 
     /// Returns these columns, and then others.
     fn then(mut self, others: Self) -> Self {
-        for (place, column) in others.columns.iter().enumerate() {
-            if place < others.count {
-                self.push(*column);
-            }
+        for column in others.columns.iter().take(others.count) {
+            self.push(*column);
         }
         self.weight = self.weight.saturating_add(others.weight);
         self
     }
 }
 
-/// Returns the columns of a condition. If parts are combined, the smaller one comes first: the
-/// nodes of the larger one are then unchanged below it.
-#[cycle(sequence)]
-pub(crate) fn sequence_of(schema: &Schema, cond: &Cond) -> Sequence {
-    let mut sequence = Sequence::new();
-    match cond {
-        Cond::Always => {}
-        Cond::Cmp(_, x, y) => {
-            sequence.push_operand(schema, *x, 1);
-            sequence.push_operand(schema, *y, 1);
-        }
-        Cond::Between(x, y, z) => {
-            sequence.push_operand(schema, *x, 2);
-            sequence.push_operand(schema, *y, 1);
-            sequence.push_operand(schema, *z, 1);
-        }
-        Cond::Among(x, items) => {
-            sequence.push_operand(schema, *x, items.len());
-            for item in items {
-                sequence.push_operand(schema, *item, 1);
-            }
-        }
-        Cond::IsNull(x) => sequence.push_operand(schema, *x, 1),
-        Cond::And(parts) | Cond::Or(parts) => return sequence_of_all(schema, parts),
-        Cond::Not(part) | Cond::Test(part, _) => return sequence_of(schema, part),
-    }
-    sequence
+/// The pairs of different columns that a condition compares with one another, left with right.
+#[derive(Drop)]
+pub(crate) struct Pairs<'a> {
+    pub(crate) schema: &'a Schema,
+    pub(crate) pairs: Vec<(ColumnIndex, ColumnIndex)>,
 }
 
-/// Returns the columns of some parts.
-#[cycle(sequence)]
-fn sequence_of_all(schema: &Schema, parts: &[Cond]) -> Sequence {
-    let mut made = Sequence::new();
-    for part in parts {
-        let next = sequence_of(schema, part);
-        made = if next.weight <= made.weight {
-            next.then(made)
-        } else {
-            made.then(next)
-        };
+impl Pairs<'_> {
+    /// Returns the columns of a condition, and adds its pairs. If parts are combined, the smaller
+    /// one comes first: the nodes of the larger one are then unchanged below it.
+    #[cycle(sequence)]
+    pub(crate) fn sequence_of(&mut self, cond: &Cond) -> Result<Sequence, Refusal> {
+        let mut made = Sequence::new();
+        match cond {
+            Cond::Always => {}
+            Cond::Cmp(op, x, y) => self.compare(&mut made, *op, *x, *y)?,
+            Cond::Between(x, y, z) => {
+                self.compare(&mut made, Op::Ge, *x, *y)?;
+                self.compare(&mut made, Op::Le, *x, *z)?;
+            }
+            Cond::Among(x, items) => {
+                for item in items {
+                    self.compare(&mut made, Op::Eq, *x, *item)?;
+                }
+            }
+            Cond::IsNull(x) => made.push_operand(self.schema, *x),
+            Cond::And(parts) | Cond::Or(parts) => return self.sequence_of_all(parts),
+            Cond::Not(part) | Cond::Test(part, _) => return self.sequence_of(part),
+        }
+        Ok(made)
     }
-    made
+
+    /// Returns the columns of some parts.
+    #[cycle(sequence)]
+    fn sequence_of_all(&mut self, parts: &[Cond]) -> Result<Sequence, Refusal> {
+        let mut made = Sequence::new();
+        for part in parts {
+            let next = self.sequence_of(part)?;
+            made = if next.weight <= made.weight {
+                next.then(made)
+            } else {
+                made.then(next)
+            };
+        }
+        Ok(made)
+    }
+
+    /// Appends the columns of a comparison, and adds their pair.
+    fn compare(
+        &mut self,
+        sequence: &mut Sequence,
+        op: Op,
+        x: Operand,
+        y: Operand,
+    ) -> Result<(), Refusal> {
+        sequence.push_operand(self.schema, x);
+        sequence.push_operand(self.schema, y);
+        let (left, right) = match (x, y) {
+            (Operand::Col(x), Operand::Col(y)) if matches!(op, Op::Gt | Op::Le) => (y, x),
+            (Operand::Col(x), Operand::Col(y)) => (x, y),
+            _ => return Ok(()),
+        };
+        if let (Ok(left), Ok(right)) = (u8::try_from(left), u8::try_from(right)) {
+            if left != right {
+                self.pairs.push((left, right))?;
+            }
+        }
+        Ok(())
+    }
 }

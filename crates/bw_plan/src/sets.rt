@@ -3,141 +3,133 @@ use crate::comparison::LiteralComparison;
 use crate::facts::Facts;
 use crate::refusal::Refusal;
 use bw_diagram::ChainKind;
-use bw_model::Operand;
 use bw_program::{ColumnIndex, SliceIndex};
 use std::alloc::Global;
 
-/// A set of numbers of this many bits: those with an odd number of bounds above them or, if it is
-/// inverted, with an even number.
+/// A set that takes more instructions is long.
+const FEW_INSTRUCTIONS: usize = 1200;
+
+/// A set of a column's codes: those with an odd number of bounds above them or, if it is inverted,
+/// with an even number. The bounds are sorted and different, and above 0.
 #[derive(Drop)]
 pub(crate) struct Set {
+    pub(crate) column: ColumnIndex,
     pub(crate) bounds: Vec<u64>,
     pub(crate) inverted: bool,
-    width: u32,
 }
 
 impl Set {
-    /// Returns the empty set.
-    fn new(alloc: Global, width: u32) -> Self {
-        Set {
-            bounds: Vec::new(alloc),
-            inverted: false,
-            width,
-        }
-    }
-
-    /// Adds the numbers below a limit that are missing, and removes those that aren't.
-    fn toggle(&mut self, limit: i128) -> Result<(), Refusal> {
-        if limit >= 1 << self.width.min(63) {
-            self.inverted = !self.inverted;
-        } else if let Ok(limit) = u64::try_from(limit) {
-            self.bounds.push(limit)?;
-        }
-        Ok(())
-    }
-
-    /// Adds the numbers from one on and below another.
-    fn add(&mut self, from: i128, below: i128) -> Result<(), Refusal> {
-        if from < below {
-            self.toggle(from)?;
-            self.toggle(below)?;
-        }
-        Ok(())
-    }
-
-    /// Returns the set of a comparison with a number.
-    pub(crate) fn of(alloc: Global, width: u32, bound: LiteralComparison) -> Result<Self, Refusal> {
-        let mut set = Set::new(alloc, width);
-        match bound.kind {
-            ChainKind::Less => set.add(0, bound.limit)?,
-            ChainKind::Equal => set.add(bound.limit, bound.limit.saturating_add(1))?,
-        }
-        set.finish();
-        set.inverted ^= bound.negated;
-        Ok(set)
-    }
-
-    /// Estimates how many instructions test for its numbers.
-    pub(crate) fn instructions(&self) -> usize {
-        let top = self.width.saturating_sub(1) / 8;
-        most_instructions(&self.bounds, top.min(7) as u8, None)
-    }
-
-    /// Returns the set of the literals of a list with which a column is compared, if there are
-    /// some.
-    pub(crate) fn of_literals(
-        facts: &Facts<'_>,
-        x: Operand,
-        items: &[Operand],
-    ) -> Result<Option<(ColumnIndex, Self)>, Refusal> {
-        let Operand::Col(column) = x else {
-            return Ok(None);
+    /// Returns the codes of which a comparison with a literal is true.
+    pub(crate) fn of(facts: &Facts<'_>, compared: LiteralComparison) -> Result<Self, Refusal> {
+        let limits = match compared.kind {
+            ChainKind::Less => [0, compared.limit],
+            ChainKind::Equal => [compared.limit, compared.limit.saturating_add(1)],
         };
-        let column = facts.column(column)?;
-        let codes = literal_codes(facts.alloc, items, facts.lo(column)?)?;
-        if codes.is_empty() {
-            return Ok(None);
-        }
-        match Set::of_codes(facts.alloc, facts.width(column), &codes) {
-            Ok(set) => Ok(Some((column, set))),
-            Err(refusal) => Err(refusal),
-        }
-    }
-
-    /// Returns the set of some codes, in ascending order.
-    fn of_codes(alloc: Global, width: u32, codes: &[i128]) -> Result<Self, Refusal> {
-        let mut set = Set::new(alloc, width);
-        let mut last = None;
-        for code in codes {
-            if last != Some(*code) && *code >= 0 {
-                set.add(*code, code.saturating_add(1))?;
+        let mut set = Set {
+            column: compared.column,
+            bounds: Vec::new(facts.alloc),
+            inverted: compared.negated,
+        };
+        for limit in limits {
+            if limit >= 1 << facts.width(set.column).min(63) {
+                set.inverted = !set.inverted;
+            } else if limit > 0 {
+                set.bounds.push(limit as u64)?;
             }
-            last = Some(*code);
         }
-        set.finish();
         Ok(set)
     }
 
-    /// Returns the set of the codes from one on and up to another.
-    pub(crate) fn range(alloc: Global, width: u32, from: i128, to: i128) -> Result<Self, Refusal> {
-        let mut set = Set::new(alloc, width);
-        set.add(from.max(0), to.saturating_add(1))?;
-        set.finish();
-        Ok(set)
+    /// Returns whether it is one code, or all but one.
+    fn is_code(&self) -> bool {
+        matches!(self.bounds.as_slice(), [code, next] if code.checked_add(1) == Some(*next))
     }
 
-    /// Sorts the bounds, and removes those that occur twice, which cancel.
-    fn finish(&mut self) {
-        self.bounds.sort_unstable();
-        let mut kept = 0;
-        for at in 0..self.bounds.len() {
-            let Some(bound) = self.bounds.get(at).copied() else {
-                break;
-            };
-            if bound == 0 {
-                continue;
-            }
-            if kept > 0 && self.bounds.get(kept - 1).copied() == Some(bound) {
-                kept -= 1;
-            } else if let Some(slot) = self.bounds.get_mut(kept) {
-                *slot = bound;
-                kept += 1;
-            }
-        }
-        self.bounds.truncate(kept);
+    /// Returns whether it takes many instructions to test for its codes.
+    pub(crate) fn is_long(&self, facts: &Facts<'_>) -> bool {
+        let top = facts.width(self.column).saturating_sub(1) / 8;
+        most_instructions(&self.bounds, top.min(7) as u8, None) > FEW_INSTRUCTIONS
     }
 }
 
-/// Returns how far the literals of a list are above a column's minimum, in ascending order.
-fn literal_codes(alloc: Global, items: &[Operand], lo: i64) -> Result<Vec<i128>, Refusal> {
-    let mut codes = Vec::new(alloc);
-    for item in items {
-        if let Operand::Lit(n) = *item {
-            codes.push(i128::from(n) - i128::from(lo))?;
+/// The bounds of some sets, and how many of the sets contain code 0.
+#[derive(Drop)]
+pub(crate) struct Union {
+    /// Each bound, doubled, plus 1 if its set contains the codes from there on.
+    bounds: Vec<u64>,
+    zeros: usize,
+    sets: usize,
+    /// How many of the sets are one code, or all but one.
+    codes: usize,
+}
+
+impl Union {
+    /// Returns the union of no sets.
+    pub(crate) fn new(alloc: Global) -> Self {
+        Union {
+            bounds: Vec::new(alloc),
+            zeros: 0,
+            sets: 0,
+            codes: 0,
         }
     }
-    codes.sort_unstable();
-    Ok(codes)
+
+    /// Returns whether it is that of several sets.
+    pub(crate) fn has_several(&self) -> bool {
+        self.sets > 1
+    }
+
+    /// Returns whether all sets together take more instructions than one after another: that is so
+    /// of two or three codes of more than four bytes.
+    pub(crate) fn is_slower(&self, width: u32) -> bool {
+        self.codes == self.sets && self.sets <= 3 && width > 32
+    }
+
+    /// Adds a set, or the codes that it lacks.
+    pub(crate) fn add(&mut self, set: &Set, inverted: bool) -> Result<(), Refusal> {
+        let mut inside = (set.bounds.len() % 2 == 1) != (set.inverted != inverted);
+        self.zeros = self.zeros.saturating_add(usize::from(inside));
+        self.sets = self.sets.saturating_add(1);
+        self.codes = self.codes.saturating_add(usize::from(set.is_code()));
+        for bound in set.bounds.iter() {
+            inside = !inside;
+            self.bounds.push(*bound << 1 | u64::from(inside))?;
+        }
+        Ok(())
+    }
+
+    /// Returns the codes of a column that one of the sets contains, or the others.
+    pub(crate) fn set(
+        mut self,
+        alloc: Global,
+        column: ColumnIndex,
+        inverted: bool,
+    ) -> Result<Set, Refusal> {
+        self.bounds.sort_unstable();
+        let mut bounds: Vec<u64> = Vec::new(alloc);
+        let mut depth = self.zeros;
+        for bound in self.bounds.iter() {
+            let before = depth > 0;
+            depth = if bound & 1 == 1 {
+                depth.saturating_add(1)
+            } else {
+                depth.saturating_sub(1)
+            };
+            if before == (depth > 0) {
+                continue;
+            }
+            if bounds.last().copied() == Some(bound >> 1) {
+                bounds.pop();
+            } else {
+                bounds.push(bound >> 1)?;
+            }
+        }
+        Ok(Set {
+            column,
+            bounds,
+            inverted: (depth > 0) != inverted,
+        })
+    }
 }
 
 /// Returns a byte of a number.

@@ -1,87 +1,58 @@
-//! Instructions that compute whether a condition is TRUE, and whether it is FALSE.
+//! Instructions that compute where a condition is TRUE, and where it is FALSE.
 use crate::code::Code;
-use crate::comparison::{ColumnComparison, Comparison, LiteralComparison, compare};
+use crate::comparison::ColumnComparison;
 use crate::growth::Growth;
 use crate::order::VariableOrder;
+use crate::parts::{Part, leading};
 use crate::refusal::Refusal;
-use crate::room::leading;
 use crate::sets::Set;
+use crate::truth_pair::{TruthPair, of_truth};
 use bw_diagram::Connective;
-use bw_model::{Cond, Op, Operand, Truth};
+use bw_model::Truth;
 use bw_program::{ColumnIndex, Register};
 
-/// Which truths are wanted.
-#[derive(Clone, Copy)]
-pub(crate) struct WantedTruths {
-    pub(crate) yes: bool,
-    pub(crate) no: bool,
-}
+/// Whether the register of where a condition is TRUE is needed, and that of where it is FALSE.
+pub(crate) type WantedTruths = TruthPair<bool>;
 
-impl WantedTruths {
-    /// Returns what is wanted of the opposite condition.
-    fn opposite(self) -> Self {
-        WantedTruths {
-            yes: self.no,
-            no: self.yes,
-        }
-    }
+/// The registers that are 1 where a condition is TRUE, and where it is FALSE, if they are wanted.
+pub(crate) type TruthRegisters = TruthPair<Option<Register>>;
 
-    /// Returns what is wanted of a condition that is negated, or isn't.
-    fn opposite_if(self, negated: bool) -> Self {
-        if negated { self.opposite() } else { self }
-    }
-}
-
-/// The wanted ones of two registers: one that is 1 if a condition is TRUE, and one if it is FALSE.
-#[derive(Clone, Copy)]
-pub(crate) struct TruthRegisters {
-    pub(crate) yes: Option<Register>,
-    pub(crate) no: Option<Register>,
-}
-
-impl TruthRegisters {
-    /// Returns the registers of the opposite condition.
-    fn opposite(self) -> Self {
-        TruthRegisters {
-            yes: self.no,
-            no: self.yes,
-        }
-    }
-
-    /// Returns the registers of a condition that is negated, or isn't.
-    fn opposite_if(self, negated: bool) -> Self {
-        if negated { self.opposite() } else { self }
-    }
-}
+/// No registers.
+const NONE: TruthRegisters = TruthPair {
+    yes: None,
+    no: None,
+};
 
 /// The number of first parts of a condition that may have a skip to its end.
 const SKIPPED_PARTS: usize = 16;
 
 impl Code<'_> {
-    /// Returns the registers of a condition.
+    /// Returns the registers of a part of the condition.
     #[cycle(truths)]
     pub(crate) fn truths(
         &mut self,
-        cond: &Cond,
+        part: &Part,
         wanted: WantedTruths,
     ) -> Result<TruthRegisters, Refusal> {
-        match cond {
-            Cond::Always => self.constant(Truth::Yes, wanted),
-            Cond::Cmp(op, x, y) => self.emit_comparison(*op, *x, *y, wanted),
-            Cond::Between(x, y, z) => self.between(*x, *y, *z, wanted),
-            Cond::Among(x, items) => self.among(*x, items, wanted),
-            Cond::IsNull(x) => self.emit_null_test(*x, wanted),
-            Cond::And(parts) => self.emit_parts(false, parts, wanted),
-            Cond::Or(parts) => self.emit_parts(true, parts, wanted),
-            Cond::Not(part) => Ok(self.truths(part, wanted.opposite())?.opposite()),
-            Cond::Test(part, truth) => {
-                let needed = WantedTruths {
+        match part {
+            Part::Fixed(truth) => self.constant(*truth, wanted),
+            Part::Codes(set) => self.in_set(set, wanted),
+            Part::Columns(compared) => self.emit_column_comparison(*compared, wanted),
+            Part::Null(column) => self.emit_null_test(*column, wanted),
+            Part::All(any, parts) => self.emit_parts(*any, parts, wanted),
+            Part::Not(part) => Ok(
+                self.truths(part, wanted.opposite_if(true))?
+                    .opposite_if(true),
+            ),
+            Part::Test(part, truth) => {
+                let needed = TruthPair {
                     yes: *truth != Truth::No,
                     no: *truth != Truth::Yes,
                 };
                 let made = self.truths(part, needed)?;
                 self.emit_truth_test(*truth, made, wanted)
             }
+            Part::Done => Err(Refusal::NoProgram),
         }
     }
 
@@ -91,34 +62,29 @@ impl Code<'_> {
     fn emit_parts(
         &mut self,
         any: bool,
-        parts: &[Cond],
+        parts: &[Part],
         wanted: WantedTruths,
     ) -> Result<TruthRegisters, Refusal> {
         let first = self.waiting()?;
         let leading = leading(parts);
-        let mut made = None;
-        for (number, part) in parts.iter().enumerate() {
-            if number == leading {
-                made = Some(self.truths(part, wanted)?);
-            }
-        }
+        let Some(part) = parts.get(leading) else {
+            return Err(Refusal::NoProgram);
+        };
+        let made = self.truths(part, wanted)?;
         let mut growth = Growth::of(parts.len().saturating_sub(1), &self.facts);
         for (number, part) in parts.iter().enumerate() {
-            if number == leading || repeats(parts, number) {
+            if number == leading {
                 continue;
             }
-            let Some(before) = made else {
-                break;
-            };
-            if number < SKIPPED_PARTS && self.skips_parts && !is_quick(part) {
-                self.skip_if_settled(any, before)?;
+            if number < SKIPPED_PARTS && self.skips_parts && !part.is_quick() {
+                self.skip_if_settled(any, made)?;
             }
             let next = self.truths(part, wanted)?;
-            self.join_parts(any, before, next)?;
+            self.join_parts(any, made, next)?;
             growth.join(&self.facts)?;
         }
         self.meet_from(first);
-        made.ok_or(Refusal::NoProgram)
+        Ok(made)
     }
 
     /// Skips to the end of the parts if the others can change nothing.
@@ -155,15 +121,13 @@ impl Code<'_> {
 
     /// Returns the registers of one truth on every row.
     fn constant(&mut self, truth: Truth, wanted: WantedTruths) -> Result<TruthRegisters, Refusal> {
-        let mut made = TruthRegisters {
-            yes: None,
-            no: None,
-        };
+        let bits = of_truth(truth);
+        let mut made = NONE;
         if wanted.yes {
-            made.yes = Some(self.fill(truth == Truth::Yes)?);
+            made.yes = Some(self.fill(bits.yes)?);
         }
         if wanted.no {
-            made.no = Some(self.fill(truth == Truth::No)?);
+            made.no = Some(self.fill(bits.no)?);
         }
         Ok(made)
     }
@@ -183,202 +147,72 @@ impl Code<'_> {
             }
             _ => return Err(Refusal::NoProgram),
         };
-        Ok(
-            self.sides(held, &[], false, wanted.opposite_if(negated))?
-                .opposite_if(negated),
-        )
+        self.sides(held, &[], false, negated, wanted)
     }
 
-    /// Returns the registers of `IS NULL`.
+    /// Returns the registers of `IS NULL`, of a column that may be null.
     fn emit_null_test(
         &mut self,
-        x: Operand,
+        column: ColumnIndex,
         wanted: WantedTruths,
     ) -> Result<TruthRegisters, Refusal> {
-        let column = match x {
-            Operand::Col(column) => self.facts.column(column)?,
-            Operand::Lit(_) => return self.constant(Truth::No, wanted),
-            Operand::Null => return self.constant(Truth::Yes, wanted),
-        };
         if !wanted.yes {
-            return match self.values(column)? {
-                Some(values) => Ok(TruthRegisters {
-                    yes: None,
-                    no: Some(values),
-                }),
-                None => self.constant(Truth::No, wanted),
-            };
+            let no = self.values(column)?;
+            return Ok(TruthPair { yes: None, no });
         }
-        match self.nulls(column)? {
-            Some(nulls) => self.sides(nulls, &[], false, wanted),
-            None => self.constant(Truth::No, wanted),
-        }
-    }
-
-    /// Returns the registers of a comparison.
-    fn emit_comparison(
-        &mut self,
-        op: Op,
-        x: Operand,
-        y: Operand,
-        wanted: WantedTruths,
-    ) -> Result<TruthRegisters, Refusal> {
-        match compare(&self.facts, op, x, y)? {
-            Comparison::Fixed(truth) => self.constant(truth, wanted),
-            Comparison::Literal(bound) => self.emit_literal_comparison(bound, wanted),
-            Comparison::Columns(relation) => self.emit_column_comparison(relation, wanted),
-        }
-    }
-
-    /// Returns the registers of a comparison of a column with a number.
-    fn emit_literal_comparison(
-        &mut self,
-        bound: LiteralComparison,
-        wanted: WantedTruths,
-    ) -> Result<TruthRegisters, Refusal> {
-        let set = Set::of(self.alloc, self.facts.width(bound.column), bound)?;
-        self.in_set(bound.column, &set, wanted)
+        let nulls = self.nulls(column)?.ok_or(Refusal::NoProgram)?;
+        self.sides(nulls, &[], false, false, wanted)
     }
 
     /// Returns the registers of whether a column's code is in a set.
-    fn in_set(
-        &mut self,
-        column: ColumnIndex,
-        set: &Set,
-        wanted: WantedTruths,
-    ) -> Result<TruthRegisters, Refusal> {
+    fn in_set(&mut self, set: &Set, wanted: WantedTruths) -> Result<TruthRegisters, Refusal> {
         let first = self.waiting()?;
         let start = self.instrs.len();
-        let inside = self.codes(column, &set.bounds)?;
+        let inside = self.codes(set.column, &set.bounds)?;
         let early = self.has_skips_from(start);
-        let made = self.sides(inside, &[column], early, wanted.opposite_if(set.inverted))?;
-        self.meet_from(first);
-        Ok(made.opposite_if(set.inverted))
-    }
-
-    /// Returns the registers of `BETWEEN`.
-    fn between(
-        &mut self,
-        x: Operand,
-        y: Operand,
-        z: Operand,
-        wanted: WantedTruths,
-    ) -> Result<TruthRegisters, Refusal> {
-        if let (Operand::Col(column), Operand::Lit(least), Operand::Lit(most)) = (x, y, z) {
-            return self.in_range(column, least, most, wanted);
-        }
-        let first = self.waiting()?;
-        let made = self.emit_comparison(Op::Ge, x, y, wanted)?;
-        self.skip_if_settled(false, made)?;
-        let next = self.emit_comparison(Op::Le, x, z, wanted)?;
-        self.join_parts(false, made, next)?;
+        let made = self.sides(inside, &[set.column], early, set.inverted, wanted)?;
         self.meet_from(first);
         Ok(made)
-    }
-
-    /// Returns the registers of whether a column is from one number on and up to another.
-    fn in_range(
-        &mut self,
-        column: usize,
-        least: i64,
-        most: i64,
-        wanted: WantedTruths,
-    ) -> Result<TruthRegisters, Refusal> {
-        let column = self.facts.column(column)?;
-        let lo = i128::from(self.facts.lo(column)?);
-        let (from, to) = (i128::from(least) - lo, i128::from(most) - lo);
-        let set = Set::range(self.alloc, self.facts.width(column), from, to)?;
-        self.in_set(column, &set, wanted)
-    }
-
-    /// Returns the registers of whether a column is one of the literals of a list, if it is a
-    /// column and there are some.
-    fn in_list(
-        &mut self,
-        x: Operand,
-        items: &[Operand],
-        wanted: WantedTruths,
-    ) -> Result<Option<TruthRegisters>, Refusal> {
-        match Set::of_literals(&self.facts, x, items)? {
-            Some((column, set)) => match self.in_set(column, &set, wanted) {
-                Ok(made) => Ok(Some(made)),
-                Err(refusal) => Err(refusal),
-            },
-            None => Ok(None),
-        }
-    }
-
-    /// Returns the registers of `IN`: of the literals at once, and then of the other items.
-    fn among(
-        &mut self,
-        x: Operand,
-        items: &[Operand],
-        wanted: WantedTruths,
-    ) -> Result<TruthRegisters, Refusal> {
-        let first = self.waiting()?;
-        let mut made = self.in_list(x, items, wanted)?;
-        let at_once = made.is_some();
-        for item in items {
-            if at_once && matches!(item, Operand::Lit(_)) {
-                continue;
-            }
-            if let Some(made) = made {
-                self.skip_if_settled(true, made)?;
-            }
-            let next = self.emit_comparison(Op::Eq, x, *item, wanted)?;
-            match made {
-                Some(made) => self.join_parts(true, made, next)?,
-                None => made = Some(next),
-            }
-        }
-        self.meet_from(first);
-        made.ok_or(Refusal::NoProgram)
     }
 
     /// Returns the registers of a comparison of two columns. Its skips meet right after its own
     /// instructions: after a NOT or a null plane, "less so far" would differ by them.
     fn emit_column_comparison(
         &mut self,
-        relation: ColumnComparison,
+        compared: ColumnComparison,
         wanted: WantedTruths,
     ) -> Result<TruthRegisters, Refusal> {
         let first = self.waiting()?;
-        self.order = relation.order();
-        let held = match relation.terminal() {
+        self.order = compared.order();
+        let held = match compared.terminal() {
             Some(terminal) => self.fill(terminal == 1)?,
-            None => self.relation(relation)?,
+            None => self.relation(compared)?,
         };
         self.meet_from(first);
         self.meet()?;
-        let [c, d] = relation.columns;
+        let [c, d] = compared.columns;
         let both = [c, d];
         let count = if c == d { 1 } else { 2 };
-        let made = self.sides(
-            held,
-            &both[..count],
-            true,
-            wanted.opposite_if(relation.negated),
-        )?;
+        let made = self.sides(held, &both[..count], true, compared.negated, wanted)?;
         self.meet_from(first);
         self.meet()?;
         self.order = VariableOrder::Whole;
-        Ok(made.opposite_if(relation.negated))
+        Ok(made)
     }
 
-    /// Returns the registers that are 1 if all of some columns have values and a register is 1, and
-    /// if they have values and it is 0. With `early`, a skip omits the null planes if no lane is
-    /// left.
+    /// Returns the registers that are 1 where all of some columns have values and a register is 1,
+    /// and where they have values and it is 0; the other way round if `negated`. With `early`, a
+    /// skip omits the null planes if no lane is left.
     fn sides(
         &mut self,
         held: Register,
-        columns: &[u8],
+        columns: &[ColumnIndex],
         early: bool,
+        negated: bool,
         wanted: WantedTruths,
     ) -> Result<TruthRegisters, Refusal> {
-        let mut made = TruthRegisters {
-            yes: None,
-            no: None,
-        };
+        let wanted = wanted.opposite_if(negated);
+        let mut made = NONE;
         if wanted.no {
             let outside = if wanted.yes { self.copy(held)? } else { held };
             for column in columns {
@@ -402,7 +236,7 @@ impl Code<'_> {
         } else if !wanted.no {
             self.release(held);
         }
-        Ok(made)
+        Ok(made.opposite_if(negated))
     }
 
     /// Returns a register with the same lanes as another.
@@ -410,26 +244,5 @@ impl Code<'_> {
         let copy = self.fill(false)?;
         self.join(Connective::Or, copy, copy, register)?;
         Ok(copy)
-    }
-}
-
-/// Returns whether a part is the same comparison as the one before it, so that nothing needs to be
-/// done for it.
-fn repeats(parts: &[Cond], number: usize) -> bool {
-    let before = number.checked_sub(1).and_then(|before| parts.get(before));
-    match (before, parts.get(number)) {
-        (Some(Cond::Cmp(op, x, y)), Some(Cond::Cmp(other, z, w))) => {
-            op == other && x == z && y == w
-        }
-        _ => false,
-    }
-}
-
-/// Returns whether a part takes only two or three instructions, so that a test whether to skip it
-/// saves nothing.
-fn is_quick(part: &Cond) -> bool {
-    match part {
-        Cond::Not(part) => matches!(**part, Cond::IsNull(_)),
-        _ => matches!(part, Cond::IsNull(_) | Cond::Always),
     }
 }

@@ -1,0 +1,229 @@
+//! Skips: where they begin, where they meet, and what is proved of registers there.
+use crate::code::{Code, RegisterState};
+use crate::line::{KeepLine, PlannedLine};
+use crate::refusal::Refusal;
+use bw_cert_text::{EdgeProducts, InstructionEntry};
+use bw_diagram::Connective;
+use bw_program::{Instr, Register};
+
+/// All comparisons of two columns from the top down take at most six times as many nodes. One takes
+/// six times the square of the number of its bits.
+const MAX_SQUARES: usize = 1000;
+
+/// A skip without a target yet: its number, the place of its line, the node of its register, and
+/// what is known of all registers there.
+#[derive(Clone, Copy)]
+pub(crate) struct Skip {
+    number: usize,
+    line: usize,
+    tested: u32,
+    registers: [RegisterState; 64],
+}
+
+impl Code<'_> {
+    /// Returns how many top bits of two columns are compared from the top down, with skips.
+    pub(crate) fn skipped_bits(&self) -> u32 {
+        if !self.with_skips {
+            return 0;
+        }
+        let each = MAX_SQUARES / self.facts.ranks.relations.max(1);
+        let mut most = 0;
+        for bits in 0..64u32 {
+            if (bits * bits) as usize <= each {
+                most = bits;
+            }
+        }
+        most
+    }
+
+    /// Returns whether any instruction from a number on is a skip.
+    pub(crate) fn has_skips_from(&self, number: usize) -> bool {
+        let rest = self.instrs.get(number..).unwrap_or(&[]);
+        rest.iter().any(|instr| matches!(instr, Instr::Skip(..)))
+    }
+
+    /// Appends a skip, taken if a register is zero in every lane.
+    pub(crate) fn skip(&mut self, register: Register) -> Result<(), Refusal> {
+        if !self.with_skips {
+            return Ok(());
+        }
+        self.meet()?;
+        let tested = self.node(register)?;
+        let (number, line) = (self.instrs.len(), self.lines.len());
+        self.put(Instr::Skip(register, 0), InstructionEntry::Skip)?;
+        self.skips.push(Skip {
+            number,
+            line,
+            tested,
+            registers: self.registers,
+        })?;
+        Ok(())
+    }
+
+    /// Returns how many skips are still to meet, besides those that meet here.
+    pub(crate) fn waiting(&mut self) -> Result<usize, Refusal> {
+        self.meet()?;
+        Ok(self.skips.len())
+    }
+
+    /// Requests that the skips from this one on meet before the next instruction.
+    pub(crate) fn meet_from(&mut self, first: usize) {
+        self.meeting = self.meeting.min(first);
+    }
+
+    /// Lets skips meet here, if requested. A skip is removed if it can't be proved that every
+    /// needed register has the same value by it as from above.
+    pub(crate) fn meet(&mut self) -> Result<(), Refusal> {
+        let first = self.meeting;
+        self.meeting = usize::MAX;
+        for at in (first..self.skips.len()).rev() {
+            if !self.can_meet(at)? {
+                self.take_back(at);
+            }
+        }
+        if first >= self.skips.len() {
+            return Ok(());
+        }
+        let target = self.instrs.len();
+        for at in first..self.skips.len() {
+            self.aim(at, target);
+        }
+        self.lines.push(PlannedLine::Join(target as u64))?;
+        for register in 0..64u8 {
+            self.keep(register, first)?;
+        }
+        self.skips.truncate(first);
+        Ok(())
+    }
+
+    /// Returns whether every needed register can be proved to have the same value by a skip as from
+    /// above.
+    fn can_meet(&mut self, at: usize) -> Result<bool, Refusal> {
+        for register in 0..64u8 {
+            let known = self.state(register);
+            let Some(node) = known.node.filter(|_| known.needed) else {
+                continue;
+            };
+            let is_same = self.node_at(register, at) == Some(node);
+            if !is_same && self.edge(register, node, at)?.is_none() {
+                return Ok(false);
+            }
+        }
+        Ok(true)
+    }
+
+    /// Removes a skip, its instruction and its line. All after them move up by one.
+    fn take_back(&mut self, at: usize) {
+        let Some((number, line)) = self.skips.get(at).map(|skip| (skip.number, skip.line)) else {
+            return;
+        };
+        if at < self.skips.len() && number < self.instrs.len() && line < self.lines.len() {
+            self.skips.remove(at);
+            self.instrs.remove(number);
+            self.lines.remove(line);
+        }
+        for skip in self.skips.iter_mut() {
+            if skip.number > number {
+                skip.number -= 1;
+                skip.line = skip.line.saturating_sub(1);
+            }
+        }
+        for instr in self.instrs.iter_mut() {
+            if let Instr::Skip(_, target) = instr {
+                if *target > number {
+                    *target -= 1;
+                }
+            }
+        }
+        for entry in self.lines.iter_mut() {
+            if let PlannedLine::Join(target) = entry {
+                if *target > number as u64 {
+                    *target -= 1;
+                }
+            }
+        }
+    }
+
+    /// Sets the target of a skip.
+    fn aim(&mut self, at: usize, target: usize) {
+        let Some(skip) = self.skips.get(at) else {
+            return;
+        };
+        if let Some(Instr::Skip(_, place)) = self.instrs.get_mut(skip.number) {
+            *place = target;
+        }
+    }
+
+    /// Keeps a register where skips meet, if it is needed or has the same node by each skip.
+    fn keep(&mut self, register: Register, first: usize) -> Result<(), Refusal> {
+        let known = self.state(register);
+        let Some(node) = known.node else {
+            return Ok(());
+        };
+        if register >= 64 {
+            return Ok(());
+        }
+        if !known.needed && !self.is_everywhere(register, node, first) {
+            self.set_state(
+                register,
+                RegisterState {
+                    node: None,
+                    ..known
+                },
+            );
+            return Ok(());
+        }
+        let through = self.row(Connective::Xor, node, node)?;
+        let begin = self.edges.len();
+        for at in first..self.skips.len() {
+            let edge = self.edge(register, node, at)?;
+            self.edges.push(edge.ok_or(Refusal::NoProgram)?)?;
+        }
+        self.lines.push(PlannedLine::Keep(KeepLine {
+            register,
+            node: u64::from(node),
+            through: u64::from(through.number),
+            first: begin,
+            end: self.edges.len(),
+        }))?;
+        Ok(())
+    }
+
+    /// Returns whether a register has this node by each skip.
+    fn is_everywhere(&self, register: Register, node: u32, first: usize) -> bool {
+        for at in first..self.skips.len() {
+            if self.node_at(register, at) != Some(node) {
+                return false;
+            }
+        }
+        true
+    }
+
+    /// Returns the node of a register at a skip, if it is known.
+    fn node_at(&self, register: Register, at: usize) -> Option<u32> {
+        let skip = self.skips.get(at)?;
+        skip.registers.get(register as usize)?.node
+    }
+
+    /// Returns the product rows that prove that a register has the value of `node` by a skip, if it
+    /// has: its node there and `node` differ nowhere where the skip's node is 0.
+    fn edge(
+        &mut self,
+        register: Register,
+        node: u32,
+        at: usize,
+    ) -> Result<Option<EdgeProducts>, Refusal> {
+        let tested = self.skips.get(at).map(|skip| skip.tested);
+        let (Some(tested), Some(held)) = (tested, self.node_at(register, at)) else {
+            return Ok(None);
+        };
+        let differs = self.row(Connective::Xor, held, node)?;
+        let within = self.row(Connective::Diff, differs.node, tested)?;
+        Ok(
+            (within.node == 0).then_some(EdgeProducts {
+                differs: u64::from(differs.number),
+                within: u64::from(within.number),
+            }),
+        )
+    }
+}

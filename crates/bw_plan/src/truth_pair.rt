@@ -1,0 +1,32 @@
+//! Pairs: one thing for where a condition is TRUE, and one for where it is FALSE.
+use bw_model::Truth;
+
+/// What belongs to the rows on which a condition is TRUE, and to those on which it is FALSE: nodes,
+/// registers, or whether a register is wanted.
+#[derive(Clone, Copy)]
+pub(crate) struct TruthPair<T: Copy> {
+    pub(crate) yes: T,
+    pub(crate) no: T,
+}
+
+impl<T: Copy> TruthPair<T> {
+    /// Returns the pair of the condition, or of its opposite if it is negated.
+    pub(crate) fn opposite_if(self, negated: bool) -> Self {
+        if negated {
+            TruthPair {
+                yes: self.no,
+                no: self.yes,
+            }
+        } else {
+            self
+        }
+    }
+}
+
+/// Returns where a condition is TRUE and where it is FALSE, if it has one truth on every row.
+pub(crate) fn of_truth(truth: Truth) -> TruthPair<bool> {
+    TruthPair {
+        yes: truth == Truth::Yes,
+        no: truth == Truth::No,
+    }
+}
