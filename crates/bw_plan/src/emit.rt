@@ -14,7 +14,7 @@ use crate::refusal::Refusal;
 use bw_cert_text::{
     Body, BodyLine, Certificate, ChainLine, EdgeProducts, EndLine, NodeLine, ProductLine,
 };
-use bw_diagram::{ChainColumns, Node, Reason};
+use bw_diagram::{ChainColumns, Reason};
 use bw_model::{Schema, code};
 use bw_program::{ColumnIndex, Instr, Program, Register};
 use bw_text::{Opcode, Piece, push_line};
@@ -126,7 +126,7 @@ pub(crate) fn certificate<'a>(
 {
     let (alloc, facts) = (code.alloc, &code.facts);
     let line = (code.instrs.len() as u64).saturating_add(3);
-    let nodes = node_lines(alloc, &facts.nodes, line)?;
+    let nodes = node_lines(alloc, facts.nodes.as_slice(), line)?;
     let line = line.saturating_add(nodes.len() as u64);
     let chains = chain_lines(alloc, schema, &facts.chains, line)?;
     let line = line.saturating_add(chains.len() as u64);
@@ -141,18 +141,19 @@ pub(crate) fn certificate<'a>(
 }
 
 /// Returns the lines of nodes. The first line has the number `first`.
-fn node_lines(alloc: Global, nodes: &Ledger<Node>, first: u64) -> Result<Vec<NodeLine>, Refusal> {
+fn node_lines(
+    alloc: Global,
+    nodes: &[(u32, u32, u32)],
+    first: u64,
+) -> Result<Vec<NodeLine>, Refusal> {
     let mut lines = Vec::with_capacity(alloc, nodes.len())?;
-    for number in 0..nodes.len() {
-        let Some(node) = nodes.get(number) else {
-            break;
-        };
+    for (number, (v, low, high)) in nodes.iter().enumerate() {
         lines.push(NodeLine {
             line: first.saturating_add(number as u64),
             n: (number as u64).saturating_add(2),
-            v: u64::from(node.v),
-            low: u64::from(node.low),
-            high: u64::from(node.high),
+            v: u64::from(*v),
+            low: u64::from(*low),
+            high: u64::from(*high),
         })?;
     }
     Ok(lines)

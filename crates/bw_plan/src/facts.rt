@@ -1,28 +1,20 @@
 //! What a certificate states: nodes, chains and product rows, and the nodes of single variables.
 use crate::chains::Link;
-use crate::ledger::{Entry, Key, Ledger};
+use crate::ledger::Ledger;
 use crate::order::Ranks;
 use crate::products::{MAX_PRODUCTS, Pending, Row};
 use crate::refusal::Refusal;
 use bw_diagram::Node;
 use bw_model::{Cond, Schema};
 use bw_program::ColumnIndex;
+use indexmap::IndexSet;
 use std::alloc::Global;
 
 /// The most nodes of a certificate, besides the two terminals.
-pub(crate) const MAX_NODES: u32 = 65_534;
+pub(crate) const MAX_NODES: usize = 65_534;
 
 /// The most chains of a certificate.
 const MAX_CHAINS: u32 = 65_536;
-
-impl Entry for Node {
-    fn key(self) -> Key {
-        (
-            u64::from(self.v),
-            u64::from(self.low) << 32 | u64::from(self.high),
-        )
-    }
-}
 
 /// A chain or a product row as a line references it: its number, from 0, and the number of its
 /// node.
@@ -46,8 +38,9 @@ pub(crate) struct Extent {
 pub(crate) struct Facts<'a> {
     pub(crate) alloc: Global,
     schema: &'a Schema,
-    /// The nodes from number 2 on. Numbers 0 and 1 are the terminals.
-    pub(crate) nodes: Ledger<Node>,
+    /// The nodes from number 2 on: the variable that each tests, and its children for 0 and for 1.
+    /// Numbers 0 and 1 are the terminals.
+    pub(crate) nodes: IndexSet<(u32, u32, u32)>,
     pub(crate) chains: Ledger<Link>,
     pub(crate) products: Ledger<Row>,
     pub(crate) pending: Vec<Pending>,
@@ -61,7 +54,7 @@ impl<'a> Facts<'a> {
         Ok(Facts {
             alloc,
             schema,
-            nodes: Ledger::new(alloc, MAX_NODES),
+            nodes: IndexSet::new(alloc),
             chains: Ledger::new(alloc, MAX_CHAINS),
             products: Ledger::new(alloc, MAX_PRODUCTS),
             pending: Vec::new(alloc),
@@ -87,19 +80,19 @@ impl<'a> Facts<'a> {
 
     /// Returns the node of a number, if it isn't a terminal.
     pub(crate) fn node(&self, number: u32) -> Option<Node> {
-        self.nodes.get((number as usize).checked_sub(2)?)
+        let (v, low, high) = *self.nodes.get_index((number as usize).checked_sub(2)?)?;
+        Some(Node { v, low, high })
     }
 
     /// Returns the number of a node that tests a variable, which is added if it is missing.
     ///
     /// Errors: `NoProgram` past 65,534 nodes.
     fn test(&mut self, v: u32, low: u32, high: u32) -> Result<u32, Refusal> {
-        let node = Node { v, low, high };
-        let number = match self.nodes.find(node.key()) {
-            Some((number, _)) => number,
-            None => self.nodes.push(node)?,
-        };
-        Ok(number.saturating_add(2))
+        let (index, _) = self.nodes.insert_full((v, low, high))?;
+        if index >= MAX_NODES {
+            return Err(Refusal::NoProgram);
+        }
+        Ok(index as u32 + 2)
     }
 
     /// Returns the node that tests a variable and has these children. If they are the same node, it

@@ -54,7 +54,7 @@ impl Growth {
             let early = self.early.extent;
             let nodes = self.forecast(early.nodes, now.nodes);
             let rows = self.forecast(early.products, now.products);
-            if nodes > MAX_NODES as usize || rows > limit {
+            if nodes > MAX_NODES || rows > limit {
                 return Err(Refusal::NoProgram);
             }
         }

@@ -102,11 +102,7 @@ fn cheaper(table: &MemoryTable, first: Certified, second: Certified) -> Result<C
 {
     let loads = loads_of(table, &first)?;
     let fewer = loads_of(table, &second)?;
-    if fewer < loads {
-        Ok(second)
-    } else {
-        Ok(first)
-    }
+    if fewer < loads { Ok(second) } else { Ok(first) }
 }
 
 /// Returns how many planes and bytes a program loads in the first 32 segments. Errors: 801 if

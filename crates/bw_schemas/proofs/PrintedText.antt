@@ -157,9 +157,10 @@ in_range column = rw (ordered column.lo column.hi column.ordered, narrow (column
 
 are_sound : (columns : List Column) → All IsColumn (map column_shape columns) → All IsSound (map column_shape columns)
 are_sound [] are = tt
-are_sound (column ∷ columns) are =
-    (record { is = All-head IsColumn (column_shape column) (map column_shape columns) are; range = in_range column },
-    are_sound columns (All-tail IsColumn (column_shape column) (map column_shape columns) are))
+are_sound (column ∷ columns) are = (
+  record { is = All-head IsColumn (column_shape column) (map column_shape columns) are; range = in_range column },
+  are_sound columns (All-tail IsColumn (column_shape column) (map column_shape columns) are),
+)
 
 names_same : (columns : List Column) → shape_names (map column_shape columns) ≡ names_of columns
 names_same [] = refl
