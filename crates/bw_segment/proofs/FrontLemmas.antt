@@ -28,10 +28,6 @@ unfolding block_nulls
 nulls_in_front columns col block =
     ap (λ (l : List ℕ). cond (is_nullable columns col) (lanes_of_bytes l) (replicate group_size false)) (take_all 64 (take 64 block) (omega (arith, length-take 64 block)))
 
--- no block has them
-pub no_fronts : (size : ℕ) (bytes fronts : List ℕ) → length fronts ≡ 0 → AreFronts size bytes fronts
-no_fronts size bytes fronts none = λ number there. absurd (omega (arith, none, there))
-
 -- those of the blocks before it stay
 pub fronts_kept : (size : ℕ) (bytes block fronts : List ℕ) → AreFronts size bytes fronts → AreFronts size (bytes ++ block) fronts
 fronts_kept size bytes block fronts are = λ number there.

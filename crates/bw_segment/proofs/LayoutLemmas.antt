@@ -20,13 +20,6 @@ pub piece_last : (size at : ℕ) (bytes added : List ℕ) → length bytes ≡ a
 piece_last size at bytes added here long =
     ap (λ k. take size (drop k (bytes ++ added))) (sym here) ∙ ap (take size) (drop-append_seam bytes added) ∙ take_all size added (omega (arith, long))
 
--- a piece of a piece
-pub piece_within : (size at inner room : ℕ) (bytes : List ℕ) → inner + size ≤ room → take size (drop inner (take room (drop at bytes))) ≡ take size (drop (at + inner) bytes)
-piece_within size at inner room bytes le =
-    let rest = drop at bytes in
-    ap (λ n. take size (drop inner (take n rest))) {y = inner + (room - inner)} (omega arith) ∙ ap (take size) (drop-take inner (room - inner) rest)
-    ∙ take-take size (room - inner) (drop inner rest) (omega arith) ∙ ap (take size) (drop-drop inner at bytes)
-
 -- a block more of those that are put together
 pub block_more : (blocks : ℕ → List ℕ) (bytes : List ℕ) (count col : ℕ) → col < count
     → (bytes ++ blocks col) ++ flat_map blocks (range_with_len (col + 1) (count - (col + 1))) ≡ bytes ++ flat_map blocks (range_with_len col (count - col))
