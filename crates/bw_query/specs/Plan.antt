@@ -29,7 +29,7 @@ pub record IsPrinted (columns : List Column) (file : List ℕ) : Type 0 where
       ++ certificate_text.print_text columns stated
   pub spells : IsProgramText columns (program_text.print_text columns shown) shown
   pub states : (first : ℕ) → IsCertificateText first (certificate_text.print_text columns stated)
-      (renumber first (certificate_text.respelled columns stated))
+      (renumber first (certificate_text.respell columns stated))
 
 -- The first text spells a schema, and the statement a query under it. The file, which is printed as
 -- above, spells a program and a certificate that is valid for it and the query's condition.

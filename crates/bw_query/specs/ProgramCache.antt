@@ -1,6 +1,6 @@
 -- The cached scans, and the program files that they were chosen among.
 use Rattle.std.specs.Prelude.{All, ◌≡◌, ◌<◌, ℕ, false, List, [], ◌∷◌, ◌++◌, Some, length, slice_get}
-use Rattle.std.specs.Prelude.{slice_index_or, take, drop, nat_le, if◌then◌else◌, ⊥}
+use Rattle.std.specs.Prelude.{slice_index_or, take, drop, nat_le, if◌then◌else◌}
 use Rattle.bw_model.specs.declared.column.Column.{Column}
 use Rattle.bw_model.specs.declared.cond.Cond.{Cond}
 use Rattle.bw_model.specs.CondTree.{tree_of}

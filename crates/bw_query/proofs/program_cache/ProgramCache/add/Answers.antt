@@ -1,5 +1,5 @@
 -- What was kept still serves, and so does one more.
-use Rattle.std.proofs.Common.{ℕ, List, subst, sym}
+use Rattle.std.proofs.Common.{◌∙◌, ℕ, List, [], ◌∷◌, ◌++◌, length, ap, arith, subst, sym}
 use Rattle.std.specs.Prelude.{All}
 use Rattle.std.proofs.lemmas.List.Elements.{All-push}
 use Rattle.bw_memory.specs.MemoryTable.{schema_of}
@@ -32,3 +32,14 @@ returns-clause-serves c =
       chosen_among_too c.certificates_serve_equal_conditions.ensures columns cond kept.cond tree files kept.scan chosen,
     ) in
     subst (λ (those : List CachedScan). All P those) (sym c.in_ok-push.ensures.items) (All-push P c.drop_oldest.new.self.kept.items kept before is)
+
+pub returns-clause-kept : goal.returns-clause-kept
+returns-clause-kept c =
+    let kept : CachedScan = record { cond = c.in_ok-same.same; scan = c.in_ok-scan.scan } in
+    record {
+      fresh = c.requires.fresh;
+      scan = kept;
+      equal = c.in_ok-same.ensures.equal;
+      is = c.in_ok-push.ensures.items ∙ ap (λ (scans : List CachedScan). scans ++ kept ∷ []) c.drop_oldest.ensures.kept;
+      last = omega (arith, c.len-number.ensures, ap length c.drop_oldest.ensures.kept);
+    }

@@ -11,7 +11,7 @@ returns-in-Some-clause-found c =
     let programs = c.args.self.now in
     let columns = (schema_of c.args.table.now).columns.items in
     let cond = c.args.cond.now in
-    let is = c.in-Some.ensures in (
+    let is = c.in-Some.ensures.some in (
       is.0,
       λ none.
           let at = get_or programs.kept.items c.in-Some.number none in
