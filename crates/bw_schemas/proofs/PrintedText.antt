@@ -7,7 +7,7 @@ use Rattle.std.specs.Fmt.{signed_decimal}
 use Rattle.std.specs.List.{list_all, AllZip}
 use Rattle.std.proofs.lemmas.Bool.{leb-true}
 use Rattle.std.proofs.lemmas.List.{append-nil, drop_all, length-map}
-use Rattle.std.proofs.lemmas.List.Elements.{All-head, All-tail}
+use Rattle.std.proofs.lemmas.List.Elements.{All-cons, All-head, All-nil, All-tail}
 use Rattle.std.proofs.Math.Seq.{drop-cons}
 use Rattle.bw_model.specs.declared.column.Column.{Column}
 use Rattle.bw_model.specs.declared.schema.Schema.{Schema}
@@ -156,11 +156,11 @@ unfolding is_range
 in_range column = rw (ordered column.lo column.hi column.ordered, narrow (column.hi -ℤ column.lo) (pos (2 ^ 63)) column.narrow) refl
 
 are_sound : (columns : List Column) → All IsColumn (map column_shape columns) → All IsSound (map column_shape columns)
-are_sound [] are = tt
-are_sound (column ∷ columns) are = (
-  record { is = All-head IsColumn (column_shape column) (map column_shape columns) are; range = in_range column },
-  are_sound columns (All-tail IsColumn (column_shape column) (map column_shape columns) are),
-)
+are_sound [] are = All-nil IsSound
+are_sound (column ∷ columns) are =
+    All-cons IsSound (column_shape column) (map column_shape columns)
+    (record { is = All-head IsColumn (column_shape column) (map column_shape columns) are; range = in_range column })
+    (are_sound columns (All-tail IsColumn (column_shape column) (map column_shape columns) are))
 
 names_same : (columns : List Column) → shape_names (map column_shape columns) ≡ names_of columns
 names_same [] = refl
