@@ -132,7 +132,7 @@ refused T schema rows sql old mid new before between after given fault (Err fail
 pub silent : (schema : Schema) (rows : List (List Value)) (sql : List ℕ) (known : Option (List ℕ)) (count : ℕ)
     → AsksNothing sql → AnswersOne schema rows sql known known count count (Ok None)
 silent schema rows sql known count asks =
-    (record { out = []; is = none asks; went = Appends-nil known }, refl)
+    (record { out = []; is = none asks; appends = Appends-nil known }, refl)
 
 -- no write failed
 pub count_kept : (T : Type 0) (old new : Option (List ℕ)) (before after : ℕ) (given : Result (List ℕ) Fault)
