@@ -13,7 +13,6 @@ pub mod OneMeaningLemmas
 pub mod OneTableLemmas
 pub mod PrintedPlanLemmas
 pub mod SchemaTextLemmas
-pub mod ShapeText
 pub mod SoundSchemaLemmas
 pub mod SpelledRecords
 pub mod SpelledValues
