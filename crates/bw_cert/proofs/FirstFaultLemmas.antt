@@ -45,9 +45,8 @@ some_same is = cc
 
 -- a valid join is at the target of skips
 joins_some : (facts : Facts) (through : KnownNodes) (edges : List Edge) (join : Option JoinLines) (lines : JoinLines) → join ≡ Some lines → is_valid_join facts through edges join ≡ true → 0 < length edges
-joins_some facts through [] None lines some valid_parts = cc
-joins_some facts through [] (Some join) lines some valid_parts = cc
 joins_some facts through (edge ∷ edges) join lines some valid_parts = omega arith
+joins_some facts through [] _ lines some valid_parts = cc
 
 -- past one more instruction
 come_further : (facts : Facts) (end : ℕ) (lines : List BodyLine) (first : List Instr) (instr : Instr) (edges : List Edge) (taken through gone : WalkState) → Come facts lines first edges taken →
@@ -204,12 +203,11 @@ keeps_over facts through edges least kept (k ∷ keeps) lines none are =
 join_over : (facts : Facts) (end place : ℕ) (edges : List Edge) (through : KnownNodes) (join : Option JoinLines) (lines : List BodyLine) → ((given : JoinLines) → join ≡ Some given → NoKeep lines) →
     is_valid_join facts through edges join ≡ true → apply_join facts end place edges (taken_of (join_lines place join ++ lines) through) ≡ Ok (taken_of lines (known_after_join through join))
 join_over facts end place [] through None lines none valid_parts = refl
-join_over facts end place [] through (Some join) lines none valid_parts = cc
-join_over facts end place (edge ∷ edges) through None lines none valid_parts = cc
 join_over facts end place (edge ∷ edges) through (Some join) lines none valid_parts =
     let further : List BodyLine = map keep_line join.keeps ++ lines in
     ap (λ b. refused_if (not b) (at_line 608 join.line) (Ok further) >>= after_join facts end place through (edge ∷ edges)) (eq-eqb place place refl)
     ∙ keeps_over facts through (edge ∷ edges) 0 nothing_known join.keeps lines (none join refl) valid_parts
+join_over facts end place _ through _ lines none valid_parts = cc
 
 -- after a part come the lines of the next one, which begin with no line KEEP, or the others
 no_keep_after : (place : ℕ) (parts : List Part) (rest : List BodyLine) → (length parts ≡ 0 → NoKeep rest) → NoKeep (lines_of place parts ++ rest)
@@ -225,8 +223,6 @@ walk_over : (facts : Facts) (all : List Instr) (every : List Part) (end place : 
 unfolding check_lines_from lines_of known_before edges_before
 walk_over facts all every end place [] [] others rest valid_parts whole instrs_are parts_are count =
     ap (λ n. check_lines_from facts end n (edges_before facts all every n) others (taken_of rest (known_before facts all every n))) (sym (add-zero place))
-walk_over facts all every end place [] (part ∷ parts) others rest valid_parts whole instrs_are parts_are count = absurd (omega (arith, count))
-walk_over facts all every end place (instr ∷ instrs) [] others rest valid_parts whole instrs_are parts_are count = absurd (omega (arith, count))
 walk_over facts all every end place (instr ∷ instrs) (part ∷ parts) others rest valid_parts whole instrs_are parts_are count =
     let instr_there = drop_stands all instrs place instr instrs_are in
     let part_there = drop_stands every parts place part parts_are in
@@ -253,6 +249,7 @@ walk_over facts all every end place (instr ∷ instrs) (part ∷ parts) others r
     ∙ ap (λ (es : List Edge). check_lines_from facts end (suc place) es (instrs ++ others) (taken_of more (known_before facts all every (suc place)))) edges_are
     ∙ walk_over facts all every end (suc place) instrs parts others rest valid_parts whole instr_there.1 part_there.1 (omega (arith, count))
     ∙ ap (λ n. check_lines_from facts end n (edges_before facts all every n) others (taken_of rest (known_before facts all every n))) same
+walk_over facts all every end place _ _ others rest valid_parts whole instrs_are parts_are count = absurd (omega (arith, count))
 
 -- lines with a first error are rejected with it
 pub refused_with_first : (facts : Facts) (instrs : List Instr) (end : ℕ) (lines : List BodyLine) (fault : Fault) → FirstFault facts instrs end lines fault → check_lines facts instrs end lines ≡ Err fault

@@ -79,7 +79,6 @@ masked [] rest more long = none rest more long
 
     none : (rest : List Bool) (more : ℕ) → length rest ≡ more → zip2 (λ a b. a && b) rest (replicate more false) ≡ replicate more false
     none [] zero long = refl
-    none [] (suc more) long = cc
-    none (b ∷ rest) zero long = cc
     none (b ∷ rest) (suc more) long = ap₂ (λ (c : Bool) (cs : List Bool). c ∷ cs) (and_false b) (none rest more (omega (arith, long)))
+    none _ _ long = cc
 masked (b ∷ front) rest more long = ap₂ (λ (c : Bool) (cs : List Bool). c ∷ cs) (and-true b) (masked front rest more long)

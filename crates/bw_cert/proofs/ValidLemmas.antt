@@ -34,18 +34,10 @@ use Rattle.bw_cert_rules.specs.Walk.{WalkState}
 use Rattle.bw_cert.specs.StatedFacts.{on_line, with_lines, with_node_line, with_chain_line}
 use Rattle.bw_cert.specs.StatedFacts.{with_product_line, facts_stated}
 use Rattle.bw_cert.specs.Valid.{last_on, end_on}
-
-pub bind_ok : {A B : Type 0} (r : Result A Fault) (f : A → Result B Fault) (y : B) → (r >>= f) ≡ Ok y → (x : A) × (r ≡ Ok x) × (f x ≡ Ok y)
-bind_ok (Ok x) f y is = (x, refl, is)
-bind_ok (Err fault) f y is = cc
-
-pub not_refused : {A : Type 0} (b : Bool) (fault : Fault) (r : Result A Fault) (x : A) → refused_if b fault r ≡ Ok x → (b ≡ false) × (r ≡ Ok x)
-not_refused true fault r x is = cc
-not_refused false fault r x is = (refl, is)
-
-found_ok : {A : Type 0} (code line : ℕ) (o : Option A) (x : A) → found_on code line o ≡ Ok x → o ≡ Some x
-found_ok code line None x is = cc
-found_ok code line (Some y) x is = cc
+use Rattle.bw_cert_rules.proofs.HoldLemmas.{bind_ok}
+use Rattle.bw_cert_rules.proofs.HoldLemmas.{not_refused}
+use Rattle.bw_cert_rules.proofs.HoldLemmas.{found_ok}
+use Rattle.bw_cert_rules.proofs.HoldLemmas.{map_same}
 
 negated : (b : Bool) → not b ≡ false → b ≡ true
 negated true is = refl
@@ -135,11 +127,6 @@ after_fits facts known past line (instr.Nulls r column) given is =
     let node = bind_ok (plane_on facts line (instr_fits facts.columns (instr.Nulls r column)) (first_variable facts.columns column) given) _ past is in
     let named = bind_ok (found_on 607 line (loaded_node given)) _ node.0 node.1 in
     negated _ (not_refused (not (instr_fits facts.columns (instr.Nulls r column))) _ _ node.0 named.2).0
-after_fits facts known past line (instr.Fill r bit) given is = refl
-after_fits facts known past line (instr.And r x y) given is = refl
-after_fits facts known past line (instr.Or r x y) given is = refl
-after_fits facts known past line (instr.Xor r x y) given is = refl
-after_fits facts known past line (instr.Not r x) given is = refl
 after_fits facts known past line (instr.ByteLt r column slice k) given is =
     let node = bind_ok (byte_on facts line Less (instr_fits facts.columns (instr.ByteLt r column slice k)) column slice k given) _ past is in
     let named = bind_ok (found_on 607 line (byte_chain given)) _ node.0 node.1 in
@@ -148,7 +135,7 @@ after_fits facts known past line (instr.ByteEq r column slice k) given is =
     let node = bind_ok (byte_on facts line Equal (instr_fits facts.columns (instr.ByteEq r column slice k)) column slice k given) _ past is in
     let named = bind_ok (found_on 607 line (byte_chain given)) _ node.0 node.1 in
     negated _ (not_refused (not (instr_fits facts.columns (instr.ByteEq r column slice k))) _ _ node.0 named.2).0
-after_fits facts known past line (instr.Skip x target) given is = refl
+after_fits facts known past line _ given is = refl
 
 -- what is so of each item of a list
 pub all_so : {A : Type 0} (p : A → Bool) (xs : List A) → ((k : ℕ) (x : A) → slice_get xs k ≡ Some x → p x ≡ true) → list_all p xs ≡ true
@@ -156,15 +143,9 @@ all_so p [] each = refl
 all_so p (x ∷ xs) each = ap₂ (λ a b. a && b) (each 0 x refl) (all_so p xs (λ k y there. each (suc k) y there))
 
 pub part_there : {A B : Type 0} (xs : List A) (ys : List B) (k : ℕ) (x : A) → length ys ≡ length xs → slice_get xs k ≡ Some x → (y : B) × (slice_get ys k ≡ Some y)
-part_there [] ys k x long is = cc
-part_there (a ∷ xs) [] k x long is = cc
 part_there (a ∷ xs) (b ∷ ys) zero x long is = (b, refl)
 part_there (a ∷ xs) (b ∷ ys) (suc k) x long is = part_there xs ys k x (omega (arith, long)) is
-
--- functions that agree give the same list
-pub map_same : {A B : Type 0} (f g : A → B) (xs : List A) → ((x : A) → f x ≡ g x) → map f xs ≡ map g xs
-map_same f g [] same = refl
-map_same {B = B} f g (x ∷ xs) same = ap₂ (λ (y : B) (ys : List B). y ∷ ys) (same x) (map_same f g xs same)
+part_there _ _ k x long is = cc
 
 -- of two nodes whose XOR is the node 0 by a row, the values are the same
 pub same_denotes : (facts : Facts) (a b row : ℕ) → HaveStatedValues facts → is_zero (product_node facts Xor a b row) ≡ true → (assignment : Assignment) → node_value facts.nodes assignment a ≡ node_value facts.nodes assignment b
@@ -176,7 +157,6 @@ same_denotes facts a b row denoted is assignment =
     zero_is (Some n) is = ap Some (eqb-true n 0 is)
 
     xor_zero : (a b : Bool) → apply_connective Xor a b ≡ false → a ≡ b
-    xor_zero true true is = refl
-    xor_zero false false is = refl
     xor_zero true false is = cc
     xor_zero false true is = cc
+    xor_zero _ _ is = refl

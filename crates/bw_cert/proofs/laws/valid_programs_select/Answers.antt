@@ -9,7 +9,8 @@ use Rattle.bw_diagram.specs.Node.{node_value}
 use Rattle.bw_program.specs.Machine.{Reaches, end_state}
 use Rattle.bw_program.specs.Program.{instr_fits, fits}
 use Rattle.bw_cert.proofs.ValidLemmas.{stated_columns, stated_true, after_fits, all_so, part_there}
-use Rattle.bw_cert.proofs.ValidLemmas.{map_same, same_denotes}
+use Rattle.bw_cert.proofs.ValidLemmas.{same_denotes}
+use Rattle.bw_cert_rules.proofs.HoldLemmas.{map_same}
 use Rattle.bw_cert.proofs.laws.valid_programs_select.Goals as goal
 
 pub returns-clause-fits : goal.returns-clause-fits
