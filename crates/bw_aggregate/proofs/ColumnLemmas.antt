@@ -1,9 +1,9 @@
 -- The values of a column in selected rows, by its codes and its nulls.
 use Rattle.std.proofs.Common.{◌≡◌, ◌∙◌, refl, sym, ap, ap₂, ℕ, suc, ℤ, pos, ◌-◌, ◌<◌, Bool, true}
-use Rattle.std.proofs.Common.{false, not, cond, ◌&&◌, List, [], ◌∷◌, ◌++◌, map, count_by, length}
+use Rattle.std.proofs.Common.{false, not, cond, ◌&&◌, ◌||◌, List, [], ◌∷◌, ◌++◌, map, count_by, length}
 use Rattle.std.proofs.Common.{replicate, Some, None, unwrap_or, arith}
 use Rattle.std.proofs.lemmas.List.{length-map}
-use Rattle.std.specs.List.{list_all, cons_option}
+use Rattle.std.specs.List.{list_all, list_any, cons_option}
 use Rattle.std.proofs.lemmas.List.Sums.{sum_by-cons}
 use lib.Lanes.{zip2}
 use Rattle.bw_lanes.specs.Lanes.{lanes_of_words}
@@ -18,10 +18,11 @@ use Rattle.bw_model.specs.Total.{present}
 use Rattle.bw_model.specs.Truth.{is_null}
 use Rattle.bw_model.proofs.BitsLemmas.{both}
 use Rattle.bw_segment.specs.Packing.{value_held}
-use Rattle.bw_segment.specs.Meaning.{Meaning, IsGroup, null_bits, stored_codes}
+use Rattle.bw_segment.specs.Meaning.{Meaning, IsGroup, code_lanes, null_bits, stored_codes}
 use Rattle.bw_segment.proofs.ValueLemmas.{held_admitted}
 use Rattle.bw_segment.specs.Selected.{codes_in}
 use Rattle.bw_segment.proofs.SelectedCodes.{codes_counted}
+use Rattle.bw_aggregate.proofs.ValueLemmas.{neither}
 use Rattle.bw_aggregate.specs.Selected.{IsWithin, present_lanes, values_in, selected_rows}
 
 -- nothing is selected past the rows
@@ -80,3 +81,17 @@ pub values_counted : (meaning : Meaning) (col : ℕ) (lanes : List Bool) (words 
 values_counted meaning col lanes words group lt within eight is =
     codes_counted meaning col words group eight ∙ ap (λ l. length (codes_in meaning col l)) is ∙ sym (length-map (codes_in meaning col (present_lanes meaning col lanes)) (value_at meaning.columns col))
     ∙ ap length (sym (values_are_codes meaning col lanes group lt within))
+
+-- what holds of no code in some lanes holds of none in those of them whose row isn't null
+none_in_both : (test : ℕ → Bool) (lanes others : List Bool) (codes : List ℕ) → list_any test (selected_items lanes codes) ≡ false → list_any test (selected_items (zip2 (λ a b. a && b) lanes others) codes) ≡ false
+none_in_both test [] others codes none = refl
+none_in_both test (lane ∷ lanes) [] codes none = refl
+none_in_both test (lane ∷ lanes) (other ∷ others) [] none = refl
+none_in_both test (false ∷ lanes) (other ∷ others) (code ∷ codes) none = none_in_both test lanes others codes none
+none_in_both test (true ∷ lanes) (true ∷ others) (code ∷ codes) none =
+    let parts = neither (test code) _ none in ap₂ ◌||◌ parts.0 (none_in_both test lanes others codes parts.1)
+none_in_both test (true ∷ lanes) (false ∷ others) (code ∷ codes) none = none_in_both test lanes others codes (neither (test code) _ none).1
+
+pub none_in_present : (test : ℕ → Bool) (meaning : Meaning) (col : ℕ) (lanes : List Bool) → list_any test (codes_in meaning col lanes) ≡ false → list_any test (codes_in meaning col (present_lanes meaning col lanes)) ≡ false
+unfolding present_lanes codes_in
+none_in_present test meaning col lanes none = none_in_both test lanes (map not (null_bits meaning.rows col)) (code_lanes meaning col) none

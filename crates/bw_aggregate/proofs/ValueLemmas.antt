@@ -62,7 +62,8 @@ sum_of_some lo value number (code ∷ codes) is same some =
     put : (x y : ℤ) (s t : ℕ) → x ≡ y +ℤ lo → t ≡ code + s → x +ℤ pos t ≡ (lo +ℤ pos code) +ℤ (y +ℤ pos s)
     put x y s t e f = omega (arith, ints, e, f)
 
-neither : (a b : Bool) → (a || b) ≡ false → (a ≡ false) × (b ≡ false)
+-- neither of two is true
+pub neither : (a b : Bool) → (a || b) ≡ false → (a ≡ false) × (b ≡ false)
 neither false b e = (refl, e)
 neither true b e = absurd (cc e)
 

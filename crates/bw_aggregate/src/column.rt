@@ -68,8 +68,9 @@ pub(crate) fn least<S: Segment>(
     Some(value_of_code(lowest(segment, col), code))
 }
 
-/// Returns the maximum value of the codes in these rows, or None if there are no rows, or none that
-/// changes the maximum so far. `number` rows were selected, nulls among them.
+/// Returns the maximum value of a column in these rows, or None if it has none there, or none that
+/// changes the maximum so far. `number` rows were selected. The code of a null is 0, which is above
+/// no other, so nulls are looked at last, and mostly not at all.
 pub(crate) fn greatest<S: Segment>(
     segment: &S,
     col: usize,
@@ -79,13 +80,14 @@ pub(crate) fn greatest<S: Segment>(
 ) -> Option<i128>
     requires { col < length (S.meaning segment.now).columns }
     ensures greatest { combine_totals (Max col) so_far result ≡ combine_totals (Max col) so_far
-        (reduce int_max (values_in (S.meaning segment.now) col (lanes_of_words rows.now))) }
+        (reduce int_max (values_in (S.meaning segment.now) col
+        (present_lanes (S.meaning segment.now) col (lanes_of_words rows.now)))) }
     ensures small { IsTotalOfRows 1 result }
 {
     if none_beyond(segment, col, rows, number, so_far, true) {
         return None;
     }
-    let code = segment.max_code(col, rows)?;
+    let code = segment.max_code(col, &present(segment, col, rows))?;
     Some(value_of_code(lowest(segment, col), code))
 }
 

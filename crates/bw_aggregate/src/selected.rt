@@ -35,35 +35,38 @@ pub fn add_selected<S: Segment>(total: &mut Accumulator, segment: &S, selection:
     totals_join();
     let number = count(selection);
     if number != 0 {
-        let others = total_of(total.item(), segment, selection, number, total.finish());
+        let others = total_of(total, segment, selection, number);
         total.add_total(number, others);
     }
 }
 
 /// Returns the total of the selected rows of a segment, `number` of them, or None if it adds nothing
-/// to the total of earlier rows. A count of rows is computed here: the other totals may need planes, which would be
-/// cleared for it too.
+/// to what the earlier ones have.
 fn total_of<S: Segment>(
-    item: Item,
+    so_far: &Accumulator,
     segment: &S,
     selection: &Selection,
     number: u32,
-    so_far: Option<i128>,
 ) -> Option<i128>
-    requires column { IsTrue (item_within (length (S.meaning segment.now).columns) item) }
+    requires column { IsTrue (item_within (length (S.meaning segment.now).columns)
+        so_far.now.item) }
     requires selection { IsWithin (length (S.meaning segment.now).rows)
         (lanes_of_words selection.now) }
-    ensures total { combine_totals item so_far result ≡ combine_totals item so_far
-        (total item (selected_rows (S.meaning segment.now) (lanes_of_words selection.now))) }
+    requires number { number
+        ≡ length (selected_rows (S.meaning segment.now) (lanes_of_words selection.now)) }
+    ensures total { combine_totals so_far.now.item so_far.now.answer result
+        ≡ combine_totals so_far.now.item so_far.now.answer (total so_far.now.item
+        (selected_rows (S.meaning segment.now) (lanes_of_words selection.now))) }
     ensures small { IsTotalOfRows 1 result }
 {
-    match item {
-        Item::CountAll => Some(i128::from(count(selection))),
-        _ => total_by_columns(item, segment, selection, number, so_far),
+    match so_far.item() {
+        Item::CountAll => Some(i128::from(number)),
+        item => total_by_columns(item, segment, selection, number, so_far.finish()),
     }
 }
 
-/// Returns the same, for any item.
+/// Returns the same for any item, if `so_far` is the total of earlier rows. It isn't compiled into
+/// its caller, which would then clear planes for a count of rows too.
 #[inline(never)]
 fn total_by_columns<S: Segment>(
     item: Item,
@@ -88,9 +91,6 @@ fn total_by_columns<S: Segment>(
             let rows = present(segment, col, selection);
             least(segment, col, &rows, number, so_far)
         }
-        Item::Max(col) => {
-            let rows = present(segment, col, selection);
-            greatest(segment, col, &rows, number, so_far)
-        }
+        Item::Max(col) => greatest(segment, col, selection, number, so_far),
     }
 }

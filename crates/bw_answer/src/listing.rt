@@ -90,7 +90,9 @@ impl Listing {
     }
 
     /// Adds the records of the selected rows of a segment to a text. If none is selected, no row is
-    /// read.
+    /// read. It isn't compiled into its callers, whose queries may list no row: it needs much more
+    /// of the stack than they do.
+    #[inline(never)]
     pub(crate) fn push_selected<S: Segment>(
         &mut self,
         text: &mut Vec<u8>,

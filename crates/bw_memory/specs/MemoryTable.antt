@@ -5,6 +5,7 @@ use Rattle.bw_model.specs.Groups.{together}
 use Rattle.bw_model.specs.Row.{Value}
 use Rattle.bw_model.specs.SchemaText.{schema_shape}
 use Rattle.bw_segment.specs.Meaning.{Meaning}
+use Rattle.bw_segment.specs.declared.placement.Placement.{Placement}
 use Rattle.bw_file.specs.declared.layout.Layout.{Layout}
 use Rattle.bw_file.specs.FileBytes.{IsFileBytes}
 use Rattle.bw_file.specs.Reading.{State}
@@ -15,6 +16,10 @@ use Rattle.bw_memory.specs.StoredSegments.{stored_group, stored_groups}
 
 abbrev pub layout_of : MemoryTable → Layout
 layout_of table = table.layout
+
+-- what its segments share: the schema, and where the block of each column begins
+abbrev pub placement_of : MemoryTable → Placement
+placement_of table = table.placement.value
 
 abbrev pub schema_of : MemoryTable → Schema
 schema_of table = table.placement.value.schema

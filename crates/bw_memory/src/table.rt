@@ -33,7 +33,7 @@ pub struct MemoryTable {
 
 impl MemoryTable {
     ghost use Rattle.bw_memory.specs.MemoryTable.{layout_of, meaning_numbered, rows_of, schema_of};
-    ghost use Rattle.bw_memory.specs.MemoryTable.{segments_in};
+    ghost use Rattle.bw_memory.specs.MemoryTable.{placement_of, segments_in};
 
     /// Returns the table's schema.
     pub fn schema(&self) -> &Schema
@@ -74,10 +74,44 @@ impl MemoryTable {
         ensures means { IfOk result (λ segment.
             ⟦<PackedSegment<L, NumberedBlocks<'a>> as Segment>⟧.meaning segment
             ≡ meaning_numbered self.now number) }
+        ensures placed { IfOk result (λ segment.
+            segment.placement.value ≡ placement_of self.now) }
         ensures only_oom { IsOkUnless result no_memory }
     {
-        let placement = self.placement.clone()?;
+        Ok(self.placed_segment(self.placement.clone()?, number))
+    }
+
+    /// Returns the segment of this number in place of another one of this table. It takes less time
+    /// than [`Self::segment`], which counts one more reference to what all segments share.
+    pub fn other_segment<'a, L: CodeLayout>(
+        &'a self,
+        segment: PackedSegment<L, NumberedBlocks<'a>>,
+        number: u32,
+    ) -> PackedSegment<L, NumberedBlocks<'a>>
+        requires layout { form_of (layout_of self.now) ≡ L.packing }
+        requires placed { segment.placement.value ≡ placement_of self.now }
+        requires number { number < segments_in self.now }
+        ensures means { ⟦<PackedSegment<L, NumberedBlocks<'a>> as Segment>⟧.meaning result
+            ≡ meaning_numbered self.now number }
+        ensures placed { result.placement.value ≡ placement_of self.now }
+    {
+        self.placed_segment(segment.placement, number)
+    }
+
+    /// Returns the segment of this number, by the table's placement.
+    fn placed_segment<'a, L: CodeLayout>(
+        &'a self,
+        placement: Rc<Placement>,
+        number: u32,
+    ) -> PackedSegment<L, NumberedBlocks<'a>>
+        requires layout { form_of (layout_of self.now) ≡ L.packing }
+        requires placed { placement.value ≡ placement_of self.now }
+        requires number { number < segments_in self.now }
+        ensures means { ⟦<PackedSegment<L, NumberedBlocks<'a>> as Segment>⟧.meaning result
+            ≡ meaning_numbered self.now number }
+        ensures placed { result.placement.value ≡ placement_of self.now }
+    {
         let rows = (self.rows - LANES as u32 * number).min(LANES as u32);
-        Ok(PackedSegment::of_columns(placement, rows, &self.columns, number as usize))
+        PackedSegment::of_columns(placement, rows, &self.columns, number as usize)
     }
 }

@@ -1,18 +1,16 @@
 //! The text of a result over a table in memory, one segment at a time.
-ghost use Rattle.std.specs.Prelude.{◌≡◌, ◌+◌, ◌<◌, ◌≤◌, true, IsTrue, IfOk, IfErr, OnOk, length};
+ghost use Rattle.std.specs.Prelude.{◌≡◌, ◌≤◌, IsTrue, IfOk, IfErr, OnOk, length};
 ghost use Rattle.std.specs.Prelude.{vec_len};
 ghost use Rattle.std.specs.List.{list_all};
 ghost use Rattle.bw_model.specs.Column.{names_of};
 ghost use Rattle.bw_model.specs.Fault.{no_memory};
-ghost use Rattle.bw_model.specs.Limits.{most_rows};
 ghost use Rattle.bw_model.specs.Total.{item_within};
 ghost use Rattle.bw_sql.specs.Items.{AreOfOneKind};
 ghost use Rattle.bw_answer.specs.Answer.{csv_text, meaning};
-ghost use Rattle.bw_answer.specs.TextAndTotals.{CountsRows};
 ghost use Rattle.bw_answer.specs.Progress.{GoesOver, query_in};
-ghost use Rattle.bw_memory.specs.MemoryTable.{groups_in, meaning_numbered, rows_of, schema_of};
-ghost use Rattle.bw_memory.specs.MemoryTable.{segments_in};
-ghost use Rattle.bw_query.specs.Scan.{IsFor, loads_in, skips_in};
+ghost use Rattle.bw_file.specs.Blocks.{form_of};
+ghost use Rattle.bw_memory.specs.MemoryTable.{groups_in, layout_of, rows_of, schema_of};
+ghost use Rattle.bw_query.specs.Scan.{IsFor};
 ghost use Rattle.bw_query.specs.TableText.{IsScanOf};
 
 use crate::scan::Scan;
@@ -23,7 +21,7 @@ use bw_file::Layout;
 use bw_memory::MemoryTable;
 use bw_model::{Fault, Query};
 use bw_planes::Planes;
-use bw_run::Counts;
+use bw_segment::CodeLayout;
 use bw_slices::Slices;
 use std::alloc::Global;
 
@@ -48,19 +46,41 @@ pub(crate) fn memory_text(
     ensures only_oom { IfErr result (λ fault. fault ≡ no_memory) }
 {
     let mut answer = empty_answer(alloc, table.schema(), table.rows(), query)?;
-    let scanned = take_segments(table, scan, &mut answer)?;
+    let scanned = take_rows(table, scan, &mut answer)?;
     Ok(TableText {
         text: answer.into_text()?,
         scanned,
     })
 }
 
-/// Consumes the rows of all segments, and returns what was scanned.
-fn take_segments(
+/// Consumes the rows of all segments, and returns what was scanned. The layout is looked up once.
+#[tactic(auto, unfolding(bw_file::specs::Blocks::form_of))]
+fn take_rows(
     table: &MemoryTable,
     scan: &Scan,
     answer: &mut Answer<'_>,
 ) -> Result<Scanned, Fault>
+    requires none { answer.old.rows ≡ 0 }
+    requires width { answer.old.width ≡ length (schema_of table.now).columns.items }
+    requires scan { IsFor (schema_of table.now).columns.items (query_in answer.old).cond scan.now }
+    ensures covers { OnOk result (GoesOver answer.old (rows_of table.now) answer.new) }
+    ensures counts { IfOk result (λ scanned.
+        IsScanOf (schema_of table.now).columns.items scan.now (groups_in table.now) scanned) }
+    ensures only_oom { IfErr result (λ fault. fault ≡ no_memory) }
+{
+    match table.layout() {
+        Layout::Planes => take_segments::<Planes>(table, scan, answer),
+        Layout::Slices => take_segments::<Slices>(table, scan, answer),
+    }
+}
+
+/// Returns the same in the table's layout. The segments take turns in one place.
+fn take_segments<L: CodeLayout>(
+    table: &MemoryTable,
+    scan: &Scan,
+    answer: &mut Answer<'_>,
+) -> Result<Scanned, Fault>
+    requires layout { form_of (layout_of table.now) ≡ L.packing }
     requires none { answer.old.rows ≡ 0 }
     requires width { answer.old.width ≡ length (schema_of table.now).columns.items }
     requires scan { IsFor (schema_of table.now).columns.items (query_in answer.old).cond scan.now }
@@ -75,52 +95,16 @@ fn take_segments(
         loads: 0,
         skips: 0,
     };
+    if table.segments() == 0 {
+        return Ok(scanned);
+    }
+    let mut segment = table.segment::<L>(0)?;
     for number in 0..table.segments() {
-        let more = take_numbered(table, number, scan, counts, answer)?;
+        segment = table.other_segment(segment, number);
+        let more = take_segment(&segment, scan, counts, answer)?;
         scanned.segments += 1;
         scanned.loads += more.loads as u64;
         scanned.skips += more.skips as u64;
     }
     Ok(scanned)
-}
-
-/// Consumes the rows of the segment of this number.
-#[tactic(auto, unfolding(bw_file::specs::Blocks::form_of))]
-fn take_numbered(
-    table: &MemoryTable,
-    number: u32,
-    scan: &Scan,
-    counts: bool,
-    answer: &mut Answer<'_>,
-) -> Result<Counts, Fault>
-    requires number { number < segments_in table.now }
-    requires scan { IsFor (schema_of table.now).columns.items (query_in answer.old).cond scan.now }
-    requires counts { counts ≡ true → CountsRows (query_in answer.old) }
-    requires width { answer.old.width ≡ length (schema_of table.now).columns.items }
-    requires capacity { answer.old.rows + length (meaning_numbered table.now number).rows
-        ≤ most_rows }
-    ensures covers { OnOk result
-        (GoesOver answer.old (meaning_numbered table.now number).rows answer.new) }
-    ensures width { OnOk result (answer.new.width ≡ answer.old.width) }
-    ensures rows { OnOk result
-        (answer.new.rows ≡ answer.old.rows + length (meaning_numbered table.now number).rows) }
-    ensures loads { IfOk result (λ counts. counts.loads
-        ≡ loads_in (schema_of table.now).columns.items scan.now
-        (meaning_numbered table.now number).rows) }
-    ensures skips { IfOk result (λ counts. counts.skips
-        ≡ skips_in (schema_of table.now).columns.items scan.now
-        (meaning_numbered table.now number).rows) }
-    ensures bounded { IfOk result (λ counts. counts.loads + counts.skips ≤ 4096) }
-    ensures only_oom { IfErr result (λ fault. fault ≡ no_memory) }
-{
-    match table.layout() {
-        Layout::Planes => {
-            let segment = table.segment::<Planes>(number)?;
-            take_segment(&segment, scan, counts, answer)
-        }
-        Layout::Slices => {
-            let segment = table.segment::<Slices>(number)?;
-            take_segment(&segment, scan, counts, answer)
-        }
-    }
 }

@@ -192,10 +192,10 @@ pub(crate) fn take_segment<S: Segment>(
 {
     match scan {
         Scan::Program(certified) => {
-            let (selected, counts) = certified.run_segment(segment);
+            let run = certified.run_segment(segment);
             certified.condition().same_meaning(&answer.query().cond);
-            answer.take_selected(segment, &selected)?;
-            Ok(counts)
+            answer.take_selected(segment, &run.0)?;
+            Ok(run.1)
         }
         Scan::Rows => {
             take_by_rows(segment, counts, answer)?;

@@ -113,6 +113,7 @@ impl<'a, L: CodeLayout> PackedSegment<L, NumberedBlocks<'a>> {
         ensures means { ⟦<PackedSegment<L, NumberedBlocks<'a>> as Segment>⟧.meaning result
             ≡ meaning_spelled L.packing placement.value.schema rows
             (segment_numbered columns.now number) }
+        ensures placed { result.placement.value ≡ placement.value }
     {
         PackedSegment::of_held_blocks(placement, rows, NumberedBlocks { columns, number })
     }

@@ -177,6 +177,7 @@ impl<L: CodeLayout, B: Blocks> PackedSegment<L, B> {
         requires held { HoldBlocks (B.holds bytes) L.packing placement.value.schema.columns.items }
         ensures means { ⟦<PackedSegment<L, B> as Segment>⟧.meaning result
             ≡ meaning_spelled L.packing placement.value.schema rows (B.bytes bytes) }
+        ensures placed { result.placement.value ≡ placement.value }
     {
         L::keeps_codes();
         PackedSegment {

@@ -5,7 +5,7 @@ use Rattle.bw_model.specs.Row.{Value}
 use Rattle.bw_rowwise.specs.Accumulator.{Tally, tally_of}
 use Rattle.bw_aggregate.specs.Selected.{selected_rows}
 use Rattle.bw_aggregate.proofs.ColumnLemmas.{rows_counted}
-use Rattle.bw_aggregate.proofs.SelectedLemmas.{few_selected, joined_alike, joined_selected}
+use Rattle.bw_aggregate.proofs.SelectedLemmas.{few_selected, joined_selected}
 use Rattle.bw_aggregate.proofs.SelectedLemmas.{joined_rows, none_selected, small_for_more}
 use Rattle.bw_aggregate.proofs.SelectedLemmas.{unselected}
 use Rattle.bw_aggregate.proofs.selected.add_selected.Goals as goal
@@ -21,6 +21,10 @@ pub add_total-requires-clause-small : goal.add_total-requires-clause-small
 add_total-requires-clause-small g c =
     small_for_more c.count-number.result c.total_of-others.result (omega arith) c.total_of-others.ensures.small
 
+pub total_of-others-requires-clause-number : goal.total_of-others-requires-clause-number
+total_of-others-requires-clause-number g c =
+    c.count-number.ensures.ones ∙ rows_counted (g.S.Segment.meaning c.args.segment.now).rows (lanes_of_words c.args.selection.now) c.requires.selection
+
 pub returns-then-number-ne0-clause-count : goal.returns-then-number-ne0-clause-count
 returns-then-number-ne0-clause-count g c =
     let rows = (g.S.Segment.meaning c.args.segment.now).rows in
@@ -33,8 +37,7 @@ returns-then-number-ne0-clause-total g c = λ rows before.
     let lanes = lanes_of_words c.args.selection.now in
     let more = selected_rows meaning lanes in
     let number = c.count-number.ensures.ones ∙ rows_counted meaning.rows lanes c.requires.selection in
-    let joined = joined_alike c.args.total.now _ _ c.total_of-others.result more c.item.ensures c.finish.ensures c.total_of-others.ensures.total in
-    c.add_total.ensures.step ∙ joined_rows c.args.total.now rows more _ _ number before joined (c.totals_join.ensures c.args.total.now.item rows more)
+    c.add_total.ensures.step ∙ joined_rows c.args.total.now rows more _ _ number before c.total_of-others.ensures.total (c.totals_join.ensures c.args.total.now.item rows more)
 
 pub returns-else-number-ne0-clause-count : goal.returns-else-number-ne0-clause-count
 returns-else-number-ne0-clause-count g c =
@@ -54,8 +57,7 @@ returns-then-number-ne0-clause-step g c =
     let meaning = g.S.Segment.meaning c.args.segment.now in
     let lanes = lanes_of_words c.args.selection.now in
     let number = c.count-number.ensures.ones ∙ rows_counted meaning.rows lanes c.requires.selection in
-    let joined = joined_alike c.args.total.now _ _ c.total_of-others.result (selected_rows meaning lanes) c.item.ensures c.finish.ensures c.total_of-others.ensures.total in
-    c.add_total.ensures.step ∙ joined_selected c.args.total.now (selected_rows meaning lanes) _ _ number (omega arith) joined
+    c.add_total.ensures.step ∙ joined_selected c.args.total.now (selected_rows meaning lanes) _ _ number (omega arith) c.total_of-others.ensures.total
 
 pub returns-else-number-ne0-clause-step : goal.returns-else-number-ne0-clause-step
 returns-else-number-ne0-clause-step g c =

@@ -55,6 +55,6 @@ returns-in-Max-clause-total g c =
     let group = g.met.S.Segment.is_group c.args.segment.now in
     let lanes = lanes_of_words c.args.selection.now in
     let there = ltb-true c.in-Max.col (length meaning.columns) (sym (ap (item_within (length meaning.columns)) c.in-Max.is) ∙ c.requires.column) in
-    let values = ap (λ l. reduce int_max (values_in meaning c.in-Max.col l)) c.present-rows-in-Max.ensures ∙ ap (reduce int_max) (sym (values_are_codes meaning c.in-Max.col lanes group there c.requires.selection)) in
+    let values = ap (reduce int_max) (sym (values_are_codes meaning c.in-Max.col lanes group there c.requires.selection)) in
     ap (λ (item : Item). combine_totals item c.args.so_far c.greatest.result) c.in-Max.is ∙ c.greatest.ensures.greatest ∙ ap (combine_totals (Max c.in-Max.col) c.args.so_far) values
     ∙ ap (λ (item : Item). combine_totals item c.args.so_far (total item (selected_rows meaning lanes))) (sym c.in-Max.is)

@@ -25,12 +25,12 @@ loop-number-init c =
       counts = c.counts_rows-counts.ensures;
     }
 
-pub take_numbered-requires-clause-scan : goal.take_numbered-requires-clause-scan
-take_numbered-requires-clause-scan c =
+pub take_segment-requires-clause-scan : goal.take_segment-requires-clause-scan
+take_segment-requires-clause-scan c =
     subst (λ (query : Query). IsFor (schema_of c.args.table.now).columns.items query.cond c.args.scan.now) (sym c.loop-number.invariant.asked) c.requires.scan
 
-pub take_numbered-requires-clause-capacity : goal.take_numbered-requires-clause-capacity
-take_numbered-requires-clause-capacity c =
+pub take_segment-requires-clause-capacity : goal.take_segment-requires-clause-capacity
+take_segment-requires-clause-capacity c =
     let table = c.args.table.now in
     let number = c.loop-number.number in
     let there : number < table.segments = omega (arith, c.segments-number-end.ensures) in

@@ -2,7 +2,7 @@
 use Rattle.std.proofs.Common.{◌∙◌, refl, arith}
 use Rattle.bw_model.specs.Groups.{group_size}
 use Rattle.bw_memory.proofs.StoredSegmentLemmas.{rows_cut}
-use Rattle.bw_memory.proofs.table.MemoryTable.segment.Goals as goal
+use Rattle.bw_memory.proofs.table.MemoryTable.placed_segment.Goals as goal
 
 pub overflow_sub-self : goal.overflow_sub-self
 unfolding group_size
@@ -24,10 +24,10 @@ pub of_columns-requires-clause-sound : goal.of_columns-requires-clause-sound
 of_columns-requires-clause-sound g c =
     let table = c.args.self.now in
     let rows = rows_cut table.rows c.args.number c.min-rows.result c.min-rows.ensures in
-    rw (c.in_ok-placement.ensures.cases, c.deref.ensures.value, rows, ← c.requires.layout) (table.kept.sound c.args.number c.requires.number)
+    rw (c.requires.placed, c.deref.ensures.value, rows, ← c.requires.layout) (table.kept.sound c.args.number c.requires.number)
 
 pub returns-clause-means : goal.returns-clause-means
 returns-clause-means g c =
     let table = c.args.self.now in
     let rows = rows_cut table.rows c.args.number c.min-rows.result c.min-rows.ensures in
-    c.of_columns.ensures.means ∙ rw (c.in_ok-placement.ensures.cases, c.deref.ensures.value, rows, ← c.requires.layout) refl
+    c.of_columns.ensures.means ∙ rw (c.requires.placed, c.deref.ensures.value, rows, ← c.requires.layout) refl
