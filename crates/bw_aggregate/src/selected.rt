@@ -40,8 +40,8 @@ pub fn add_selected<S: Segment>(total: &mut Accumulator, segment: &S, selection:
     }
 }
 
-/// Returns the total of the selected rows of a segment, `number` of them, or None if it adds nothing
-/// to what the earlier ones have.
+/// Returns the total of the selected rows of a segment, `number` of them, or None if it adds
+/// nothing to that of earlier rows.
 fn total_of<S: Segment>(
     so_far: &Accumulator,
     segment: &S,

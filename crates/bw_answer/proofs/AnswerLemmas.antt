@@ -4,7 +4,7 @@ use Rattle.std.proofs.Common.{map, filter}
 use Rattle.std.proofs.lemmas.List.{append-nil}
 use Rattle.std.specs.List.{list_all}
 use Rattle.bw_model.specs.declared.query.Item.{Item}
-use Rattle.bw_model.specs.declared.query.Item.TheVariants.{Plain, CountAll, Count, Sum, Min, Max}
+use Rattle.bw_model.specs.declared.query.Item.TheVariants.{Plain}
 use Rattle.bw_model.specs.declared.query.Query.{Query}
 use Rattle.bw_model.specs.Row.{Value}
 use Rattle.bw_model.specs.Total.{is_aggregate}

@@ -5,7 +5,7 @@ use Rattle.std.specs.List.{list_all}
 use Rattle.std.proofs.lemmas.Bool.{leb-true, le-leb}
 use Rattle.bw_model.specs.declared.cond.Cond.{Cond}
 use Rattle.bw_model.specs.declared.query.Item.{Item}
-use Rattle.bw_model.specs.declared.query.Item.TheVariants.{Plain, CountAll, Count, Sum, Min, Max}
+use Rattle.bw_model.specs.declared.query.Item.TheVariants.{Plain, CountAll}
 use Rattle.bw_model.specs.Cond.{is_match}
 use Rattle.bw_model.specs.Row.{Value}
 use Rattle.bw_model.specs.Selection.{matching_rows}

@@ -1,5 +1,5 @@
 -- Rows that a selection picks.
-use Rattle.std.proofs.Common.{◌≡◌, ◌∙◌, refl, sym, ap, ℕ, zero, suc, ◌+◌, ◌≤◌, Bool, true, false}
+use Rattle.std.proofs.Common.{◌≡◌, ◌∙◌, refl, sym, ap, ℕ, suc, ◌+◌, ◌≤◌, Bool, true, false}
 use Rattle.std.proofs.Common.{not, List, [], ◌∷◌, ◌++◌, map, length, replicate, append-nil}
 use Rattle.std.proofs.Common.{length-append, cond, arith, nat_le, Result, Ok, Err}
 use Rattle.std.specs.Prelude.{OnOk}

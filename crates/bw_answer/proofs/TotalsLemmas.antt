@@ -1,6 +1,6 @@
 -- Totals that rows are added to, all at once.
 use Rattle.std.proofs.Common.{◌≡◌, ℕ, zero, suc, ◌+◌, ◌<◌, ◌^◌, ◌≤◌, List, [], ◌∷◌, map, Bool, true}
-use Rattle.std.proofs.Common.{false, ◌&&◌, refl, sym, ap, ◌∙◌, arith, length, get_or, take, drop}
+use Rattle.std.proofs.Common.{false, refl, sym, ap, ◌∙◌, arith, length, get_or, take, drop}
 use Rattle.std.proofs.Common.{◌++◌, All, subst, nat_le, nat_lt}
 use Rattle.std.specs.List.{list_all}
 use Rattle.bw_model.specs.declared.query.Item.{Item}

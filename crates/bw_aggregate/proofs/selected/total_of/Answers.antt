@@ -4,7 +4,6 @@ use Rattle.bw_lanes.specs.Lanes.{lanes_of_words}
 use Rattle.bw_model.specs.declared.query.Item.{Item}
 use Rattle.bw_model.specs.Total.{combine_totals, total}
 use Rattle.bw_aggregate.specs.Selected.{selected_rows}
-use Rattle.bw_aggregate.proofs.SelectedLemmas.{joined_alike}
 use Rattle.bw_aggregate.proofs.selected.total_of.Goals as goal
 
 pub returns-in-CountAll-clause-total : goal.returns-in-CountAll-clause-total

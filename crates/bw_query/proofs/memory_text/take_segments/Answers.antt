@@ -11,10 +11,11 @@ use Rattle.bw_query.proofs.TableLemmas.{goes_nowhere, goes_on, one_more}
 use Rattle.bw_query.proofs.memory_text.take_segments.Goals as goal
 
 pub loop-number-init : goal.loop-number-init
-loop-number-init c =
+loop-number-init g c =
     let table = c.args.table.now in
     let none = no_groups table.layout (schema_of table).columns.items table.rows table.columns.items in
     record {
+      placed = c.in_ok-segment.ensures.placed;
       covers = rw none (goes_nowhere c.args.answer.now);
       scanned = rw none (record { segments = refl; loads = refl; skips = refl });
       few_loads = omega arith;
@@ -26,18 +27,18 @@ loop-number-init c =
     }
 
 pub take_segment-requires-clause-scan : goal.take_segment-requires-clause-scan
-take_segment-requires-clause-scan c =
+take_segment-requires-clause-scan g c =
     subst (λ (query : Query). IsFor (schema_of c.args.table.now).columns.items query.cond c.args.scan.now) (sym c.loop-number.invariant.asked) c.requires.scan
 
 pub take_segment-requires-clause-capacity : goal.take_segment-requires-clause-capacity
-take_segment-requires-clause-capacity c =
+take_segment-requires-clause-capacity g c =
     let table = c.args.table.now in
     let number = c.loop-number.number in
     let there : number < table.segments = omega (arith, c.segments-number-end.ensures) in
     omega (arith, table.within_limit, room_for table.layout (schema_of table).columns.items table.rows number c.loop-number.answer.rows table.columns.items (table.kept.nonempty number there) c.loop-number.invariant.rows)
 
 pub loop-number-preserved : goal.loop-number-preserved
-loop-number-preserved c =
+loop-number-preserved g c =
     let table = c.args.table.now in
     let columns = (schema_of table).columns.items in
     let number = c.loop-number.number in
@@ -48,6 +49,7 @@ loop-number-preserved c =
     let more = groups_more table.layout columns table.rows number table.columns.items in
     let count = length-groups table.layout columns table.rows number table.columns.items in
     record {
+      placed = c.other_segment-segment.ensures.placed;
       covers = rw more (goes_on _ _ _ groups rows so_far.covers taken.covers);
       scanned = rw more (record {
         segments = omega (arith, so_far.scanned.segments, count, length-groups table.layout columns table.rows (number + 1) table.columns.items, ap length more);
@@ -63,6 +65,6 @@ loop-number-preserved c =
     }
 
 pub overflow_add-scanned : goal.overflow_add-scanned
-overflow_add-scanned c =
+overflow_add-scanned g c =
     let table = c.args.table.now in
     omega (arith, c.loop-number.invariant.scanned.segments, length-groups table.layout (schema_of table).columns.items table.rows c.loop-number.number table.columns.items)
