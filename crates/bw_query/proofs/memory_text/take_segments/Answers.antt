@@ -1,5 +1,5 @@
 -- Each segment's rows are taken after those of the segments before it.
-use Rattle.std.proofs.Common.{◌∙◌, ◌+◌, ◌<◌, length, refl, sym, ap, subst, arith}
+use Rattle.std.proofs.Common.{◌≡◌, ◌∙◌, ◌+◌, ◌<◌, length, refl, sym, ap, subst, arith}
 use Rattle.bw_model.specs.declared.query.Query.{Query}
 use Rattle.bw_answer.specs.TextAndTotals.{CountsRows}
 use Rattle.bw_memory.specs.StoredSegments.{stored_groups}
@@ -7,6 +7,8 @@ use Rattle.bw_memory.specs.MemoryTable.{schema_of, meaning_numbered}
 use Rattle.bw_memory.proofs.StoredSegmentLemmas.{groups_more, length-groups, room_for, rows_before}
 use Rattle.bw_memory.proofs.ReadLemmas.{no_groups}
 use Rattle.bw_query.specs.Scan.{IsFor, loads_in, skips_in}
+use Rattle.bw_segment.specs.Meaning.{Meaning}
+use Rattle.bw_answer.specs.Progress.{GoesOver, query_in}
 use Rattle.bw_query.proofs.TableLemmas.{goes_nowhere, goes_on, one_more}
 use Rattle.bw_query.proofs.memory_text.take_segments.Goals as goal
 
@@ -28,14 +30,16 @@ loop-number-init g c =
 
 pub take_segment-requires-clause-scan : goal.take_segment-requires-clause-scan
 take_segment-requires-clause-scan g c =
-    subst (λ (query : Query). IsFor (schema_of c.args.table.now).columns.items query.cond c.args.scan.now) (sym c.loop-number.invariant.asked) c.requires.scan
+    subst (λ (means : Meaning). IsFor means.columns (query_in c.loop-number.answer).cond c.args.scan.now) (sym c.other_segment-segment.ensures.means)
+    (subst (λ (query : Query). IsFor (schema_of c.args.table.now).columns.items query.cond c.args.scan.now) (sym c.loop-number.invariant.asked) c.requires.scan)
 
 pub take_segment-requires-clause-capacity : goal.take_segment-requires-clause-capacity
 take_segment-requires-clause-capacity g c =
     let table = c.args.table.now in
     let number = c.loop-number.number in
     let there : number < table.segments = omega (arith, c.segments-number-end.ensures) in
-    omega (arith, table.within_limit, room_for table.layout (schema_of table).columns.items table.rows number c.loop-number.answer.rows table.columns.items (table.kept.nonempty number there) c.loop-number.invariant.rows)
+    let rows = ap (λ (means : Meaning). length means.rows) c.other_segment-segment.ensures.means in
+    omega (arith, rows, table.within_limit, room_for table.layout (schema_of table).columns.items table.rows number c.loop-number.answer.rows table.columns.items (table.kept.nonempty number there) c.loop-number.invariant.rows)
 
 pub loop-number-preserved : goal.loop-number-preserved
 loop-number-preserved g c =
@@ -44,25 +48,43 @@ loop-number-preserved g c =
     let number = c.loop-number.number in
     let so_far = c.loop-number.invariant in
     let taken = c.in_ok-more.ensures in
+    let means = c.other_segment-segment.ensures.means in
+    let covers = subst (λ (m : Meaning). GoesOver c.loop-number.answer m.rows c.take_segment.new.answer) means taken.covers in
+    let loads = subst (λ (m : Meaning). c.in_ok-more.more.loads ≡ loads_in m.columns c.args.scan.now m.rows) means taken.loads in
+    let skips = subst (λ (m : Meaning). c.in_ok-more.more.skips ≡ skips_in m.columns c.args.scan.now m.rows) means taken.skips in
+    let count = ap (λ (m : Meaning). length m.rows) means in
     let rows = (meaning_numbered table number).rows in
     let groups = stored_groups table.layout columns table.rows number table.columns.items in
     let more = groups_more table.layout columns table.rows number table.columns.items in
-    let count = length-groups table.layout columns table.rows number table.columns.items in
+    let before = length-groups table.layout columns table.rows number table.columns.items in
     record {
       placed = c.other_segment-segment.ensures.placed;
-      covers = rw more (goes_on _ _ _ groups rows so_far.covers taken.covers);
+      covers = rw more (goes_on _ _ _ groups rows so_far.covers covers);
       scanned = rw more (record {
-        segments = omega (arith, so_far.scanned.segments, count, length-groups table.layout columns table.rows (number + 1) table.columns.items, ap length more);
-        loads = one_more (loads_in columns c.args.scan.now) groups rows _ _ so_far.scanned.loads taken.loads;
-        skips = one_more (skips_in columns c.args.scan.now) groups rows _ _ so_far.scanned.skips taken.skips;
+        segments = omega (arith, so_far.scanned.segments, before, length-groups table.layout columns table.rows (number + 1) table.columns.items, ap length more);
+        loads = one_more (loads_in columns c.args.scan.now) groups rows _ _ so_far.scanned.loads loads;
+        skips = one_more (skips_in columns c.args.scan.now) groups rows _ _ so_far.scanned.skips skips;
       });
       few_loads = omega (arith, so_far.few_loads, taken.bounded);
       few_skips = omega (arith, so_far.few_skips, taken.bounded);
-      rows = omega (arith, taken.rows, rows_before table.layout columns table.rows number c.loop-number.answer.rows table.columns.items so_far.rows);
+      rows = omega (arith, count, taken.rows, rows_before table.layout columns table.rows number c.loop-number.answer.rows table.columns.items so_far.rows);
       width = taken.width ∙ so_far.width;
       asked = taken.covers.same ∙ so_far.asked;
       counts = λ is. subst CountsRows (sym taken.covers.same) (so_far.counts is);
     }
+
+-- a table without a segment has no rows
+pub returns-then-segments-eq0-clause-covers : goal.returns-then-segments-eq0-clause-covers
+returns-then-segments-eq0-clause-covers g c =
+    let table = c.args.table.now in
+    let none = sym c.segments.ensures ∙ c.if-segments-eq0.true in
+    rw (none, no_groups table.layout (schema_of table).columns.items table.rows table.columns.items) (goes_nowhere c.args.answer.now)
+
+pub returns-then-segments-eq0-clause-counts : goal.returns-then-segments-eq0-clause-counts
+returns-then-segments-eq0-clause-counts g c =
+    let table = c.args.table.now in
+    let none = sym c.segments.ensures ∙ c.if-segments-eq0.true in
+    rw (none, no_groups table.layout (schema_of table).columns.items table.rows table.columns.items) (record { segments = refl; loads = refl; skips = refl })
 
 pub overflow_add-scanned : goal.overflow_add-scanned
 overflow_add-scanned g c =
