@@ -1,9 +1,10 @@
 -- Lines that are checked to be right are those of parts that obey.
 use Rattle.std.proofs.Common.{◌≡◌, ◌∙◌, refl, sym, ap, ap₂, subst, ◌⊎◌, inl, inr, ℕ, zero, suc, ◌+◌}
-use Rattle.std.proofs.Common.{◌<◌, ◌≤◌, Bool, true, false, not, ◌&&◌, List, [], ◌∷◌, ◌++◌, add-zero}
+use Rattle.std.proofs.Common.{◌<◌, ◌≤◌, true, not, ◌&&◌, List, [], ◌∷◌, ◌++◌, add-zero}
 use Rattle.std.proofs.Common.{append-nil, append_assoc, drop, map, length, length-append, Option}
 use Rattle.std.proofs.Common.{Some, None, Result, Ok, Err, slice_get, arith}
-use Rattle.std.proofs.lemmas.Bool.{eqb-true}
+use Rattle.std.proofs.lemmas.Bool.{eqb-true, false≢true, not-false}
+use Rattle.std.proofs.lemmas.Option.{same_Some}
 use Rattle.bw_model.specs.declared.fault.Fault.{Fault}
 use Rattle.bw_model.specs.Fault.{at_line, refused_if}
 use Rattle.bw_diagram.specs.Facts.{Facts}
@@ -24,21 +25,11 @@ use Rattle.bw_cert_rules.specs.Known.{KnownNodes, nothing_known, with_node}
 use Rattle.bw_cert_rules.specs.Walk.{WalkState, keep_in, by_keep, keeps_taken, join_taken, is_join}
 use Rattle.bw_cert_rules.specs.Walk.{instruction_on, instruction_taken, apply_join}
 use Rattle.bw_cert_rules.specs.Walk.{check_lines_from, check_lines}
-use Rattle.bw_cert_rules.proofs.HoldLemmas.{bind_ok, not_refused}
+use Rattle.bw_cert_rules.proofs.HoldLemmas.{bind_ok, not_refused, ok_same}
 
--- what is the same if it was returned, and what can't be
-ok_is : {A : Type 0} {x y : A} → ◌≡◌ {A = Result A Fault} (Ok x) (Ok y) → x ≡ y
-ok_is is = cc
-
+-- what can't be returned
 err_not : {A G : Type 0} {x : A} {fault : Fault} → ◌≡◌ {A = Result A Fault} (Err fault) (Ok x) → G
 err_not is = cc
-
-false_not : {G : Type 0} → false ≡ true → G
-false_not is = cc
-
-negated : (b : Bool) → not b ≡ false → b ≡ true
-negated true is = refl
-negated false is = cc
 
 -- the line of an instruction
 pub record Line (facts : Facts) (known : KnownNodes) (instr : Instr) (lines : List BodyLine) (through : WalkState) : Type 0 where
@@ -54,16 +45,14 @@ line_read facts end known instr (line ∷ lines) through is = at line.entry refl
     at : (entry : Entry) → line.entry ≡ entry → (k : KnownNodes) × (instruction_on facts known instr line line.entry ≡ Ok k) × (◌≡◌ {A = Result WalkState Fault} (Ok (record { known = k; rest = lines })) (Ok through)) →
         Line facts known instr (line ∷ lines) through
     at (line_of.Instruction entry) there (k, says, done) =
-        let same : record { known = k; rest = lines } ≡ through = ok_is done in
+        let same : record { known = k; rest = lines } ≡ through = ok_same done in
         record {
           line = line.line;
           entry = entry;
           spelled = ap₂ (λ (l : BodyLine) (ls : List BodyLine). l ∷ ls) (ap (λ e. record { line = line.line; entry = e }) there) (ap (λ (t : WalkState). t.rest) same);
           says = ap (instruction_on facts known instr line) (sym there) ∙ says ∙ ap (λ (t : WalkState). Ok t.known) same;
         }
-    at (line_of.Condition given) there (k, says, done) = err_not (ap (instruction_on facts known instr line) (sym there) ∙ says)
-    at (line_of.Join place) there (k, says, done) = err_not (ap (instruction_on facts known instr line) (sym there) ∙ says)
-    at (line_of.Keep keep) there (k, says, done) = err_not (ap (instruction_on facts known instr line) (sym there) ∙ says)
+    at _ there (k, says, done) = err_not (ap (instruction_on facts known instr line) (sym there) ∙ says)
 
 -- the lines KEEP of a join
 pub record Keeps (facts : Facts) (through : KnownNodes) (edges : List Edge) (least : ℕ) (kept : KnownNodes) (lines : List BodyLine) (taken : WalkState) : Type 0 where
@@ -76,7 +65,7 @@ pub keeps_read : (facts : Facts) (through : KnownNodes) (edges : List Edge) (lea
     Keeps facts through edges least kept lines taken
 unfolding keeps_taken are_kept kept_by
 keeps_read facts through edges least kept [] taken is =
-    let same : record { known = kept; rest = [] } ≡ taken = ok_is is in
+    let same : record { known = kept; rest = [] } ≡ taken = ok_same is in
     record { keeps = []; spelled = ap (λ (t : WalkState). t.rest) same; kept_are = refl; known = sym (ap (λ (t : WalkState). t.known) same) }
 keeps_read facts through edges least kept (line ∷ lines) taken is =
     at line.entry refl is (λ keep. keeps_read facts through edges (suc keep.register) (with_node kept keep.register keep.node) lines taken)
@@ -90,26 +79,24 @@ keeps_read facts through edges least kept (line ∷ lines) taken is =
 
     ended : ◌≡◌ {A = Result WalkState Fault} (Ok stop) (Ok taken) → Keeps facts through edges least kept (line ∷ lines) taken
     ended done =
-        let same : stop ≡ taken = ok_is done in
+        let same : stop ≡ taken = ok_same done in
         record { keeps = []; spelled = ap (λ (t : WalkState). t.rest) same; kept_are = refl; known = sym (ap (λ (t : WalkState). t.known) same) }
 
     at : (entry : Entry) → line.entry ≡ entry → by_keep (keep_in line.entry) (Ok stop) next ≡ Ok taken →
         ((keep : Keep) → keeps_taken facts through edges (suc keep.register) (with_node kept keep.register keep.node) lines ≡ Ok taken → Keeps facts through edges (suc keep.register) (with_node kept keep.register keep.node) lines taken) →
         Keeps facts through edges least kept (line ∷ lines) taken
-    at (line_of.Instruction given) there is rest = ended (ap (λ e. by_keep (keep_in e) (Ok stop) next) (sym there) ∙ is)
-    at (line_of.Condition given) there is rest = ended (ap (λ e. by_keep (keep_in e) (Ok stop) next) (sym there) ∙ is)
-    at (line_of.Join place) there is rest = ended (ap (λ e. by_keep (keep_in e) (Ok stop) next) (sym there) ∙ is)
     at (line_of.Keep keep) there is rest =
         let now : next keep ≡ Ok taken = ap (λ e. by_keep (keep_in e) (Ok stop) next) (sym there) ∙ is in
         let passed = not_refused (not (is_valid_keep facts through edges least keep)) _ _ taken now in
         let more = rest keep passed.1 in
-        let kept_is : is_valid_keep facts through edges least keep ≡ true = negated _ passed.0 in
+        let kept_is : is_valid_keep facts through edges least keep ≡ true = not-false _ passed.0 in
         record {
           keeps = record { line = line.line; keep = keep } ∷ more.keeps;
           spelled = ap₂ (λ (l : BodyLine) (ls : List BodyLine). l ∷ ls) (ap (λ e. record { line = line.line; entry = e }) there) more.spelled;
           kept_are = ap₂ (λ a b. a && b) kept_is more.kept_are;
           known = more.known;
         }
+    at _ there is rest = ended (ap (λ e. by_keep (keep_in e) (Ok stop) next) (sym there) ∙ is)
 
 -- the join of a place, if it has one
 pub record Joined (facts : Facts) (place : ℕ) (edges : List Edge) (through taken : WalkState) : Type 0 where
@@ -120,7 +107,7 @@ pub record Joined (facts : Facts) (place : ℕ) (edges : List Edge) (through tak
 
 pub join_read : (facts : Facts) (end place : ℕ) (edges : List Edge) (through taken : WalkState) → apply_join facts end place edges through ≡ Ok taken → Joined facts place edges through taken
 join_read facts end place [] through taken is =
-    let same : through ≡ taken = ok_is is in
+    let same : through ≡ taken = ok_same is in
     record { join = None; spelled = ap (λ (t : WalkState). t.rest) same; valid_parts = refl; known = sym (ap (λ (t : WalkState). t.known) same) }
 join_read facts end place (edge ∷ edges) through taken is = at through.rest refl (bind_ok (join_taken end place through.rest) _ taken is)
   where
@@ -131,19 +118,17 @@ join_read facts end place (edge ∷ edges) through taken is = at through.rest re
     joins line more (line_of.Join target) there is =
         let same : target ≡ place = eqb-true target place (ap (is_join place) (sym there) ∙ is) in
         ap (λ e. record { line = line.line; entry = e }) (there ∙ ap line_of.Join same)
-    joins line more (line_of.Instruction given) there is = false_not (ap (is_join place) (sym there) ∙ is)
-    joins line more (line_of.Condition given) there is = false_not (ap (is_join place) (sym there) ∙ is)
-    joins line more (line_of.Keep keep) there is = false_not (ap (is_join place) (sym there) ∙ is)
+    joins line more _ there is = absurd (false≢true (ap (is_join place) (sym there) ∙ is))
 
     at : (rest : List BodyLine) → through.rest ≡ rest → Answer → Joined facts place (edge ∷ edges) through taken
     at [] there (lines, took, kept) = err_not (ap (join_taken end place) (sym there) ∙ took)
     at (line ∷ more) there (lines, took, kept) =
         let passed = not_refused (not (is_join place line.entry)) _ _ lines (ap (join_taken end place) (sym there) ∙ took) in
-        let more_is : more ≡ lines = ok_is passed.1 in
+        let more_is : more ≡ lines = ok_same passed.1 in
         let keeps = keeps_read facts through.known (edge ∷ edges) 0 nothing_known lines taken kept in
         record {
           join = Some (record { line = line.line; keeps = keeps.keeps });
-          spelled = there ∙ ap₂ (λ (l : BodyLine) (ls : List BodyLine). l ∷ ls) (joins line more line.entry refl (negated _ passed.0)) (more_is ∙ keeps.spelled);
+          spelled = there ∙ ap₂ (λ (l : BodyLine) (ls : List BodyLine). l ∷ ls) (joins line more line.entry refl (not-false _ passed.0)) (more_is ∙ keeps.spelled);
           valid_parts = keeps.kept_are;
           known = keeps.known;
         }
@@ -194,9 +179,6 @@ lines_more place (p ∷ parts) part =
     ap (λ (ls : List BodyLine). record { line = p.line; entry = line_of.Instruction p.entry } ∷ ls)
     (ap (λ ls. own ++ ls) (lines_more (suc place) parts part ∙ ap (λ n. lines_of (suc place) parts ++ record { line = part.line; entry = line_of.Instruction part.entry } ∷ join_lines (suc n) part.join) (omega arith))
     ∙ sym (append_assoc own (lines_of (suc place) parts) last))
-
-some_is : {A : Type 0} {x y : A} → Some x ≡ Some y → x ≡ y
-some_is is = cc
 
 nothing_there : {G : Type 0} (k : ℕ) (part : Part) → slice_get [] k ≡ Some part → G
 nothing_there k part is = cc
@@ -275,7 +257,7 @@ come_on facts instrs lines place edges taken through past_it instr there come li
     obeyed = ap₂ (λ k es. is_valid_join facts k (edges_into (suc place) es) join.join) through_is (edges_more facts instrs come.parts part (suc place) (omega (arith, come.part_count)) ∙ sym edges_same) ∙ join.valid_parts
 
     same_instr : (k : ℕ) (i : Instr) → k ≡ place → slice_get instrs k ≡ Some i → instr ≡ i
-    same_instr k i at i_there = some_is (sym there ∙ ap (slice_get instrs) (sym at) ∙ i_there)
+    same_instr k i at i_there = same_Some _ _ (sym there ∙ ap (slice_get instrs) (sym at) ∙ i_there)
 
     instruction_at : (k : ℕ) (i : Instr) (q : Part) → slice_get instrs k ≡ Some i → ((k < length come.parts) × (slice_get come.parts k ≡ Some q)) ⊎ ((k ≡ length come.parts) × (part ≡ q)) →
         check_instruction_line facts (known_before facts instrs all k) q.line i q.entry ≡ Ok (known_on_fallthrough facts (known_before facts instrs all k) i q)
@@ -303,7 +285,7 @@ come_to_end : (facts : Facts) (all instrs : List Instr) (end : ℕ) (lines : Lis
     check_lines_from facts end place edges instrs taken ≡ Ok last → Accepts facts all lines last
 unfolding check_lines_from
 come_to_end facts all [] end lines place edges taken last rest count come is =
-    let same : taken ≡ last = ok_is is in
+    let same : taken ≡ last = ok_same is in
     let long : place ≡ length all = omega (arith, count) in
     subst (Accepts facts all lines) same (record {
       parts = come.parts;

@@ -73,7 +73,5 @@ no_more_keeps facts through edges least kept lines more line there other =
   where
     at : (entry : Entry) → line.entry ≡ entry → by_keep (keep_in entry) (Ok (record { known = kept; rest = line ∷ more })) (λ keep. refused_if (not (is_valid_keep facts through edges least keep)) (at_line 608 line.line)
         (keeps_taken facts through edges (suc keep.register) (with_node kept keep.register keep.node) more)) ≡ Ok (record { known = kept; rest = line ∷ more })
-    at (line_of.Condition given) is = refl
-    at (line_of.Instruction given) is = refl
-    at (line_of.Join place) is = refl
     at (line_of.Keep keep) is = absurd (other keep is)
+    at _ is = refl

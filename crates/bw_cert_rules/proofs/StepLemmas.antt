@@ -1,11 +1,10 @@
 -- What is known after an instruction holds after its step.
 use Rattle.std.proofs.Common.{◌≡◌, ◌∙◌, refl, sym, ap, ap₂, subst, ℕ, suc, ◌+◌, ◌-◌, ◌*◌, ◌^◌, ◌<◌}
 use Rattle.std.proofs.Common.{Bool, true, false, not, ◌&&◌, ◌||◌, cond, List, map, Option, Some}
-use Rattle.std.proofs.Common.{None, Result, Ok, nat_le, arith}
+use Rattle.std.proofs.Common.{None, Ok, nat_le, arith}
 use Rattle.std.proofs.lemmas.Bool.{lt-ltb, leb-true, ne_eqb}
 use Rattle.std.proofs.lemmas.Simd.{zip2-map, map-map}
 use Rattle.std.specs.Simd.Lanes.{zip2}
-use Rattle.bw_model.specs.declared.fault.Fault.{Fault}
 use Rattle.bw_model.specs.StoredCodes.{byte_spelled, bits_in_slice}
 use Rattle.bw_model.specs.Variable.{Assignment, first_variable, bit_variable}
 use Rattle.bw_diagram.specs.declared.chain.ChainKind.{ChainKind}
@@ -31,16 +30,8 @@ use Rattle.bw_cert_rules.specs.Instruction.{check_instruction_line}
 use Rattle.bw_cert_rules.specs.Known.{KnownNodes}
 use Rattle.bw_cert_rules.specs.Sound.{Hold}
 use Rattle.bw_cert_rules.proofs.HoldLemmas.{bind_ok, not_refused, found_ok, map_same, holds_written}
-use Rattle.bw_cert_rules.proofs.HoldLemmas.{spelled_small}
-
-some_same : {A : Type 0} {x y : A} → Some x ≡ Some y → x ≡ y
-some_same is = cc
-
-ok_same : {x y : KnownNodes} → ◌≡◌ {A = Result KnownNodes Fault} (Ok x) (Ok y) → x ≡ y
-ok_same is = cc
-
-none_is : {A : Type 0} {G : Type 0} {x : A} → None ≡ Some x → G
-none_is is = cc
+use Rattle.bw_cert_rules.proofs.HoldLemmas.{ok_same, spelled_small}
+use Rattle.std.proofs.lemmas.Option.{none-some, same_Some}
 
 -- a node's values in some lanes
 abbrev pub values : Facts → List Assignment → ℕ → List Bool
@@ -112,22 +103,21 @@ byte_denotes facts lanes line kind there column slice k node given denoted is =
     at : (chain : Option ℕ) (past : Bool) → nat_le (2 ^ bits_in_slice facts.columns column slice) k ≡ past → byte_node facts kind column slice k chain ≡ Some node →
         (assignment : Assignment) → compares kind (byte assignment) k ≡ node_value facts.nodes assignment node
     at None true past is assignment =
-        let node_is : past_node kind ≡ node = some_same (ap (λ b. cond b (Some (past_node kind)) None) (sym past) ∙ is) in
+        let node_is : past_node kind ≡ node = same_Some _ _ (ap (λ b. cond b (Some (past_node kind)) None) (sym past) ∙ is) in
         let small : byte assignment < k =
         omega (arith, leb-true (2 ^ bits_in_slice facts.columns column slice) k past, spelled_small assignment (first_variable facts.columns (suc column) - (8 * slice + bits_in_slice facts.columns column slice)) (bits_in_slice facts.columns column slice)) in
         past_denotes facts assignment kind (byte assignment) k denoted small ∙ ap (node_value facts.nodes assignment) node_is
-    at None false past is assignment = none_is (ap (λ b. cond b (Some (past_node kind)) None) (sym past) ∙ is)
-    at (Some chain) true past is assignment = none_is (ap (λ b. cond b None (comparison_node facts kind column (8 * slice) (bits_in_slice facts.columns column slice) k chain)) (sym past) ∙ is)
+    at None false past is assignment = absurd (none-some _ (ap (λ b. cond b (Some (past_node kind)) None) (sym past) ∙ is))
+    at (Some chain) true past is assignment = absurd (none-some _ (ap (λ b. cond b None (comparison_node facts kind column (8 * slice) (bits_in_slice facts.columns column slice) k chain)) (sym past) ∙ is))
     at (Some chain) false past is assignment =
         let cites : comparison_node facts kind column (8 * slice) (bits_in_slice facts.columns column slice) k chain ≡ Some node =
         ap (λ b. cond b None (comparison_node facts kind column (8 * slice) (bits_in_slice facts.columns column slice) k chain)) (sym past) ∙ is in
         sym ((denoted.chain kind column (8 * slice) (bits_in_slice facts.columns column slice) k chain node cites).1 assignment)
 
 differ_joins : (a b : Bool) → differ a b ≡ apply_connective connective.Xor a b
-differ_joins true true = refl
 differ_joins true false = refl
-differ_joins false true = refl
 differ_joins false false = refl
+differ_joins _ _ = refl
 
 -- What is known after an instruction by its line holds after its step, if what was known held
 -- before it.

@@ -50,12 +50,11 @@ keeps_written facts through edges least kept (k ∷ keeps) rest none are =
 join_written : (facts : Facts) (end place : ℕ) (edges : List Edge) (through : KnownNodes) (join : Option JoinLines) (rest : List BodyLine) → NoKeep rest → is_valid_join facts through edges join ≡ true →
     apply_join facts end place edges (record { known = through; rest = join_lines place join ++ rest }) ≡ Ok (record { known = known_after_join through join; rest = rest })
 join_written facts end place [] through None rest none valid_parts = refl
-join_written facts end place [] through (Some join) rest none valid_parts = cc
-join_written facts end place (edge ∷ edges) through None rest none valid_parts = cc
 join_written facts end place (edge ∷ edges) through (Some join) rest none valid_parts =
     let lines : List BodyLine = map keep_line join.keeps ++ rest in
     ap (λ b. refused_if (not b) (at_line 608 join.line) (Ok lines) >>= λ lines. keeps_taken facts through (edge ∷ edges) 0 nothing_known lines) (eq-eqb place place refl)
     ∙ keeps_written facts through (edge ∷ edges) 0 nothing_known join.keeps rest none valid_parts
+join_written facts end place _ through _ rest none valid_parts = cc
 
 -- the lines of parts from a place on
 walk_written : (facts : Facts) (all : List Instr) (every : List Part) (end place : ℕ) (instrs : List Instr) (parts : List Part) → AreValidParts facts all every → drop place all ≡ instrs → drop place every ≡ parts → length parts ≡ length instrs →
@@ -63,8 +62,6 @@ walk_written : (facts : Facts) (all : List Instr) (every : List Part) (end place
     ≡ Ok (record { known = known_before facts all every (place + length instrs); rest = [] })
 unfolding check_lines_from lines_of known_before edges_before
 walk_written facts all every end place [] [] valid_parts instrs_are parts_are count = ap (λ n. Ok (record { known = known_before facts all every n; rest = [] })) (sym (add-zero place))
-walk_written facts all every end place [] (part ∷ parts) valid_parts instrs_are parts_are count = cc
-walk_written facts all every end place (instr ∷ instrs) [] valid_parts instrs_are parts_are count = cc
 walk_written facts all every end place (instr ∷ instrs) (part ∷ parts) valid_parts instrs_are parts_are count =
     let instr_there = drop_stands all instrs place instr instrs_are in
     let part_there = drop_stands every parts place part parts_are in
@@ -85,6 +82,7 @@ walk_written facts all every end place (instr ∷ instrs) (part ∷ parts) valid
     ∙ ap (λ es. check_lines_from facts end (suc place) es instrs (record { known = known_before facts all every (suc place); rest = lines_of (suc place) parts })) edges_are
     ∙ walk_written facts all every end (suc place) instrs parts valid_parts instr_there.1 part_there.1 (omega (arith, count))
     ∙ ap (λ n. Ok (record { known = known_before facts all every n; rest = [] })) (omega arith)
+walk_written facts all every end place _ _ valid_parts instrs_are parts_are count = cc
 
 pub judged_written : (facts : Facts) (instrs : List Instr) (parts : List Part) (end : ℕ) → AreValidParts facts instrs parts → check_lines facts instrs end (lines_of 0 parts) ≡ Ok (record { known = known_before facts instrs parts (length instrs); rest = [] })
 unfolding known_before edges_before
