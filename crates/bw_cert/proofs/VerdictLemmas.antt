@@ -14,6 +14,8 @@ use Rattle.bw_cert_text.specs.CertificateFields.{CertificateFields, chain_fields
 use Rattle.bw_cert_text.specs.CertificateFields.{certificate_fields}
 use Rattle.bw_cert_text.specs.CertificateShape.{CertificateShape}
 use Rattle.bw_cert_text.specs.CertificateText.{certificate_from, certificate_of, IsCertificateText}
+use Rattle.bw_program.proofs.ProgramSpelling.{spelled_text as program_read}
+use Rattle.bw_cert_text.proofs.TextSpelling.{spelled_text as certificate_read}
 use Rattle.bw_cert.specs.Valid.{Valid, check_certificate}
 use Rattle.bw_report.specs.declared.accepted.Accepted.{Accepted}
 use Rattle.bw_cert.specs.declared.certified_file.CertifiedFile.{CertifiedFile}
@@ -37,11 +39,8 @@ certificates_same : (file text other stated another : List ℕ) (first second : 
 certificates_same file text other stated another first second a b =
     ap₂ (λ n lines. certificate_from 0 (numbered_from n lines) (n + length lines)) (a.number ∙ sym b.number) (a.after ∙ sym b.after)
 
--- what is read of program texts and of certificate texts, and that certificates are checked by what
--- they say
+-- certificates are checked by what they say, and no line of a valid one breaks a rule
 pub record Laws : Type 0 where
-  pub program : (columns : List Column) (text : List ℕ) (program : ProgramShape) → IsProgramText columns text program → program_of columns text ≡ Ok program
-  pub certificate : (first : ℕ) (text : List ℕ) (certificate : CertificateFields) → IsCertificateText first text certificate → certificate_of first text ≡ Ok certificate
   pub judged : (columns : List Column) (cond same : Cond) (program : ProgramShape) (certificate other : CertificateShape) → tree_of cond ≡ tree_of same →
       certificate_fields certificate ≡ certificate_fields other → check_certificate columns cond program certificate ≡ check_certificate columns same program other
   pub valid : (columns : List Column) (cond : Cond) (program : ProgramShape) (certificate : CertificateShape) → (valid : Valid columns cond program certificate) →
@@ -53,14 +52,14 @@ module _ (laws : Laws) (columns : List Column) (file : List ℕ) where
       IsProgramText columns text program → IsProgramText columns other next → program ≡ next
   one_program text other stated another first second program next a b is as_well =
       let both : ◌≡◌ {A = Result ProgramShape Fault} (Ok program) (Ok next) =
-      sym (laws.program columns text program is) ∙ programs_same columns file text other stated another first second a b ∙ laws.program columns other next as_well in
+      sym (program_read columns text program is) ∙ programs_same columns file text other stated another first second a b ∙ program_read columns other next as_well in
       cc
 
   one_certificate : (text other stated another : List ℕ) (first second : ℕ) (fields next : CertificateFields) → IsCut file text stated first → IsCut file other another second →
       IsCertificateText first stated fields → IsCertificateText second another next → fields ≡ next
   one_certificate text other stated another first second fields next a b is as_well =
       let both : ◌≡◌ {A = Result CertificateFields Fault} (Ok fields) (Ok next) =
-      sym (laws.certificate first stated fields is) ∙ certificates_same file text other stated another first second a b ∙ laws.certificate second another next as_well in
+      sym (certificate_read first stated fields is) ∙ certificates_same file text other stated another first second a b ∙ certificate_read second another next as_well in
       cc
 
   pub one_way : (cond same : Cond) (program next : ProgramShape) (certificate other : CertificateShape) → Certifies columns cond file program certificate → Certifies columns same file next other →
@@ -74,9 +73,9 @@ module _ (laws : Laws) (columns : List Column) (file : List ℕ) where
       Certifies columns cond file program certificate → IsFileFault columns same file fault → ⊥
   no_fault cond same program certificate _ trees is (too_long long) = let short = is.short in absurd (omega arith)
   no_fault cond same program certificate _ trees is (program_refused {text} {stated} {first} {fault} short cut refused) =
-      not_both (sym (laws.program columns is.program_text program is.spelled) ∙ programs_same columns file is.program_text text is.certificate_text stated is.first first is.cut cut ∙ refused)
+      not_both (sym (program_read columns is.program_text program is.spelled) ∙ programs_same columns file is.program_text text is.certificate_text stated is.first first is.cut cut ∙ refused)
   no_fault cond same program certificate _ trees is (certificate_refused {text} {stated} {first} {program = next} {fault} short cut spelled refused) =
-      not_both (sym (laws.certificate is.first is.certificate_text _ is.stated) ∙ certificates_same file is.program_text text is.certificate_text stated is.first first is.cut cut ∙ refused)
+      not_both (sym (certificate_read is.first is.certificate_text _ is.stated) ∙ certificates_same file is.program_text text is.certificate_text stated is.first first is.cut cut ∙ refused)
   no_fault cond same program certificate _ trees is (line_refused {text} {stated} {first} {program = next} other {fault} short cut spelled says refused) =
       let programs : program ≡ next = one_program is.program_text text is.certificate_text stated is.first first program next is.cut cut is.spelled spelled in
       let fields : certificate_fields certificate ≡ certificate_fields other = one_certificate is.program_text text is.certificate_text stated is.first first _ _ is.cut cut is.stated says in
@@ -90,28 +89,28 @@ module _ (laws : Laws) (columns : List Column) (file : List ℕ) where
   program_fault cond text stated first fault _ short cut refused (program_refused {text = next} {stated = another} {first = second} {fault = other} _ there is) =
       same_fault (sym refused ∙ programs_same columns file text next stated another first second cut there ∙ is)
   program_fault cond text stated first fault _ short cut refused (certificate_refused {text = next} {stated = another} {first = second} {program} _ there spelled is) =
-      absurd (not_both (sym (laws.program columns next program spelled) ∙ programs_same columns file next text another stated second first there cut ∙ refused))
+      absurd (not_both (sym (program_read columns next program spelled) ∙ programs_same columns file next text another stated second first there cut ∙ refused))
   program_fault cond text stated first fault _ short cut refused (line_refused {text = next} {stated = another} {first = second} {program} certificate _ there spelled says is) =
-      absurd (not_both (sym (laws.program columns next program spelled) ∙ programs_same columns file next text another stated second first there cut ∙ refused))
+      absurd (not_both (sym (program_read columns next program spelled) ∙ programs_same columns file next text another stated second first there cut ∙ refused))
 
   certificate_fault : (cond : Cond) (text stated : List ℕ) (first : ℕ) (program : ProgramShape) (fault other : Fault) → length file ≤ longest_program_file → IsCut file text stated first →
       IsProgramText columns text program → certificate_of first stated ≡ Err fault → IsFileFault columns cond file other → fault ≡ other
   certificate_fault cond text stated first program fault _ short cut spelled refused (too_long long) = absurd (omega arith)
   certificate_fault cond text stated first program fault _ short cut spelled refused (program_refused {text = next} {stated = another} {first = second} _ there is) =
-      absurd (not_both (sym (laws.program columns text program spelled) ∙ programs_same columns file text next stated another first second cut there ∙ is))
+      absurd (not_both (sym (program_read columns text program spelled) ∙ programs_same columns file text next stated another first second cut there ∙ is))
   certificate_fault cond text stated first program fault _ short cut spelled refused (certificate_refused {text = next} {stated = another} {first = second} {fault = other} _ there as_well is) =
       same_fault (sym refused ∙ certificates_same file text next stated another first second cut there ∙ is)
   certificate_fault cond text stated first program fault _ short cut spelled refused (line_refused {text = next} {stated = another} {first = second} certificate _ there as_well says is) =
-      absurd (not_both (sym (laws.certificate second another _ says) ∙ certificates_same file next text another stated second first there cut ∙ refused))
+      absurd (not_both (sym (certificate_read second another _ says) ∙ certificates_same file next text another stated second first there cut ∙ refused))
 
   line_fault : (cond same : Cond) (text stated : List ℕ) (first : ℕ) (program : ProgramShape) (certificate : CertificateShape) (fault other : Fault) → tree_of cond ≡ tree_of same → length file ≤ longest_program_file →
       IsCut file text stated first → IsProgramText columns text program → IsCertificateText first stated (certificate_fields certificate) → check_certificate columns cond program certificate ≡ Err fault →
       IsFileFault columns same file other → fault ≡ other
   line_fault cond same text stated first program certificate fault _ trees short cut spelled says refused (too_long long) = absurd (omega arith)
   line_fault cond same text stated first program certificate fault _ trees short cut spelled says refused (program_refused {text = next} {stated = another} {first = second} _ there is) =
-      absurd (not_both (sym (laws.program columns text program spelled) ∙ programs_same columns file text next stated another first second cut there ∙ is))
+      absurd (not_both (sym (program_read columns text program spelled) ∙ programs_same columns file text next stated another first second cut there ∙ is))
   line_fault cond same text stated first program certificate fault _ trees short cut spelled says refused (certificate_refused {text = next} {stated = another} {first = second} _ there as_well is) =
-      absurd (not_both (sym (laws.certificate first stated _ says) ∙ certificates_same file text next stated another first second cut there ∙ is))
+      absurd (not_both (sym (certificate_read first stated _ says) ∙ certificates_same file text next stated another first second cut there ∙ is))
   line_fault cond same text stated first program certificate fault _ trees short cut spelled says refused (line_refused {text = next} {stated = another} {first = second} {program = later} other _ there as_well say is) =
       let programs : program ≡ later = one_program text next stated another first second program later cut there spelled as_well in
       let fields : certificate_fields certificate ≡ certificate_fields other = one_certificate text next stated another first second _ _ cut there says say in

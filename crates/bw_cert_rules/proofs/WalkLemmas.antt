@@ -1,7 +1,7 @@
 -- The walk over a program's lines, one instruction after another.
 use Rattle.std.proofs.Common.{◌≡◌, ◌∙◌, sym, ap, ℕ, zero, suc, List, [], ◌∷◌, drop, Some, Ok, Err}
-use Rattle.std.proofs.Common.{slice_get, ◌≤◌, length, arith}
-use Rattle.std.proofs.Math.Seq.{drop-nil}
+use Rattle.std.proofs.Common.{slice_get, ◌≤◌, length}
+use Rattle.std.proofs.lemmas.List.{drop_all}
 use Rattle.bw_model.specs.declared.fault.Fault.{Fault}
 use Rattle.bw_model.specs.Fault.{◌>>=◌}
 use Rattle.bw_diagram.specs.Facts.{Facts}
@@ -65,9 +65,4 @@ join_refused facts end number place edges into instrs instr taken through fault 
 -- at the end
 pub walked_end : (facts : Facts) (end number : ℕ) (edges : List Edge) (instrs : List Instr) (taken : WalkState) → length instrs ≤ number → check_lines_from facts end number edges (drop number instrs) taken ≡ Ok taken
 unfolding check_lines_from
-walked_end facts end number edges instrs taken long = ap (λ is. check_lines_from facts end number edges is taken) (none instrs number long)
-  where
-    none : {A : Type 0} (xs : List A) (n : ℕ) → length xs ≤ n → drop n xs ≡ []
-    none [] n le = drop-nil n
-    none (x ∷ xs) zero le = absurd (omega (arith, le))
-    none (x ∷ xs) (suc n) le = none xs n (omega (arith, le))
+walked_end facts end number edges instrs taken long = ap (λ is. check_lines_from facts end number edges is taken) (drop_all number instrs long)
