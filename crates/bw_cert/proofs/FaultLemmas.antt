@@ -31,7 +31,7 @@ use Rattle.bw_cert_rules.specs.Join.{is_valid_keep}
 use Rattle.bw_cert_rules.specs.Known.{KnownNodes, node_of, nothing_known, with_node}
 use Rattle.bw_cert_rules.specs.Walk.{WalkState, keep_in, by_keep, keeps_taken, join_taken, is_join}
 use Rattle.bw_cert_rules.specs.Walk.{instruction_on, instruction_taken, apply_join}
-use Rattle.bw_cert_rules.proofs.JoinLemmas.{keep_on, keep_refused}
+use Rattle.bw_cert_rules.proofs.JoinLemmas.{keep_step}
 use Rattle.bw_cert_rules.specs.Accepted.{NoKeep}
 use Rattle.bw_cert_rules.proofs.WrittenLemmas.{taken_of}
 use Rattle.bw_cert.specs.FirstFault.{WrongLine, WrongKeep, WrongJoin}
@@ -115,11 +115,11 @@ module _ (facts : Facts) (through : KnownNodes) (edges : List Edge) where
       are_kept facts through edges least (keeps ++ wrong ∷ []) ≡ false → keeps_taken facts through edges least kept (map keep_line keeps ++ keep_line wrong ∷ others) ≡ Err (at_line 608 wrong.line)
   unfolding are_kept
   wrong_keep least kept [] wrong others hold broken =
-      keep_refused facts through edges least kept _ others (keep_line wrong) wrong.keep refl refl (sym (and-true (is_valid_keep facts through edges least wrong.keep)) ∙ broken)
+      keep_step facts through edges least kept _ others (keep_line wrong) wrong.keep false refl refl (sym (and-true (is_valid_keep facts through edges least wrong.keep)) ∙ broken)
   wrong_keep least kept (k ∷ keeps) wrong others hold broken =
       let now = both (is_valid_keep facts through edges least k.keep) (are_kept facts through edges (suc k.keep.register) keeps) hold in
       let rest = are_kept facts through edges (suc k.keep.register) (keeps ++ wrong ∷ []) in
-      keep_on facts through edges least kept _ (map keep_line keeps ++ keep_line wrong ∷ others) (keep_line k) k.keep refl refl now.0
+      keep_step facts through edges least kept _ (map keep_line keeps ++ keep_line wrong ∷ others) (keep_line k) k.keep true refl refl now.0
       ∙ wrong_keep (suc k.keep.register) (with_node kept k.keep.register k.keep.node) keeps wrong others now.1 (sym (ap (λ b. b && rest) now.0) ∙ broken)
 
   -- after the lines KEEP that were taken comes another line, or none

@@ -6,8 +6,6 @@ use Rattle.std.specs.List.{list_all}
 use Rattle.bw_model.specs.declared.column.Column.{Column}
 use Rattle.bw_model.specs.declared.fault.Fault.{Fault}
 use Rattle.bw_model.specs.Fault.{at_line, ◌>>=◌, refused_if}
-use Rattle.bw_model.specs.Variable.{first_variable, bit_variable}
-use Rattle.bw_diagram.specs.declared.chain.ChainKind.TheVariants.{Less, Equal}
 use Rattle.bw_diagram.specs.declared.product.Connective.TheVariants.{Xor}
 use Rattle.std.proofs.lemmas.Bool.{not-false}
 use Rattle.bw_diagram.specs.References.{product_node}
@@ -24,7 +22,7 @@ use Rattle.bw_cert_text.specs.declared.lines.BodyLine.{BodyLine}
 use Rattle.bw_cert_text.specs.declared.lines.InstructionEntry.{InstructionEntry}
 use Rattle.bw_cert_text.specs.CertificateShape.{CertificateShape}
 use Rattle.bw_cert_rules.specs.Instruction.{check_instruction_line, loaded_node, byte_chain}
-use Rattle.bw_cert_rules.specs.Instruction.{plane_on, byte_on}
+use Rattle.bw_cert_rules.specs.Instruction.{set_register}
 use Rattle.bw_cert_rules.specs.Join.{is_zero}
 use Rattle.bw_cert_rules.specs.Known.{KnownNodes, node_of}
 use Rattle.bw_cert_rules.specs.Walk.{WalkState}
@@ -100,25 +98,21 @@ stated_true columns certificate facts start node chain row is =
     (all_hold AreTrue with_node_line (no_facts columns) nodes.0 certificate.nodes (λ before more line right is. node before more line.n _ right (on_line_ok line.line _ more is))
     start nodes.1) chains.1) chains.2
 
+-- a node that is found by a line, if a test of columns passes
+found_fits : {A : Type 0} (known past : KnownNodes) (register line : ℕ) (found : Option A) (there : Bool) (next : A → Result ℕ Fault) →
+    set_register known register (found_on 607 line found >>= λ x. refused_if (not there) (at_line 607 line) (next x)) ≡ Ok past → there ≡ true
+found_fits known past register line found there next is =
+    let node = bind_ok (found_on 607 line found >>= λ x. refused_if (not there) (at_line 607 line) (next x)) _ past is in
+    let named = bind_ok (found_on 607 line found) _ node.0 node.1 in
+    not-false _ (not_refused (not there) _ _ node.0 named.2).0
+
 -- an instruction whose line is right names what the columns have
 pub after_fits : (facts : Facts) (known past : KnownNodes) (line : ℕ) (i : Instr) (given : InstructionEntry) → check_instruction_line facts known line i given ≡ Ok past → instr_fits facts.columns i ≡ true
 unfolding check_instruction_line
-after_fits facts known past line (instr.Load r column bit) given is =
-    let node = bind_ok (plane_on facts line (instr_fits facts.columns (instr.Load r column bit)) (bit_variable facts.columns column bit) given) _ past is in
-    let named = bind_ok (found_on 607 line (loaded_node given)) _ node.0 node.1 in
-    not-false _ (not_refused (not (instr_fits facts.columns (instr.Load r column bit))) _ _ node.0 named.2).0
-after_fits facts known past line (instr.Nulls r column) given is =
-    let node = bind_ok (plane_on facts line (instr_fits facts.columns (instr.Nulls r column)) (first_variable facts.columns column) given) _ past is in
-    let named = bind_ok (found_on 607 line (loaded_node given)) _ node.0 node.1 in
-    not-false _ (not_refused (not (instr_fits facts.columns (instr.Nulls r column))) _ _ node.0 named.2).0
-after_fits facts known past line (instr.ByteLt r column slice k) given is =
-    let node = bind_ok (byte_on facts line Less (instr_fits facts.columns (instr.ByteLt r column slice k)) column slice k given) _ past is in
-    let named = bind_ok (found_on 607 line (byte_chain given)) _ node.0 node.1 in
-    not-false _ (not_refused (not (instr_fits facts.columns (instr.ByteLt r column slice k))) _ _ node.0 named.2).0
-after_fits facts known past line (instr.ByteEq r column slice k) given is =
-    let node = bind_ok (byte_on facts line Equal (instr_fits facts.columns (instr.ByteEq r column slice k)) column slice k given) _ past is in
-    let named = bind_ok (found_on 607 line (byte_chain given)) _ node.0 node.1 in
-    not-false _ (not_refused (not (instr_fits facts.columns (instr.ByteEq r column slice k))) _ _ node.0 named.2).0
+after_fits facts known past line (instr.Load r column bit) given is = found_fits known past r line (loaded_node given) _ _ is
+after_fits facts known past line (instr.Nulls r column) given is = found_fits known past r line (loaded_node given) _ _ is
+after_fits facts known past line (instr.ByteLt r column slice k) given is = found_fits known past r line (byte_chain given) _ _ is
+after_fits facts known past line (instr.ByteEq r column slice k) given is = found_fits known past r line (byte_chain given) _ _ is
 after_fits facts known past line _ given is = refl
 
 -- what is so of each item of a list

@@ -177,21 +177,15 @@ module _ (facts : Facts) (have_values : HaveStatedValues facts) where
       f_denotes : (made : TruthPair) → if_both (product_node facts And m e p) (product_node facts Diff m e q) ≡ Some made → Denotes facts.nodes (λ assignment. there assignment && not (bit assignment)) made.no
       f_denotes made is = product_node-denoted facts have_values Diff m e made.no q there bit (m_denotes m refl) (e_denotes e refl) (if_both-is _ _ made is).1
 
-      both_yes : (there bit : Bool) → (there && bit) ≡ is_truth (split_truth false there bit) Yes
-      both_yes true false = refl
-      both_yes _ _ = refl
+      says_yes : (negated there bit : Bool) → (there && turned_bit negated bit) ≡ is_truth (split_truth negated there bit) Yes
+      says_yes true true true = refl
+      says_yes false true true = refl
+      says_yes _ _ _ = refl
 
-      both_no : (there bit : Bool) → (there && not bit) ≡ is_truth (split_truth false there bit) No
-      both_no true false = refl
-      both_no _ _ = refl
-
-      turned_yes : (there bit : Bool) → (there && not bit) ≡ is_truth (split_truth true there bit) Yes
-      turned_yes true false = refl
-      turned_yes _ _ = refl
-
-      turned_no : (there bit : Bool) → (there && bit) ≡ is_truth (split_truth true there bit) No
-      turned_no true false = refl
-      turned_no _ _ = refl
+      says_no : (negated there bit : Bool) → (there && turned_bit (not negated) bit) ≡ is_truth (split_truth negated there bit) No
+      says_no true true true = refl
+      says_no false true true = refl
+      says_no _ _ _ = refl
 
       by_turn : (negated : Bool) (made : Option TruthPair) → if_both (product_node facts And m e p) (product_node facts Diff m e q) ≡ made → exchange_if negated made ≡ Some pair →
           Tells facts.nodes (λ assignment. split_truth negated (there assignment) (bit assignment)) pair
@@ -200,13 +194,13 @@ module _ (facts : Facts) (have_values : HaveStatedValues facts) where
       by_turn false (Some found) made is =
           subst (Tells facts.nodes (λ assignment. split_truth false (there assignment) (bit assignment))) (cc)
           (tells_by facts.nodes _ found
-          (denotes_so facts.nodes _ _ found.yes (λ assignment. both_yes (there assignment) (bit assignment)) (t_denotes found made))
-          (denotes_so facts.nodes _ _ found.no (λ assignment. both_no (there assignment) (bit assignment)) (f_denotes found made)))
+          (denotes_so facts.nodes _ _ found.yes (λ assignment. says_yes false (there assignment) (bit assignment)) (t_denotes found made))
+          (denotes_so facts.nodes _ _ found.no (λ assignment. says_no false (there assignment) (bit assignment)) (f_denotes found made)))
       by_turn true (Some found) made is =
           subst (Tells facts.nodes (λ assignment. split_truth true (there assignment) (bit assignment))) (cc)
           (tells_by facts.nodes _ (exchange_nodes found)
-          (denotes_so facts.nodes _ _ found.no (λ assignment. turned_yes (there assignment) (bit assignment)) (f_denotes found made))
-          (denotes_so facts.nodes _ _ found.yes (λ assignment. turned_no (there assignment) (bit assignment)) (t_denotes found made)))
+          (denotes_so facts.nodes _ _ found.no (λ assignment. says_yes true (there assignment) (bit assignment)) (f_denotes found made))
+          (denotes_so facts.nodes _ _ found.yes (λ assignment. says_no true (there assignment) (bit assignment)) (t_denotes found made)))
   split-tells negated _ _ p q pair there bit m_denotes e_denotes is = by_turn negated is
     where
       by_turn : (negated : Bool) → exchange_if negated None ≡ Some pair → Tells facts.nodes (λ assignment. split_truth negated (there assignment) (bit assignment)) pair
@@ -348,9 +342,5 @@ module _ (facts : Facts) (have_values : HaveStatedValues facts) where
   comparison-tells op (Col c) Null entry pair x_in y_in is =
       tells_so facts.nodes _ _ pair (λ assignment. sym (compare_values-null op (value_in (row_of facts.columns assignment) c)))
       (fixed-tells facts.nodes Unknown pair entry is)
-  comparison-tells op (Lit n) Null entry pair x_in y_in is = fixed-tells facts.nodes Unknown pair entry is
-  comparison-tells op Null y entry pair x_in y_in is = by_operand y is
-    where
-      by_operand : (y : Operand) → comparison facts.columns facts op Null y entry ≡ Some pair → Tells facts.nodes (λ assignment. Unknown) pair
-      by_operand (Lit n) is = fixed-tells facts.nodes Unknown pair entry is
-      by_operand _ is = fixed-tells facts.nodes Unknown pair entry is
+  comparison-tells op Null (Lit n) entry pair x_in y_in is = fixed-tells facts.nodes Unknown pair entry is
+  comparison-tells op _ _ entry pair x_in y_in is = fixed-tells facts.nodes Unknown pair entry is

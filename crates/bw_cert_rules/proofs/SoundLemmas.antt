@@ -15,8 +15,7 @@ use Rattle.bw_diagram.specs.Node.{node_value}
 use Rattle.bw_diagram.specs.Product.{apply_connective}
 use Rattle.bw_diagram.specs.References.{HaveStatedValues, product_node}
 use Rattle.bw_program.specs.declared.instr.Instr.{Instr}
-use Rattle.bw_program.specs.declared.instr.Instr.TheVariants.{Load, Nulls, Fill, And, Or, Xor, Not}
-use Rattle.bw_program.specs.declared.instr.Instr.TheVariants.{ByteLt, ByteEq, Skip}
+use Rattle.bw_program.specs.declared.instr.Instr.TheVariants.{Skip}
 use Rattle.bw_program.specs.Machine.{State, step, step_of, state_after, steps_from, after_skip}
 use Rattle.bw_program.specs.Machine.{is_zero_in_all, end_state}
 use Rattle.bw_program.specs.Program.{ProgramShape, is_sound, are_sound, is_program}
@@ -245,15 +244,6 @@ skipped facts lanes instrs parts state x (suc place) denoted valid_parts forward
 stepped : (facts : Facts) (lanes : List Assignment) (instrs : List Instr) (parts : List Part) (state : State) (instr : Instr) → HaveStatedValues facts → AreValidParts facts instrs parts → Forward instrs → slice_get instrs state.place ≡ Some instr →
     HoldsAt facts lanes instrs parts state → HoldsAt facts lanes instrs parts (step facts.columns lanes instr state)
 unfolding HoldsAt
-stepped facts lanes instrs parts state (Load r column bit) denoted valid_parts forward there holds = fell facts lanes instrs parts state (Load r column bit) (step facts.columns lanes (Load r column bit) state) denoted valid_parts there holds (omega arith) refl
-stepped facts lanes instrs parts state (Nulls r column) denoted valid_parts forward there holds = fell facts lanes instrs parts state (Nulls r column) (step facts.columns lanes (Nulls r column) state) denoted valid_parts there holds (omega arith) refl
-stepped facts lanes instrs parts state (Fill r bit) denoted valid_parts forward there holds = fell facts lanes instrs parts state (Fill r bit) (step facts.columns lanes (Fill r bit) state) denoted valid_parts there holds (omega arith) refl
-stepped facts lanes instrs parts state (And r x y) denoted valid_parts forward there holds = fell facts lanes instrs parts state (And r x y) (step facts.columns lanes (And r x y) state) denoted valid_parts there holds (omega arith) refl
-stepped facts lanes instrs parts state (Or r x y) denoted valid_parts forward there holds = fell facts lanes instrs parts state (Or r x y) (step facts.columns lanes (Or r x y) state) denoted valid_parts there holds (omega arith) refl
-stepped facts lanes instrs parts state (Xor r x y) denoted valid_parts forward there holds = fell facts lanes instrs parts state (Xor r x y) (step facts.columns lanes (Xor r x y) state) denoted valid_parts there holds (omega arith) refl
-stepped facts lanes instrs parts state (Not r x) denoted valid_parts forward there holds = fell facts lanes instrs parts state (Not r x) (step facts.columns lanes (Not r x) state) denoted valid_parts there holds (omega arith) refl
-stepped facts lanes instrs parts state (ByteLt r column slice k) denoted valid_parts forward there holds = fell facts lanes instrs parts state (ByteLt r column slice k) (step facts.columns lanes (ByteLt r column slice k) state) denoted valid_parts there holds (omega arith) refl
-stepped facts lanes instrs parts state (ByteEq r column slice k) denoted valid_parts forward there holds = fell facts lanes instrs parts state (ByteEq r column slice k) (step facts.columns lanes (ByteEq r column slice k) state) denoted valid_parts there holds (omega arith) refl
 stepped facts lanes instrs parts state (Skip x target) denoted valid_parts forward there holds = at (is_zero_in_all (state.registers x)) refl
   where
     same : (taken : Bool) → (after_skip state taken target).registers ≡ state.registers
@@ -263,6 +253,7 @@ stepped facts lanes instrs parts state (Skip x target) denoted valid_parts forwa
     at : (taken : Bool) → is_zero_in_all (state.registers x) ≡ taken → HoldsAt facts lanes instrs parts (after_skip state taken target)
     at true is = skipped facts lanes instrs parts state x target denoted valid_parts forward there is holds
     at false is = fell facts lanes instrs parts state (Skip x target) (after_skip state false target) denoted valid_parts there holds (omega arith) (sym (same (is_zero_in_all (state.registers x))))
+stepped facts lanes instrs parts state instr denoted valid_parts forward there holds = fell facts lanes instrs parts state instr (step facts.columns lanes instr state) denoted valid_parts there holds (omega arith) refl
 
 -- after any number of steps
 pub holds_after : (facts : Facts) (lanes : List Assignment) (program : ProgramShape) (parts : List Part) (steps : ℕ) → HaveStatedValues facts → AreValidParts facts program.instrs parts → Forward program.instrs →

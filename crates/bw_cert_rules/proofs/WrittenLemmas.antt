@@ -18,7 +18,7 @@ use Rattle.bw_cert_rules.specs.Join.{edge_of, with_edge, edges_into, is_valid_ke
 use Rattle.bw_cert_rules.specs.Known.{KnownNodes, nothing_known, with_node}
 use Rattle.bw_cert_rules.specs.Walk.{WalkState, by_keep, keeps_taken, instruction_taken, apply_join}
 use Rattle.bw_cert_rules.specs.Walk.{check_lines_from, check_lines}
-use Rattle.bw_cert_rules.proofs.JoinLemmas.{keep_on}
+use Rattle.bw_cert_rules.proofs.JoinLemmas.{keep_step}
 
 -- a walk with these lines left
 abbrev pub taken_of : List BodyLine → KnownNodes → WalkState
@@ -38,7 +38,7 @@ unfolding are_kept kept_by
 keeps_over facts through edges least kept [] lines none are = keeps_end facts through edges least kept lines none
 keeps_over facts through edges least kept (k ∷ keeps) lines none are =
     let now = both _ _ are in
-    keep_on facts through edges least kept _ (map keep_line keeps ++ lines) (keep_line k) k.keep refl refl now.0
+    keep_step facts through edges least kept _ (map keep_line keeps ++ lines) (keep_line k) k.keep true refl refl now.0
     ∙ keeps_over facts through edges (suc k.keep.register) (with_node kept k.keep.register k.keep.node) keeps lines none now.1
 
 -- a valid join, and then other lines

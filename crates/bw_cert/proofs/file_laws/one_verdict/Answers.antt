@@ -4,12 +4,9 @@ use Rattle.bw_cert.proofs.file_laws.one_verdict.Goals as goal
 
 pub returns : goal.returns
 returns c =
-    let laws : Laws = record {
-      judged = c.certificates_are_checked_by_their_fields.ensures;
-      valid = c.valid_exactly_where_checked.ensures.complete;
-    } in
+    let laws : Laws = record { judged = c.certificates_are_checked_by_their_fields.ensures; valid = c.valid_exactly_where_checked.ensures.complete } in
     record {
-      certified = λ columns cond same file program other certificate another a b. one_way laws columns file cond same program other certificate another a b;
-      none_certified = λ columns cond same file program certificate fault trees is refused. no_fault laws columns file cond same program certificate fault trees is refused;
-      fault = λ columns cond same file fault other trees a b. one_fault laws columns file cond same fault other trees a b;
+      certified = λ columns cond same file. one_way columns file cond same;
+      none_certified = λ columns cond same file. no_fault laws columns file cond same;
+      fault = λ columns cond same file. one_fault laws columns file cond same;
     }
