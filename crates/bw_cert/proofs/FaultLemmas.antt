@@ -31,12 +31,11 @@ use Rattle.bw_cert_rules.specs.Join.{is_valid_keep}
 use Rattle.bw_cert_rules.specs.Known.{KnownNodes, node_of, nothing_known, with_node}
 use Rattle.bw_cert_rules.specs.Walk.{WalkState, keep_in, by_keep, keeps_taken, join_taken, is_join}
 use Rattle.bw_cert_rules.specs.Walk.{instruction_on, instruction_taken, apply_join}
-use Rattle.bw_cert_rules.proofs.JoinLemmas.{keep_on, keep_refused}
-use Rattle.bw_cert.specs.FirstFault.{NoKeep, WrongLine, WrongKeep, WrongJoin}
-use Rattle.bw_cert.proofs.ValidLemmas.{bind_ok, not_refused}
-
-pub ok_same : {A : Type 0} {x y : A} → ◌≡◌ {A = Result A Fault} (Ok x) (Ok y) → x ≡ y
-ok_same is = cc
+use Rattle.bw_cert_rules.proofs.JoinLemmas.{keep_step}
+use Rattle.bw_cert_rules.specs.Accepted.{NoKeep}
+use Rattle.bw_cert_rules.proofs.WrittenLemmas.{taken_of}
+use Rattle.bw_cert.specs.FirstFault.{WrongLine, WrongKeep, WrongJoin}
+use Rattle.bw_cert_rules.proofs.HoldLemmas.{bind_ok, not_refused, ok_same}
 
 pub err_same : (A : Type 0) (x y : Fault) → ◌≡◌ {A = Result A Fault} (Err x) (Err y) → x ≡ y
 err_same A x y is = cc
@@ -51,9 +50,6 @@ map_err (Ok x) g fault is = cc
 map_err {A = A} {B = B} (Err first) g fault is = ap (λ (fault : Fault). Err fault) (err_same B first fault is)
 
 -- the line of an instruction
-abbrev pub taken_of : List BodyLine → KnownNodes → WalkState
-taken_of lines known = record { known = known; rest = lines }
-
 pub line_wrong : (facts : Facts) (end : ℕ) (known : KnownNodes) (instr : Instr) (lines : List BodyLine) (fault : Fault) → instruction_taken facts end known instr lines ≡ Err fault → WrongLine facts end known instr lines fault
 line_wrong facts end known instr [] fault is = sym (err_same WalkState (at_line 607 end) fault is)
 line_wrong facts end known instr (line ∷ lines) fault is = map_err (instruction_on facts known instr line line.entry) (taken_of lines) fault is
@@ -65,9 +61,7 @@ wrong_line facts end known instr (line ∷ lines) fault is = ap (λ (r : Result 
 -- a line that says what is kept of a register
 entry_is : (entry : Entry) (keep : Keep) → keep_in entry ≡ Some keep → entry ≡ line_of.Keep keep
 entry_is (line_of.Keep k) keep is = let same : k ≡ keep = cc in ap line_of.Keep same
-entry_is (line_of.Instruction given) keep is = cc
-entry_is (line_of.Condition given) keep is = cc
-entry_is (line_of.Join place) keep is = cc
+entry_is _ keep is = cc
 
 abbrev kept_of : BodyLine → Keep → KeepLine
 kept_of line keep = record { line = line.line; keep = keep }
@@ -121,11 +115,11 @@ module _ (facts : Facts) (through : KnownNodes) (edges : List Edge) where
       are_kept facts through edges least (keeps ++ wrong ∷ []) ≡ false → keeps_taken facts through edges least kept (map keep_line keeps ++ keep_line wrong ∷ others) ≡ Err (at_line 608 wrong.line)
   unfolding are_kept
   wrong_keep least kept [] wrong others hold broken =
-      keep_refused facts through edges least kept _ others (keep_line wrong) wrong.keep refl refl (sym (and-true (is_valid_keep facts through edges least wrong.keep)) ∙ broken)
+      keep_step facts through edges least kept _ others (keep_line wrong) wrong.keep false refl refl (sym (and-true (is_valid_keep facts through edges least wrong.keep)) ∙ broken)
   wrong_keep least kept (k ∷ keeps) wrong others hold broken =
       let now = both (is_valid_keep facts through edges least k.keep) (are_kept facts through edges (suc k.keep.register) keeps) hold in
       let rest = are_kept facts through edges (suc k.keep.register) (keeps ++ wrong ∷ []) in
-      keep_on facts through edges least kept _ (map keep_line keeps ++ keep_line wrong ∷ others) (keep_line k) k.keep refl refl now.0
+      keep_step facts through edges least kept _ (map keep_line keeps ++ keep_line wrong ∷ others) (keep_line k) k.keep true refl refl now.0
       ∙ wrong_keep (suc k.keep.register) (with_node kept k.keep.register k.keep.node) keeps wrong others now.1 (sym (ap (λ b. b && rest) now.0) ∙ broken)
 
   -- after the lines KEEP that were taken comes another line, or none
@@ -235,6 +229,4 @@ after_stands facts known line (does.Skip x target) given =
 -- a line that is rejected in place of an instruction's is so on that line
 pub line_stands : (facts : Facts) (known : KnownNodes) (instr : Instr) (line : BodyLine) (entry : Entry) (fault : Fault) → instruction_on facts known instr line entry ≡ Err fault → fault ≡ at_line fault.code line.line
 line_stands facts known instr line (line_of.Instruction given) fault is = (after_stands facts known line.line instr given).told fault is
-line_stands facts known instr line (line_of.Condition given) fault is = (err_stands KnownNodes 607 line.line).told fault is
-line_stands facts known instr line (line_of.Join place) fault is = (err_stands KnownNodes 607 line.line).told fault is
-line_stands facts known instr line (line_of.Keep keep) fault is = (err_stands KnownNodes 607 line.line).told fault is
+line_stands facts known instr line _ fault is = (err_stands KnownNodes 607 line.line).told fault is

@@ -72,9 +72,8 @@ after_pair (Ok a) (Ok b) f g same each =
     let pair : a.0 ≡ b.0 = ap (λ (said : TruthPair × List BodyFields). said.0) both in
     let rests : SayTheSame a.1 b.1 = ap (λ (said : TruthPair × List BodyFields). said.1) both in
     each a.0 a.1 b.1 rests ∙ ap (λ pair. g (pair, b.1)) pair
-after_pair (Ok a) (Err fault) f g same each = cc
-after_pair (Err fault) (Ok b) f g same each = cc
 after_pair (Err fault) (Err other) f g same each = cc
+after_pair _ _ f g same each = cc
 
 pub after_walk : (read other : Result WalkState Fault) (f g : WalkState → Result Facts Fault) → walk.line_fields read ≡ walk.line_fields other →
     ((known : KnownNodes) (lines others : List BodyLine) → SayTheSame lines others → f (record { known = known; rest = lines }) ≡ g (record { known = known; rest = others })) →
@@ -84,15 +83,13 @@ after_walk (Ok a) (Ok b) f g same each =
     let known : a.known ≡ b.known = ap (λ (said : KnownNodes × List BodyFields). said.0) both in
     let rests : SayTheSame a.rest b.rest = ap (λ (said : KnownNodes × List BodyFields). said.1) both in
     each a.known a.rest b.rest rests ∙ ap (λ known. g (record { known = known; rest = b.rest })) known
-after_walk (Ok a) (Err fault) f g same each = cc
-after_walk (Err fault) (Ok b) f g same each = cc
 after_walk (Err fault) (Err other) f g same each = cc
+after_walk _ _ f g same each = cc
 
 pub end-same : (facts : Facts) (end : ℕ) (known : KnownNodes) (lines others : List BodyLine) (result first row : ℕ) → SayTheSame lines others →
     last_on facts end lines known result first row ≡ last_on facts end others known result first row
 end-same facts end known [] [] result first row same = refl
-end-same facts end known [] (other ∷ others) result first row same = cc
-end-same facts end known (line ∷ lines) [] result first row same = cc
 end-same facts end known (line ∷ lines) (other ∷ others) result first row same =
     let here : body_fields line ≡ body_fields other = cc in
     ap (λ (fields : BodyFields). Err (at_line 610 fields.line)) here
+end-same facts end known _ _ result first row same = cc

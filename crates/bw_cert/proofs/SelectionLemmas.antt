@@ -5,6 +5,7 @@ use Rattle.std.proofs.Common.{arith}
 use Rattle.std.specs.List.{list_all, flat_map}
 use Rattle.std.specs.Simd.Lanes.{zip2}
 use Rattle.std.proofs.Math.Bool.{and-true}
+use Rattle.std.proofs.lemmas.Bool.{and_right}
 use Rattle.std.proofs.lemmas.List.{map-append}
 use Rattle.bw_model.proofs.BitsLemmas.{both}
 use Rattle.bw_model.specs.declared.column.Column.{Column}
@@ -73,13 +74,8 @@ groups_selected columns cond program (group ∷ groups) selects spelled admitted
 pub masked : (front rest : List Bool) (more : ℕ) → length rest ≡ more → zip2 (λ a b. a && b) (front ++ rest) (replicate (length front) true ++ replicate more false) ≡ front ++ replicate more false
 masked [] rest more long = none rest more long
   where
-    and_false : (b : Bool) → (b && false) ≡ false
-    and_false true = refl
-    and_false false = refl
-
     none : (rest : List Bool) (more : ℕ) → length rest ≡ more → zip2 (λ a b. a && b) rest (replicate more false) ≡ replicate more false
     none [] zero long = refl
-    none [] (suc more) long = cc
-    none (b ∷ rest) zero long = cc
-    none (b ∷ rest) (suc more) long = ap₂ (λ (c : Bool) (cs : List Bool). c ∷ cs) (and_false b) (none rest more (omega (arith, long)))
+    none (b ∷ rest) (suc more) long = ap₂ (λ (c : Bool) (cs : List Bool). c ∷ cs) (and_right b false refl) (none rest more (omega (arith, long)))
+    none _ _ long = cc
 masked (b ∷ front) rest more long = ap₂ (λ (c : Bool) (cs : List Bool). c ∷ cs) (and-true b) (masked front rest more long)

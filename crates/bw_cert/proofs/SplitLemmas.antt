@@ -70,7 +70,7 @@ passed_number : (n : ℕ) (line : List ℕ) (lines : List (List ℕ)) → divide
 unfolding number_after
 passed_number n line lines e = rw e refl
 
-nothing_fed : (line rest : List ℕ) → line ++ (10 ∷ rest) ≡ [] → ⊥
+pub nothing_fed : (line rest : List ℕ) → line ++ (10 ∷ rest) ≡ [] → ⊥
 nothing_fed [] rest e = cc
 nothing_fed (c ∷ line) rest e = cc
 

@@ -13,31 +13,27 @@ use Rattle.bw_program.specs.Program.{ProgramShape}
 use Rattle.bw_cert_text.specs.CertificateShape.{CertificateShape}
 use Rattle.bw_sql.specs.QueryShape.{QueryShape, query_shape}
 use Rattle.bw_sql.specs.Statement.{Spells}
+use Rattle.bw_sql.proofs.SameNames.{columns_too, spells_too}
+use Rattle.bw_sql.proofs.Texts.{text_query}
 use Rattle.bw_report.specs.declared.accepted.Accepted.{Accepted}
 use Rattle.bw_cert.specs.declared.certified_file.CertifiedFile.{CertifiedFile}
 use Rattle.bw_cert.specs.CheckText.{IsAccepted}
 use Rattle.bw_cert.specs.FileVerdict.{Certifies, counts_of, program_and_counts, told_of}
 
--- of schemas of one shape, and of queries of one text
-pub record Laws : Type 0 where
-  pub columns : (schema other : Schema) → schema_shape schema ≡ schema_shape other → schema.columns.items ≡ other.columns.items
-  pub spelled : (schema other : Schema) (text : List ℕ) (query : QueryShape) → schema_shape schema ≡ schema_shape other → Spells schema text query → Spells other text query
-  pub one : (schema : Schema) (text : List ℕ) (query other : QueryShape) → Spells schema text query → Spells schema text other → query ≡ other
-
-module _ (laws : Laws) (text sql file : List ℕ) (accepted : Accepted) (is : IsAccepted text sql file accepted) (schema : Schema) (read : ◌≡◌ {A = Result SchemaShape Fault} (Ok (schema_shape is.schema)) (Ok (schema_shape schema))) where
+module _ (text sql file : List ℕ) (accepted : Accepted) (is : IsAccepted text sql file accepted) (schema : Schema) (read : ◌≡◌ {A = Result SchemaShape Fault} (Ok (schema_shape is.schema)) (Ok (schema_shape schema))) where
   shapes : schema_shape is.schema ≡ schema_shape schema
   shapes = cc
 
   pub query_spelled : Spells schema sql (query_shape is.query)
-  query_spelled = laws.spelled is.schema schema sql (query_shape is.query) shapes is.asked
+  query_spelled = spells_too is.schema schema sql (query_shape is.query) shapes is.asked
 
   pub numbers_given : (query : Query) → Spells schema sql (query_shape query) → (result : Result Accepted Fault) →
       ((same : Cond) (program : ProgramShape) (certificate : CertificateShape) → tree_of same ≡ tree_of query.cond →
       Certifies schema.columns.items same file program certificate → MatchesUnlessOom (λ numbers. numbers) result (Ok (counts_of program certificate))) →
       MatchesUnlessOom (λ numbers. numbers) result (Ok accepted)
   numbers_given query spells result gives =
-      let one = laws.one schema sql (query_shape is.query) (query_shape query) query_spelled spells in
-      let certifies = subst (λ (columns : List Column). Certifies columns is.query.cond file is.program is.certificate) (laws.columns is.schema schema shapes) is.certifies in
+      let one = text_query schema sql (query_shape is.query) (query_shape query) query_spelled spells in
+      let certifies = subst (λ (columns : List Column). Certifies columns is.query.cond file is.program is.certificate) (columns_too is.schema schema shapes) is.certifies in
       subst (λ (numbers : Accepted). MatchesUnlessOom (λ numbers. numbers) result (Ok numbers)) (sym is.numbers)
       (gives is.query.cond is.program is.certificate (ap (λ (query_shape : QueryShape). query_shape.cond) one) certifies)
 

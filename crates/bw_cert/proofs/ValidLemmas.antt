@@ -1,19 +1,14 @@
 -- Sections one after another, and what a valid certificate's lines state.
-use Rattle.std.proofs.Common.{◌≡◌, ◌∙◌, refl, sym, ap, ap₂, subst, ℕ, zero, suc, Bool, true, false}
-use Rattle.std.proofs.Common.{not, ◌&&◌, List, [], ◌∷◌, map, length, Option, Some, None, Result, Ok}
-use Rattle.std.proofs.Common.{Err, slice_get, arith}
+use Rattle.std.proofs.Common.{◌≡◌, ◌∙◌, refl, sym, ap, ap₂, subst, ℕ, suc, Bool, true}
+use Rattle.std.proofs.Common.{not, ◌&&◌, List, [], ◌∷◌, Option, Some, Result, Ok}
+use Rattle.std.proofs.Common.{Err, slice_get}
 use Rattle.std.specs.List.{list_all}
 use Rattle.bw_model.specs.declared.column.Column.{Column}
 use Rattle.bw_model.specs.declared.fault.Fault.{Fault}
 use Rattle.bw_model.specs.Fault.{at_line, ◌>>=◌, refused_if}
-use Rattle.bw_model.specs.Variable.{first_variable, bit_variable}
-use Rattle.bw_diagram.specs.declared.chain.ChainKind.TheVariants.{Less, Equal}
 use Rattle.bw_diagram.specs.declared.product.Connective.TheVariants.{Xor}
-use Rattle.std.proofs.lemmas.Bool.{eqb-true}
-use Rattle.bw_model.specs.Variable.{Assignment}
-use Rattle.bw_diagram.specs.Node.{node_value}
-use Rattle.bw_diagram.specs.Product.{apply_connective}
-use Rattle.bw_diagram.specs.References.{HaveStatedValues, product_node}
+use Rattle.std.proofs.lemmas.Bool.{not-false}
+use Rattle.bw_diagram.specs.References.{product_node}
 use Rattle.bw_diagram.specs.Facts.{Facts, AreTrue, no_facts, with_node, with_chain, with_product}
 use Rattle.bw_program.specs.declared.instr.Instr.{Instr}
 use Rattle.bw_program.specs.declared.instr.Instr.TheVariants as instr
@@ -27,29 +22,14 @@ use Rattle.bw_cert_text.specs.declared.lines.BodyLine.{BodyLine}
 use Rattle.bw_cert_text.specs.declared.lines.InstructionEntry.{InstructionEntry}
 use Rattle.bw_cert_text.specs.CertificateShape.{CertificateShape}
 use Rattle.bw_cert_rules.specs.Instruction.{check_instruction_line, loaded_node, byte_chain}
-use Rattle.bw_cert_rules.specs.Instruction.{plane_on, byte_on}
+use Rattle.bw_cert_rules.specs.Instruction.{set_register}
 use Rattle.bw_cert_rules.specs.Join.{is_zero}
 use Rattle.bw_cert_rules.specs.Known.{KnownNodes, node_of}
 use Rattle.bw_cert_rules.specs.Walk.{WalkState}
 use Rattle.bw_cert.specs.StatedFacts.{on_line, with_lines, with_node_line, with_chain_line}
 use Rattle.bw_cert.specs.StatedFacts.{with_product_line, facts_stated}
 use Rattle.bw_cert.specs.Valid.{last_on, end_on}
-
-pub bind_ok : {A B : Type 0} (r : Result A Fault) (f : A → Result B Fault) (y : B) → (r >>= f) ≡ Ok y → (x : A) × (r ≡ Ok x) × (f x ≡ Ok y)
-bind_ok (Ok x) f y is = (x, refl, is)
-bind_ok (Err fault) f y is = cc
-
-pub not_refused : {A : Type 0} (b : Bool) (fault : Fault) (r : Result A Fault) (x : A) → refused_if b fault r ≡ Ok x → (b ≡ false) × (r ≡ Ok x)
-not_refused true fault r x is = cc
-not_refused false fault r x is = (refl, is)
-
-found_ok : {A : Type 0} (code line : ℕ) (o : Option A) (x : A) → found_on code line o ≡ Ok x → o ≡ Some x
-found_ok code line None x is = cc
-found_ok code line (Some y) x is = cc
-
-negated : (b : Bool) → not b ≡ false → b ≡ true
-negated true is = refl
-negated false is = cc
+use Rattle.bw_cert_rules.proofs.HoldLemmas.{bind_ok, ok_same, not_refused, found_ok}
 
 on_line_ok : (line : ℕ) (r : Result Facts Fault) (facts : Facts) → on_line line r ≡ Ok facts → r ≡ Ok facts
 on_line_ok line (Ok x) facts is = is
@@ -70,7 +50,7 @@ ended facts found end taken result first row is = at taken.rest refl is
     at [] there is =
         let node = bind_ok (found_on 609 end (node_of taken.known result)) _ found is in
         let zero = not_refused (not (is_zero (product_node facts Xor node.0 first row))) _ _ found node.2 in
-        record { none = there; node = node.0; known = found_ok 609 end _ node.0 node.1; zero = negated _ zero.0 }
+        record { none = there; node = node.0; known = found_ok 609 end _ node.0 node.1; zero = not-false _ zero.0 }
 
 pub ends : (facts : Facts) (end : ℕ) (known : KnownNodes) (result first row node : ℕ) → node_of known result ≡ Some node → is_zero (product_node facts Xor node first row) ≡ true →
     end_on facts end (record { known = known; rest = [] }) result first row ≡ Ok facts
@@ -82,10 +62,7 @@ ends facts end known result first row node there none =
 pub all_hold : {Line : Type 0} (P : Facts → Type 0) (add : Facts → Line → Result Facts Fault) (facts last : Facts) (lines : List Line) → ((facts more : Facts) (line : Line) → P facts → add facts line ≡ Ok more → P more) →
     P facts → with_lines add facts lines ≡ Ok last → P last
 unfolding with_lines
-all_hold P add facts last [] each holds is = subst P (same is) holds
-  where
-    same : ◌≡◌ {A = Result Facts Fault} (Ok facts) (Ok last) → facts ≡ last
-    same is = cc
+all_hold P add facts last [] each holds is = subst P (ok_same is) holds
 all_hold P add facts last (line ∷ lines) each holds is =
     let one = bind_ok (add facts line) _ last is in
     all_hold P add one.0 last lines each (each facts one.0 line holds one.1) one.2
@@ -95,9 +72,6 @@ columns_kept : {X : Type 0} (before more : Facts) (found : Result X Fault) (with
 columns_kept before more found with is same =
     let x = bind_ok found (λ x. Ok (with x)) more is in
     ap (λ (f : Facts). f.columns) (sym (ok_same x.2)) ∙ same x.0
-  where
-    ok_same : {a b : Facts} → ◌≡◌ {A = Result Facts Fault} (Ok a) (Ok b) → a ≡ b
-    ok_same is = cc
 
 -- what a certificate states is of its columns
 pub stated_columns : (columns : List Column) (certificate : CertificateShape) (facts : Facts) → facts_stated columns certificate ≡ Ok facts → facts.columns ≡ columns
@@ -124,59 +98,24 @@ stated_true columns certificate facts start node chain row is =
     (all_hold AreTrue with_node_line (no_facts columns) nodes.0 certificate.nodes (λ before more line right is. node before more line.n _ right (on_line_ok line.line _ more is))
     start nodes.1) chains.1) chains.2
 
+-- a node that is found by a line, if a test of columns passes
+found_fits : {A : Type 0} (known past : KnownNodes) (register line : ℕ) (found : Option A) (there : Bool) (next : A → Result ℕ Fault) →
+    set_register known register (found_on 607 line found >>= λ x. refused_if (not there) (at_line 607 line) (next x)) ≡ Ok past → there ≡ true
+found_fits known past register line found there next is =
+    let node = bind_ok (found_on 607 line found >>= λ x. refused_if (not there) (at_line 607 line) (next x)) _ past is in
+    let named = bind_ok (found_on 607 line found) _ node.0 node.1 in
+    not-false _ (not_refused (not there) _ _ node.0 named.2).0
+
 -- an instruction whose line is right names what the columns have
 pub after_fits : (facts : Facts) (known past : KnownNodes) (line : ℕ) (i : Instr) (given : InstructionEntry) → check_instruction_line facts known line i given ≡ Ok past → instr_fits facts.columns i ≡ true
 unfolding check_instruction_line
-after_fits facts known past line (instr.Load r column bit) given is =
-    let node = bind_ok (plane_on facts line (instr_fits facts.columns (instr.Load r column bit)) (bit_variable facts.columns column bit) given) _ past is in
-    let named = bind_ok (found_on 607 line (loaded_node given)) _ node.0 node.1 in
-    negated _ (not_refused (not (instr_fits facts.columns (instr.Load r column bit))) _ _ node.0 named.2).0
-after_fits facts known past line (instr.Nulls r column) given is =
-    let node = bind_ok (plane_on facts line (instr_fits facts.columns (instr.Nulls r column)) (first_variable facts.columns column) given) _ past is in
-    let named = bind_ok (found_on 607 line (loaded_node given)) _ node.0 node.1 in
-    negated _ (not_refused (not (instr_fits facts.columns (instr.Nulls r column))) _ _ node.0 named.2).0
-after_fits facts known past line (instr.Fill r bit) given is = refl
-after_fits facts known past line (instr.And r x y) given is = refl
-after_fits facts known past line (instr.Or r x y) given is = refl
-after_fits facts known past line (instr.Xor r x y) given is = refl
-after_fits facts known past line (instr.Not r x) given is = refl
-after_fits facts known past line (instr.ByteLt r column slice k) given is =
-    let node = bind_ok (byte_on facts line Less (instr_fits facts.columns (instr.ByteLt r column slice k)) column slice k given) _ past is in
-    let named = bind_ok (found_on 607 line (byte_chain given)) _ node.0 node.1 in
-    negated _ (not_refused (not (instr_fits facts.columns (instr.ByteLt r column slice k))) _ _ node.0 named.2).0
-after_fits facts known past line (instr.ByteEq r column slice k) given is =
-    let node = bind_ok (byte_on facts line Equal (instr_fits facts.columns (instr.ByteEq r column slice k)) column slice k given) _ past is in
-    let named = bind_ok (found_on 607 line (byte_chain given)) _ node.0 node.1 in
-    negated _ (not_refused (not (instr_fits facts.columns (instr.ByteEq r column slice k))) _ _ node.0 named.2).0
-after_fits facts known past line (instr.Skip x target) given is = refl
+after_fits facts known past line (instr.Load r column bit) given is = found_fits known past r line (loaded_node given) _ _ is
+after_fits facts known past line (instr.Nulls r column) given is = found_fits known past r line (loaded_node given) _ _ is
+after_fits facts known past line (instr.ByteLt r column slice k) given is = found_fits known past r line (byte_chain given) _ _ is
+after_fits facts known past line (instr.ByteEq r column slice k) given is = found_fits known past r line (byte_chain given) _ _ is
+after_fits facts known past line _ given is = refl
 
 -- what is so of each item of a list
 pub all_so : {A : Type 0} (p : A → Bool) (xs : List A) → ((k : ℕ) (x : A) → slice_get xs k ≡ Some x → p x ≡ true) → list_all p xs ≡ true
 all_so p [] each = refl
 all_so p (x ∷ xs) each = ap₂ (λ a b. a && b) (each 0 x refl) (all_so p xs (λ k y there. each (suc k) y there))
-
-pub part_there : {A B : Type 0} (xs : List A) (ys : List B) (k : ℕ) (x : A) → length ys ≡ length xs → slice_get xs k ≡ Some x → (y : B) × (slice_get ys k ≡ Some y)
-part_there [] ys k x long is = cc
-part_there (a ∷ xs) [] k x long is = cc
-part_there (a ∷ xs) (b ∷ ys) zero x long is = (b, refl)
-part_there (a ∷ xs) (b ∷ ys) (suc k) x long is = part_there xs ys k x (omega (arith, long)) is
-
--- functions that agree give the same list
-pub map_same : {A B : Type 0} (f g : A → B) (xs : List A) → ((x : A) → f x ≡ g x) → map f xs ≡ map g xs
-map_same f g [] same = refl
-map_same {B = B} f g (x ∷ xs) same = ap₂ (λ (y : B) (ys : List B). y ∷ ys) (same x) (map_same f g xs same)
-
--- of two nodes whose XOR is the node 0 by a row, the values are the same
-pub same_denotes : (facts : Facts) (a b row : ℕ) → HaveStatedValues facts → is_zero (product_node facts Xor a b row) ≡ true → (assignment : Assignment) → node_value facts.nodes assignment a ≡ node_value facts.nodes assignment b
-same_denotes facts a b row denoted is assignment =
-    xor_zero _ _ (sym ((denoted.row Xor a b row 0 (zero_is _ is)).1 assignment) ∙ denoted.zero assignment)
-  where
-    zero_is : (found : Option ℕ) → is_zero found ≡ true → found ≡ Some 0
-    zero_is None is = cc
-    zero_is (Some n) is = ap Some (eqb-true n 0 is)
-
-    xor_zero : (a b : Bool) → apply_connective Xor a b ≡ false → a ≡ b
-    xor_zero true true is = refl
-    xor_zero false false is = refl
-    xor_zero true false is = cc
-    xor_zero false true is = cc

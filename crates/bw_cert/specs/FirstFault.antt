@@ -2,7 +2,7 @@
 -- of parts that satisfy their rules. `FirstFault` doesn't mention any walk over the lines;
 -- `StandsOn` states that the walk looks no further.
 use Rattle.std.specs.Prelude.{◌≡◌, ◌<◌, ◌⊎◌, ℕ, suc, false, IsTrue, List, [], ◌∷◌, ◌++◌, length}
-use Rattle.std.specs.Prelude.{map, Some, None, Ok, Err, slice_get, ⊤}
+use Rattle.std.specs.Prelude.{map, Ok, Err}
 use Rattle.bw_model.specs.FaultTable.{INSTRUCTION_LINE, JOIN}
 use Rattle.bw_model.specs.declared.fault.Fault.{Fault}
 use Rattle.bw_model.specs.Fault.{at_line}
@@ -12,24 +12,12 @@ use Rattle.bw_cert_text.specs.declared.lines.BodyLine.{BodyLine}
 use Rattle.bw_cert_text.specs.declared.lines.Entry.TheVariants as line_of
 use Rattle.bw_cert_text.specs.declared.lines.InstructionEntry.{InstructionEntry}
 use Rattle.bw_cert_rules.specs.declared.edge.Edge.{Edge}
-use Rattle.bw_cert_rules.specs.Accepted.{KeepLine, JoinLines, Part, AreValidParts, keep_line}
-use Rattle.bw_cert_rules.specs.Accepted.{lines_of, known_before, edges_before, are_kept}
+use Rattle.bw_cert_rules.specs.Accepted.{KeepLine, Part, AreValidParts, keep_line}
+use Rattle.bw_cert_rules.specs.Accepted.{lines_of, known_before, edges_before, are_kept, KeepsAreAll}
 use Rattle.bw_cert_rules.specs.Instruction.{check_instruction_line}
 use Rattle.bw_cert_rules.specs.Join.{edge_of, with_edge, edges_into}
 use Rattle.bw_cert_rules.specs.Known.{KnownNodes}
-use Rattle.bw_cert_rules.specs.Walk.{instruction_on, is_join, keep_in, check_lines}
-
--- the lines don't begin with a line KEEP
-abbrev pub NoKeep : List BodyLine → Type 0
-NoKeep [] = ⊤
-NoKeep (line ∷ lines) = keep_in line.entry ≡ None
-
--- if the last part has a join, no line KEEP follows those of the join
-abbrev pub KeepsAreAll : List Part → List BodyLine → Type 0
-KeepsAreAll parts rest =
-    (place : ℕ) (part : Part) (join : JoinLines)
-    → suc place ≡ length parts → slice_get parts place ≡ Some part → part.join ≡ Some join
-    → NoKeep rest
+use Rattle.bw_cert_rules.specs.Walk.{instruction_on, is_join, check_lines}
 
 -- The line of an instruction is expected. The next line is another, or breaks its rule, whatever
 -- follows it; or there is none, and the error is at END (607).

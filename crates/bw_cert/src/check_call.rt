@@ -12,7 +12,7 @@ ghost use Rattle.bw_cert.specs.FileVerdict.{Certifies, IsFileFault, counts_of};
 use crate::certified_file::certify;
 use bw_model::{Cond, Fault, Schema};
 use bw_report::Accepted;
-use bw_sql::{one_query_of_a_text, parse, schemas_of_one_shape};
+use bw_sql::parse;
 use std::alloc::Global;
 
 /// Checks a program file for the condition of a statement, under the schema of a schema text.
@@ -28,8 +28,6 @@ pub fn check_text(alloc: Global, schema: &[u8], sql: &[u8], file: &[u8]) -> Resu
     ensures fault { IfErr result (λ fault. is_memory fault ≡ false
         → IsCheckFault schema.now sql.now file.now fault) }
 {
-    schemas_of_one_shape();
-    one_query_of_a_text();
     let schema = Schema::parse(alloc, schema)?;
     let query = parse(alloc, &schema, sql)?;
     numbers(alloc, &schema, &query.cond, file)

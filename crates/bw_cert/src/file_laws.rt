@@ -10,8 +10,6 @@ ghost use Rattle.bw_cert_text.specs.CertificateShape.{CertificateShape};
 ghost use Rattle.bw_cert.specs.FileVerdict.{Certifies, IsFileFault};
 
 use crate::laws::{certificates_are_checked_by_their_fields, valid_exactly_where_checked};
-use bw_cert_text::certificates_are_read_as_spelled;
-use bw_program::programs_are_read_as_spelled;
 
 /// A law: a file spells at most one program, and all certificates for it have the same content. It
 /// has at most one error, and none if it is certified, even for another condition of the same tree.
@@ -31,8 +29,6 @@ pub fn one_verdict()
         → IsFileFault columns cond file fault → IsFileFault columns same file other
         → fault ≡ other }
 {
-    programs_are_read_as_spelled();
-    certificates_are_read_as_spelled();
     certificates_are_checked_by_their_fields();
     valid_exactly_where_checked();
 }

@@ -1,8 +1,8 @@
 //! What the NODE, CHAIN and ROW lines of a certificate state.
-ghost use Rattle.std.specs.Prelude.{◌≡◌, List, true, false, IfErr, IsTrue};
-ghost use Rattle.bw_model.specs.declared.column.Column.{Column};
+ghost use Rattle.std.specs.Prelude.{◌≡◌, List, Result, true, false, IfErr, IsTrue};
+ghost use Rattle.bw_model.specs.declared.fault.Fault.{Fault};
 ghost use Rattle.bw_model.specs.Fault.{MatchesUnlessOom, is_memory, at_line, no_memory};
-ghost use Rattle.bw_diagram.specs.Facts.{is_diagram_fault};
+ghost use Rattle.bw_diagram.specs.Facts.{Facts, is_diagram_fault};
 ghost use Rattle.bw_cert.specs.StatedFacts.{facts_stated, with_lines, with_node_line};
 ghost use Rattle.bw_cert.specs.StatedFacts.{with_chain_line, with_product_line};
 
@@ -23,64 +23,67 @@ pub(crate) fn diagram_of<'a>(
     ensures code { IfErr result (λ fault. IsTrue (is_diagram_fault fault)) }
 {
     let mut diagram = Diagram::new(alloc, schema);
-    add_nodes(&mut diagram, certificate.node_lines())?;
-    add_chains(&mut diagram, certificate.chain_lines())?;
-    add_products(&mut diagram, certificate.product_lines())?;
+    add_lines(&mut diagram, certificate.node_lines())?;
+    add_lines(&mut diagram, certificate.chain_lines())?;
+    add_lines(&mut diagram, certificate.product_lines())?;
     Ok(diagram)
 }
 
-/// Adds the nodes of the lines.
-fn add_nodes(diagram: &mut Diagram<'_>, lines: &[NodeLine]) -> Result<(), Fault>
+/// A line that states a node, a chain or a product row.
+trait StatedLine {
+    /// The facts with what the line states, or its error.
+    ghost with_line: { Facts → Self → Result Facts Fault };
+
+    /// Adds what the line states.
+    fn add_to(&self, diagram: &mut Diagram<'_>) -> Result<(), Fault>
+        ensures stated { MatchesUnlessOom (λ _. diagram.new) result
+            (with_line diagram.old self.now) }
+        ensures code { IfErr result (λ fault. IsTrue (is_diagram_fault fault)) };
+}
+
+/// Adds what the lines state.
+fn add_lines<L: StatedLine>(diagram: &mut Diagram<'_>, lines: &[L]) -> Result<(), Fault>
     ensures stated { MatchesUnlessOom (λ _. diagram.new) result
-        (with_lines with_node_line diagram.old lines.now) }
+        (with_lines L.with_line diagram.old lines.now) }
     ensures code { IfErr result (λ fault. IsTrue (is_diagram_fault fault)) }
 {
     for line in lines {
-        match diagram.add_node(line.n, line.v, line.low, line.high) {
-            Ok(()) => {}
-            Err(fault) => return Err(fault_on_line(fault, line.line)),
+        line.add_to(diagram)?;
+    }
+    Ok(())
+}
+
+impl StatedLine for NodeLine {
+    ghost with_line = { with_node_line };
+
+    fn add_to(&self, diagram: &mut Diagram<'_>) -> Result<(), Fault> {
+        match diagram.add_node(self.n, self.v, self.low, self.high) {
+            Ok(()) => Ok(()),
+            Err(fault) => Err(fault_on_line(fault, self.line)),
         }
     }
-    Ok(())
 }
 
-/// Adds the chains of the lines.
-fn add_chains(diagram: &mut Diagram<'_>, lines: &[ChainLine<'_>]) -> Result<(), Fault>
-    ensures stated { MatchesUnlessOom (λ _. diagram.new) result
-        (with_lines with_chain_line diagram.old lines.now) }
-    ensures code { IfErr result (λ fault. IsTrue (is_diagram_fault fault)) }
-{
-    for line in lines {
-        add_chain(diagram, line)?;
-    }
-    Ok(())
-}
+impl StatedLine for ChainLine<'_> {
+    ghost with_line = { with_chain_line };
 
-/// Adds the chain of a line.
-fn add_chain(diagram: &mut Diagram<'_>, line: &ChainLine<'_>) -> Result<(), Fault>
-    ensures stated { MatchesUnlessOom (λ _. diagram.new) result
-        (with_chain_line diagram.old line.now) }
-    ensures code { IfErr result (λ fault. IsTrue (is_diagram_fault fault)) }
-{
-    match diagram.add_chain(line.n, &line.columns) {
-        Ok(()) => Ok(()),
-        Err(fault) => Err(fault_on_line(fault, line.line)),
-    }
-}
-
-/// Adds the product rows of the lines.
-fn add_products(diagram: &mut Diagram<'_>, lines: &[ProductLine]) -> Result<(), Fault>
-    ensures stated { MatchesUnlessOom (λ _. diagram.new) result
-        (with_lines with_product_line diagram.old lines.now) }
-    ensures code { IfErr result (λ fault. IsTrue (is_diagram_fault fault)) }
-{
-    for line in lines {
-        match diagram.add_row(line.n, line.op, line.a, line.b, line.c, line.reason) {
-            Ok(()) => {}
-            Err(fault) => return Err(fault_on_line(fault, line.line)),
+    fn add_to(&self, diagram: &mut Diagram<'_>) -> Result<(), Fault> {
+        match diagram.add_chain(self.n, &self.columns) {
+            Ok(()) => Ok(()),
+            Err(fault) => Err(fault_on_line(fault, self.line)),
         }
     }
-    Ok(())
+}
+
+impl StatedLine for ProductLine {
+    ghost with_line = { with_product_line };
+
+    fn add_to(&self, diagram: &mut Diagram<'_>) -> Result<(), Fault> {
+        match diagram.add_row(self.n, self.op, self.a, self.b, self.c, self.reason) {
+            Ok(()) => Ok(()),
+            Err(fault) => Err(fault_on_line(fault, self.line)),
+        }
+    }
 }
 
 /// Returns the error, which has no place yet, at this line. Out of memory stays without a place.

@@ -5,7 +5,6 @@ use Rattle.std.proofs.Common.{[], ◌∷◌, length, max, Option, Some, None, ar
 use Rattle.std.proofs.Common.{unsigned_abs}
 use Rattle.std.specs.Ordering.{int_eq}
 use Rattle.std.proofs.Math.Dec.{eqb}
-use Rattle.std.proofs.Math.Nat.{pow-succ'}
 use Rattle.std.proofs.lemmas.Bool.{eqb-true, ltb-true, le-ltb, eq-eqb}
 use Rattle.bw_model.specs.declared.column.Column.{Column}
 use Rattle.bw_model.specs.declared.cond.Op.{Op}
@@ -40,6 +39,7 @@ use Rattle.bw_cert_rules.specs.Rows.{if_both, exchange_nodes, value_node}
 use Rattle.bw_cert_rules.specs.Comparison.{lo_at, constant_pair, fixed_pair, pair_if_known}
 use Rattle.bw_cert_rules.specs.Comparison.{exchange_if, bound_of, terminal_of, terminal_or_cited}
 use Rattle.bw_cert_rules.specs.Comparison.{bound_node, with_literal, order_of, order_node}
+use Rattle.bw_cert_rules.proofs.HoldLemmas.{spelled_small}
 use Rattle.bw_cert_rules.specs.Comparison.{both_node, with_column, comparison}
 use Rattle.bw_cert_rules.specs.Meaning.{Tells}
 use Rattle.bw_cert_rules.proofs.NumberLemmas.{compares_to, turned_bit, lt_low, lt_high, eq_low}
@@ -77,21 +77,12 @@ pub fixed-tells : (nodes : List Node) (truth : Truth) (pair : TruthPair) (entry 
 fixed-tells nodes truth pair Fixed is = subst (Tells nodes (λ assignment. truth)) (cc) (constant_tells nodes truth)
 fixed-tells nodes truth pair _ is = cc
 
--- this many bits spell a number below that power of 2
-spelled-lt : (assignment : Assignment) (first count : ℕ) → binary_number assignment first count < 2 ^ count
-spelled-lt assignment first zero = omega arith
-spelled-lt assignment first (suc count) = by_bit (assignment first) (spelled-lt assignment (suc first) count)
-  where
-    by_bit : (bit : Bool) → binary_number assignment (suc first) count < 2 ^ count → cond bit (2 ^ count) 0 + binary_number assignment (suc first) count < 2 ^ suc count
-    by_bit true lt = omega (arith, pow-succ' 2 count)
-    by_bit false lt = omega (arith, pow-succ' 2 count)
-
 -- the code of a column
 abbrev pub code_spelled : List Column → ℕ → Assignment → ℕ
 code_spelled columns col assignment = number_spelled columns col 0 (width_at columns col) assignment
 
 code_spelled-lt : (columns : List Column) (col : ℕ) (assignment : Assignment) → code_spelled columns col assignment < 2 ^ width_at columns col
-code_spelled-lt columns col assignment = spelled-lt assignment (first_variable columns (suc col) - (0 + width_at columns col)) (width_at columns col)
+code_spelled-lt columns col assignment = spelled_small assignment (first_variable columns (suc col) - (0 + width_at columns col)) (width_at columns col)
 
 value_at-lo : (columns : List Column) (col code : ℕ) → col < length columns → value_at columns col code ≡ lo_at columns col +ℤ pos code
 value_at-lo [] col code lt = absurd (omega arith)
@@ -178,16 +169,6 @@ split_truth negated there bit = cond there (truth_from (turned_bit negated bit))
 module _ (facts : Facts) (have_values : HaveStatedValues facts) where
   split-tells : (negated : Bool) (m e : Option ℕ) (p q : ℕ) (pair : TruthPair) (there bit : Assignment → Bool) → ((n : ℕ) → m ≡ Some n → Denotes facts.nodes there n) → ((n : ℕ) → e ≡ Some n → Denotes facts.nodes bit n) →
       exchange_if negated (pair_if_known facts m e p q) ≡ Some pair → Tells facts.nodes (λ assignment. split_truth negated (there assignment) (bit assignment)) pair
-  split-tells negated None e p q pair there bit m_denotes e_denotes is = by_turn negated is
-    where
-      by_turn : (negated : Bool) → exchange_if negated None ≡ Some pair → Tells facts.nodes (λ assignment. split_truth negated (there assignment) (bit assignment)) pair
-      by_turn true is = cc
-      by_turn false is = cc
-  split-tells negated (Some m) None p q pair there bit m_denotes e_denotes is = by_turn negated is
-    where
-      by_turn : (negated : Bool) → exchange_if negated None ≡ Some pair → Tells facts.nodes (λ assignment. split_truth negated (there assignment) (bit assignment)) pair
-      by_turn true is = cc
-      by_turn false is = cc
   split-tells negated (Some m) (Some e) p q pair there bit m_denotes e_denotes is = by_turn negated (if_both (product_node facts And m e p) (product_node facts Diff m e q)) refl is
     where
       t_denotes : (made : TruthPair) → if_both (product_node facts And m e p) (product_node facts Diff m e q) ≡ Some made → Denotes facts.nodes (λ assignment. there assignment && bit assignment) made.yes
@@ -196,25 +177,15 @@ module _ (facts : Facts) (have_values : HaveStatedValues facts) where
       f_denotes : (made : TruthPair) → if_both (product_node facts And m e p) (product_node facts Diff m e q) ≡ Some made → Denotes facts.nodes (λ assignment. there assignment && not (bit assignment)) made.no
       f_denotes made is = product_node-denoted facts have_values Diff m e made.no q there bit (m_denotes m refl) (e_denotes e refl) (if_both-is _ _ made is).1
 
-      both_yes : (there bit : Bool) → (there && bit) ≡ is_truth (split_truth false there bit) Yes
-      both_yes true true = refl
-      both_yes true false = refl
-      both_yes false bit = refl
+      says_yes : (negated there bit : Bool) → (there && turned_bit negated bit) ≡ is_truth (split_truth negated there bit) Yes
+      says_yes true true true = refl
+      says_yes false true true = refl
+      says_yes _ _ _ = refl
 
-      both_no : (there bit : Bool) → (there && not bit) ≡ is_truth (split_truth false there bit) No
-      both_no true true = refl
-      both_no true false = refl
-      both_no false bit = refl
-
-      turned_yes : (there bit : Bool) → (there && not bit) ≡ is_truth (split_truth true there bit) Yes
-      turned_yes true true = refl
-      turned_yes true false = refl
-      turned_yes false bit = refl
-
-      turned_no : (there bit : Bool) → (there && bit) ≡ is_truth (split_truth true there bit) No
-      turned_no true true = refl
-      turned_no true false = refl
-      turned_no false bit = refl
+      says_no : (negated there bit : Bool) → (there && turned_bit (not negated) bit) ≡ is_truth (split_truth negated there bit) No
+      says_no true true true = refl
+      says_no false true true = refl
+      says_no _ _ _ = refl
 
       by_turn : (negated : Bool) (made : Option TruthPair) → if_both (product_node facts And m e p) (product_node facts Diff m e q) ≡ made → exchange_if negated made ≡ Some pair →
           Tells facts.nodes (λ assignment. split_truth negated (there assignment) (bit assignment)) pair
@@ -223,13 +194,18 @@ module _ (facts : Facts) (have_values : HaveStatedValues facts) where
       by_turn false (Some found) made is =
           subst (Tells facts.nodes (λ assignment. split_truth false (there assignment) (bit assignment))) (cc)
           (tells_by facts.nodes _ found
-          (denotes_so facts.nodes _ _ found.yes (λ assignment. both_yes (there assignment) (bit assignment)) (t_denotes found made))
-          (denotes_so facts.nodes _ _ found.no (λ assignment. both_no (there assignment) (bit assignment)) (f_denotes found made)))
+          (denotes_so facts.nodes _ _ found.yes (λ assignment. says_yes false (there assignment) (bit assignment)) (t_denotes found made))
+          (denotes_so facts.nodes _ _ found.no (λ assignment. says_no false (there assignment) (bit assignment)) (f_denotes found made)))
       by_turn true (Some found) made is =
           subst (Tells facts.nodes (λ assignment. split_truth true (there assignment) (bit assignment))) (cc)
           (tells_by facts.nodes _ (exchange_nodes found)
-          (denotes_so facts.nodes _ _ found.no (λ assignment. turned_yes (there assignment) (bit assignment)) (f_denotes found made))
-          (denotes_so facts.nodes _ _ found.yes (λ assignment. turned_no (there assignment) (bit assignment)) (t_denotes found made)))
+          (denotes_so facts.nodes _ _ found.no (λ assignment. says_yes true (there assignment) (bit assignment)) (f_denotes found made))
+          (denotes_so facts.nodes _ _ found.yes (λ assignment. says_no true (there assignment) (bit assignment)) (t_denotes found made)))
+  split-tells negated _ _ p q pair there bit m_denotes e_denotes is = by_turn negated is
+    where
+      by_turn : (negated : Bool) → exchange_if negated None ≡ Some pair → Tells facts.nodes (λ assignment. split_truth negated (there assignment) (bit assignment)) pair
+      by_turn true is = cc
+      by_turn false is = cc
 
   -- the node of a comparison of a column's code with a bound
   bound_node-denoted : (col : ℕ) (bound : Bound) (chain : Option ℕ) (e : ℕ) → bound_node facts.columns facts col bound chain ≡ Some e →
@@ -245,12 +221,11 @@ module _ (facts : Facts) (have_values : HaveStatedValues facts) where
       by_terminal : (terminal : Option ℕ) → terminal_of bound.kind bound.limit (width_at facts.columns col) ≡ terminal → (chain : Option ℕ) → terminal_or_cited terminal cite chain ≡ Some e → P e
       by_terminal (Some terminal) which None is =
           subst P (cc) (terminal-denoted facts.nodes (code_spelled facts.columns col) bound.kind bound.limit (width_at facts.columns col) terminal (code_spelled-lt facts.columns col) which)
-      by_terminal (Some terminal) which (Some number) is = cc
-      by_terminal None which None is = cc
       by_terminal None which (Some number) is =
           let found = have_values.chain bound.kind col 0 (width_at facts.columns col) (unsigned_abs bound.limit) number e is in
           denotes_so facts.nodes _ _ e (λ assignment. terminal_of-compares bound.kind bound.limit (width_at facts.columns col) (code_spelled facts.columns col assignment) which)
           (record { is_node = found.0; denoted = found.1 })
+      by_terminal _ which _ is = cc
 
   -- CMP
   pub with_literal-tells : (op : Op) (col : ℕ) (n : ℤ) (entry : ConditionEntry) (pair : TruthPair) → col < length facts.columns → with_literal facts.columns facts op col n entry ≡ Some pair →
@@ -304,17 +279,15 @@ module _ (facts : Facts) (have_values : HaveStatedValues facts) where
           subst P (cc) (denotes_so facts.nodes _ _ (first_node order.kind)
           (λ assignment. ap (λ c. compares order.kind (code_spelled facts.columns order.left assignment) (code_spelled facts.columns c assignment)) one)
           (itself order.kind (code_spelled facts.columns order.left)))
-      by_same true same (Some number) is = cc
-      by_same false same None is = cc
       by_same false same (Some number) is =
           let found = have_values.two order.kind order.left order.right len number e is in
           denotes_so facts.nodes _ _ e whole (record { is_node = found.0; denoted = found.1 })
+      by_same _ same _ is = cc
 
   both_node-denoted : (left right : Option ℕ) (number m : ℕ) (x y : Assignment → Bool) → ((n : ℕ) → left ≡ Some n → Denotes facts.nodes x n) → ((n : ℕ) → right ≡ Some n → Denotes facts.nodes y n) →
       both_node facts left right number ≡ Some m → Denotes facts.nodes (λ assignment. x assignment && y assignment) m
   both_node-denoted (Some left) (Some right) number m x y x_denotes y_denotes is = product_node-denoted facts have_values And left right m number x y (x_denotes left refl) (y_denotes right refl) is
-  both_node-denoted (Some left) None number m x y x_denotes y_denotes is = cc
-  both_node-denoted None right number m x y x_denotes y_denotes is = cc
+  both_node-denoted _ _ number m x y x_denotes y_denotes is = cc
 
   -- CMP2
   pub with_column-tells : (op : Op) (c d : ℕ) (entry : ConditionEntry) (pair : TruthPair) → c < length facts.columns → d < length facts.columns → with_column facts.columns facts op c d entry ≡ Some pair →
@@ -335,8 +308,7 @@ module _ (facts : Facts) (have_values : HaveStatedValues facts) where
           split_truth order.negated (x && y) (compares order.kind (code assignment order.left) (code assignment order.right))
           ≡ compare_values op (value_if x (lo_at facts.columns c +ℤ pos (code assignment c))) (value_if y (lo_at facts.columns d +ℤ pos (code assignment d)))
       by_value assignment true true one = ap truth_from (sym (holds_ordered op (lo_at facts.columns c) c d (code assignment)) ∙ ap (λ lo. holds op (lo_at facts.columns c +ℤ pos (code assignment c)) (lo +ℤ pos (code assignment d))) one)
-      by_value assignment true false one = refl
-      by_value assignment false y one = refl
+      by_value assignment _ _ one = refl
 
       same : lo_at facts.columns c ≡ lo_at facts.columns d → (assignment : Assignment) →
           split_truth order.negated (has_value facts.columns c assignment && has_value facts.columns d assignment) (compares order.kind (code assignment order.left) (code assignment order.right))
@@ -370,10 +342,5 @@ module _ (facts : Facts) (have_values : HaveStatedValues facts) where
   comparison-tells op (Col c) Null entry pair x_in y_in is =
       tells_so facts.nodes _ _ pair (λ assignment. sym (compare_values-null op (value_in (row_of facts.columns assignment) c)))
       (fixed-tells facts.nodes Unknown pair entry is)
-  comparison-tells op (Lit n) Null entry pair x_in y_in is = fixed-tells facts.nodes Unknown pair entry is
-  comparison-tells op Null y entry pair x_in y_in is = by_operand y is
-    where
-      by_operand : (y : Operand) → comparison facts.columns facts op Null y entry ≡ Some pair → Tells facts.nodes (λ assignment. Unknown) pair
-      by_operand (Col c) is = fixed-tells facts.nodes Unknown pair entry is
-      by_operand (Lit n) is = fixed-tells facts.nodes Unknown pair entry is
-      by_operand Null is = fixed-tells facts.nodes Unknown pair entry is
+  comparison-tells op Null (Lit n) entry pair x_in y_in is = fixed-tells facts.nodes Unknown pair entry is
+  comparison-tells op _ _ entry pair x_in y_in is = fixed-tells facts.nodes Unknown pair entry is

@@ -48,9 +48,8 @@ holds_more by_target edges edge there holds place within = at (eqb edge.target p
 -- no edges, by this many targets
 pub none_by_target : (count : ℕ) → Holds (replicate count []) []
 unfolding edges_into
-none_by_target zero place within = refl
-none_by_target (suc count) zero within = refl
 none_by_target (suc count) (suc place) within = none_by_target count place (omega (arith, within))
+none_by_target _ _ within = refl
 
 pub replicate-more : {A : Type 0} (count : ℕ) (x : A) → replicate count x ++ x ∷ [] ≡ replicate (suc count) x
 replicate-more zero x = refl

@@ -21,6 +21,9 @@ pub bind_ok : {A B : Type 0} (r : Result A Fault) (f : A → Result B Fault) (y 
 bind_ok (Ok x) f y is = (x, refl, is)
 bind_ok (Err fault) f y is = cc
 
+pub ok_same : {A : Type 0} {x y : A} → ◌≡◌ {A = Result A Fault} (Ok x) (Ok y) → x ≡ y
+ok_same is = cc
+
 pub not_refused : {A : Type 0} (b : Bool) (fault : Fault) (r : Result A Fault) (x : A) → refused_if b fault r ≡ Ok x → (b ≡ false) × (r ≡ Ok x)
 not_refused true fault r x is = cc
 not_refused false fault r x is = (refl, is)
@@ -38,13 +41,12 @@ map_same {B = B} f g (x ∷ xs) same = ap₂ (λ (y : B) (ys : List B). y ∷ ys
 pub looked : (known : KnownNodes) (r register node n : ℕ) → node_of (with_node known r node) register ≡ Some n → ((register ≡ r) × (node ≡ n)) ⊎ ((register ≢ r) × (node_of known register ≡ Some n))
 looked [] r register node n is = cc
 looked (k ∷ known) zero zero node n is = inl (refl, cc)
-looked (k ∷ known) zero (suc register) node n is = inr ((λ same. absurd (omega (arith, same))), is)
-looked (k ∷ known) (suc r) zero node n is = inr ((λ same. absurd (omega (arith, same))), is)
 looked (k ∷ known) (suc r) (suc register) node n is = up (looked known r register node n is)
   where
     up : ((register ≡ r) × (node ≡ n)) ⊎ ((register ≢ r) × (node_of known register ≡ Some n)) → ((suc register ≡ suc r) × (node ≡ n)) ⊎ ((suc register ≢ suc r) × (node_of known register ≡ Some n))
     up (inl (same, node_is)) = inl (ap suc same, node_is)
     up (inr (other, is)) = inr ((λ same. other (omega (arith, same))), is)
+looked (k ∷ known) _ _ node n is = inr ((λ same. absurd (omega (arith, same))), is)
 
 -- nothing is known of any register
 pub nothing : (register n : ℕ) → node_of nothing_known register ≡ Some n → ⊥
@@ -52,9 +54,8 @@ unfolding nothing_known
 nothing register n is = none register_count register is
   where
     none : (count register : ℕ) → get_or (replicate count None) register None ≡ Some n → ⊥
-    none zero register is = cc
-    none (suc count) zero is = cc
     none (suc count) (suc register) is = none count register is
+    none _ _ is = cc
 
 pub holds_nothing : (facts : Facts) (lanes : List Assignment) (registers : ℕ → List Bool) → Hold facts lanes nothing_known registers
 holds_nothing facts lanes registers register node is = absurd (nothing register node is)

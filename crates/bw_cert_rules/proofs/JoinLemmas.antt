@@ -1,6 +1,6 @@
 -- One more skip, and one more line KEEP.
-use Rattle.std.proofs.Common.{◌≡◌, ◌≢◌, ◌∙◌, refl, sym, ap, ap₂, ℕ, suc, true, false, not, ◌&&◌}
-use Rattle.std.proofs.Common.{List, [], ◌∷◌, length, Result, Ok, Err}
+use Rattle.std.proofs.Common.{◌≡◌, ◌≢◌, ◌∙◌, refl, sym, ap, ap₂, ℕ, suc, false, not, ◌&&◌}
+use Rattle.std.proofs.Common.{Bool, List, [], ◌∷◌, length, Result, Ok}
 use Rattle.std.proofs.Math.Dec.{eqb, eqb-suc-zero}
 use Rattle.bw_model.specs.declared.fault.Fault.{Fault}
 use Rattle.bw_model.specs.Fault.{at_line, refused_if}
@@ -37,23 +37,12 @@ no_skips facts keep skips pairs none = ap (λ es. keeps_by_skips facts keep es p
     at [] = refl
     at (rows ∷ more) = sym (eqb-suc-zero (length more))
 
--- a line KEEP that is kept
-pub keep_on : (facts : Facts) (through : KnownNodes) (edges : List Edge) (least : ℕ) (kept : KnownNodes) (lines more : List BodyLine) (line : BodyLine) (keep : Keep) → lines ≡ line ∷ more → line.entry ≡ line_of.Keep keep →
-    is_valid_keep facts through edges least keep ≡ true →
-    keeps_taken facts through edges least kept lines ≡ keeps_taken facts through edges (suc keep.register) (with_node kept keep.register keep.node) more
+-- a line KEEP, whose test says whether it is kept
+pub keep_step : (facts : Facts) (through : KnownNodes) (edges : List Edge) (least : ℕ) (kept : KnownNodes) (lines more : List BodyLine) (line : BodyLine) (keep : Keep) (valid : Bool) → lines ≡ line ∷ more → line.entry ≡ line_of.Keep keep →
+    is_valid_keep facts through edges least keep ≡ valid →
+    keeps_taken facts through edges least kept lines ≡ refused_if (not valid) (at_line 608 line.line) (keeps_taken facts through edges (suc keep.register) (with_node kept keep.register keep.node) more)
 unfolding keeps_taken
-keep_on facts through edges least kept lines more line keep there entry is =
-    let next : Keep → Result WalkState Fault = λ keep. refused_if (not (is_valid_keep facts through edges least keep)) (at_line 608 line.line)
-    (keeps_taken facts through edges (suc keep.register) (with_node kept keep.register keep.node) more) in
-    ap (keeps_taken facts through edges least kept) there
-    ∙ ap (λ e. by_keep (keep_in e) (Ok (record { known = kept; rest = line ∷ more })) next) entry
-    ∙ ap (λ b. refused_if (not b) (at_line 608 line.line) (keeps_taken facts through edges (suc keep.register) (with_node kept keep.register keep.node) more)) is
-
--- one that isn't
-pub keep_refused : (facts : Facts) (through : KnownNodes) (edges : List Edge) (least : ℕ) (kept : KnownNodes) (lines more : List BodyLine) (line : BodyLine) (keep : Keep) → lines ≡ line ∷ more → line.entry ≡ line_of.Keep keep →
-    is_valid_keep facts through edges least keep ≡ false → keeps_taken facts through edges least kept lines ≡ Err (at_line 608 line.line)
-unfolding keeps_taken
-keep_refused facts through edges least kept lines more line keep there entry is =
+keep_step facts through edges least kept lines more line keep valid there entry is =
     let next : Keep → Result WalkState Fault = λ keep. refused_if (not (is_valid_keep facts through edges least keep)) (at_line 608 line.line)
     (keeps_taken facts through edges (suc keep.register) (with_node kept keep.register keep.node) more) in
     ap (keeps_taken facts through edges least kept) there
@@ -73,7 +62,5 @@ no_more_keeps facts through edges least kept lines more line there other =
   where
     at : (entry : Entry) → line.entry ≡ entry → by_keep (keep_in entry) (Ok (record { known = kept; rest = line ∷ more })) (λ keep. refused_if (not (is_valid_keep facts through edges least keep)) (at_line 608 line.line)
         (keeps_taken facts through edges (suc keep.register) (with_node kept keep.register keep.node) more)) ≡ Ok (record { known = kept; rest = line ∷ more })
-    at (line_of.Condition given) is = refl
-    at (line_of.Instruction given) is = refl
-    at (line_of.Join place) is = refl
     at (line_of.Keep keep) is = absurd (other keep is)
+    at _ is = refl

@@ -5,6 +5,7 @@ pub mod HoldLemmas
 pub mod JoinLemmas
 pub mod NumberLemmas
 pub mod PairLemmas
+pub mod PartsLemmas
 pub mod RowLemmas
 pub mod SameLemmas
 pub mod SoundLemmas

@@ -68,10 +68,7 @@ eq_turned x y = grind (arith, ints)
 pub holds_turned : (op : Op) (x y : ℤ) → holds (swap_operands op) x y ≡ holds op y x
 holds_turned Eq x y = eq_turned x y
 holds_turned Ne x y = ap not (eq_turned x y)
-holds_turned Lt x y = refl
-holds_turned Gt x y = refl
-holds_turned Le x y = refl
-holds_turned Ge x y = refl
+holds_turned _ x y = refl
 
 -- comparisons of numbers at the same distance
 pub lt_apart : (lo : ℤ) (x y : ℕ) → int_lt (lo +ℤ pos x) (lo +ℤ pos y) ≡ nat_lt x y

@@ -36,8 +36,7 @@ denotes_so nodes value other node same w = record { is_node = w.is_node; denoted
 
 pub if_both-is : (t f : Option ℕ) (pair : TruthPair) → if_both t f ≡ Some pair → (t ≡ Some pair.yes) × (f ≡ Some pair.no)
 if_both-is (Some t) (Some f) pair is = (cc, cc)
-if_both-is (Some t) None pair is = cc
-if_both-is None f pair is = cc
+if_both-is _ _ pair is = cc
 
 module _ (facts : Facts) (have_values : HaveStatedValues facts) where
   -- the node of a cited row is worth the connective of what the two nodes are worth
@@ -77,10 +76,9 @@ value_node-denoted columns facts have_values col number m is = by_nullable (is_n
     by_nullable : (nullable : Bool) (number : Option ℕ) → value_node facts (cond nullable (Some (first_variable columns col)) None) number ≡ Some m →
         Denotes facts.nodes (λ assignment. not (nullable && assignment (first_variable columns col))) m
     by_nullable false None is = subst (Denotes facts.nodes (λ assignment. true)) (cc) (one_denotes facts.nodes)
-    by_nullable false (Some number) is = cc
-    by_nullable true None is = cc
     by_nullable true (Some number) is = by_test (null_pair facts (first_variable columns col) number) refl is
       where
         by_test : (found : Option TruthPair) → null_pair facts (first_variable columns col) number ≡ found → option_map (λ pair. pair.no) found ≡ Some m → Denotes facts.nodes (λ assignment. not (assignment (first_variable columns col))) m
         by_test None found is = cc
         by_test (Some pair) found is = subst (Denotes facts.nodes (λ assignment. not (assignment (first_variable columns col)))) (cc) (null_pair-denoted facts have_values (first_variable columns col) number pair found).1
+    by_nullable _ _ is = cc

@@ -14,7 +14,7 @@ use Rattle.bw_cert_text.specs.declared.lines.EdgeProducts.{EdgeProducts}
 use Rattle.bw_cert_text.specs.declared.lines.Entry.{Entry}
 use Rattle.bw_cert_text.specs.declared.lines.Entry.TheVariants as entry
 use Rattle.bw_cert_text.specs.declared.lines.Keep.{Keep}
-use Rattle.bw_cert_text.specs.CertificateFields.{BodyFields, EntryFields, KeepFields, Condition}
+use Rattle.bw_cert_text.specs.CertificateFields.{BodyFields, EntryFields, KeepFields}
 use Rattle.bw_cert_text.specs.CertificateFields.{Instruction, Join, Kept, body_fields, entry_fields}
 use Rattle.bw_cert_text.specs.CertificateFields.{keep_fields}
 use Rattle.bw_cert_rules.specs.declared.edge.Edge.{Edge}
@@ -39,39 +39,27 @@ taken_of known rest = record { known = known; rest = rest }
 -- what a line says of an instruction, of a join and of a register
 abbrev instruction_said : Facts → KnownNodes → Instr → ℕ → EntryFields → Result KnownNodes Fault
 instruction_said facts known instr line (Instruction given) = check_instruction_line facts known line instr given
-instruction_said facts known instr line (Condition given) = Err (at_line 607 line)
-instruction_said facts known instr line (Join place) = Err (at_line 607 line)
-instruction_said facts known instr line (Kept keep) = Err (at_line 607 line)
+instruction_said facts known instr line _ = Err (at_line 607 line)
 
 instruction-said : (facts : Facts) (known : KnownNodes) (instr : Instr) (line : BodyLine) (e : Entry) → instruction_on facts known instr line e ≡ instruction_said facts known instr line.line (entry_fields e)
-instruction-said facts known instr line (entry.Condition given) = refl
-instruction-said facts known instr line (entry.Instruction given) = refl
-instruction-said facts known instr line (entry.Join place) = refl
 instruction-said facts known instr line (entry.Keep keep) = refl
+instruction-said facts known instr line _ = refl
 
 abbrev join_said : ℕ → EntryFields → Bool
 join_said place (Join target) = target == place
-join_said place (Instruction given) = false
-join_said place (Condition given) = false
-join_said place (Kept keep) = false
+join_said place _ = false
 
 join-said : (place : ℕ) (e : Entry) → is_join place e ≡ join_said place (entry_fields e)
-join-said place (entry.Condition given) = refl
-join-said place (entry.Instruction given) = refl
-join-said place (entry.Join target) = refl
 join-said place (entry.Keep keep) = refl
+join-said place _ = refl
 
 abbrev keep_said : EntryFields → Option KeepFields
 keep_said (Kept keep) = Some keep
-keep_said (Instruction given) = None
-keep_said (Condition given) = None
-keep_said (Join place) = None
+keep_said _ = None
 
 keep-said : (e : Entry) → option_map keep_fields (keep_in e) ≡ keep_said (entry_fields e)
-keep-said (entry.Condition given) = refl
-keep-said (entry.Instruction given) = refl
-keep-said (entry.Join place) = refl
 keep-said (entry.Keep keep) = refl
+keep-said _ = refl
 
 -- a line KEEP is checked by its fields
 skip_said : Facts → ℕ → ℕ → Edge → EdgeProducts → Bool
@@ -81,16 +69,14 @@ skip_said facts node register edge rows =
 
 skips_said : Facts → ℕ → ℕ → List Edge → List EdgeProducts → Bool
 skips_said facts node register [] [] = true
-skips_said facts node register [] (rows ∷ others) = false
-skips_said facts node register (edge ∷ edges) [] = false
 skips_said facts node register (edge ∷ edges) (rows ∷ others) = skip_said facts node register edge rows && skips_said facts node register edges others
+skips_said facts node register _ _ = false
 
 skips-said : (facts : Facts) (keep : Keep) (edges : List Edge) (rows : List EdgeProducts) → keeps_by_skips facts keep edges rows ≡ skips_said facts keep.node keep.register edges rows
 unfolding keeps_by_skips skips_said skip_said
-skips-said facts keep [] [] = refl
 skips-said facts keep [] (rows ∷ others) = refl
-skips-said facts keep (edge ∷ edges) [] = refl
 skips-said facts keep (edge ∷ edges) (rows ∷ others) = ap (λ b. keeps_by_skip facts keep edge rows && b) (skips-said facts keep edges others)
+skips-said facts keep _ _ = refl
 
 kept_said : Facts → KnownNodes → List Edge → ℕ → KeepFields → Bool
 kept_said facts through edges least keep =
@@ -116,9 +102,8 @@ bind-fields (Ok a) (Ok b) f g same each =
     let known : a.known ≡ b.known = ap (λ (said : KnownNodes × List BodyFields). said.0) both in
     let rests : SayTheSame a.rest b.rest = ap (λ (said : KnownNodes × List BodyFields). said.1) both in
     each a.known a.rest b.rest rests ∙ ap (λ known. line_fields (g (taken_of known b.rest))) known
-bind-fields (Ok a) (Err fault) f g same each = cc
-bind-fields (Err fault) (Ok b) f g same each = cc
 bind-fields (Err fault) (Err other) f g same each = same
+bind-fields _ _ f g same each = cc
 
 refused-same : (b : Bool) (fault : Fault) (read other : Result WalkState Fault) → line_fields read ≡ line_fields other → line_fields (refused_if b fault read) ≡ line_fields (refused_if b fault other)
 refused-same true fault read other same = refl
@@ -127,8 +112,6 @@ refused-same false fault read other same = same
 module _ (facts : Facts) (end : ℕ) where
   instruction-same : (known : KnownNodes) (instr : Instr) (lines others : List BodyLine) → SayTheSame lines others → line_fields (instruction_taken facts end known instr lines) ≡ line_fields (instruction_taken facts end known instr others)
   instruction-same known instr [] [] same = refl
-  instruction-same known instr [] (other ∷ others) same = cc
-  instruction-same known instr (line ∷ lines) [] same = cc
   instruction-same known instr (line ∷ lines) (other ∷ others) same =
       let first : body_fields line ≡ body_fields other = cc in
       let rest : SayTheSame lines others = cc in
@@ -136,6 +119,7 @@ module _ (facts : Facts) (end : ℕ) where
       ap (λ (r : Result KnownNodes Fault). line_fields (r >>= next lines)) (instruction-said facts known instr line line.entry
       ∙ ap (λ (fields : BodyFields). instruction_said facts known instr fields.line fields.entry) first ∙ sym (instruction-said facts known instr other other.entry))
       ∙ bind-same (instruction_on facts known instr other other.entry) (next lines) (next others) (λ through. ap (λ (fields : List BodyFields). Ok (through, fields)) rest)
+  instruction-same known instr _ _ same = cc
 
   abbrev kept_on : KnownNodes → List Edge → ℕ → KnownNodes → BodyLine → List BodyLine → Keep → Result WalkState Fault
   kept_on through edges least kept line lines keep =
@@ -145,8 +129,6 @@ module _ (facts : Facts) (end : ℕ) where
       line_fields (keeps_taken facts through edges least kept lines) ≡ line_fields (keeps_taken facts through edges least kept others)
   unfolding keeps_taken
   keeps-same through edges least kept [] [] same = refl
-  keeps-same through edges least kept [] (other ∷ others) same = cc
-  keeps-same through edges least kept (line ∷ lines) [] same = cc
   keeps-same through edges least kept (line ∷ lines) (other ∷ others) same =
       let first : body_fields line ≡ body_fields other = cc in
       let rest : SayTheSame lines others = cc in
@@ -157,8 +139,6 @@ module _ (facts : Facts) (end : ℕ) where
           ((least : ℕ) (kept : KnownNodes) → line_fields (keeps_taken facts through edges least kept lines) ≡ line_fields (keeps_taken facts through edges least kept others)) →
           line_fields (by_keep k (Ok (taken_of kept (line ∷ lines))) (kept_on through edges least kept line lines)) ≡ line_fields (by_keep l (Ok (taken_of kept (other ∷ others))) (kept_on through edges least kept other others))
       by None None keeps first more = ap (λ (fields : List BodyFields). Ok (kept, fields)) same
-      by None (Some l) keeps first more = cc
-      by (Some k) None keeps first more = cc
       by (Some k) (Some l) keeps first more =
           let fields : keep_fields k ≡ keep_fields l = cc in
           let judged : is_valid_keep facts through edges least k ≡ is_valid_keep facts through edges least l = kept-said facts through edges least k ∙ ap (kept_said facts through edges least) fields ∙ sym (kept-said facts through edges least l) in
@@ -167,13 +147,13 @@ module _ (facts : Facts) (end : ℕ) where
           refused-same (not (is_valid_keep facts through edges least k)) (at_line 608 line.line) _ _ (more (suc k.register) (with_node kept k.register k.node))
           ∙ ap₂ (λ b at. line_fields (refused_if (not b) (at_line 608 at) (keeps_taken facts through edges (suc k.register) (with_node kept k.register k.node) others))) judged (ap (λ (f : BodyFields). f.line) first)
           ∙ ap₂ (λ r n. line_fields (refused_if (not (is_valid_keep facts through edges least l)) (at_line 608 other.line) (keeps_taken facts through edges (suc r) (with_node kept r n) others))) register node
+      by _ _ keeps first more = cc
+  keeps-same through edges least kept _ _ same = cc
 
   apply_join-same : (place : ℕ) (edges : List Edge) (known : KnownNodes) (lines others : List BodyLine) → SayTheSame lines others →
       line_fields (apply_join facts end place edges (taken_of known lines)) ≡ line_fields (apply_join facts end place edges (taken_of known others))
   apply_join-same place [] known lines others same = ap (λ (fields : List BodyFields). Ok (known, fields)) same
   apply_join-same place (edge ∷ edges) known [] [] same = refl
-  apply_join-same place (edge ∷ edges) known [] (other ∷ others) same = cc
-  apply_join-same place (edge ∷ edges) known (line ∷ lines) [] same = cc
   apply_join-same place (edge ∷ edges) known (line ∷ lines) (other ∷ others) same =
       let first : body_fields line ≡ body_fields other = cc in
       let rest : SayTheSame lines others = cc in
@@ -183,9 +163,9 @@ module _ (facts : Facts) (end : ℕ) where
           line_fields (refused_if (not b) (at_line 608 line.line) (Ok lines) >>= keeps_taken facts known (edge ∷ edges) 0 nothing_known)
           ≡ line_fields (refused_if (not c) (at_line 608 other.line) (Ok others) >>= keeps_taken facts known (edge ∷ edges) 0 nothing_known)
       by true true joins at rest = keeps-same known (edge ∷ edges) 0 nothing_known lines others rest
-      by true false joins at rest = cc
-      by false true joins at rest = cc
       by false false joins at rest = ap (λ at. Err (at_line 608 at)) at
+      by _ _ joins at rest = cc
+  apply_join-same place (edge ∷ edges) known _ _ same = cc
 
   pub check_lines_from-same : (place : ℕ) (edges : List Edge) (instrs : List Instr) (known : KnownNodes) (lines others : List BodyLine) → SayTheSame lines others →
       line_fields (check_lines_from facts end place edges instrs (taken_of known lines)) ≡ line_fields (check_lines_from facts end place edges instrs (taken_of known others))

@@ -3,7 +3,7 @@ use Rattle.std.proofs.Common.{◌≡◌, ◌∙◌, refl, sym, ap, ap₂, subst,
 use Rattle.std.proofs.Common.{◌<◌, ◌≤◌, Bool, true, false, not, cond, IsTrue, List, [], ◌∷◌, ◌++◌}
 use Rattle.std.proofs.Common.{length, Option, Some, None, slice_get, add-zero, arith}
 use Rattle.std.proofs.Math.Dec.{eqb}
-use Rattle.std.proofs.lemmas.Bool.{eqb-true, eqb-false, eq-eqb, ltb-true, leb-true}
+use Rattle.std.proofs.lemmas.Bool.{false≢true, eqb-true, eqb-false, eq-eqb, ltb-true, leb-true}
 use Rattle.std.specs.Option.{option_and_then}
 use Rattle.bw_model.proofs.BitsLemmas.{both}
 use Rattle.std.proofs.lemmas.Option.{slice_get_within}
@@ -15,8 +15,7 @@ use Rattle.bw_diagram.specs.Node.{node_value}
 use Rattle.bw_diagram.specs.Product.{apply_connective}
 use Rattle.bw_diagram.specs.References.{HaveStatedValues, product_node}
 use Rattle.bw_program.specs.declared.instr.Instr.{Instr}
-use Rattle.bw_program.specs.declared.instr.Instr.TheVariants.{Load, Nulls, Fill, And, Or, Xor, Not}
-use Rattle.bw_program.specs.declared.instr.Instr.TheVariants.{ByteLt, ByteEq, Skip}
+use Rattle.bw_program.specs.declared.instr.Instr.TheVariants.{Skip}
 use Rattle.bw_program.specs.Machine.{State, step, step_of, state_after, steps_from, after_skip}
 use Rattle.bw_program.specs.Machine.{is_zero_in_all, end_state}
 use Rattle.bw_program.specs.Program.{ProgramShape, is_sound, are_sound, is_program}
@@ -36,13 +35,12 @@ use Rattle.bw_cert_rules.proofs.StepLemmas.{values, holds_after_instr}
 
 -- two bits whose XOR is 0 are the same
 xor_zero : (a b : Bool) → apply_connective connective.Xor a b ≡ false → a ≡ b
-xor_zero true true is = refl
-xor_zero false false is = refl
 xor_zero true false is = cc
 xor_zero false true is = cc
+xor_zero _ _ is = refl
 
 -- a node that is 0
-zero_is : (found : Option ℕ) → is_zero found ≡ true → found ≡ Some 0
+pub zero_is : (found : Option ℕ) → is_zero found ≡ true → found ≡ Some 0
 zero_is None is = cc
 zero_is (Some n) is = ap Some (eqb-true n 0 is)
 
@@ -51,7 +49,7 @@ chained None f y is = cc
 chained (Some x) f y is = (x, refl, is)
 
 -- of two nodes whose XOR is the node 0, the values are the same
-same_denotes : (facts : Facts) (f h row : ℕ) → HaveStatedValues facts → product_node facts connective.Xor f h row ≡ Some 0 → (assignment : Assignment) → node_value facts.nodes assignment f ≡ node_value facts.nodes assignment h
+pub same_denotes : (facts : Facts) (f h row : ℕ) → HaveStatedValues facts → product_node facts connective.Xor f h row ≡ Some 0 → (assignment : Assignment) → node_value facts.nodes assignment f ≡ node_value facts.nodes assignment h
 same_denotes facts f h row denoted is assignment =
     xor_zero _ _ (sym ((denoted.row connective.Xor f h row 0 is).1 assignment) ∙ denoted.zero assignment)
 
@@ -165,10 +163,7 @@ in_into edge (e ∷ edges) place target there = at (eqb e.target place) refl the
     at true is (inr there) rest = inr (rest there)
     at false is (inl same) rest =
         let here : eqb e.target place ≡ true = ap (λ (e : Edge). eqb e.target place) (sym same) ∙ eq-eqb edge.target place target in
-        absurd (false_true (sym is ∙ here))
-      where
-        false_true : false ≡ true → ⊥
-        false_true is = cc
+        absurd (false≢true (sym is ∙ here))
     at false is (inr there) rest = rest there
 
 -- the edge of a skip stands among those before each later place
@@ -194,11 +189,10 @@ skip_before facts instrs parts k x target (suc place) there lt = at (eqb k place
     at false is rest = in_more edge earlier _ (rest (omega (arith, lt, eqb-false k place is)))
 
 -- a list as long as another has something wherever that one has
-part_there : {A B : Type 0} (xs : List A) (ys : List B) (k : ℕ) (x : A) → length ys ≡ length xs → slice_get xs k ≡ Some x → (y : B) × (slice_get ys k ≡ Some y)
-part_there [] ys k x long is = cc
-part_there (a ∷ xs) [] k x long is = cc
+pub part_there : {A B : Type 0} (xs : List A) (ys : List B) (k : ℕ) (x : A) → length ys ≡ length xs → slice_get xs k ≡ Some x → (y : B) × (slice_get ys k ≡ Some y)
 part_there (a ∷ xs) (b ∷ ys) zero x long is = (b, refl)
 part_there (a ∷ xs) (b ∷ ys) (suc k) x long is = part_there xs ys k x (omega (arith, long)) is
+part_there _ _ k x long is = cc
 
 instr_there : {A : Type 0} (xs : List A) (k : ℕ) → k < length xs → (x : A) × (slice_get xs k ≡ Some x)
 instr_there [] k lt = absurd (omega (arith, lt))
@@ -250,15 +244,6 @@ skipped facts lanes instrs parts state x (suc place) denoted valid_parts forward
 stepped : (facts : Facts) (lanes : List Assignment) (instrs : List Instr) (parts : List Part) (state : State) (instr : Instr) → HaveStatedValues facts → AreValidParts facts instrs parts → Forward instrs → slice_get instrs state.place ≡ Some instr →
     HoldsAt facts lanes instrs parts state → HoldsAt facts lanes instrs parts (step facts.columns lanes instr state)
 unfolding HoldsAt
-stepped facts lanes instrs parts state (Load r column bit) denoted valid_parts forward there holds = fell facts lanes instrs parts state (Load r column bit) (step facts.columns lanes (Load r column bit) state) denoted valid_parts there holds (omega arith) refl
-stepped facts lanes instrs parts state (Nulls r column) denoted valid_parts forward there holds = fell facts lanes instrs parts state (Nulls r column) (step facts.columns lanes (Nulls r column) state) denoted valid_parts there holds (omega arith) refl
-stepped facts lanes instrs parts state (Fill r bit) denoted valid_parts forward there holds = fell facts lanes instrs parts state (Fill r bit) (step facts.columns lanes (Fill r bit) state) denoted valid_parts there holds (omega arith) refl
-stepped facts lanes instrs parts state (And r x y) denoted valid_parts forward there holds = fell facts lanes instrs parts state (And r x y) (step facts.columns lanes (And r x y) state) denoted valid_parts there holds (omega arith) refl
-stepped facts lanes instrs parts state (Or r x y) denoted valid_parts forward there holds = fell facts lanes instrs parts state (Or r x y) (step facts.columns lanes (Or r x y) state) denoted valid_parts there holds (omega arith) refl
-stepped facts lanes instrs parts state (Xor r x y) denoted valid_parts forward there holds = fell facts lanes instrs parts state (Xor r x y) (step facts.columns lanes (Xor r x y) state) denoted valid_parts there holds (omega arith) refl
-stepped facts lanes instrs parts state (Not r x) denoted valid_parts forward there holds = fell facts lanes instrs parts state (Not r x) (step facts.columns lanes (Not r x) state) denoted valid_parts there holds (omega arith) refl
-stepped facts lanes instrs parts state (ByteLt r column slice k) denoted valid_parts forward there holds = fell facts lanes instrs parts state (ByteLt r column slice k) (step facts.columns lanes (ByteLt r column slice k) state) denoted valid_parts there holds (omega arith) refl
-stepped facts lanes instrs parts state (ByteEq r column slice k) denoted valid_parts forward there holds = fell facts lanes instrs parts state (ByteEq r column slice k) (step facts.columns lanes (ByteEq r column slice k) state) denoted valid_parts there holds (omega arith) refl
 stepped facts lanes instrs parts state (Skip x target) denoted valid_parts forward there holds = at (is_zero_in_all (state.registers x)) refl
   where
     same : (taken : Bool) → (after_skip state taken target).registers ≡ state.registers
@@ -268,6 +253,7 @@ stepped facts lanes instrs parts state (Skip x target) denoted valid_parts forwa
     at : (taken : Bool) → is_zero_in_all (state.registers x) ≡ taken → HoldsAt facts lanes instrs parts (after_skip state taken target)
     at true is = skipped facts lanes instrs parts state x target denoted valid_parts forward there is holds
     at false is = fell facts lanes instrs parts state (Skip x target) (after_skip state false target) denoted valid_parts there holds (omega arith) (sym (same (is_zero_in_all (state.registers x))))
+stepped facts lanes instrs parts state instr denoted valid_parts forward there holds = fell facts lanes instrs parts state instr (step facts.columns lanes instr state) denoted valid_parts there holds (omega arith) refl
 
 -- after any number of steps
 pub holds_after : (facts : Facts) (lanes : List Assignment) (program : ProgramShape) (parts : List Part) (steps : ℕ) → HaveStatedValues facts → AreValidParts facts program.instrs parts → Forward program.instrs →
@@ -306,20 +292,12 @@ forward program sound k x target there =
 -- a step continues, and not past the end
 goes_on : (columns : List Column) (lanes : List Assignment) (instrs : List Instr) (state : State) (instr : Instr) → Forward instrs → slice_get instrs state.place ≡ Some instr →
     (state.place < (step columns lanes instr state).place) × ((step columns lanes instr state).place ≤ length instrs)
-goes_on columns lanes instrs state (Load r column bit) forward there = (omega arith, omega (arith, slice_get_within instrs state.place _ there))
-goes_on columns lanes instrs state (Nulls r column) forward there = (omega arith, omega (arith, slice_get_within instrs state.place _ there))
-goes_on columns lanes instrs state (Fill r bit) forward there = (omega arith, omega (arith, slice_get_within instrs state.place _ there))
-goes_on columns lanes instrs state (And r x y) forward there = (omega arith, omega (arith, slice_get_within instrs state.place _ there))
-goes_on columns lanes instrs state (Or r x y) forward there = (omega arith, omega (arith, slice_get_within instrs state.place _ there))
-goes_on columns lanes instrs state (Xor r x y) forward there = (omega arith, omega (arith, slice_get_within instrs state.place _ there))
-goes_on columns lanes instrs state (Not r x) forward there = (omega arith, omega (arith, slice_get_within instrs state.place _ there))
-goes_on columns lanes instrs state (ByteLt r column slice k) forward there = (omega arith, omega (arith, slice_get_within instrs state.place _ there))
-goes_on columns lanes instrs state (ByteEq r column slice k) forward there = (omega arith, omega (arith, slice_get_within instrs state.place _ there))
 goes_on columns lanes instrs state (Skip x target) forward there = at (is_zero_in_all (state.registers x))
   where
     at : (taken : Bool) → (state.place < (after_skip state taken target).place) × ((after_skip state taken target).place ≤ length instrs)
     at true = forward state.place x target there
     at false = (omega arith, omega (arith, slice_get_within instrs state.place _ there))
+goes_on columns lanes instrs state _ forward there = (omega arith, omega (arith, slice_get_within instrs state.place _ there))
 
 -- after this many steps a run has come so far, or to the end
 come_far : (columns : List Column) (lanes : List Assignment) (program : ProgramShape) (steps : ℕ) → Forward program.instrs → let state : State = state_after columns lanes program steps in

@@ -1,7 +1,7 @@
 -- What is known after an instruction holds after its step.
 use Rattle.std.proofs.Common.{◌≡◌, ◌∙◌, refl, sym, ap, ap₂, subst, ℕ, suc, ◌+◌, ◌-◌, ◌*◌, ◌^◌, ◌<◌}
 use Rattle.std.proofs.Common.{Bool, true, false, not, ◌&&◌, ◌||◌, cond, List, map, Option, Some}
-use Rattle.std.proofs.Common.{None, Result, Ok, nat_le, arith}
+use Rattle.std.proofs.Common.{Result, None, Ok, nat_le, arith}
 use Rattle.std.proofs.lemmas.Bool.{lt-ltb, leb-true, ne_eqb}
 use Rattle.std.proofs.lemmas.Simd.{zip2-map, map-map}
 use Rattle.std.specs.Simd.Lanes.{zip2}
@@ -20,27 +20,18 @@ use Rattle.bw_diagram.specs.References.{HaveStatedValues, comparison_node, is_va
 use Rattle.bw_program.specs.declared.instr.Instr.{Instr}
 use Rattle.bw_program.specs.declared.instr.Instr.TheVariants.{Load, Nulls, Fill, And, Or, Xor, Not}
 use Rattle.bw_program.specs.declared.instr.Instr.TheVariants.{ByteLt, ByteEq, Skip}
-use Rattle.bw_program.specs.Machine.{State, in_lanes, differ, step, after_skip, is_zero_in_all}
-use Rattle.bw_program.specs.Program.{instr_fits}
+use Rattle.bw_program.specs.Machine.{State, with_register, in_lanes, differ, step, after_skip, is_zero_in_all}
 use Rattle.bw_program.specs.ProgramText.{found_on}
 use Rattle.bw_cert_text.specs.declared.lines.InstructionEntry.{InstructionEntry}
 use Rattle.bw_cert_rules.specs.Instruction.{loaded_node, operation_row, byte_chain, is_fill}
 use Rattle.bw_cert_rules.specs.Instruction.{is_skip_line, terminal, plane_on, operation_on, read_on}
 use Rattle.bw_cert_rules.specs.Instruction.{joined_on, opposite_on, past_node, byte_node, byte_on}
-use Rattle.bw_cert_rules.specs.Instruction.{check_instruction_line}
+use Rattle.bw_cert_rules.specs.Instruction.{check_instruction_line, set_register}
 use Rattle.bw_cert_rules.specs.Known.{KnownNodes}
 use Rattle.bw_cert_rules.specs.Sound.{Hold}
 use Rattle.bw_cert_rules.proofs.HoldLemmas.{bind_ok, not_refused, found_ok, map_same, holds_written}
-use Rattle.bw_cert_rules.proofs.HoldLemmas.{spelled_small}
-
-some_same : {A : Type 0} {x y : A} → Some x ≡ Some y → x ≡ y
-some_same is = cc
-
-ok_same : {x y : KnownNodes} → ◌≡◌ {A = Result KnownNodes Fault} (Ok x) (Ok y) → x ≡ y
-ok_same is = cc
-
-none_is : {A : Type 0} {G : Type 0} {x : A} → None ≡ Some x → G
-none_is is = cc
+use Rattle.bw_cert_rules.proofs.HoldLemmas.{ok_same, spelled_small}
+use Rattle.std.proofs.lemmas.Option.{none-some, same_Some}
 
 -- a node's values in some lanes
 abbrev pub values : Facts → List Assignment → ℕ → List Bool
@@ -112,22 +103,28 @@ byte_denotes facts lanes line kind there column slice k node given denoted is =
     at : (chain : Option ℕ) (past : Bool) → nat_le (2 ^ bits_in_slice facts.columns column slice) k ≡ past → byte_node facts kind column slice k chain ≡ Some node →
         (assignment : Assignment) → compares kind (byte assignment) k ≡ node_value facts.nodes assignment node
     at None true past is assignment =
-        let node_is : past_node kind ≡ node = some_same (ap (λ b. cond b (Some (past_node kind)) None) (sym past) ∙ is) in
+        let node_is : past_node kind ≡ node = same_Some _ _ (ap (λ b. cond b (Some (past_node kind)) None) (sym past) ∙ is) in
         let small : byte assignment < k =
         omega (arith, leb-true (2 ^ bits_in_slice facts.columns column slice) k past, spelled_small assignment (first_variable facts.columns (suc column) - (8 * slice + bits_in_slice facts.columns column slice)) (bits_in_slice facts.columns column slice)) in
         past_denotes facts assignment kind (byte assignment) k denoted small ∙ ap (node_value facts.nodes assignment) node_is
-    at None false past is assignment = none_is (ap (λ b. cond b (Some (past_node kind)) None) (sym past) ∙ is)
-    at (Some chain) true past is assignment = none_is (ap (λ b. cond b None (comparison_node facts kind column (8 * slice) (bits_in_slice facts.columns column slice) k chain)) (sym past) ∙ is)
+    at None false past is assignment = absurd (none-some _ (ap (λ b. cond b (Some (past_node kind)) None) (sym past) ∙ is))
+    at (Some chain) true past is assignment = absurd (none-some _ (ap (λ b. cond b None (comparison_node facts kind column (8 * slice) (bits_in_slice facts.columns column slice) k chain)) (sym past) ∙ is))
     at (Some chain) false past is assignment =
         let cites : comparison_node facts kind column (8 * slice) (bits_in_slice facts.columns column slice) k chain ≡ Some node =
         ap (λ b. cond b None (comparison_node facts kind column (8 * slice) (bits_in_slice facts.columns column slice) k chain)) (sym past) ∙ is in
         sym ((denoted.chain kind column (8 * slice) (bits_in_slice facts.columns column slice) k chain node cites).1 assignment)
 
 differ_joins : (a b : Bool) → differ a b ≡ apply_connective connective.Xor a b
-differ_joins true true = refl
 differ_joins true false = refl
-differ_joins false true = refl
 differ_joins false false = refl
+differ_joins _ _ = refl
+
+-- a register that gets a node, and whose lanes have the values of the node
+set_holds : (facts : Facts) (lanes : List Assignment) (known past : KnownNodes) (registers : ℕ → List Bool) (r : ℕ) (found : Result ℕ Fault) (bits : List Bool) → Hold facts lanes known registers →
+    set_register known r found ≡ Ok past → ((node : ℕ) → found ≡ Ok node → bits ≡ values facts lanes node) → Hold facts lanes past (with_register registers r bits)
+set_holds facts lanes known past registers r found bits holds is denotes =
+    let node = bind_ok found _ past is in
+    subst (λ known. Hold facts lanes known (with_register registers r bits)) (ok_same node.2) (holds_written facts lanes known registers r node.0 bits holds (denotes node.0 node.1))
 
 -- What is known after an instruction by its line holds after its step, if what was known held
 -- before it.
@@ -135,41 +132,27 @@ pub holds_after_instr : (facts : Facts) (lanes : List Assignment) (known past : 
     check_instruction_line facts known line instr given ≡ Ok past → Hold facts lanes past (step facts.columns lanes instr state).registers
 unfolding check_instruction_line
 holds_after_instr facts lanes known past state line (Load r column bit) given denoted holds is =
-    let node = bind_ok (plane_on facts line (instr_fits facts.columns (Load r column bit)) (bit_variable facts.columns column bit) given) _ past is in
-    subst (λ k. Hold facts lanes k (step facts.columns lanes (Load r column bit) state).registers) (ok_same node.2)
-    (holds_written facts lanes known state.registers r node.0 _ holds (plane_denotes facts lanes line _ node.0 _ given denoted node.1))
+    set_holds facts lanes known past state.registers r _ _ holds is (λ node. plane_denotes facts lanes line (bit_variable facts.columns column bit) node _ given denoted)
 holds_after_instr facts lanes known past state line (Nulls r column) given denoted holds is =
-    let node = bind_ok (plane_on facts line (instr_fits facts.columns (Nulls r column)) (first_variable facts.columns column) given) _ past is in
-    subst (λ k. Hold facts lanes k (step facts.columns lanes (Nulls r column) state).registers) (ok_same node.2)
-    (holds_written facts lanes known state.registers r node.0 _ holds (plane_denotes facts lanes line _ node.0 _ given denoted node.1))
+    set_holds facts lanes known past state.registers r _ _ holds is (λ node. plane_denotes facts lanes line (first_variable facts.columns column) node _ given denoted)
 holds_after_instr facts lanes known past state line (Fill r bit) given denoted holds is =
     let passed = not_refused (not (is_fill given)) _ _ past is in
     subst (λ k. Hold facts lanes k (step facts.columns lanes (Fill r bit) state).registers) (ok_same passed.1)
     (holds_written facts lanes known state.registers r (terminal bit) _ holds (fill_denotes facts lanes bit denoted))
 holds_after_instr facts lanes known past state line (And r x y) given denoted holds is =
-    let node = bind_ok (joined_on facts known line connective.And x y given) _ past is in
-    subst (λ k. Hold facts lanes k (step facts.columns lanes (And r x y) state).registers) (ok_same node.2)
-    (holds_written facts lanes known state.registers r node.0 _ holds (joined_denotes facts lanes known state.registers line connective.And (λ a b. a && b) x y node.0 given denoted holds (λ a b. refl) node.1))
+    set_holds facts lanes known past state.registers r _ _ holds is
+    (λ node. joined_denotes facts lanes known state.registers line connective.And (λ a b. a && b) x y node given denoted holds (λ a b. refl))
 holds_after_instr facts lanes known past state line (Or r x y) given denoted holds is =
-    let node = bind_ok (joined_on facts known line connective.Or x y given) _ past is in
-    subst (λ k. Hold facts lanes k (step facts.columns lanes (Or r x y) state).registers) (ok_same node.2)
-    (holds_written facts lanes known state.registers r node.0 _ holds (joined_denotes facts lanes known state.registers line connective.Or (λ a b. a || b) x y node.0 given denoted holds (λ a b. refl) node.1))
+    set_holds facts lanes known past state.registers r _ _ holds is
+    (λ node. joined_denotes facts lanes known state.registers line connective.Or (λ a b. a || b) x y node given denoted holds (λ a b. refl))
 holds_after_instr facts lanes known past state line (Xor r x y) given denoted holds is =
-    let node = bind_ok (joined_on facts known line connective.Xor x y given) _ past is in
-    subst (λ k. Hold facts lanes k (step facts.columns lanes (Xor r x y) state).registers) (ok_same node.2)
-    (holds_written facts lanes known state.registers r node.0 _ holds (joined_denotes facts lanes known state.registers line connective.Xor differ x y node.0 given denoted holds differ_joins node.1))
+    set_holds facts lanes known past state.registers r _ _ holds is (λ node. joined_denotes facts lanes known state.registers line connective.Xor differ x y node given denoted holds differ_joins)
 holds_after_instr facts lanes known past state line (Not r x) given denoted holds is =
-    let node = bind_ok (opposite_on facts known line x given) _ past is in
-    subst (λ k. Hold facts lanes k (step facts.columns lanes (Not r x) state).registers) (ok_same node.2)
-    (holds_written facts lanes known state.registers r node.0 _ holds (opposite_denotes facts lanes known state.registers line x node.0 given denoted holds node.1))
+    set_holds facts lanes known past state.registers r _ _ holds is (λ node. opposite_denotes facts lanes known state.registers line x node given denoted holds)
 holds_after_instr facts lanes known past state line (ByteLt r column slice k) given denoted holds is =
-    let node = bind_ok (byte_on facts line Less (instr_fits facts.columns (ByteLt r column slice k)) column slice k given) _ past is in
-    subst (λ ks. Hold facts lanes ks (step facts.columns lanes (ByteLt r column slice k) state).registers) (ok_same node.2)
-    (holds_written facts lanes known state.registers r node.0 _ holds (byte_denotes facts lanes line Less _ column slice k node.0 given denoted node.1))
+    set_holds facts lanes known past state.registers r _ _ holds is (λ node. byte_denotes facts lanes line Less _ column slice k node given denoted)
 holds_after_instr facts lanes known past state line (ByteEq r column slice k) given denoted holds is =
-    let node = bind_ok (byte_on facts line Equal (instr_fits facts.columns (ByteEq r column slice k)) column slice k given) _ past is in
-    subst (λ ks. Hold facts lanes ks (step facts.columns lanes (ByteEq r column slice k) state).registers) (ok_same node.2)
-    (holds_written facts lanes known state.registers r node.0 _ holds (byte_denotes facts lanes line Equal _ column slice k node.0 given denoted node.1))
+    set_holds facts lanes known past state.registers r _ _ holds is (λ node. byte_denotes facts lanes line Equal _ column slice k node given denoted)
 holds_after_instr facts lanes known past state line (Skip x target) given denoted holds is =
     let passed = not_refused (not (is_skip_line given)) _ _ past is in
     let read = bind_ok (read_on known line x) _ past passed.1 in

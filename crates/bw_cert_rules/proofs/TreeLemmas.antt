@@ -18,8 +18,8 @@ use Rattle.bw_cert_text.specs.declared.lines.BodyLine.{BodyLine}
 use Rattle.bw_cert_text.specs.declared.lines.ConditionEntry.{ConditionEntry}
 use Rattle.bw_cert_text.specs.declared.lines.Entry.{Entry}
 use Rattle.bw_cert_text.specs.declared.lines.Entry.TheVariants as entry
-use Rattle.bw_cert_text.specs.CertificateFields.{BodyFields, EntryFields, Condition, Instruction}
-use Rattle.bw_cert_text.specs.CertificateFields.{Join, Kept, body_fields, entry_fields}
+use Rattle.bw_cert_text.specs.CertificateFields.{BodyFields, EntryFields, Condition}
+use Rattle.bw_cert_text.specs.CertificateFields.{body_fields, entry_fields}
 use Rattle.bw_cert_rules.specs.declared.nodes.TruthPair.{TruthPair}
 use Rattle.bw_cert_rules.specs.declared.steps.Junction.{Junction}
 use Rattle.bw_cert_rules.specs.declared.steps.Junction.TheVariants.{All, Any}
@@ -43,38 +43,30 @@ AllSteady (reader ∷ readers) = Steady reader × AllSteady readers
 
 said_of_condition : EntryFields → Option ConditionEntry
 said_of_condition (Condition given) = Some given
-said_of_condition (Instruction given) = None
-said_of_condition (Join place) = None
-said_of_condition (Kept keep) = None
+said_of_condition _ = None
 
 said : (e : Entry) → condition_entry e ≡ said_of_condition (entry_fields e)
 unfolding said_of_condition
-said (entry.Condition given) = refl
-said (entry.Instruction given) = refl
-said (entry.Join place) = refl
 said (entry.Keep keep) = refl
+said _ = refl
 
 expect_line-steady : (end : ℕ) (made : Option TruthPair) → Steady (expect_line end made)
 expect_line-steady end None [] [] same = refl
-expect_line-steady end None [] (other ∷ others) same = cc
-expect_line-steady end None (line ∷ lines) [] same = cc
 expect_line-steady end None (line ∷ lines) (other ∷ others) same =
     let first : body_fields line ≡ body_fields other = cc in
     ap (λ (fields : BodyFields). Err (at_line 606 fields.line)) first
 expect_line-steady end (Some pair) [] [] same = refl
-expect_line-steady end (Some pair) [] (other ∷ others) same = cc
-expect_line-steady end (Some pair) (line ∷ lines) [] same = cc
 expect_line-steady end (Some pair) (line ∷ lines) (other ∷ others) same =
     let rest : SayTheSame lines others = cc in
     ap (λ (fields : List BodyFields). Ok (pair, fields)) rest
+expect_line-steady end _ _ _ same = cc
 
 next-same : (lines others : List BodyLine) → SayTheSame lines others → next_entry lines ≡ next_entry others
 next-same [] [] same = refl
-next-same [] (other ∷ others) same = cc
-next-same (line ∷ lines) [] same = cc
 next-same (line ∷ lines) (other ∷ others) same =
     let first : body_fields line ≡ body_fields other = cc in
     said line.entry ∙ ap (λ (fields : BodyFields). said_of_condition fields.entry) first ∙ sym (said other.entry)
+next-same _ _ same = cc
 
 by_line-steady : (end : ℕ) (rule : ConditionEntry → Option TruthPair) → Steady (by_line end rule)
 unfolding by_line
@@ -91,9 +83,8 @@ bind-steady (Ok a) (Ok b) f g same each =
     let pairs : a.0 ≡ b.0 = ap (λ (said : TruthPair × List BodyFields). said.0) both in
     let rests : SayTheSame a.1 b.1 = ap (λ (said : TruthPair × List BodyFields). said.1) both in
     each a.0 a.1 b.1 rests ∙ ap (λ pair. line_fields (g (pair, b.1))) pairs
-bind-steady (Ok a) (Err fault) f g same each = cc
-bind-steady (Err fault) (Ok b) f g same each = cc
 bind-steady (Err fault) (Err other) f g same each = same
+bind-steady _ _ f g same each = cc
 
 module _ (columns : List Column) (facts : Facts) (end : ℕ) where
   more-steady : (junction : Junction) (parts : List (List BodyLine → Reading)) → AllSteady parts → (pair : TruthPair) (lines others : List BodyLine) → SayTheSame lines others →
@@ -172,15 +163,11 @@ module _ (columns : List Column) (facts : Facts) (end : ℕ) where
 
   layer-known : (layer : Cond-F Parts) →
       step (map-Cond Cond Reader (fold-Cond Reader step) (bare Reader step tree_pair layer)) ≡ tree_pair (tree_step (map-Cond Cond CondTree tree_of (bare Reader step tree_pair layer)))
-  layer-known Cond-F.Always = refl
-  layer-known (Cond-F.Cmp op x y) = refl
-  layer-known (Cond-F.Between x y z) = refl
-  layer-known (Cond-F.Among x items) = refl
-  layer-known (Cond-F.IsNull x) = refl
   layer-known (Cond-F.And parts) = ap (λ (rs : List Reader). joined_parts columns facts end All rs) (parts-known parts.items)
   layer-known (Cond-F.Or parts) = ap (λ (rs : List Reader). joined_parts columns facts end Any rs) (parts-known parts.items)
   layer-known (Cond-F.Not part) = ap (λ (r : Reader). after_part r negated_pair) part.value.1
   layer-known (Cond-F.Test part t) = ap (λ (r : Reader). after_part r (tested_pair facts t)) part.value.1
+  layer-known _ = refl
 
   pub pair_of-tree_of : (cond : Cond) → pair_of columns facts end cond ≡ tree_pair (tree_of cond)
   unfolding pair_of

@@ -37,9 +37,8 @@ least-yes : (a b : Truth) → least a (least b Yes) ≡ least a b
 least-yes a b = ap (least a) (by_truth b)
   where
     by_truth : (b : Truth) → least b Yes ≡ b
-    by_truth Truth.No = refl
-    by_truth Truth.Unknown = refl
     by_truth Truth.Yes = refl
+    by_truth _ = refl
 
 module _ (facts : Facts) (have_values : HaveStatedValues facts) (end : ℕ) where
   abbrev row : Assignment → List Value

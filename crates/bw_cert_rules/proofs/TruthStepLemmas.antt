@@ -1,7 +1,7 @@
 -- The pairs of a condition's steps tell its truth, if those of its parts do.
 use Rattle.std.proofs.Common.{◌≡◌, ◌∙◌, refl, sym, ap, subst, ℕ, ℤ, ◌<◌, cond, Bool, true, false}
 use Rattle.std.proofs.Common.{not, ◌&&◌, ◌||◌, List, [], ◌∷◌, map, length, Option, Some, None}
-use Rattle.std.proofs.Common.{Result, Ok, Err}
+use Rattle.std.proofs.Common.{Ok}
 use Rattle.std.specs.List.{list_all}
 use Rattle.std.specs.Option.{option_and_then}
 use Rattle.std.proofs.lemmas.Bool.{ltb-true}
@@ -11,7 +11,6 @@ use Rattle.bw_model.specs.declared.cond.Operand.{Operand}
 use Rattle.bw_model.specs.declared.cond.Operand.TheVariants.{Col, Lit, Null}
 use Rattle.bw_model.specs.declared.cond.Truth.{Truth}
 use Rattle.bw_model.specs.declared.cond.Truth.TheVariants.{No, Unknown, Yes}
-use Rattle.bw_model.specs.declared.fault.Fault.{Fault}
 use Rattle.bw_model.specs.Cond.{operand_value, is_within}
 use Rattle.bw_model.specs.Fault.{◌>>=◌}
 use Rattle.bw_model.specs.Row.{value_in}
@@ -36,6 +35,7 @@ use Rattle.bw_cert_rules.specs.Pair.{is_null_test, joined_pair, negated_pair, wi
 use Rattle.bw_cert_rules.specs.Pair.{unknown_pair, tested_pair, one_more, more_parts, joined_parts}
 use Rattle.bw_cert_rules.proofs.ComparisonLemmas.{tells_by, tells_yes, tells_no, tells_so}
 use Rattle.bw_cert_rules.proofs.ComparisonLemmas.{fixed-tells, value_if, value_in-assigned}
+use Rattle.bw_cert_rules.proofs.HoldLemmas.{bind_ok}
 use Rattle.bw_cert_rules.proofs.RowLemmas.{Denotes, denotes_so, one_denotes, if_both-is}
 use Rattle.bw_cert_rules.proofs.RowLemmas.{product_node-denoted, null_pair-denoted}
 
@@ -43,19 +43,13 @@ use Rattle.bw_cert_rules.proofs.RowLemmas.{product_node-denoted, null_pair-denot
 expect_line-is : {G : Type 0} (end : ℕ) (made : Option TruthPair) (lines rest : List BodyLine) (pair : TruthPair) → expect_line end made lines ≡ Ok (pair, rest) → (made ≡ Some pair → G) → G
 expect_line-is end (Some made) (line ∷ lines) rest pair is f =
     let same : (made, lines) ≡ (pair, rest) = cc in f (ap (λ (read : TruthPair × List BodyLine). Some read.0) same)
-expect_line-is end (Some made) [] rest pair is f = cc
-expect_line-is end None lines rest other is f = cc
+expect_line-is end _ _ rest _ is f = cc
 
 by_line-is : {G : Type 0} (end : ℕ) (rule : ConditionEntry → Option TruthPair) (lines rest : List BodyLine) (pair : TruthPair) → by_line end rule lines ≡ Ok (pair, rest) → ((entry : ConditionEntry) → rule entry ≡ Some pair → G) → G
 unfolding by_line
 by_line-is end rule lines rest pair is f =
     expect_line-is end (option_and_then rule (next_entry lines)) lines rest pair is (λ made.
     option_and_then_some rule (next_entry lines) pair made (λ entry there found. f entry found))
-
--- an answer that was followed by another one
-bind-is : {A B : Type 0} (first : Result A Fault) (f : A → Result B Fault) (y : B) → (first >>= f) ≡ Ok y → (x : A) × (first ≡ Ok x) × (f x ≡ Ok y)
-bind-is (Ok x) f y is = (x, refl, is)
-bind-is (Err fault) f y is = cc
 
 -- the truth of parts that are joined
 abbrev pub joined_truth : Junction → Truth → Truth → Truth
@@ -67,28 +61,14 @@ truth_of_all All truths = all_of truths
 truth_of_all Any truths = any_of truths
 
 joined-assoc : (junction : Junction) (a b c : Truth) → joined_truth junction (joined_truth junction a b) c ≡ joined_truth junction a (joined_truth junction b c)
-joined-assoc All No b c = refl
-joined-assoc All Yes b c = refl
-joined-assoc All Unknown No c = refl
-joined-assoc All Unknown Yes c = refl
-joined-assoc All Unknown Unknown No = refl
-joined-assoc All Unknown Unknown Unknown = refl
 joined-assoc All Unknown Unknown Yes = refl
-joined-assoc Any Yes b c = refl
-joined-assoc Any No b c = refl
-joined-assoc Any Unknown Yes c = refl
-joined-assoc Any Unknown No c = refl
-joined-assoc Any Unknown Unknown No = refl
-joined-assoc Any Unknown Unknown Unknown = refl
 joined-assoc Any Unknown Unknown Yes = refl
+joined-assoc _ _ _ _ = refl
 
 joined-none : (junction : Junction) (a : Truth) → a ≡ joined_truth junction a (truth_of_all junction [])
-joined-none All No = refl
-joined-none All Unknown = refl
 joined-none All Yes = refl
-joined-none Any No = refl
-joined-none Any Unknown = refl
 joined-none Any Yes = refl
+joined-none _ _ = refl
 
 joined-more : (junction : Junction) (t : Truth) (ts : List Truth) → joined_truth junction t (truth_of_all junction ts) ≡ truth_of_all junction (t ∷ ts)
 joined-more All t ts = refl
@@ -96,42 +76,28 @@ joined-more Any t ts = refl
 
 -- AND is TRUE if both are, and FALSE if one is; OR the other way round
 all-yes : (a b : Truth) → (is_truth a Yes && is_truth b Yes) ≡ is_truth (least a b) Yes
-all-yes No b = refl
-all-yes Unknown No = refl
-all-yes Unknown Unknown = refl
 all-yes Unknown Yes = refl
-all-yes Yes b = refl
+all-yes _ _ = refl
 
 all-no : (a b : Truth) → (is_truth a No || is_truth b No) ≡ is_truth (least a b) No
-all-no No b = refl
-all-no Unknown No = refl
-all-no Unknown Unknown = refl
 all-no Unknown Yes = refl
-all-no Yes b = refl
+all-no _ _ = refl
 
 any-yes : (a b : Truth) → (is_truth a Yes || is_truth b Yes) ≡ is_truth (greatest a b) Yes
-any-yes Yes b = refl
-any-yes Unknown No = refl
-any-yes Unknown Unknown = refl
 any-yes Unknown Yes = refl
-any-yes No b = refl
+any-yes _ _ = refl
 
 any-no : (a b : Truth) → (is_truth a No && is_truth b No) ≡ is_truth (greatest a b) No
-any-no Yes b = refl
-any-no Unknown No = refl
-any-no Unknown Unknown = refl
 any-no Unknown Yes = refl
-any-no No b = refl
+any-no _ _ = refl
 
 negation-yes : (a : Truth) → is_truth a No ≡ is_truth (negation a) Yes
-negation-yes No = refl
-negation-yes Unknown = refl
 negation-yes Yes = refl
+negation-yes _ = refl
 
 negation-no : (a : Truth) → is_truth a Yes ≡ is_truth (negation a) No
-negation-no No = refl
-negation-no Unknown = refl
 negation-no Yes = refl
+negation-no _ = refl
 
 truth_from-yes : (b : Bool) → b ≡ is_truth (truth_from b) Yes
 truth_from-yes true = refl
@@ -143,14 +109,12 @@ truth_from-no false = refl
 
 -- UNKNOWN is what is neither TRUE nor FALSE
 unknown-yes : (a : Truth) → not (is_truth a Yes || is_truth a No) ≡ is_truth (truth_from (is_truth a Unknown)) Yes
-unknown-yes No = refl
-unknown-yes Unknown = refl
 unknown-yes Yes = refl
+unknown-yes _ = refl
 
 unknown-no : (a : Truth) → (is_truth a Yes || is_truth a No) ≡ is_truth (truth_from (is_truth a Unknown)) No
-unknown-no No = refl
-unknown-no Unknown = refl
 unknown-no Yes = refl
+unknown-no _ = refl
 
 module _ (facts : Facts) (have_values : HaveStatedValues facts) where
   -- AND and OR
@@ -250,7 +214,7 @@ module _ (facts : Facts) (have_values : HaveStatedValues facts) where
       ((made : TruthPair) (entry : ConditionEntry) (pair : TruthPair) → Tells facts.nodes t made → rule made entry ≡ Some pair → Tells facts.nodes u pair) →
       IsSound (λ lines. reader lines >>= λ read. by_line end (rule read.0) read.1) u
   after_part-sound end reader t u rule sound tells lines rest pair is =
-      let read = bind-is (reader lines) (λ read. by_line end (rule read.0) read.1) (pair, rest) is in
+      let read = bind_ok (reader lines) (λ read. by_line end (rule read.0) read.1) (pair, rest) is in
       let told = sound lines read.0.1 read.0.0 read.1 in
       by_line-is end (rule read.0.0) read.0.1 rest pair read.2 (λ entry found. tells read.0.0 entry pair told found)
 
@@ -266,8 +230,8 @@ module _ (facts : Facts) (have_values : HaveStatedValues facts) where
         tells_so facts.nodes _ _ pair (λ assignment. joined-none junction (t assignment)) (subst (λ (read : TruthPair × List BodyLine). Tells facts.nodes t read.0) same told)
     more_parts-tells (part ∷ parts) t before rest pair pass told is =
         let passes = both _ _ pass in
-        let one = bind-is (one_more columns facts end junction (reader part) before) (λ next. more_parts columns facts end junction (map reader parts) next) (pair, rest) is in
-        let read = bind-is (reader part before.1) (λ next. by_line end (joined_pair facts junction before.0 next.0) next.1) one.0 one.1 in
+        let one = bind_ok (one_more columns facts end junction (reader part) before) (λ next. more_parts columns facts end junction (map reader parts) next) (pair, rest) is in
+        let read = bind_ok (reader part before.1) (λ next. by_line end (joined_pair facts junction before.0 next.0) next.1) one.0 one.1 in
         let part_told = sound part passes.0 before.1 read.0.1 read.0.0 read.1 in
         let joined_told = by_line-is end (joined_pair facts junction before.0 read.0.0) read.0.1 one.0.1 one.0.0 read.2
         (λ entry found. joined_pair-tells junction before.0 read.0.0 one.0.0 t (truth part) entry told part_told found) in
@@ -279,6 +243,6 @@ module _ (facts : Facts) (have_values : HaveStatedValues facts) where
     joined_parts-sound [] pass lines rest pair is = cc
     joined_parts-sound (part ∷ parts) pass lines rest pair is =
         let passes = both _ _ pass in
-        let first = bind-is (reader part lines) (λ first. more_parts columns facts end junction (map reader parts) first) (pair, rest) is in
+        let first = bind_ok (reader part lines) (λ first. more_parts columns facts end junction (map reader parts) first) (pair, rest) is in
         tells_so facts.nodes _ _ pair (λ assignment. joined-more junction (truth part assignment) (map (λ x. truth x assignment) parts))
         (more_parts-tells parts (truth part) first.0 rest pair passes.1 (sound part passes.0 lines first.0.1 first.0.0 first.1) first.2)

@@ -1,7 +1,7 @@
 -- The walk over a program's lines, one instruction after another.
-use Rattle.std.proofs.Common.{◌≡◌, ◌∙◌, sym, ap, ℕ, zero, suc, List, [], ◌∷◌, drop, Some, Ok, Err}
-use Rattle.std.proofs.Common.{slice_get, ◌≤◌, length, arith}
-use Rattle.std.proofs.Math.Seq.{drop-nil}
+use Rattle.std.proofs.Common.{◌≡◌, ◌∙◌, sym, ap, ℕ, zero, suc, List, [], ◌∷◌, drop, Some, Result, Ok, Err}
+use Rattle.std.proofs.Common.{slice_get, ◌≤◌, length}
+use Rattle.std.proofs.lemmas.List.{drop_all}
 use Rattle.bw_model.specs.declared.fault.Fault.{Fault}
 use Rattle.bw_model.specs.Fault.{◌>>=◌}
 use Rattle.bw_diagram.specs.Facts.{Facts}
@@ -26,19 +26,19 @@ drop_at [] n x is = cc
 drop_at {A = A} (y ∷ ys) zero x is = ap (λ (z : A). z ∷ ys) cc
 drop_at (y ∷ ys) (suc n) x is = drop_at ys n x is
 
--- past an instruction whose lines are right
-pub walked_on : (facts : Facts) (end number place : ℕ) (edges into : List Edge) (instrs : List Instr) (instr : Instr) (taken through past : WalkState) → slice_get instrs number ≡ Some instr →
-    instruction_taken facts end taken.known instr taken.rest ≡ Ok through → place ≡ suc number → into ≡ edges_into place (with_edge edges (edge_of taken.known instr)) → apply_join facts end place into through ≡ Ok past →
-    check_lines_from facts end number edges (drop number instrs) taken ≡ check_lines_from facts end place (with_edge edges (edge_of taken.known instr)) (drop place instrs) past
+-- past an instruction whose lines are right, to its join, which is right or rejected
+pub walked_on : (facts : Facts) (end number place : ℕ) (edges into : List Edge) (instrs : List Instr) (instr : Instr) (taken through : WalkState) (joined : Result WalkState Fault) → slice_get instrs number ≡ Some instr →
+    instruction_taken facts end taken.known instr taken.rest ≡ Ok through → place ≡ suc number → into ≡ edges_into place (with_edge edges (edge_of taken.known instr)) → apply_join facts end place into through ≡ joined →
+    check_lines_from facts end number edges (drop number instrs) taken ≡ (joined >>= λ past. check_lines_from facts end place (with_edge edges (edge_of taken.known instr)) (drop place instrs) past)
 unfolding check_lines_from
-walked_on facts end number place edges into instrs instr taken through past there line next all join =
+walked_on facts end number place edges into instrs instr taken through joined there line next all join =
     let after : List Edge = with_edge edges (edge_of taken.known instr) in
     let rest : List Instr = drop (suc number) instrs in
-    let joins : apply_join facts end (suc number) (edges_into (suc number) after) through ≡ Ok past = ap (λ n. apply_join facts end n (edges_into n after) through) (sym next) ∙ ap (λ es. apply_join facts end place es through) (sym all) ∙ join in
+    let joins : apply_join facts end (suc number) (edges_into (suc number) after) through ≡ joined = ap (λ n. apply_join facts end n (edges_into n after) through) (sym next) ∙ ap (λ es. apply_join facts end place es through) (sym all) ∙ join in
     ap (λ is. check_lines_from facts end number edges is taken) (drop_at instrs number instr there)
     ∙ ap (λ t. t >>= λ through. apply_join facts end (suc number) (edges_into (suc number) after) through >>= λ past. check_lines_from facts end (suc number) after rest past) line
     ∙ ap (λ t. t >>= λ past. check_lines_from facts end (suc number) after rest past) joins
-    ∙ ap (λ n. check_lines_from facts end n after (drop n instrs) past) (sym next)
+    ∙ ap (λ n. joined >>= λ past. check_lines_from facts end n after (drop n instrs) past) (sym next)
 
 -- at an instruction whose line is rejected
 pub walked_refused : (facts : Facts) (end number : ℕ) (edges : List Edge) (instrs : List Instr) (instr : Instr) (taken : WalkState) (fault : Fault) → slice_get instrs number ≡ Some instr →
@@ -49,25 +49,7 @@ walked_refused facts end number edges instrs instr taken fault there line =
     ap (λ is. check_lines_from facts end number edges is taken) (drop_at instrs number instr there)
     ∙ ap (λ t. t >>= λ through. apply_join facts end (suc number) (edges_into (suc number) after) through >>= λ past. check_lines_from facts end (suc number) after (drop (suc number) instrs) past) line
 
--- after one whose join is rejected
-pub join_refused : (facts : Facts) (end number place : ℕ) (edges into : List Edge) (instrs : List Instr) (instr : Instr) (taken through : WalkState) (fault : Fault) → slice_get instrs number ≡ Some instr →
-    instruction_taken facts end taken.known instr taken.rest ≡ Ok through → place ≡ suc number → into ≡ edges_into place (with_edge edges (edge_of taken.known instr)) → apply_join facts end place into through ≡ Err fault →
-    check_lines_from facts end number edges (drop number instrs) taken ≡ Err fault
-unfolding check_lines_from
-join_refused facts end number place edges into instrs instr taken through fault there line next all join =
-    let after : List Edge = with_edge edges (edge_of taken.known instr) in
-    let rest : List Instr = drop (suc number) instrs in
-    let joins : apply_join facts end (suc number) (edges_into (suc number) after) through ≡ Err fault = ap (λ n. apply_join facts end n (edges_into n after) through) (sym next) ∙ ap (λ es. apply_join facts end place es through) (sym all) ∙ join in
-    ap (λ is. check_lines_from facts end number edges is taken) (drop_at instrs number instr there)
-    ∙ ap (λ t. t >>= λ through. apply_join facts end (suc number) (edges_into (suc number) after) through >>= λ past. check_lines_from facts end (suc number) after rest past) line
-    ∙ ap (λ t. t >>= λ past. check_lines_from facts end (suc number) after rest past) joins
-
 -- at the end
 pub walked_end : (facts : Facts) (end number : ℕ) (edges : List Edge) (instrs : List Instr) (taken : WalkState) → length instrs ≤ number → check_lines_from facts end number edges (drop number instrs) taken ≡ Ok taken
 unfolding check_lines_from
-walked_end facts end number edges instrs taken long = ap (λ is. check_lines_from facts end number edges is taken) (none instrs number long)
-  where
-    none : {A : Type 0} (xs : List A) (n : ℕ) → length xs ≤ n → drop n xs ≡ []
-    none [] n le = drop-nil n
-    none (x ∷ xs) zero le = absurd (omega (arith, le))
-    none (x ∷ xs) (suc n) le = none xs n (omega (arith, le))
+walked_end facts end number edges instrs taken long = ap (λ is. check_lines_from facts end number edges is taken) (drop_all number instrs long)

@@ -1,7 +1,7 @@
 -- When lines state what is known of a program's registers, place by place. It doesn't mention how
 -- lines are checked.
 use Rattle.std.specs.Prelude.{◌≡◌, ℕ, zero, suc, Bool, true, false, ◌&&◌, IsTrue, List, [], ◌∷◌}
-use Rattle.std.specs.Prelude.{◌++◌, length, map, Option, Some, None, Result, Ok, Err, slice_get}
+use Rattle.std.specs.Prelude.{◌++◌, length, map, Option, Some, None, Result, Ok, Err, slice_get, ⊤}
 use Rattle.bw_model.specs.declared.fault.Fault.{Fault}
 use Rattle.bw_diagram.specs.Facts.{Facts}
 use Rattle.bw_program.specs.declared.instr.Instr.{Instr}
@@ -12,7 +12,7 @@ use Rattle.bw_cert_text.specs.declared.lines.Keep.{Keep}
 use Rattle.bw_cert_rules.specs.declared.edge.Edge.{Edge}
 use Rattle.bw_cert_rules.specs.Known.{KnownNodes, nothing_known, with_node}
 use Rattle.bw_cert_rules.specs.Instruction.{check_instruction_line}
-use Rattle.bw_cert_rules.specs.Walk.{WalkState}
+use Rattle.bw_cert_rules.specs.Walk.{WalkState, keep_in}
 use Rattle.bw_cert_rules.specs.Join.{edge_of, with_edge, edges_into, is_valid_keep}
 
 -- a line KEEP with its number
@@ -133,3 +133,15 @@ pub record Accepts (facts : Facts) (instrs : List Instr) (lines : List BodyLine)
   pub valid_parts : AreValidParts facts instrs parts
   pub spelled : lines ≡ lines_of 0 parts ++ taken.rest
   pub known : taken.known ≡ known_before facts instrs parts (length instrs)
+
+-- the lines don't begin with a line KEEP
+abbrev pub NoKeep : List BodyLine → Type 0
+NoKeep [] = ⊤
+NoKeep (line ∷ lines) = keep_in line.entry ≡ None
+
+-- if the last part has a join, no line KEEP follows those of the join
+abbrev pub KeepsAreAll : List Part → List BodyLine → Type 0
+KeepsAreAll parts rest =
+    (place : ℕ) (part : Part) (join : JoinLines)
+    → suc place ≡ length parts → slice_get parts place ≡ Some part → part.join ≡ Some join
+    → NoKeep rest

@@ -61,7 +61,6 @@ node_read line word (w0 ∷ w1 ∷ w2 ∷ w3 ∷ []) x key e =
     opened (natural_of w3) _ x e λ n3 p3 e.
     let same : record { line = line; n = n0; v = n1; low = n2; high = n3 } ≡ x = cc e in
     rw (← same) (refl, next key (next p0 (next p1 (next p2 (next p3 none)))))
-node_read line word [] x key e = absurd (cc e)
 node_read line word _ x key e = absurd (cc e)
 
 one_read : (k : ChainKind) (words : List (List ℕ)) (x : ColumnFields) → one_column_in k words ≡ Some x →
@@ -74,7 +73,6 @@ one_read k (w0 ∷ w1 ∷ w2 ∷ w3 ∷ w4 ∷ w5 ∷ []) x e =
     opened (optional_of w5) _ x e λ n5 p5 e.
     λ word key. let same : One k w0 n1 n2 n3 n4 n5 ≡ x = cc e in
     rw (← same) (next key (next refl (next p1 (next p2 (next p3 (next p4 (next (optional_read w5 n5 p5) none)))))))
-one_read k [] x e = absurd (cc e)
 one_read k _ x e = absurd (cc e)
 
 two_read : (k : ChainKind) (words : List (List ℕ)) (x : ColumnFields) → two_columns_in k words ≡ Some x →
@@ -85,7 +83,6 @@ two_read k (w0 ∷ w1 ∷ w2 ∷ w3 ∷ w4 ∷ []) x e =
     opened (optional_of w4) _ x e λ n4 p4 e.
     λ word key. let same : Two k w0 w1 n2 n3 n4 ≡ x = cc e in
     rw (← same) (next key (next refl (next refl (next p2 (next p3 (next (optional_read w4 n4 p4) none))))))
-two_read k [] x e = absurd (cc e)
 two_read k _ x e = absurd (cc e)
 
 columns_read : (f : Form) (word : List ℕ) (words : List (List ℕ)) (x : ColumnFields) → form_of word ≡ Some f → columns_after f words ≡ Some x → AreSpelled (column_tokens x) (word ∷ words)
@@ -101,8 +98,7 @@ chain_read line word (w0 ∷ w1 ∷ words) x key e =
     opened (columns_after f words) _ x e λ columns there e.
     let same : record { line = line; n = n0; columns = columns } ≡ x = cc e in
     rw (← same) (refl, next key (next p0 (columns_read f w1 words columns is there)))
-chain_read line word [] x key e = absurd (cc e)
-chain_read line word (w0 ∷ []) x key e = absurd (cc e)
+chain_read line word _ x key e = absurd (cc e)
 
 tested : {A : Type 0} (b : Bool) (o : Option A) (y : A) → cond b o None ≡ Some y → (b ≡ true) × (o ≡ Some y)
 tested true o y e = (refl, e)
@@ -130,7 +126,6 @@ row_read line word (w0 ∷ w1 ∷ w2 ∷ w3 ∷ w4 ∷ words) x key e =
     opened (reason_in words) _ x e λ reason there e.
     let same : record { line = line; n = n0; op = o; a = n2; b = n3; c = n4; reason = reason } ≡ x = cc e in
     rw (← same) (refl, next key (next p0 (next (connective_is w1 o q) (next p2 (next p3 (next p4 (reason_read words reason there)))))))
-row_read line word [] x key e = absurd (cc e)
 row_read line word _ x key e = absurd (cc e)
 
 nothing_read : (words : List (List ℕ)) (x : Unit) → nothing_in words ≡ Some x → AreSpelled [] words
@@ -156,7 +151,6 @@ compare_read word (w0 ∷ w1 ∷ w2 ∷ w3 ∷ []) x key e =
     opened (natural_of w3) _ x e λ n3 p3 e.
     let same : Compare n0 n1 n2 n3 ≡ x = cc e in
     rw (← same) (next key (next (optional_read w0 n0 p0) (next (optional_read w1 n1 p1) (next p2 (next p3 none)))))
-compare_read word [] x key e = absurd (cc e)
 compare_read word _ x key e = absurd (cc e)
 
 compare_columns_read : (word : List ℕ) (words : List (List ℕ)) (x : ConditionEntry) → Begins (kind.Condition condition.CompareColumns) word → compare_columns_in words ≡ Some x → AreSpelled (condition_tokens x) (word ∷ words)
@@ -169,7 +163,6 @@ compare_columns_read word (w0 ∷ w1 ∷ w2 ∷ w3 ∷ w4 ∷ w5 ∷ []) x key e
     opened (natural_of w5) _ x e λ n5 p5 e.
     let same : CompareColumns n0 n1 n2 n3 n4 n5 ≡ x = cc e in
     rw (← same) (next key (next (optional_read w0 n0 p0) (next (optional_read w1 n1 p1) (next (optional_read w2 n2 p2) (next p3 (next p4 (next p5 none)))))))
-compare_columns_read word [] x key e = absurd (cc e)
 compare_columns_read word _ x key e = absurd (cc e)
 
 unknown_read : (word : List ℕ) (words : List (List ℕ)) (x : ConditionEntry) → Begins (kind.Condition condition.Is) word → (two_in words >? λ two. Some (IsUnknown two.0 two.1)) ≡ Some x → AreSpelled (condition_tokens x) (word ∷ words)
@@ -228,7 +221,6 @@ keep_read word (w0 ∷ w1 ∷ w2 ∷ words) x key e =
     opened (edges_in words) _ x e λ edges there e.
     let same : record { register = n0; node = n1; through = n2; edges = edges } ≡ x = cc e in
     rw (← same) (next key (next p0 (next p1 (next p2 (edges_read words edges there)))))
-keep_read word [] x key e = absurd (cc e)
 keep_read word _ x key e = absurd (cc e)
 
 after_read : (line : ℕ) (k : LineKind) (word : List ℕ) (words : List (List ℕ)) (x : ParsedLine) → Begins k word → parse_line_after line k words ≡ Some x → IsSaid x line (word ∷ words)

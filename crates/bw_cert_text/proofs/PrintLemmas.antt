@@ -18,33 +18,14 @@ use Rattle.bw_cert_text.specs.Reprint.{are_small, numbers_fit}
 use Rattle.bw_cert_text.specs.Token.{Token, Number, edge_tokens, node_tokens, chain_tokens}
 use Rattle.bw_cert_text.specs.Token.{row_tokens, end_tokens}
 
-pub lines-next : {A : Type 0} (tokens : A → List Token) (xs : List A) (i : ℕ) (d : A) → i < length xs →
-    lines_text tokens (drop i xs) ≡ token_line (tokens (get_or xs i d)) ++ lines_text tokens (drop (i + 1) xs)
-unfolding lines_text
-lines-next tokens xs i d lt = rw (add-one, drop-cons xs i d lt) refl
-
 pub lines-found : {A : Type 0} (tokens : A → List Token) (xs : List A) (i : ℕ) (x : A) → i < length xs → x ≡ get_or xs i x →
     lines_text tokens (drop i xs) ≡ token_line (tokens x) ++ lines_text tokens (drop (i + 1) xs)
-lines-found {A} tokens xs i x lt is = lines-next tokens xs i x lt ∙ ap (λ (y : A). token_line (tokens y) ++ lines_text tokens (drop (i + 1) xs)) (sym is)
+unfolding lines_text
+lines-found {A} tokens xs i x lt is = rw (add-one, drop-cons xs i x lt) (ap (λ (y : A). token_line (tokens y) ++ lines_text tokens (drop (suc i) xs)) (sym is))
 
 pub lines-end : {A : Type 0} (tokens : A → List Token) (xs : List A) (i : ℕ) → length xs ≤ i → lines_text tokens (drop i xs) ≡ []
 unfolding lines_text
 lines-end tokens xs i le = rw (drop_all i xs le) refl
-
--- the lines of a list, by its first one
-pub lines-first : {A : Type 0} (tokens : A → List Token) (xs ys : List A) (x : A) → xs ≡ x ∷ ys → lines_text tokens xs ≡ token_line (tokens x) ++ lines_text tokens ys
-unfolding lines_text
-lines-first tokens xs ys x is = ap (lines_text tokens) is
-
-pub lines-none : {A : Type 0} (tokens : A → List Token) (xs : List A) → xs ≡ [] → lines_text tokens xs ≡ []
-unfolding lines_text
-lines-none tokens xs is = ap (lines_text tokens) is
-
-pub fit-first : {A : Type 0} (fits : A → Bool) (xs ys : List A) (x : A) → xs ≡ x ∷ ys → fits x ≡ true → list_all fits ys ≡ true → list_all fits xs ≡ true
-fit-first fits xs ys x is here there = ap (list_all fits) is ∙ ap (λ b. b && list_all fits ys) here ∙ there
-
-pub fit-none : {A : Type 0} (fits : A → Bool) (xs : List A) → xs ≡ [] → list_all fits xs ≡ true
-fit-none fits xs is = ap (list_all fits) is
 
 pub edges-next : (xs : List EdgeProducts) (i : ℕ) (d : EdgeProducts) → i < length xs →
     spaced_words (token_words (edge_tokens (drop i xs)))

@@ -5,7 +5,7 @@ use Rattle.std.proofs.Common.{ap}
 use Rattle.std.proofs.lemmas.Bool.{eqb-true}
 use Rattle.bw_model.specs.declared.fault.Fault.{Fault}
 use Rattle.bw_model.specs.declared.fault.Place.{Place}
-use Rattle.bw_model.specs.declared.fault.Place.TheVariants.{Nowhere, Byte, Line, Rec}
+use Rattle.bw_model.specs.declared.fault.Place.TheVariants.{Nowhere}
 use Rattle.bw_model.specs.declared.schema.Schema.{Schema}
 use Rattle.bw_model.specs.Fault.{no_memory, nowhere, is_memory}
 use Rattle.bw_model.proofs.BitsLemmas.{both}
@@ -31,9 +31,7 @@ IsFaultOf fault given = is_exempt fault ≡ false → given ≡ Err fault
 -- out of memory is one error
 memory_at : (code : ℕ) (place : Place) → is_memory (record { code = code; place = place }) ≡ true → ◌≡◌ {A = Fault} (record { code = code; place = place }) no_memory
 memory_at code Nowhere is = ap nowhere (eqb-true code 801 (both _ _ is).0)
-memory_at code (Byte at) is = absurd (cc ((both (code == 801) false is).1))
-memory_at code (Line at) is = absurd (cc ((both (code == 801) false is).1))
-memory_at code (Rec at) is = absurd (cc ((both (code == 801) false is).1))
+memory_at code _ is = absurd (cc ((both (code == 801) false is).1))
 
 pub memory_is : (fault : Fault) → is_memory fault ≡ true → fault ≡ no_memory
 memory_is fault is = memory_at fault.code fault.place is
@@ -45,8 +43,7 @@ none_understood limit old new before after NotReached schema came from = absurd 
 none_understood limit old new before after (Whole text) schema came from =
     let same : no_memory ≡ no_memory = refl in
     (same, came.1)
-none_understood limit old new before after TooLong schema came from = absurd (cc from)
-none_understood limit old new before after (Failed fault) schema came from = absurd (cc from)
+none_understood limit old new before after _ schema came from = absurd (cc from)
 
 pub not_reached : (limit : ℕ) (old : Option (List ℕ)) (count : ℕ) → ReadOutcome limit old old count count NotReached
 not_reached limit old count =

@@ -5,7 +5,7 @@ ghost use Rattle.std.specs.List.{list_all};
 ghost use Rattle.bw_model.specs.declared.fault.Fault.{Fault};
 ghost use Rattle.bw_model.specs.declared.query.Query.{Query};
 ghost use Rattle.bw_model.specs.declared.schema.Schema.{Schema};
-ghost use Rattle.bw_io.specs.Sink.{WriteOutcome, is_write_fault};
+ghost use Rattle.bw_io.specs.Sink.{WriteOutcome};
 ghost use Rattle.bw_model.specs.Limits.{longest_schema, longest_csv};
 ghost use Rattle.bw_io.specs.Source.{Arrival, ReadOutcome, TellsFailureOfEither, TookAtMost};
 ghost use Rattle.bw_model.specs.Total.{item_within};
@@ -85,52 +85,11 @@ pub fn direct<S: Source, C: Source, K: Sink>(
     ensures unneeded { IfErr result (λ fault. IsTrue (is_before_csv fault) → csv_source.new
         ≡ csv_source.old) }
 {
-    let text = direct_text(alloc, schema_source, csv_source, sql)?;
-    write_whole(sink, &text)
-}
-
-/// Returns the text of the result of a statement over the rows of a CSV text. Errors: those of
-/// [`direct`], except for the sink's.
-fn direct_text<S: Source, C: Source>(
-    alloc: Global,
-    schema_source: &mut S,
-    csv_source: &mut C,
-    sql: &[u8],
-) -> Result<Vec<u8>, Fault>
-    requires schema { S.failures schema_source.old < 2 ^ 64 - 1 }
-    requires csv { C.failures csv_source.old < 2 ^ 64 - 1 }
-    ensures answer { (schema csv : Arrival) × (given : Result (List ℕ) Fault)
-        × ReadOutcome longest_schema (S.to_come schema_source.old) (S.to_come schema_source.new)
-        (S.failures schema_source.old) (S.failures schema_source.new) schema
-        × ReadOutcome longest_csv (C.to_come csv_source.old) (C.to_come csv_source.new)
-        (C.failures csv_source.old) (C.failures csv_source.new) csv
-        × IsAnswer schema sql.now csv given
-        × MatchesUnlessExempt (λ text. text.items) result given }
-    ensures fault { IfErr result (λ fault. is_write_fault fault ≡ false) }
-    ensures reader { IfErr result (λ fault. is_reader_fault fault ≡ true → (schema : Schema)
-        × (query : Query)
-        × HasReadSchema (ReadOutcome longest_schema (S.to_come schema_source.old)
-        (S.to_come schema_source.new)
-        (S.failures schema_source.old) (S.failures schema_source.new)) schema
-        × IsReadAs schema sql.now (Ok query)
-        × StopsInCsv (ReadOutcome longest_csv (C.to_come csv_source.old) (C.to_come csv_source.new)
-        (C.failures csv_source.old) (C.failures csv_source.new)) schema fault) }
-    ensures schema { TookAtMost (longest_schema + 1) (S.to_come schema_source.old)
-        (S.to_come schema_source.new) }
-    ensures csv { TookAtMost (longest_csv + 1) (C.to_come csv_source.old)
-        (C.to_come csv_source.new) }
-    ensures failed { TellsFailureOfEither (S.failures schema_source.old)
-        (S.failures schema_source.new)
-        (C.failures csv_source.old) (C.failures csv_source.new) result }
-    ensures unread { S.failures schema_source.old < S.failures schema_source.new → csv_source.new
-        ≡ csv_source.old }
-    ensures unneeded { IfErr result (λ fault. IsTrue (is_before_csv fault) → csv_source.new
-        ≡ csv_source.old) }
-{
     let schema = read_schema(alloc, schema_source)?;
     let query = parse(alloc, &schema, sql)?;
     let csv = read_csv(alloc, csv_source)?;
-    answer_text(alloc, &schema, &query, &csv)
+    let text = answer_text(alloc, &schema, &query, &csv)?;
+    write_whole(sink, &text)
 }
 
 /// Returns the text of the result over the rows of a CSV text. Errors: those of [`read_rows`].

@@ -4,7 +4,7 @@ ghost use Rattle.std.specs.Prelude.{IsTrue};
 ghost use Rattle.bw_model.specs.declared.fault.Fault.{Fault};
 ghost use Rattle.bw_model.specs.declared.schema.Schema.{Schema};
 ghost use Rattle.bw_model.specs.Limits.{longest_schema, longest_csv};
-ghost use Rattle.bw_io.specs.Sink.{WriteOutcome, is_write_fault};
+ghost use Rattle.bw_io.specs.Sink.{WriteOutcome};
 ghost use Rattle.bw_io.specs.Source.{Arrival, ReadOutcome, TellsFailureOfEither, TookAtMost};
 ghost use Rattle.bw_csv.specs.Bare.{records_of};
 ghost use Rattle.bw_csv.specs.Rows.{is_exempt, is_reader_fault, MatchesUnlessExempt, IsRowsFault};
@@ -74,49 +74,10 @@ pub fn load<S: Source, C: Source, K: Sink>(
     ensures unneeded { IfErr result (λ fault. IsTrue (is_before_csv fault) → csv_source.new
         ≡ csv_source.old) }
 {
-    let file = build_table(alloc, schema_source, csv_source, layout)?;
-    write_whole(sink, &file)
-}
-
-/// Returns the table file of the rows of a CSV text, under the schema of a schema text. Errors:
-/// those of [`load`], except for the sink's.
-fn build_table<S: Source, C: Source>(
-    alloc: Global,
-    schema_source: &mut S,
-    csv_source: &mut C,
-    layout: Layout,
-) -> Result<Vec<u8>, Fault>
-    requires schema { S.failures schema_source.old < 2 ^ 64 - 1 }
-    requires csv { C.failures csv_source.old < 2 ^ 64 - 1 }
-    ensures file { (schema csv : Arrival) × (given : Result (List ℕ) Fault)
-        × ReadOutcome longest_schema (S.to_come schema_source.old) (S.to_come schema_source.new)
-        (S.failures schema_source.old) (S.failures schema_source.new) schema
-        × ReadOutcome longest_csv (C.to_come csv_source.old) (C.to_come csv_source.new)
-        (C.failures csv_source.old) (C.failures csv_source.new) csv
-        × IsFile layout schema csv given
-        × MatchesUnlessExempt (λ file. file.items) result given }
-    ensures fault { IfErr result (λ fault. is_write_fault fault ≡ false) }
-    ensures reader { IfErr result (λ fault. is_reader_fault fault ≡ true → (schema : Schema)
-        × HasReadSchema (ReadOutcome longest_schema (S.to_come schema_source.old)
-        (S.to_come schema_source.new)
-        (S.failures schema_source.old) (S.failures schema_source.new)) schema
-        × StopsInCsv (ReadOutcome longest_csv (C.to_come csv_source.old) (C.to_come csv_source.new)
-        (C.failures csv_source.old) (C.failures csv_source.new)) schema fault) }
-    ensures schema { TookAtMost (longest_schema + 1) (S.to_come schema_source.old)
-        (S.to_come schema_source.new) }
-    ensures csv { TookAtMost (longest_csv + 1) (C.to_come csv_source.old)
-        (C.to_come csv_source.new) }
-    ensures failed { TellsFailureOfEither (S.failures schema_source.old)
-        (S.failures schema_source.new)
-        (C.failures csv_source.old) (C.failures csv_source.new) result }
-    ensures unread { S.failures schema_source.old < S.failures schema_source.new → csv_source.new
-        ≡ csv_source.old }
-    ensures unneeded { IfErr result (λ fault. IsTrue (is_before_csv fault) → csv_source.new
-        ≡ csv_source.old) }
-{
     let schema = read_schema(alloc, schema_source)?;
     let csv = read_csv(alloc, csv_source)?;
-    file_bytes(alloc, layout, &schema, &csv)
+    let file = file_bytes(alloc, layout, &schema, &csv)?;
+    write_whole(sink, &file)
 }
 
 /// Returns the table file of the rows of a CSV text. Errors: those of [`read_rows`].

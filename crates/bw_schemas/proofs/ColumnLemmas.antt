@@ -1,12 +1,12 @@
 -- The columns of names, one more at a time.
 use Rattle.std.proofs.Common.{◌≡◌, ◌∙◌, refl, sym, ap, ℕ, suc, ◌+◌, ◌<◌, ◌≤◌, List, [], ◌∷◌, ◌++◌}
-use Rattle.std.proofs.Common.{length, map, take, drop, get_or, add-one, Ok, Err}
-use Rattle.std.proofs.lemmas.List.{append-nil, drop_all, take_more}
+use Rattle.std.proofs.Common.{length, take, drop, get_or, add-one, Ok, Err}
+use Rattle.std.proofs.lemmas.List.{append-nil, drop_all, map-append, take_more}
 use Rattle.std.proofs.Math.Seq.{drop-cons}
 use Rattle.bw_model.specs.declared.column.Column.{Column}
 use Rattle.bw_model.specs.declared.fault.Fault.{Fault}
 use Rattle.bw_model.specs.Column.{names_of}
-use Rattle.bw_model.specs.SchemaText.{ColumnShape, column_shape}
+use Rattle.bw_model.specs.SchemaText.{ColumnShape}
 use Rattle.bw_csv.proofs.FieldLemmas.{after, after-cons}
 use Rattle.bw_schemas.specs.declared.column_stats.ColumnStats.{ColumnStats}
 use Rattle.bw_schemas.specs.InferredSchema.{check_bounds, ranged_column}
@@ -41,15 +41,8 @@ pub columns_end : (names : List (List ℕ)) (seen : List ColumnStats) (i : ℕ) 
 unfolding check_bounds columns_from_stats
 columns_end names seen i done all = rw (drop_all i names all) (ap Ok (append-nil done))
 
--- the shapes and the names of columns, and of one more
-pub shapes-push : (columns : List Column) (column : Column) → map column_shape (columns ++ column ∷ []) ≡ map column_shape columns ++ column_shape column ∷ []
-shapes-push [] column = refl
-shapes-push (c ∷ columns) column = ap (λ (l : List ColumnShape). column_shape c ∷ l) (shapes-push columns column)
-
+-- the names of columns and of one more
 pub names-push : (columns : List Column) (column : Column) (names : List (List ℕ)) (i : ℕ) → i < length names → names_of columns ≡ take i names → column.name ≡ get_or names i column.name
     → names_of (columns ++ column ∷ []) ≡ take (i + 1) names
-names-push columns column names i h e n = pushed columns ∙ rw (e, n) (sym (take_more names i column.name h))
-  where
-    pushed : (columns : List Column) → names_of (columns ++ column ∷ []) ≡ names_of columns ++ column.name ∷ []
-    pushed [] = refl
-    pushed (c ∷ columns) = ap (λ (l : List (List ℕ)). c.name ∷ l) (pushed columns)
+names-push columns column names i h e n =
+    map-append (λ (column : Column). column.name) columns (column ∷ []) ∙ rw (e, n) (sym (take_more names i column.name h))

@@ -16,10 +16,9 @@ taken : (columns : List ColumnStats) (values : List Value) (i : ℕ) (d : Column
     ≡ take (suc i) (set columns i (with_value (get_or columns i d) (get_or values i e)))
     ++ with_values (drop (suc i) (set columns i (with_value (get_or columns i d) (get_or values i e)))) (drop (suc i) values)
 unfolding with_values
-taken [] values i d e h k = absurd (omega arith)
-taken (c ∷ columns) [] i d e h k = absurd (omega arith)
 taken (c ∷ columns) (v ∷ values) zero d e h k = refl
 taken (c ∷ columns) (v ∷ values) (suc i) d e h k = ap (λ (l : List ColumnStats). c ∷ l) (taken columns values i d e (omega arith) (omega arith))
+taken _ _ i d e h k = absurd (omega arith)
 
 pub one_taken : (columns : List ColumnStats) (values : List Value) (i : ℕ) (d : ColumnStats) (e : Value) (s : ColumnStats) → i < length columns → i < length values
     → s ≡ with_value (get_or columns i d) (get_or values i e)

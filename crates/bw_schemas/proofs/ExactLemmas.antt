@@ -1,10 +1,11 @@
 -- The schema that is inferred from a text is exact for it.
 use Rattle.std.proofs.Common.{◌≡◌, ◌∙◌, refl, sym, ap, subst, ℕ, ℤ, zero, suc, ◌+◌, ◌<◌, ◌≤ℤ◌, Bool}
-use Rattle.std.proofs.Common.{true, false, not, int_le, All, List, [], ◌∷◌, length, map, drop}
-use Rattle.std.proofs.Common.{get_or, Option, Some, None, Result, Ok, arith, rules}
-use Rattle.std.specs.Prelude.{◌&&◌, ◌||◌}
+use Rattle.std.proofs.Common.{true, not, int_le, All, List, [], ◌∷◌, length, map, drop}
+use Rattle.std.proofs.Common.{get_or, Option, Some, None, Result, Ok, arith}
+use Rattle.std.specs.Prelude.{◌&&◌}
 use Rattle.std.specs.Char.{to_ascii_lowercase}
 use Rattle.std.specs.List.{list_all}
+use Rattle.std.proofs.lemmas.Bool.{or_left, or_right}
 use Rattle.std.proofs.lemmas.Int.{ints, clamps}
 use Rattle.std.proofs.lemmas.List.{drop_all, length-map}
 use Rattle.std.proofs.lemmas.List.Elements.{All-head, All-tail}
@@ -32,6 +33,7 @@ use Rattle.bw_schemas.specs.InferredSchema.{inferred_after, or_zero, check_bound
 use Rattle.bw_schemas.specs.InferredSchema.{schema_over, table_of, IsExact, IsNarrowest}
 use Rattle.bw_schemas.proofs.HeadingLemmas.{heading_is}
 use Rattle.bw_schemas.proofs.NarrowLemmas.{greatest_of_one, least_of_one}
+use Rattle.bw_schemas.proofs.PrintedText.{ordered}
 
 -- a value that a column of this shape admits
 abbrev within : ColumnShape → Value → Bool
@@ -69,17 +71,6 @@ greatest_parts i None b hi h = (tt, h)
 greatest_parts i (Some a) None hi h = (h, tt)
 greatest_parts i (Some a) (Some b) hi h = (omega (arith, ints, clamps), omega (arith, ints, clamps))
 
-ordered : (l h : ℤ) → l ≤ℤ h → int_le l h ≡ true
-ordered l h o = search rules
-
-or_left : (a b : Bool) → a ≡ true → (a || b) ≡ true
-or_left true b e = refl
-or_left false b e = absurd (cc e)
-
-or_right : (a b : Bool) → b ≡ true → (a || b) ≡ true
-or_right true b e = refl
-or_right false b e = e
-
 -- the value of a row is within what bounds it
 value_within : (row : List Value) (i : ℕ) (name : List ℕ) (lo hi : ℤ) (nullable : Bool) (v : Value) → value_in row i ≡ v → AtLeast lo (total (Min i) (row ∷ [])) → AtMost hi (total (Max i) (row ∷ []))
     → (is_null v ≡ true → nullable ≡ true) → within (shape name lo hi nullable) v ≡ true
@@ -103,26 +94,25 @@ all_within (row ∷ part) i name lo hi nullable low high null =
 column_within : (rows : List (List Value)) (i : ℕ) (name : List ℕ) → list_all (λ (row : List Value). within (column_over rows i name) (value_in row i)) rows ≡ true
 column_within rows i name = all_within rows i name _ _ (has_null i rows) (least_own (total (Min i) rows)) (greatest_own (total (Max i) rows)) (λ e. e)
 
-heads : (x y : ColumnShape) (xs ys : List ColumnShape) → x ∷ xs ≡ y ∷ ys → x ≡ y
-heads x y xs ys e = cc
+heads : {x y : ColumnShape} {xs ys : List ColumnShape} → x ∷ xs ≡ y ∷ ys → x ≡ y
+heads e = cc
 
-tails : (x y : ColumnShape) (xs ys : List ColumnShape) → x ∷ xs ≡ y ∷ ys → xs ≡ ys
-tails x y xs ys e = cc
+tails : {x y : ColumnShape} {xs ys : List ColumnShape} → x ∷ xs ≡ y ∷ ys → xs ≡ ys
+tails e = cc
 
 -- columns over rows admit a row whose values are within
 row_admitted : (columns : List Column) (rows : List (List Value)) (i : ℕ) (names : List (List ℕ)) (row : List Value) → map column_shape columns ≡ columns_over rows i names
     → ((i : ℕ) (name : List ℕ) → within (column_over rows i name) (value_in row i) ≡ true) → length row ≡ i + length names → admits_values columns (drop i row) ≡ true
 unfolding columns_over
 row_admitted [] rows i [] row e is wide = rw (drop_all i row (omega arith)) refl
-row_admitted [] rows i (name ∷ names) row e is wide = absurd (cc e)
-row_admitted (column ∷ columns) rows i [] row e is wide = absurd (cc e)
 row_admitted (column ∷ columns) rows i (name ∷ names) row e is wide =
-    let first = heads (column_shape column) (column_over rows i name) (map column_shape columns) (columns_over rows (suc i) names) e in
-    let rest = tails (column_shape column) (column_over rows i name) (map column_shape columns) (columns_over rows (suc i) names) e in
+    let first = heads e in
+    let rest = tails e in
     let cut = drop-cons row i None (omega arith) in
     let here : admits_value column (get_or row i None) ≡ true =
     admits_is column (get_or row i None) ∙ ap (λ (c : ColumnShape). within c (get_or row i None)) first ∙ is i name in
     rw (cut, here) (row_admitted columns rows (suc i) names row rest is (omega arith))
+row_admitted _ rows i _ row e is wide = absurd (cc e)
 
 rows_admitted : (columns : List Column) (rows : List (List Value)) (names : List (List ℕ)) (part : List (List Value)) → map column_shape columns ≡ columns_over rows 0 names
     → ((i : ℕ) (name : List ℕ) → list_all (λ (row : List Value). within (column_over rows i name) (value_in row i)) part ≡ true)
@@ -138,13 +128,12 @@ rows_admitted columns rows names (row ∷ part) e is wide =
 names_over : (columns : List Column) (rows : List (List Value)) (i : ℕ) (names : List (List ℕ)) → map column_shape columns ≡ columns_over rows i names → names_of columns ≡ names
 unfolding columns_over
 names_over [] rows i [] e = refl
-names_over [] rows i (name ∷ names) e = absurd (cc e)
-names_over (column ∷ columns) rows i [] e = absurd (cc e)
 names_over (column ∷ columns) rows i (name ∷ names) e =
-    let first = heads (column_shape column) (column_over rows i name) (map column_shape columns) (columns_over rows (suc i) names) e in
-    let rest = tails (column_shape column) (column_over rows i name) (map column_shape columns) (columns_over rows (suc i) names) e in
+    let first = heads e in
+    let rest = tails e in
     let own : column.name ≡ name = ap (λ (c : ColumnShape). c.name) first in
     rw (own, names_over columns rows (suc i) names rest) refl
+names_over _ rows i _ e = absurd (cc e)
 
 same_as_itself : (text : List ℕ) → same_text text text ≡ true
 unfolding same_text
@@ -153,12 +142,11 @@ same_as_itself text = (bytes_eq-Decides (map to_ascii_lowercase text) (map to_as
 heading_same : (columns : List Column) (fields : List (List ℕ)) → names_of columns ≡ map without_blanks fields → is_heading columns fields ≡ true
 unfolding is_heading
 heading_same [] [] e = refl
-heading_same [] (field ∷ fields) e = absurd (cc e)
-heading_same (column ∷ columns) [] e = absurd (cc e)
 heading_same (column ∷ columns) (field ∷ fields) e =
     let first : column.name ≡ without_blanks field = cc e in
     let rest : names_of columns ≡ map without_blanks fields = cc e in
     rw (first, same_as_itself (without_blanks field)) (heading_same columns fields rest)
+heading_same _ _ e = absurd (cc e)
 
 narrow_at : (columns : List Column) (rows : List (List Value)) (i : ℕ) (names : List (List ℕ)) → map column_shape columns ≡ columns_over rows i names
     → (k n : ℕ) (d : Column) → n ≡ i + k → k < length columns → IsNarrowest rows n (get_or columns k d)
@@ -166,12 +154,12 @@ unfolding columns_over
 narrow_at [] rows i names e k n d same h = absurd (omega arith)
 narrow_at (column ∷ columns) rows i [] e k n d same h = absurd (cc e)
 narrow_at (column ∷ columns) rows i (name ∷ names) e zero n d same h =
-    let first = heads (column_shape column) (column_over rows i name) (map column_shape columns) (columns_over rows (suc i) names) e in
+    let first = heads e in
     let here : n ≡ i = omega arith in
     subst (λ (m : ℕ). IsNarrowest rows m column) (sym here)
     (record { lo = ap (λ (c : ColumnShape). c.lo) first; hi = ap (λ (c : ColumnShape). c.hi) first; nullable = ap (λ (c : ColumnShape). c.nullable) first })
 narrow_at (column ∷ columns) rows i (name ∷ names) e (suc k) n d same h =
-    let rest = tails (column_shape column) (column_over rows i name) (map column_shape columns) (columns_over rows (suc i) names) e in
+    let rest = tails e in
     narrow_at columns rows (suc i) names rest k n d (omega arith) (omega arith)
 
 -- columns that aren't rejected are what they were

@@ -14,7 +14,8 @@ use Rattle.bw_file.specs.declared.layout.Layout.TheVariants.{Planes, Slices}
 use Rattle.bw_file.specs.Blocks.{segment_size}
 use Rattle.bw_file.specs.FileBytes.{header_bytes}
 use Rattle.bw_schemas.specs.PrintedSchema.{AreComments, schema_text}
-use Rattle.bw_schemas.proofs.PrintedBounds.{natural_plain, natural_short}
+use Rattle.bw_schemas.proofs.PrintedBounds.{natural_short}
+use Rattle.bw_text.proofs.DecimalLemmas.{plain_number}
 use Rattle.bw_text.specs.Printing.{is_plain_word, spaced_words}
 use Rattle.bw_text.proofs.SpacedWords.{line_skipped}
 use Rattle.bw_schemas.proofs.PrintedText.{no_comments}
@@ -47,11 +48,11 @@ pub record AreSmall (version : ℕ) (layout : Layout) (schema : Schema) (rows : 
 
 pub facts_are_comments : (version : ℕ) (layout : Layout) (schema : Schema) (rows : ℕ) → AreSmall version layout schema rows → AreComments (facts_text version layout schema rows)
 facts_are_comments version layout schema rows small =
-    comment_more (codes "rows") (decimal rows) _ refl (natural_plain rows (omega (arith, small.within_limit)))
-    (comment_more (codes "segments") (decimal (segment_count rows)) _ refl (natural_plain (segment_count rows) (omega (arith, small.within_limit)))
+    comment_more (codes "rows") (decimal rows) _ refl (plain_number rows (omega (arith, small.within_limit)))
+    (comment_more (codes "segments") (decimal (segment_count rows)) _ refl (plain_number (segment_count rows) (omega (arith, small.within_limit)))
     (comment_more (codes "layout") (layout_word layout) _ refl (layout_plain layout)
-    (comment_more (codes "version") (decimal version) _ refl (natural_plain version small.told)
-    (comment_last (codes "bytes") (decimal (file_size version layout schema rows)) refl (natural_plain (file_size version layout schema rows) small.size)))))
+    (comment_more (codes "version") (decimal version) _ refl (plain_number version small.told)
+    (comment_last (codes "bytes") (decimal (file_size version layout schema rows)) refl (plain_number (file_size version layout schema rows) small.size)))))
 
 pub facts_short : (version : ℕ) (layout : Layout) (schema : Schema) (rows : ℕ) → AreSmall version layout schema rows → length (facts_text version layout schema rows) ≤ 4096
 unfolding spaced_words

@@ -4,7 +4,7 @@ use Rattle.std.proofs.Common.{[], ◌∷◌, ◌++◌, length, map, drop, get_or
 use Rattle.std.proofs.Common.{nat_le, Result, Ok, Err, arith}
 use Rattle.std.specs.Prelude.{◌==◌}
 use Rattle.std.specs.List.{list_any}
-use Rattle.std.proofs.lemmas.Bool.{eqb-true, le-leb, lt-leb}
+use Rattle.std.proofs.lemmas.Bool.{eqb-true}
 use Rattle.std.proofs.lemmas.List.{append-nil, drop_all}
 use Rattle.std.proofs.Math.Seq.{drop-cons}
 use Rattle.bw_model.specs.declared.fault.Fault.{Fault}
@@ -13,6 +13,7 @@ use Rattle.bw_text.specs.Lines.{is_empty}
 use Rattle.bw_model.specs.Name.{is_name, are_apart}
 use Rattle.bw_text.specs.Text.{same_text}
 use Rattle.bw_csv.specs.Rows.{without_blanks}
+use Rattle.bw_csv.proofs.BareLemmas.{passed}
 use Rattle.bw_schemas.specs.Heading.{heading_names, names_from, some_names}
 
 -- the names of the fields from a place on
@@ -22,27 +23,13 @@ names_at fields i = map without_blanks (drop i fields)
 name_there : (fields : List (List ℕ)) (i : ℕ) (name : List ℕ) → i < length fields → name ≡ without_blanks (get_or fields i []) → names_at fields i ≡ name ∷ names_at fields (i + 1)
 name_there fields i name h e = rw (e, add-one, drop-cons fields i [] h) refl
 
--- an error at a name
-pub too_many : (before fields : List (List ℕ)) (i : ℕ) (name : List ℕ) → i < length fields → name ≡ without_blanks (get_or fields i []) → 64 ≤ length before
-    → names_from before (names_at fields i) ≡ Err (at_record 105 0)
+-- one name more, or an error at it, by the tests of the name
+pub name_step : (before fields : List (List ℕ)) (i : ℕ) (name : List ℕ) (many wrong twice : Bool) → i < length fields → name ≡ without_blanks (get_or fields i [])
+    → nat_le 64 (length before) ≡ many → not (is_name name) ≡ wrong → list_any (λ other. same_text other name) before ≡ twice
+    → names_from before (names_at fields i)
+    ≡ refused_if many (at_record 105 0) (refused_if wrong (at_record 102 0) (refused_if twice (at_record 104 0) (names_from (before ++ name ∷ []) (names_at fields (i + 1)))))
 unfolding names_from
-too_many before fields i name h e many = let past : nat_le 64 (length before) ≡ true = le-leb _ _ many in rw (name_there fields i name h e, past) refl
-
-pub no_name : (before fields : List (List ℕ)) (i : ℕ) (name : List ℕ) → i < length fields → name ≡ without_blanks (get_or fields i []) → length before < 64 → is_name name ≡ false
-    → names_from before (names_at fields i) ≡ Err (at_record 102 0)
-unfolding names_from
-no_name before fields i name h e room is = let few : nat_le 64 (length before) ≡ false = lt-leb _ _ room in rw (name_there fields i name h e, few, is) refl
-
-pub name_twice : (before fields : List (List ℕ)) (i : ℕ) (name : List ℕ) → i < length fields → name ≡ without_blanks (get_or fields i []) → length before < 64 → is_name name ≡ true
-    → list_any (λ other. same_text other name) before ≡ true → names_from before (names_at fields i) ≡ Err (at_record 104 0)
-unfolding names_from
-name_twice before fields i name h e room is twice = let few : nat_le 64 (length before) ≡ false = lt-leb _ _ room in rw (name_there fields i name h e, few, is, twice) refl
-
--- one name more
-pub name_more : (before fields : List (List ℕ)) (i : ℕ) (name : List ℕ) → i < length fields → name ≡ without_blanks (get_or fields i []) → length before < 64 → is_name name ≡ true
-    → list_any (λ other. same_text other name) before ≡ false → names_from before (names_at fields i) ≡ names_from (before ++ name ∷ []) (names_at fields (i + 1))
-unfolding names_from
-name_more before fields i name h e room is new = let few : nat_le 64 (length before) ≡ false = lt-leb _ _ room in rw (name_there fields i name h e, few, is, new) refl
+name_step before fields i name many wrong twice h e room is new = rw (name_there fields i name h e, room, is, new) refl
 
 -- all names, of which there is one at least, or none
 pub names_end : (fields names : List (List ℕ)) (i : ℕ) → length fields ≤ i → names_from [] (map without_blanks fields) ≡ names_from names (names_at fields i) → heading_names fields ≡ some_names names
@@ -55,19 +42,15 @@ unfolding heading_names
 fault_first fields names i fault e f = rw (e, f) refl
 
 -- the names that were read are those of the fields
-not_refused : {A : Type 0} (test : Bool) (fault : Fault) (next : Result A Fault) (x : A) → refused_if test fault next ≡ Ok x → next ≡ Ok x
-not_refused true fault next x e = absurd (cc e)
-not_refused false fault next x e = e
-
 names_are : (before names all : List (List ℕ)) → names_from before names ≡ Ok all → all ≡ before ++ names
 unfolding names_from
 names_are before [] all e = let same : before ≡ all = cc e in sym same ∙ sym (append-nil before)
 names_are before (name ∷ names) all e =
     let rest = names_from (before ++ name ∷ []) names in
     let twice = refused_if (list_any (λ other. same_text other name) before) (at_record 104 0) rest in
-    let a = not_refused (nat_le 64 (length before)) (at_record 105 0) (refused_if (not (is_name name)) (at_record 102 0) twice) all e in
-    let b = not_refused (not (is_name name)) (at_record 102 0) twice all a in
-    let c = not_refused (list_any (λ other. same_text other name) before) (at_record 104 0) rest all b in
+    let a = (passed (nat_le 64 (length before)) (at_record 105 0) (refused_if (not (is_name name)) (at_record 102 0) twice) all e).1 in
+    let b = (passed (not (is_name name)) (at_record 102 0) twice all a).1 in
+    let c = (passed (list_any (λ other. same_text other name) before) (at_record 104 0) rest all b).1 in
     names_are (before ++ name ∷ []) names all c ∙ append_assoc before (name ∷ []) names
 
 pub heading_is : (fields names : List (List ℕ)) → heading_names fields ≡ Ok names → names ≡ map without_blanks fields
@@ -76,7 +59,7 @@ heading_is fields names e = go (names_from [] (map without_blanks fields)) refl 
   where
     go : (r : Result (List (List ℕ)) Fault) → names_from [] (map without_blanks fields) ≡ r → (r >>= some_names) ≡ Ok names → names ≡ map without_blanks fields
     go (Ok found) f g =
-        let same = not_refused (is_empty found) (at_record 105 0) (Ok found) names g in
+        let same = (passed (is_empty found) (at_record 105 0) (Ok found) names g).1 in
         let is : found ≡ names = cc same in
         sym is ∙ names_are [] (map without_blanks fields) found f
     go (Err fault) f g = absurd (cc g)

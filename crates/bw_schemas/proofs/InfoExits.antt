@@ -1,7 +1,8 @@
 -- Where a call that reports a header ends: at the header, or when the text is written.
-use Rattle.std.proofs.Common.{◌≡◌, ◌∙◌, ◌+◌, refl, sym, ap, subst, ℕ, Bool, true, false, ◌||◌, List}
+use Rattle.std.proofs.Common.{◌≡◌, ◌∙◌, ◌+◌, refl, sym, ap, subst, ℕ, true, false, List}
 use Rattle.std.proofs.Common.{[], length, Option, Result, Ok, Err, arith}
 use Rattle.std.specs.Prelude.{OnOk}
+use Rattle.std.proofs.lemmas.Bool.{or_left}
 use Rattle.std.specs.Io.KnownBytes.{Appends}
 use Rattle.bw_model.specs.declared.fault.Fault.{Fault}
 use Rattle.bw_model.specs.declared.schema.Schema.{Schema}
@@ -100,8 +101,4 @@ told_file reader bytes layout schema rows text file gave is old new before after
 
 -- a failed read and out of memory are no verdicts
 pub input_verdict : (fault : Fault) → is_input_fault fault ≡ true → is_no_verdict fault ≡ true
-input_verdict fault is = either (is_input_fault fault) (is_write_fault fault) is
-  where
-    either : (a b : Bool) → a ≡ true → (a || b) ≡ true
-    either true b e = refl
-    either false b e = absurd (cc e)
+input_verdict fault is = or_left (is_input_fault fault) (is_write_fault fault) is

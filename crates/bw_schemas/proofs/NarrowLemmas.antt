@@ -3,6 +3,8 @@ use Rattle.std.proofs.Common.{◌≡◌, ◌∙◌, refl, sym, ap, ℕ, ℤ, zer
 use Rattle.std.proofs.Common.{◌∷◌, ◌++◌, length, drop, get_or, replicate, append_assoc, Option}
 use Rattle.std.proofs.Common.{Some, None, Result, Ok, Err}
 use Rattle.std.specs.Prelude.{◌||◌}
+use Rattle.std.proofs.Math.Bool.{or-false}
+use Rattle.std.proofs.lemmas.Bool.{or_right}
 use Rattle.std.proofs.lemmas.List.{append-nil}
 use Rattle.std.proofs.lemmas.List.Folds.{list_any-append}
 use Rattle.bw_model.specs.declared.fault.Fault.{Fault}
@@ -50,14 +52,6 @@ joined_greatest : (i : ℕ) (t : Option ℤ) (n : ℤ) → combine_totals (Max i
 joined_greatest i None n = refl
 joined_greatest i (Some a) n = refl
 
-or_true : (b : Bool) → (b || true) ≡ true
-or_true true = refl
-or_true false = refl
-
-or_false : (b : Bool) → (b || false) ≡ b
-or_false true = refl
-or_false false = refl
-
 null_more : (before : List (List Value)) (row : List Value) (i : ℕ) → has_null i (before ++ row ∷ []) ≡ (has_null i before || (is_null (value_in row i) || false))
 null_more before row i = list_any-append (λ (r : List Value). is_null (value_in r i)) before (row ∷ [])
 
@@ -67,19 +61,18 @@ one_more before row i None e =
     same_seen _ _ _ _ _ _
     (total_append (Min i) before (row ∷ []) ∙ ap (combine_totals (Min i) (total (Min i) before)) (least_of_one row i None e) ∙ joined_none (Min i) (total (Min i) before))
     (total_append (Max i) before (row ∷ []) ∙ ap (combine_totals (Max i) (total (Max i) before)) (greatest_of_one row i None e) ∙ joined_none (Max i) (total (Max i) before))
-    (null_more before row i ∙ ap (λ (v : Value). has_null i before || (is_null v || false)) e ∙ or_true (has_null i before))
+    (null_more before row i ∙ ap (λ (v : Value). has_null i before || (is_null v || false)) e ∙ or_right (has_null i before) true refl)
 one_more before row i (Some n) e =
     same_seen _ _ _ _ _ _
     (total_append (Min i) before (row ∷ []) ∙ ap (combine_totals (Min i) (total (Min i) before)) (least_of_one row i (Some n) e) ∙ joined_least i (total (Min i) before) n)
     (total_append (Max i) before (row ∷ []) ∙ ap (combine_totals (Max i) (total (Max i) before)) (greatest_of_one row i (Some n) e) ∙ joined_greatest i (total (Max i) before) n)
-    (null_more before row i ∙ ap (λ (v : Value). has_null i before || (is_null v || false)) e ∙ or_false (has_null i before))
+    (null_more before row i ∙ ap (λ (v : Value). has_null i before || (is_null v || false)) e ∙ or-false (has_null i before))
 
 values_at : (s : ColumnStats) (columns : List ColumnStats) (row : List Value) (i : ℕ) → with_values (s ∷ columns) (drop i row) ≡ with_value s (get_or row i None) ∷ with_values columns (drop (suc i) row)
 unfolding with_values
-values_at s columns [] zero = refl
 values_at s columns [] (suc i) = refl
-values_at s columns (v ∷ row) zero = refl
 values_at s columns (v ∷ row) (suc i) = values_at s columns row i
+values_at s columns _ _ = refl
 
 row_more : (before : List (List Value)) (row : List Value) (i count : ℕ) → with_values (seen_from before i count) (drop i row) ≡ seen_from (before ++ row ∷ []) i count
 unfolding seen_from with_values

@@ -43,9 +43,6 @@ pub bound_length : (z : ℤ) → FitsSigned w64 z → length (signed_decimal z) 
 bound_length (pos n) fits = let lt : n < 2 ^ 63 = omega (arith, ints) in omega (arith, length-decimal-le 19 n (omega arith) (omega arith) (omega arith))
 bound_length (negsuc n) fits = let le : suc n ≤ 2 ^ 63 = omega (arith, ints) in omega (arith, length-decimal-le 19 (suc n) (omega arith) (omega arith) (omega arith))
 
--- a number without sign is a plain word of at most 20 bytes
-pub natural_plain : (n : ℕ) → n < 2 ^ 64 → is_plain_word (decimal n) ≡ true
-natural_plain n lt = plain_number n lt
-
+-- a number without sign has at most 20 bytes
 pub natural_short : (n : ℕ) → n < 2 ^ 64 → length (decimal n) ≤ 20
 natural_short n lt = length-decimal-le 20 n (omega arith) (omega arith) (omega arith)

@@ -11,7 +11,6 @@ use Rattle.std.proofs.lemmas.List.Elements.{All-cons, All-head, All-nil, All-tai
 use Rattle.std.proofs.Math.Seq.{drop-cons}
 use Rattle.bw_model.specs.declared.column.Column.{Column}
 use Rattle.bw_model.specs.declared.schema.Schema.{Schema}
-use Rattle.bw_model.specs.Column.{names_of}
 use Rattle.bw_text.specs.Keyword.{is_reserved}
 use Rattle.bw_model.specs.Limits.{longest_name}
 use Rattle.bw_text.specs.Lines.{NumberedWords, cut_lines, numbered_words, numbered_from}
@@ -26,6 +25,7 @@ use Rattle.bw_schemas.specs.PrintedSchema.{AreComments, column_line, columns_tex
 use Rattle.bw_schemas.specs.PrintedSchema.{table_line}
 use Rattle.bw_text.specs.Printing.{is_plain_word, line_text, spaced_words}
 use Rattle.bw_model.proofs.BitsLemmas.{both}
+use Rattle.bw_model.proofs.SchemaLemmas.{shape_names-of}
 use Rattle.bw_text.proofs.SpacedWords.{line_said, plain_word}
 use Rattle.bw_schemas.proofs.PrintedBounds.{bound_spelled, bound_plain, bound_length}
 
@@ -145,7 +145,7 @@ shape_with schema comments is none few =
       ),
     )
 
-ordered : (l h : ℤ) → l ≤ℤ h → int_le l h ≡ true
+pub ordered : (l h : ℤ) → l ≤ℤ h → int_le l h ≡ true
 ordered l h o = search rules
 
 narrow : (n m : ℤ) → n <ℤ m → int_lt n m ≡ true
@@ -162,10 +162,6 @@ are_sound (column ∷ columns) are =
     (record { is = All-head IsColumn (column_shape column) (map column_shape columns) are; range = in_range column })
     (are_sound columns (All-tail IsColumn (column_shape column) (map column_shape columns) are))
 
-names_same : (columns : List Column) → shape_names (map column_shape columns) ≡ names_of columns
-names_same [] = refl
-names_same (c ∷ columns) = ap (λ (names : List (List ℕ)). c.name ∷ names) (names_same columns)
-
 -- so does that of a schema
 pub text_spells : (schema : Schema) (comments : List ℕ) → IsSchema (schema_shape schema) → AreComments comments → length comments ≤ 4096
     → IsSchemaText (schema_text (schema_shape schema) ++ comments) (schema_shape schema)
@@ -176,7 +172,7 @@ text_spells schema comments is none few =
       columns = are_sound columns is.columns;
       nonempty = omega (arith, length-map columns column_shape, schema.inhabited);
       within_limit = omega (arith, length-map columns column_shape, schema.limited);
-      apart = ap are_apart (names_same columns) ∙ schema.apart;
+      apart = ap are_apart (shape_names-of columns) ∙ schema.apart;
     } in
     shape_with (schema_shape schema) comments sound none few
 

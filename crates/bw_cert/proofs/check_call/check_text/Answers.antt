@@ -4,14 +4,13 @@ use Rattle.std.proofs.Common.{◌≡◌, true, false}
 use Rattle.std.proofs.lemmas.Result.{err_from_is_err_and}
 use Rattle.bw_sql.specs.QueryShape.{query_shape}
 use Rattle.bw_model.specs.SchemaText.{schema_shape}
-use Rattle.bw_cert.proofs.TextLemmas.{Laws, query_spelled, numbers_given, accepted_so}
+use Rattle.bw_cert.proofs.TextLemmas.{query_spelled, numbers_given, accepted_so}
 use Rattle.bw_cert.proofs.check_call.check_text.Goals as goal
 
 pub returns-in_err-query-clause-accepts : goal.returns-in_err-query-clause-accepts
 returns-in_err-query-clause-accepts c = λ accepted is.
-    let laws : Laws = record { columns = c.schemas_of_one_shape.ensures.columns; spelled = c.schemas_of_one_shape.ensures.spelled; one = c.one_query_of_a_text.ensures } in
     let p = err_from_is_err_and c.from_residual-in_err-query.result c.from_residual-in_err-query.ensures.1 in
-    let spelled = query_spelled laws c.args.schema.now c.args.sql.now c.args.file.now accepted is c.in_ok-schema.schema (c.in_ok-schema.ensures.accepted (schema_shape is.schema) is.spelled) in
+    let spelled = query_spelled c.args.schema.now c.args.sql.now c.args.file.now accepted is c.in_ok-schema.schema (c.in_ok-schema.ensures.accepted (schema_shape is.schema) is.spelled) in
     let memory = c.in_err-query.ensures.refused (query_shape is.query) spelled in
     rw (p.1, p.2) (λ aside. let never : true ≡ false = cc in cc)
 
@@ -21,6 +20,5 @@ returns-clause-accepted c =
 
 pub returns-clause-accepts : goal.returns-clause-accepts
 returns-clause-accepts c = λ accepted is.
-    let laws : Laws = record { columns = c.schemas_of_one_shape.ensures.columns; spelled = c.schemas_of_one_shape.ensures.spelled; one = c.one_query_of_a_text.ensures } in
-    numbers_given laws c.args.schema.now c.args.sql.now c.args.file.now accepted is c.in_ok-schema.schema (c.in_ok-schema.ensures.accepted (schema_shape is.schema) is.spelled)
+    numbers_given c.args.schema.now c.args.sql.now c.args.file.now accepted is c.in_ok-schema.schema (c.in_ok-schema.ensures.accepted (schema_shape is.schema) is.spelled)
     c.in_ok-query.query c.in_ok-query.ensures.read c.numbers.result c.numbers.ensures.accepted

@@ -7,7 +7,8 @@ use Rattle.bw_cert_rules.specs.Known.{node_of}
 use Rattle.bw_cert_rules.specs.Walk.{check_lines}
 use Rattle.bw_cert.specs.StatedFacts.{facts_stated}
 use Rattle.bw_cert.specs.Valid.{end_on}
-use Rattle.bw_cert.proofs.ValidLemmas.{bind_ok, ended, ends}
+use Rattle.bw_cert.proofs.ValidLemmas.{ended, ends}
+use Rattle.bw_cert_rules.proofs.HoldLemmas.{bind_ok}
 use Rattle.bw_cert.proofs.laws.valid_exactly_where_checked.Goals as goal
 
 pub returns-clause-sound : goal.returns-clause-sound

@@ -8,8 +8,9 @@ use Rattle.bw_model.specs.Variable.{row_of}
 use Rattle.bw_diagram.specs.Node.{node_value}
 use Rattle.bw_program.specs.Machine.{Reaches, end_state}
 use Rattle.bw_program.specs.Program.{instr_fits, fits}
-use Rattle.bw_cert.proofs.ValidLemmas.{stated_columns, stated_true, after_fits, all_so, part_there}
-use Rattle.bw_cert.proofs.ValidLemmas.{map_same, same_denotes}
+use Rattle.bw_cert.proofs.ValidLemmas.{stated_columns, stated_true, after_fits, all_so}
+use Rattle.bw_cert_rules.proofs.HoldLemmas.{map_same}
+use Rattle.bw_cert_rules.proofs.SoundLemmas.{part_there, same_denotes, zero_is}
 use Rattle.bw_cert.proofs.laws.valid_programs_select.Goals as goal
 
 pub returns-clause-fits : goal.returns-clause-fits
@@ -46,4 +47,4 @@ returns-clause-selects c = λ columns cond program certificate named sound valid
     ap (λ (columns : List Column). (end_state columns lanes program).registers program.result) (sym right)
     ∙ holds program.result valid.node valid.known
     ∙ map_same (λ assignment. node_value valid.facts.nodes assignment valid.node) (λ assignment. is_truth (truth_of (row_of columns assignment) cond) Yes) lanes
-    (λ assignment. same_denotes valid.facts valid.node valid.pair.yes certificate.end.row denoted valid.ended assignment ∙ tells.yes assignment)
+    (λ assignment. same_denotes valid.facts valid.node valid.pair.yes certificate.end.row denoted (zero_is _ valid.ended) assignment ∙ tells.yes assignment)

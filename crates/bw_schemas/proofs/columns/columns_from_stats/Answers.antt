@@ -3,7 +3,7 @@ use Rattle.std.proofs.Common.{◌∙◌, ◌<◌, length, arith, refl}
 use Rattle.std.proofs.lemmas.Result.{err_from_is_err_and}
 use Rattle.bw_schemas.specs.ColumnStats.{no_stats}
 use Rattle.bw_schemas.proofs.ColumnLemmas.{column_more, columns_end, names-push, out_of_range}
-use Rattle.bw_schemas.proofs.ColumnLemmas.{shapes-push}
+use Rattle.bw_model.proofs.SchemaLemmas.{shapes-push}
 use Rattle.bw_schemas.proofs.columns.columns_from_stats.Goals as goal
 
 pub returns-in_err-column-clause-columns : goal.returns-in_err-column-clause-columns

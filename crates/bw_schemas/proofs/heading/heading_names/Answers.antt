@@ -1,9 +1,11 @@
 -- Each turn has one name more.
-use Rattle.std.proofs.Common.{◌∙◌, sym, ap, ◌<◌, length, arith, refl, Err, length-append, List, ℕ}
+use Rattle.std.proofs.Common.{◌∙◌, sym, ap, ◌<◌, length, arith, refl, Err, length-append, List, ℕ, not}
+use Rattle.std.proofs.Common.{true, false}
+use Rattle.std.proofs.lemmas.Bool.{le-leb, lt-leb}
 use Rattle.bw_model.proofs.SchemaLemmas.{are_apart-push}
 use Rattle.bw_csv.specs.Records.{fields_in}
-use Rattle.bw_schemas.proofs.HeadingLemmas.{fault_first, name_more, name_twice, names_end, no_name}
-use Rattle.bw_schemas.proofs.HeadingLemmas.{none_named, nothing_apart, some_named, too_many}
+use Rattle.bw_schemas.proofs.HeadingLemmas.{fault_first, name_step, names_end, none_named}
+use Rattle.bw_schemas.proofs.HeadingLemmas.{nothing_apart, some_named}
 use Rattle.bw_schemas.proofs.heading.heading_names.Goals as goal
 
 pub loop-i-init : goal.loop-i-init
@@ -14,14 +16,14 @@ pub returns-then-len-ge-MAX_COLUMNS-clause-names :
 returns-then-len-ge-MAX_COLUMNS-clause-names c = λ _.
     let fields = fields_in c.args.records.now in
     let there : c.loop-i.i < length fields = omega (arith, c.field_count-i-end.ensures) in
-    fault_first fields _ c.loop-i.i _ c.loop-i.invariant.rest (too_many _ fields c.loop-i.i c.field-name.result.now there c.field-name.ensures (omega (arith, c.len.ensures)) ∙ ap Err (sym c.at_record.ensures))
+    fault_first fields _ c.loop-i.i _ c.loop-i.invariant.rest (name_step _ fields c.loop-i.i c.field-name.result.now true _ _ there c.field-name.ensures (le-leb 64 (length c.loop-i.names.items) (omega (arith, c.len.ensures))) refl refl ∙ ap Err (sym c.at_record.ensures))
 
 pub returns-then-not-is_name-clause-names : goal.returns-then-not-is_name-clause-names
 returns-then-not-is_name-clause-names c = λ _.
     let fields = fields_in c.args.records.now in
     let there : c.loop-i.i < length fields = omega (arith, c.field_count-i-end.ensures) in
     fault_first fields _ c.loop-i.i _ c.loop-i.invariant.rest
-    (no_name _ fields c.loop-i.i c.field-name.result.now there c.field-name.ensures (omega (arith, c.len.ensures)) (sym c.is_name.ensures ∙ c.if-not-is_name.true) ∙ ap Err (sym c.at_record-then-not-is_name.ensures))
+    (name_step _ fields c.loop-i.i c.field-name.result.now false true _ there c.field-name.ensures (lt-leb 64 (length c.loop-i.names.items) (omega (arith, c.len.ensures))) (ap not (sym c.is_name.ensures ∙ c.if-not-is_name.true)) refl ∙ ap Err (sym c.at_record-then-not-is_name.ensures))
 
 pub returns-then-has_name-clause-names : goal.returns-then-has_name-clause-names
 returns-then-has_name-clause-names c = λ _.
@@ -29,7 +31,7 @@ returns-then-has_name-clause-names c = λ _.
     let there : c.loop-i.i < length fields = omega (arith, c.field_count-i-end.ensures) in
     let twice = rw c.deref.ensures.value at c.has_name.ensures in
     fault_first fields _ c.loop-i.i _ c.loop-i.invariant.rest
-    (name_twice _ fields c.loop-i.i c.field-name.result.now there c.field-name.ensures (omega (arith, c.len.ensures)) (sym c.is_name.ensures ∙ c.if-not-is_name.false) (sym twice ∙ c.if-has_name.true) ∙ ap Err (sym c.at_record-then-has_name.ensures))
+    (name_step _ fields c.loop-i.i c.field-name.result.now false false true there c.field-name.ensures (lt-leb 64 (length c.loop-i.names.items) (omega (arith, c.len.ensures))) (ap not (sym c.is_name.ensures ∙ c.if-not-is_name.false)) (sym twice ∙ c.if-has_name.true) ∙ ap Err (sym c.at_record-then-has_name.ensures))
 
 pub loop-i-preserved : goal.loop-i-preserved
 loop-i-preserved c =
@@ -38,7 +40,7 @@ loop-i-preserved c =
     let new = sym (rw c.deref.ensures.value at c.has_name.ensures) ∙ c.if-has_name.false in
     let items = rw c.in_ok-new.ensures at c.in_ok-push.ensures.items in
     rw items (record {
-      rest = c.loop-i.invariant.rest ∙ name_more _ fields c.loop-i.i c.field-name.result.now there c.field-name.ensures (omega (arith, c.len.ensures)) (sym c.is_name.ensures ∙ c.if-not-is_name.false) new;
+      rest = c.loop-i.invariant.rest ∙ name_step _ fields c.loop-i.i c.field-name.result.now false false false there c.field-name.ensures (lt-leb 64 (length c.loop-i.names.items) (omega (arith, c.len.ensures))) (ap not (sym c.is_name.ensures ∙ c.if-not-is_name.false)) new;
       within_limit = omega (arith, length-append {A = List ℕ}, c.len.ensures);
       apart = are_apart-push c.loop-i.names.items c.field-name.result.now c.loop-i.invariant.apart new;
     })

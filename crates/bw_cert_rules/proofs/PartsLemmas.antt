@@ -37,11 +37,10 @@ each_more P [] x [] y same each here zero a b there given =
     let second : y ≡ b = cc in
     subst (λ b. P 0 a b) second (subst (λ a. P 0 a y) first here)
 each_more P [] x [] y same each here (suc k) a b there given = absurd (cc)
-each_more P [] x (w ∷ ys) y same each here k a b there given = absurd (omega (arith, same))
-each_more P (v ∷ xs) x [] y same each here k a b there given = absurd (omega (arith, same))
 each_more P (v ∷ xs) x (w ∷ ys) y same each here zero a b there given = each zero a b there given
 each_more P (v ∷ xs) x (w ∷ ys) y same each here (suc k) a b there given =
     each_more (λ k. P (suc k)) xs x ys y (omega (arith, same)) (λ k. each (suc k)) here k a b there given
+each_more P _ x _ y same each here k a b there given = absurd (omega (arith, same))
 
 module _ (facts : Facts) (first : List Instr) (instr : Instr) (parts : List Part) (part : Part) (count : length parts ≡ length first) where
   -- one more part changes nothing before it
