@@ -1,11 +1,12 @@
 -- A field of digits, alone or after a minus sign.
-use Rattle.std.proofs.Common.{◌≡◌, ◌∙◌, ℕ, ◌-◌, ◌<◌, ◌≤◌, List, [], ◌∷◌, ℤ, Option, Some, None}
-use Rattle.std.proofs.Common.{Bool, true, false, length, take, get_or, refl, sym, ap, arith, leb}
-use Rattle.std.proofs.Common.{ltb, eqb, suc}
+use Rattle.std.proofs.Common.{◌≡◌, ◌∙◌, ℕ, ◌-◌, ◌<◌, List, [], ◌∷◌, ℤ, Option, Some, None}
+use Rattle.std.proofs.Common.{Bool, true, false, length, take, get_or, refl, sym, ap, arith}
+use Rattle.std.proofs.Common.{eqb, suc}
 use Rattle.std.specs.Prelude.{◌&&◌, if◌then◌else◌}
 use Rattle.std.specs.Char.{is_ascii_digit, to_ascii_lowercase}
 use Rattle.std.specs.List.{list_all, suffix_len}
-use Rattle.std.proofs.lemmas.Bool.{leb-true, eqb-true, lt-ltb, ne_eqb}
+use Rattle.std.proofs.lemmas.Bool.{eqb-true}
+use Rattle.std.proofs.lemmas.Bool.Decides.{nat_tests}
 use Rattle.std.proofs.Math.Dec.{eqb-suc-zero}
 use Rattle.std.proofs.lemmas.List.{take_all}
 use Rattle.std.proofs.lemmas.List.Sums.{AllPass-from_list_all, suffix_len-take_no}
@@ -20,22 +21,15 @@ pub both : (a b : Bool) → (a && b) ≡ true → (a ≡ true) × (b ≡ true)
 both true b e = (refl, e)
 both false b e = absurd (cc e)
 
--- a digit is byte 48 to 57
-digit_is : (c : ℕ) → is_ascii_digit c ≡ true → (48 ≤ c) × (c ≤ 57)
-digit_is c e = let parts = both (leb 48 c) (leb c 57) e in (leb-true 48 c parts.0, leb-true c 57 parts.1)
-
+-- a digit, byte 48 to 57, is no byte below 48, no blank and not the first letter of NULL
 pub other_than : (c d : ℕ) → is_ascii_digit c ≡ true → (d < 48) → eqb c d ≡ false
-other_than c d e low = let is = digit_is c e in ne_eqb c d (λ same. absurd (omega (arith, is.0, is.1, same)))
+other_than c d e low = grind (arith, nat_tests)
 
 no_blank : (c : ℕ) → is_ascii_digit c ≡ true → is_blank c ≡ false
-no_blank c e = rw (other_than c 32 e (omega arith), other_than c 9 e (omega arith)) refl
+no_blank c e = grind (arith, nat_tests)
 
--- nor is it the first letter of NULL
 no_letter : (c : ℕ) → is_ascii_digit c ≡ true → eqb (to_ascii_lowercase c) 110 ≡ false
-no_letter c e =
-    let is = digit_is c e in
-    let small : ltb c 65 ≡ true = lt-ltb c 65 (omega (arith, is.1)) in
-    rw small (ne_eqb c 110 (λ same. absurd (omega (arith, is.1, same))))
+no_letter c e = grind (arith, nat_tests)
 
 -- digits have no blanks in front, nor after
 front : (c : ℕ) (cs : List ℕ) → is_ascii_digit c ≡ true → without_front_blanks (c ∷ cs) ≡ c ∷ cs

@@ -1,8 +1,7 @@
 -- A record of more fields than its table has columns is rejected for their number.
-use Rattle.std.proofs.Common.{◌≡◌, ℕ, ◌<◌, List, [], ◌∷◌, length, Err, Bool, true, false, refl}
+use Rattle.std.proofs.Common.{◌≡◌, ℕ, ◌<◌, List, [], ◌∷◌, length, Err, false, refl}
 use Rattle.std.proofs.Common.{arith, eqb}
-use Rattle.std.specs.Prelude.{◌&&◌}
-use Rattle.std.proofs.lemmas.Bool.{eqb-true}
+use Rattle.std.proofs.lemmas.Bool.{and_right, ne_eqb}
 use Rattle.bw_model.specs.declared.column.Column.{Column}
 use Rattle.bw_model.specs.Fault.{at_record}
 use Rattle.bw_text.specs.Text.{same_text}
@@ -13,15 +12,7 @@ use Rattle.bw_csv.proofs.BareLemmas.{bare_rows-fault}
 use Rattle.bw_csv.proofs.RowLemmas.{rows_after-other, rows_from-fault}
 
 longer-eqb : (a b : ℕ) → b < a → eqb a b ≡ false
-longer-eqb a b h = by (eqb a b) refl
-  where
-    by : (same : Bool) → eqb a b ≡ same → eqb a b ≡ false
-    by false e = e
-    by true e = absurd (let same = eqb-true a b e in omega arith)
-
-and-false : (a : Bool) → (a && false) ≡ false
-and-false true = refl
-and-false false = refl
+longer-eqb a b h = ne_eqb a b (λ same. omega arith)
 
 longer-heading : (columns : List Column) (fields : List (List ℕ)) → length columns < length fields → is_heading columns fields ≡ false
 unfolding is_heading
@@ -29,7 +20,7 @@ longer-heading [] [] h = absurd (omega arith)
 longer-heading [] (field ∷ fields) h = refl
 longer-heading (column ∷ columns) [] h = refl
 longer-heading (column ∷ columns) (field ∷ fields) h =
-    rw (longer-heading columns fields (omega arith)) (and-false (same_text column.name (without_blanks field)))
+    and_right (same_text column.name (without_blanks field)) _ (longer-heading columns fields (omega arith))
 
 pub rows_after_longer : (columns : List Column) (records : List (List (List ℕ))) → IsLonger (length columns) records → rows_after columns records ≡ Err (at_record 202 0)
 rows_after_longer columns records longer =
