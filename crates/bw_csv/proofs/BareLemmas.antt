@@ -28,10 +28,10 @@ pub bare_rows-next : (width number : ℕ) (fields : List (List ℕ)) (row : List
 unfolding bare_rows
 bare_rows-next width number fields row records more e r = rw (e, r) refl
 
-pub bare_rows-fault : (width number : ℕ) (fields : List (List ℕ)) (more : List (List (List ℕ))) (fault : Fault)
-    → bare_row number width fields ≡ Err fault → bare_rows width number (fields ∷ more) ≡ Err fault
+pub bare_rows-fault : (width number : ℕ) (fields : List (List ℕ)) (records more : List (List (List ℕ))) (fault : Fault)
+    → records ≡ fields ∷ more → bare_row number width fields ≡ Err fault → bare_rows width number records ≡ Err fault
 unfolding bare_rows
-bare_rows-fault width number fields more fault r = rw r refl
+bare_rows-fault width number fields records more fault e r = rw (e, r) refl
 
 pub bare_rows-end : (width number : ℕ) (records : List (List (List ℕ))) → records ≡ [] → bare_rows width number records ≡ Ok []
 unfolding bare_rows

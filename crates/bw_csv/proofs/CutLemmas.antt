@@ -1,9 +1,9 @@
 -- A text's first record, field by field, and what it is if the text is cut after a comma.
-use Rattle.std.proofs.Common.{◌≡◌, ◌∙◌, ℕ, zero, suc, ◌+◌, ◌-◌, ◌<◌, ◌≤◌, List, [], ◌∷◌, ◌++◌}
+use Rattle.std.proofs.Common.{◌≡◌, ◌∙◌, ℕ, suc, ◌+◌, ◌-◌, ◌<◌, ◌≤◌, List, [], ◌∷◌, ◌++◌}
 use Rattle.std.proofs.Common.{length, take, drop, get_or, Option, Some, None, Bool, true, false}
-use Rattle.std.proofs.Common.{refl, sym, ap, eqb, arith, inr, append_assoc, length-append}
+use Rattle.std.proofs.Common.{refl, sym, ap, eqb, arith, inl, inr, append_assoc, length-append}
 use Rattle.std.specs.Prelude.{◌||◌, IfSome, if◌then◌else◌, is_some}
-use Rattle.std.proofs.lemmas.Bool.{cond_both}
+use Rattle.std.proofs.lemmas.Bool.{cases_Bool, cond_both}
 use Rattle.std.proofs.lemmas.List.{append-nil, take-append-drop, take_more}
 use Rattle.csv.specs.Machine.{Read, ends_at_end, field_after, fields_after, is_end, next_record}
 use Rattle.csv.specs.Machine.{step}
@@ -163,24 +163,11 @@ fronts Before c = cond_both (eqb c 13 || eqb c 10) _ _ (λ (p : State × Action)
 fronts inside c = (continues (state_of inside) c refl).1
 
 -- after the last of this many fields the text is cut
-at_end : (fields : List (List ℕ)) → next_record default_config st.StartField fields [] [] ≡ Some (fields ++ [] ∷ [], st.StartRecord, [])
-unfolding next_record
-at_end fields = refl
-
-none_left : records_in st.StartRecord (Some []) ≡ []
-unfolding next_record
-none_left = records_in-none st.StartRecord [] refl
-
-cut_there : (text cut : List ℕ) (fields : List (List ℕ)) → next_record default_config st.StartRecord [] [] cut ≡ next_record default_config st.StartField fields [] []
-    → records_in st.StartRecord (Some cut) ≡ (fields ++ [] ∷ []) ∷ []
-cut_there text cut fields e =
-    records_in-next st.StartRecord cut (fields ++ [] ∷ [], st.StartRecord, []) (e ∙ at_end fields)
-    ∙ ap (λ (more : List (List (List ℕ))). (fields ++ [] ∷ []) ∷ more) none_left
-
 is_cut : (count : ℕ) (text cut rest : List ℕ) (fields : List (List ℕ)) → length fields ≡ count
     → next_record default_config st.StartRecord [] [] text ≡ next_record default_config st.StartField fields [] rest
     → next_record default_config st.StartRecord [] [] cut ≡ next_record default_config st.StartField fields [] []
     → IsCutRecord count (records_in st.StartRecord (Some text)) (records_in st.StartRecord (Some cut))
+unfolding next_record
 is_cut count text cut rest fields many whole short =
     let r = reads_more st.StartField fields [] rest refl in
     record {
@@ -190,7 +177,8 @@ is_cut count text cut rest fields many whole short =
       others = r.others;
       more = records_in r.after.0 (Some r.after.1);
       whole_is = records_in-next st.StartRecord text (fields ++ r.next ∷ r.others, r.after.0, r.after.1) (whole ∙ r.is);
-      cut_is = cut_there text cut fields short;
+      cut_is = records_in-next st.StartRecord cut (fields ++ [] ∷ [], st.StartRecord, []) short
+          ∙ ap (λ (more : List (List (List ℕ))). (fields ++ [] ∷ []) ∷ more) (records_in-none st.StartRecord [] refl);
     }
 
 pub has_more : (text : List ℕ) (i : ℕ) (inside : Inside) (closed : ℕ) → Begins text i inside closed → i < length text
@@ -216,44 +204,32 @@ longer_if_some count text (Some end) has some = longer count end text has
 -- the byte order mark stays
 short_unmarked : (text : List ℕ) (end : ℕ) → strip_bom text ≡ text → strip_bom (take end text) ≡ take end text
 unfolding strip_bom
-short_unmarked [] zero e = refl
 short_unmarked [] (suc n) e = refl
-short_unmarked (a ∷ []) zero e = refl
-short_unmarked (a ∷ []) (suc zero) e = refl
 short_unmarked (a ∷ []) (suc (suc n)) e = refl
-short_unmarked (a ∷ b ∷ text) zero e = refl
-short_unmarked (a ∷ b ∷ text) (suc zero) e = refl
-short_unmarked (a ∷ b ∷ text) (suc (suc zero)) e = refl
 short_unmarked (a ∷ b ∷ []) (suc (suc (suc n))) e = refl
-short_unmarked (a ∷ b ∷ c ∷ rest) (suc (suc (suc n))) e = by (is_bom a b c) refl e
-  where
-    by : (mark : Bool) → is_bom a b c ≡ mark → (if mark then rest else a ∷ b ∷ c ∷ rest) ≡ a ∷ b ∷ c ∷ rest
-        → (if is_bom a b c then take n rest else a ∷ b ∷ c ∷ take n rest) ≡ a ∷ b ∷ c ∷ take n rest
-    by false m f = rw m refl
-    by true m f = absurd (let same : length rest ≡ suc (suc (suc (length rest))) = ap length f in omega arith)
+short_unmarked (a ∷ b ∷ c ∷ rest) (suc (suc (suc n))) e = elim (cases_Bool (is_bom a b c)) [
+  | inl m ↦ absurd (let f : rest ≡ a ∷ b ∷ c ∷ rest = rw m at e in
+      let same : length rest ≡ suc (suc (suc (length rest))) = ap length f in omega arith)
+  | inr m ↦ rw m refl
+]
+short_unmarked _ _ e = refl
 
 unmarked_cut : (text : List ℕ) (end : ℕ) → strip_bom text ≡ text → strip_bom (take (length text - length text + end) text) ≡ take end text
 unmarked_cut text end e = let same : length text - length text + end ≡ end = omega arith in rw same (short_unmarked text end e)
 
 pub unmarked_take : (text : List ℕ) (end : ℕ) → strip_bom (take (length text - length (strip_bom text) + end) text) ≡ take end (strip_bom text)
 unfolding strip_bom
-unmarked_take [] end = unmarked_cut [] end refl
-unmarked_take (a ∷ []) end = unmarked_cut (a ∷ []) end refl
-unmarked_take (a ∷ b ∷ []) end = unmarked_cut (a ∷ b ∷ []) end refl
-unmarked_take (a ∷ b ∷ c ∷ rest) end = by (is_bom a b c) refl
-  where
-    by : (mark : Bool) → is_bom a b c ≡ mark
-        → strip_bom (take (length (a ∷ b ∷ c ∷ rest) - length (if mark then rest else a ∷ b ∷ c ∷ rest) + end) (a ∷ b ∷ c ∷ rest)) ≡ take end (if mark then rest else a ∷ b ∷ c ∷ rest)
-    by true m = let three : length (a ∷ b ∷ c ∷ rest) - length rest + end ≡ suc (suc (suc end)) = omega arith in rw (three, m) refl
-    by false m = unmarked_cut (a ∷ b ∷ c ∷ rest) end (rw m refl)
+unmarked_take (a ∷ b ∷ c ∷ rest) end = elim (cases_Bool (is_bom a b c)) [
+  | inl m ↦ (let three : length (a ∷ b ∷ c ∷ rest) - length rest + end ≡ suc (suc (suc end)) = omega arith in rw (m, three, m) refl)
+  | inr m ↦ rw m (unmarked_cut (a ∷ b ∷ c ∷ rest) end (rw m refl))
+]
+unmarked_take text end = unmarked_cut text end refl
 
 pub strip_less : (text : List ℕ) → length (strip_bom text) ≤ length text
 unfolding strip_bom
-strip_less [] = omega arith
-strip_less (a ∷ []) = omega arith
-strip_less (a ∷ b ∷ []) = omega arith
 strip_less (a ∷ b ∷ c ∷ rest) = cond_both (is_bom a b c) _ _ (λ (left : List ℕ). length left ≤ length (a ∷ b ∷ c ∷ rest))
     (λ e. omega arith) (λ e. omega arith)
+strip_less _ = omega arith
 
 pub cuts : (count end : ℕ) (text : List ℕ) → HasMoreFields count (strip_bom text) end
     → IsCutAfter count (records_of text) (records_of (take (length text - length (strip_bom text) + end) text))

@@ -1,11 +1,11 @@
 -- A field of digits, alone or after a minus sign.
 use Rattle.std.proofs.Common.{◌≡◌, ◌∙◌, ℕ, ◌-◌, ◌<◌, List, [], ◌∷◌, ℤ, Option, Some, None}
-use Rattle.std.proofs.Common.{Bool, true, false, length, take, get_or, refl, sym, ap, arith}
+use Rattle.std.proofs.Common.{Bool, true, false, length, take, get_or, refl, ap, arith}
 use Rattle.std.proofs.Common.{eqb, suc}
 use Rattle.std.specs.Prelude.{◌&&◌, if◌then◌else◌}
 use Rattle.std.specs.Char.{is_ascii_digit, to_ascii_lowercase}
 use Rattle.std.specs.List.{list_all, suffix_len}
-use Rattle.std.proofs.lemmas.Bool.{eqb-true}
+use Rattle.std.proofs.lemmas.Bool.{cond_both, eqb-true}
 use Rattle.std.proofs.lemmas.Bool.Decides.{nat_tests}
 use Rattle.std.proofs.Math.Dec.{eqb-suc-zero}
 use Rattle.std.proofs.lemmas.List.{take_all}
@@ -90,14 +90,12 @@ signed_digits number column [] e = absurd (cc e)
 signed_digits number column (c ∷ cs) e = by_sign number column c cs (eqb c 45) refl e
 
 -- what was read of a field of digits
-read_alone : (number : ℕ) (column : Column) (field : List ℕ) (n : Option ℤ) (digits : Bool) → are_digits (after_minus field) ≡ digits
-    → Some n ≡ (if digits then Some (number_of (is_minus field) (after_minus field)) else None) → value_of_field number column field ≡ within_bounds number column n
-read_alone number column field n true d e = signed_digits number column field d ∙ ap (within_bounds number column) (let same : n ≡ number_of (is_minus field) (after_minus field) = cc e in sym same)
-read_alone number column field n false d e = absurd (cc e)
-
 pub read_digits : (number : ℕ) (column : Column) (field : List ℕ) (n : Option ℤ) (is_negative : Bool) (digits : List ℕ)
     → is_negative ≡ is_minus field → digits ≡ after_minus field
     → Some n ≡ (if are_digits digits then Some (number_of is_negative digits) else None)
     → value_of_field number column field ≡ within_bounds number column n
 read_digits number column field n is_negative digits s d e =
-    read_alone number column field n (are_digits (after_minus field)) refl (rw (← d, ← s) e)
+    let spelled = number_of (is_minus field) (after_minus field) in
+    cond_both (are_digits (after_minus field)) (Some spelled) None (λ (r : Option (Option ℤ)). Some n ≡ r → value_of_field number column field ≡ within_bounds number column n)
+    (λ is read. let same : spelled ≡ n = cc in signed_digits number column field is ∙ ap (within_bounds number column) same)
+    (λ none read. absurd (cc read)) (rw (← d, ← s) e)

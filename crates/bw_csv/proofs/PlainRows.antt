@@ -1,8 +1,9 @@
 -- The values of a record's plain fields, one more at a time.
 use Rattle.std.proofs.Common.{◌≡◌, ◌∙◌, ℕ, ◌+◌, ◌≤◌, List, [], ◌∷◌, ◌++◌, length, take, drop, Ok}
-use Rattle.std.proofs.Common.{Bool, true, false, refl, sym, ap, eqb, append_assoc, length-append}
-use Rattle.std.specs.Prelude.{◌||◌, ◌≤◌}
-use Rattle.std.proofs.lemmas.Bool.{eqb-true}
+use Rattle.std.proofs.Common.{true, false, refl, sym, ap, eqb, append_assoc, length-append}
+use Rattle.std.specs.Prelude.{◌≤◌}
+use Rattle.std.proofs.Common.{inl, inr}
+use Rattle.std.proofs.lemmas.Bool.{both_ways, eqb-true, or_cases}
 use Rattle.std.proofs.lemmas.List.{append-nil, take-append-drop}
 use Rattle.csv.specs.Machine.{next_record}
 use Rattle.csv.specs.Reading.{default_config}
@@ -42,11 +43,10 @@ values_more number columns i values done field column value spelled here v more 
 -- what is left after a field begins with a comma, unless the field is the last
 comma_is : (after_field : List ℕ) → is_field_end after_field ≡ true → is_line_end after_field ≡ false → after_field ≡ 44 ∷ drop 1 after_field
 comma_is [] e f = absurd (cc f)
-comma_is (c ∷ cs) e f = by (eqb c 44) refl e f
-  where
-    by : (comma : Bool) → eqb c 44 ≡ comma → (eqb c 44 || ends_line c) ≡ true → ends_line c ≡ false → c ∷ cs ≡ 44 ∷ cs
-    by true i h k = ap (λ (d : ℕ). d ∷ cs) (eqb-true c 44 i)
-    by false i h k = absurd (cc (i, h, k))
+comma_is (c ∷ cs) e f = elim (or_cases (eqb c 44) (ends_line c) e) [
+  | inl h ↦ ap (λ (d : ℕ). d ∷ cs) (eqb-true c 44 h)
+  | inr k ↦ absurd (both_ways (ends_line c) f k)
+]
 
 pub read-next : (number : ℕ) (columns : List Column) (text rest : List ℕ) (i : ℕ) (values : List Value) (column : Column) (size : ℕ) (value : Value)
     → ReadSoFar number columns text rest i values → drop i columns ≡ column ∷ drop (i + 1) columns

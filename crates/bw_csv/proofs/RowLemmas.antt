@@ -82,10 +82,10 @@ pub rows_from-next : (columns : List Column) (number : ℕ) (fields : List (List
 unfolding rows_from
 rows_from-next columns number fields row records more e r = rw (e, r) refl
 
-pub rows_from-fault : (columns : List Column) (number : ℕ) (fields : List (List ℕ)) (more : List (List (List ℕ))) (fault : Fault)
-    → row_of_record number columns fields ≡ Err fault → rows_from columns number (fields ∷ more) ≡ Err fault
+pub rows_from-fault : (columns : List Column) (number : ℕ) (fields : List (List ℕ)) (records more : List (List (List ℕ))) (fault : Fault)
+    → records ≡ fields ∷ more → row_of_record number columns fields ≡ Err fault → rows_from columns number records ≡ Err fault
 unfolding rows_from
-rows_from-fault columns number fields more fault r = rw r refl
+rows_from-fault columns number fields records more fault e r = rw (e, r) refl
 
 pub rows_from-end : (columns : List Column) (number : ℕ) (records : List (List (List ℕ))) → records ≡ [] → rows_from columns number records ≡ Ok []
 unfolding rows_from
