@@ -1,25 +1,26 @@
 -- The rows of a text without a schema, one more at a time.
-use Rattle.std.proofs.Common.{◌≡◌, ◌∙◌, ℕ, ℤ, zero, suc, ◌+◌, ◌<◌, ◌^◌, ltb, eqb, List, [], ◌∷◌}
-use Rattle.std.proofs.Common.{◌++◌, length, get_or, arith, Option, Some, None, Result, Ok, Err}
+use Rattle.std.proofs.Common.{◌≡◌, ◌∙◌, ℕ, ℤ, zero, suc, ◌+◌, ◌<◌, List, [], ◌∷◌}
+use Rattle.std.proofs.Common.{◌++◌, length, get_or, arith, Option, Some, None, Ok, Err}
 use Rattle.std.proofs.Common.{Bool, true, false, refl, sym, ap, subst, All}
 use Rattle.std.specs.Prelude.{◌&&◌, not, int_le, if◌then◌else◌}
 use Rattle.std.specs.List.{list_all}
-use Rattle.std.proofs.lemmas.Bool.{eqb-true}
 use Rattle.std.proofs.lemmas.List.{append-nil}
 use Rattle.std.proofs.lemmas.List.Elements.{All-nil, All-cons}
 use Rattle.csv.specs.Records.{field_at}
 use Rattle.bw_model.specs.declared.column.Column.{Column}
 use Rattle.bw_model.specs.declared.fault.Fault.{Fault}
-use Rattle.bw_model.specs.Fault.{◌>>=◌, at_record, refused_if}
+use Rattle.bw_model.specs.Fault.{◌>>=◌, at_record}
 use Rattle.bw_model.specs.Column.{admits_value, admits_values}
 use Rattle.bw_text.specs.Number.{are_digits, number_of}
 use Rattle.bw_model.specs.Row.{Value}
 use Rattle.bw_csv.specs.Bare.{bare_number, bare_row, bare_rows, bare_value, bare_values}
 use Rattle.bw_csv.specs.Bare.{within_64_bits}
-use Rattle.bw_csv.specs.Rows.{is_minus, is_null_text, number_value, row_of_record, rows_from}
+use Rattle.bw_csv.specs.Rows.{is_minus, is_null_text, row_of_record, rows_from, text_value}
 use Rattle.bw_csv.specs.Rows.{without_sign, value_of_field, values_of_fields, with_row, within_bounds}
 use Rattle.bw_csv.specs.Rows.{without_blanks}
-use Rattle.bw_csv.proofs.FieldLemmas.{after, after-cons}
+use Rattle.bw_csv.proofs.DigitsAlone.{both}
+use Rattle.bw_csv.proofs.FieldLemmas.{after, after-cons, bound, passed}
+use Rattle.bw_csv.proofs.RowLemmas.{record_passed, row_made}
 
 -- the rows of a record and of those after it
 pub bare_rows-next : (width number : ℕ) (fields : List (List ℕ)) (row : List Value) (records more : List (List (List ℕ)))
@@ -27,10 +28,10 @@ pub bare_rows-next : (width number : ℕ) (fields : List (List ℕ)) (row : List
 unfolding bare_rows
 bare_rows-next width number fields row records more e r = rw (e, r) refl
 
-pub bare_rows-fault : (width number : ℕ) (fields : List (List ℕ)) (more : List (List (List ℕ))) (fault : Fault)
-    → bare_row number width fields ≡ Err fault → bare_rows width number (fields ∷ more) ≡ Err fault
+pub bare_rows-fault : (width number : ℕ) (fields : List (List ℕ)) (records more : List (List (List ℕ))) (fault : Fault)
+    → records ≡ fields ∷ more → bare_row number width fields ≡ Err fault → bare_rows width number records ≡ Err fault
 unfolding bare_rows
-bare_rows-fault width number fields more fault r = rw r refl
+bare_rows-fault width number fields records more fault e r = rw (e, r) refl
 
 pub bare_rows-end : (width number : ℕ) (records : List (List (List ℕ))) → records ≡ [] → bare_rows width number records ≡ Ok []
 unfolding bare_rows
@@ -54,28 +55,7 @@ pub bare_values-end : (number : ℕ) (fs : List (List ℕ)) (done : List Value) 
 unfolding bare_values
 bare_values-end number fs done e = rw e (ap Ok (append-nil done))
 
--- what was read in two steps was read in each
-pub bound : {A B : Type 0} (first : Result A Fault) (next : A → Result B Fault) (y : B) → (first >>= next) ≡ Ok y → (x : A) × (first ≡ Ok x) × (next x ≡ Ok y)
-bound (Ok x) next y e = (x, refl, e)
-bound (Err fault) next y e = cc e
-
-pub passed : {A : Type 0} (test : Bool) (fault : Fault) (next : Result A Fault) (x : A) → refused_if test fault next ≡ Ok x → (test ≡ false) × (next ≡ Ok x)
-passed true fault next x e = cc e
-passed false fault next x e = (refl, e)
-
-pub both : (a b : Bool) → (a && b) ≡ true → (a ≡ true) × (b ≡ true)
-both true b e = (refl, e)
-both false b e = cc e
-
 -- a value that a column admits is that of the field in the column
-null_is : (number : ℕ) (column : Column) (value : Value) (nullable : Bool) → column.nullable ≡ nullable → ◌≡◌ {A = Result Value Fault} (Ok None) (Ok value)
-    → admits_value column value ≡ true → refused_if (not nullable) (at_record 206 number) (Ok None) ≡ Ok value
-null_is number column value true n e admitted = e
-null_is number column value false n e admitted =
-    let same : ◌≡◌ {A = Value} None value = cc e in
-    let takes : column.nullable ≡ true = rw (← same) at admitted in
-    absurd (let contrary : false ≡ true = sym n ∙ takes in cc contrary)
-
 within_is : (number : ℕ) (column : Column) (spelled : Option ℤ) (value : Value) → within_64_bits number spelled ≡ Ok value → admits_value column value ≡ true
     → within_bounds number column spelled ≡ Ok value
 within_is number column None value e admitted = cc e
@@ -84,21 +64,22 @@ within_is number column (Some n) value e admitted =
     let inside : (int_le column.lo n && int_le n column.hi) ≡ true = rw (← same) at admitted in
     rw inside e
 
-number_is : (number : ℕ) (column : Column) (spelled : Option ℤ) (value : Value) (digits : Bool) → refused_if (not digits) (at_record 204 number) (within_64_bits number spelled) ≡ Ok value
-    → admits_value column value ≡ true → refused_if (not digits) (at_record 204 number) (within_bounds number column spelled) ≡ Ok value
-number_is number column spelled value true e admitted = within_is number column spelled value e admitted
-number_is number column spelled value false e admitted = cc e
-
-either_is : (number : ℕ) (column : Column) (text : List ℕ) (value : Value) (null : Bool) → (if null then Ok None else bare_number number (is_minus text) (without_sign text)) ≡ Ok value
-    → admits_value column value ≡ true
-    → (if null then refused_if (not column.nullable) (at_record 206 number) (Ok None) else number_value number column (is_minus text) (without_sign text)) ≡ Ok value
-either_is number column text value true e admitted = null_is number column value column.nullable refl e admitted
-either_is number column text value false e admitted = number_is number column (number_of (is_minus text) (without_sign text)) value (are_digits (without_sign text)) e admitted
-
 value_is : (number : ℕ) (column : Column) (field : List ℕ) (value : Value) → bare_value number field ≡ Ok value → admits_value column value ≡ true
     → value_of_field number column field ≡ Ok value
 unfolding bare_value value_of_field
-value_is number column field value e admitted = either_is number column (without_blanks field) value (is_null_text (without_blanks field)) e admitted
+value_is number column field value e admitted = by (is_null_text text) refl e
+  where
+    text : List ℕ
+    text = without_blanks field
+
+    by : (null : Bool) → is_null_text text ≡ null → (if null then Ok None else bare_number number (is_minus text) (without_sign text)) ≡ Ok value
+        → text_value number column text ≡ Ok value
+    by true null e =
+        let same : ◌≡◌ {A = Value} None value = cc e in
+        let nullable : column.nullable ≡ true = rw (← same) at admitted in rw (null, nullable) e
+    by false null e =
+        let p = passed (not (are_digits (without_sign text))) (at_record 204 number) (within_64_bits number (number_of (is_minus text) (without_sign text))) value e in
+        rw (null, p.0) (within_is number column (number_of (is_minus text) (without_sign text)) value p.1 admitted)
 
 values_are : (number : ℕ) (columns : List Column) (fields : List (List ℕ)) (values : List Value) → bare_values number fields ≡ Ok values → admits_values columns values ≡ true
     → values_of_fields number columns fields ≡ Ok values
@@ -116,14 +97,10 @@ values_are number (column ∷ columns) (field ∷ fields) values e admitted =
 
 row_is : (number : ℕ) (columns : List Column) (fields : List (List ℕ)) (row : List Value) → bare_row number (length columns) fields ≡ Ok row → admits_values columns row ≡ true
     → row_of_record number columns fields ≡ Ok row
-unfolding bare_row row_of_record
-row_is number columns fields row e admitted = tested (eqb (length fields) (length columns)) (ltb (2 ^ 24) number) e
-  where
-    tested : (wide late : Bool) → refused_if (not wide) (at_record 203 number) (refused_if late (at_record 207 number) (bare_values number fields)) ≡ Ok row
-        → refused_if (not wide) (at_record 203 number) (refused_if late (at_record 207 number) (values_of_fields number columns fields)) ≡ Ok row
-    tested true false h = values_are number columns fields row h admitted
-    tested true true h = cc h
-    tested false late h = cc h
+unfolding bare_row
+row_is number columns fields row e admitted =
+    let p = record_passed number (length columns) fields (bare_values number fields) row e in
+    row_made number columns fields row p.1 p.0 (values_are number columns fields row p.2 admitted)
 
 -- rows without a schema that columns admit are the rows under these columns
 pub rows_are : (columns : List Column) (number : ℕ) (records : List (List (List ℕ))) (rows : List (List Value)) → bare_rows (length columns) number records ≡ Ok rows
@@ -164,13 +141,7 @@ values_wide number (field ∷ fields) values e =
 row_wide : (number width : ℕ) (fields : List (List ℕ)) (row : List Value) → bare_row number width fields ≡ Ok row → length row ≡ width
 unfolding bare_row
 row_wide number width fields row e =
-    let one = passed (not (eqb (length fields) width)) (at_record 203 number) (refused_if (ltb (2 ^ 24) number) (at_record 207 number) (bare_values number fields)) row e in
-    let two = passed (ltb (2 ^ 24) number) (at_record 207 number) (bare_values number fields) row one.1 in
-    values_wide number fields row two.1 ∙ eqb-true _ _ (not_not (eqb (length fields) width) one.0)
-  where
-    not_not : (b : Bool) → not b ≡ false → b ≡ true
-    not_not true h = refl
-    not_not false h = cc h
+    let p = record_passed number width fields (bare_values number fields) row e in values_wide number fields row p.2 ∙ p.0
 
 pub rows_wide : (width number : ℕ) (records : List (List (List ℕ))) (rows : List (List Value)) → bare_rows width number records ≡ Ok rows → All (λ (row : List Value). length row ≡ width) rows
 unfolding bare_rows

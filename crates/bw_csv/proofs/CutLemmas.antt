@@ -1,8 +1,9 @@
 -- A text's first record, field by field, and what it is if the text is cut after a comma.
-use Rattle.std.proofs.Common.{◌≡◌, ◌∙◌, ℕ, zero, suc, ◌+◌, ◌-◌, ◌<◌, ◌≤◌, List, [], ◌∷◌, ◌++◌}
+use Rattle.std.proofs.Common.{◌≡◌, ◌∙◌, ℕ, suc, ◌+◌, ◌-◌, ◌<◌, ◌≤◌, List, [], ◌∷◌, ◌++◌}
 use Rattle.std.proofs.Common.{length, take, drop, get_or, Option, Some, None, Bool, true, false}
-use Rattle.std.proofs.Common.{refl, sym, ap, eqb, arith, inr, append_assoc, length-append}
+use Rattle.std.proofs.Common.{refl, sym, ap, eqb, arith, inl, inr, append_assoc, length-append}
 use Rattle.std.specs.Prelude.{◌||◌, IfSome, if◌then◌else◌, is_some}
+use Rattle.std.proofs.lemmas.Bool.{cases_Bool, cond_both}
 use Rattle.std.proofs.lemmas.List.{append-nil, take-append-drop, take_more}
 use Rattle.csv.specs.Machine.{Read, ends_at_end, field_after, fields_after, is_end, next_record}
 use Rattle.csv.specs.Machine.{step}
@@ -16,61 +17,42 @@ use Rattle.bw_csv.specs.Fields.{HasMoreFields, IsCutAfter, IsCutRecord, IsLonger
 use Rattle.bw_csv.specs.Plain.{state_of}
 use Rattle.bw_csv.specs.Records.{records_in}
 use Rattle.bw_csv.specs.declared.heading_end.Inside.{Inside}
-use Rattle.bw_csv.specs.declared.heading_end.Inside.TheVariants.{Before, Front, Bare, Quoted}
-use Rattle.bw_csv.specs.declared.heading_end.Inside.TheVariants.{Closed}
+use Rattle.bw_csv.specs.declared.heading_end.Inside.TheVariants.{Before, Front}
 use Rattle.bw_csv.proofs.RecordLemmas.{records_in-next, records_in-none}
 
--- within a record the machine continues to the record's end
+-- the places of a byte within a record
 abbrev is_within : State → Bool
 is_within st.StartField = true
 is_within st.InField = true
 is_within st.InQuoted = true
 is_within st.AfterQuote = true
-is_within st.StartRecord = false
-is_within st.InEscape = false
-is_within st.InComment = false
-is_within st.AfterCr = false
+is_within _ = false
 
 within_ends : (s : State) → is_within s ≡ true → ends_at_end s ≡ true
 within_ends st.StartField w = refl
-within_ends st.InField w = refl
-within_ends st.InQuoted w = refl
-within_ends st.AfterQuote w = refl
-within_ends st.StartRecord w = absurd (cc w)
-within_ends st.InEscape w = absurd (cc w)
-within_ends st.InComment w = absurd (cc w)
-within_ends st.AfterCr w = absurd (cc w)
+within_ends _ w = cc
 
-abbrev Stays : State × Action → Type 0
-Stays p = is_end p.1 ≡ false → is_within p.0 ≡ true
+-- a byte ends the record, or what follows it is within the record; after the end of a field, a
+-- field begins
+abbrev Continues : State × Action → Type 0
+Continues p = (is_end p.1 ≡ false → is_within p.0 ≡ true) × (is_field_closed p.1 ≡ true → p.0 ≡ st.StartField)
 
-bare_stays : (comma return feed : Bool)
-    → Stays (if comma then (st.StartField, act.EndField) else if return || feed then (if return then st.AfterCr else st.StartRecord, act.EndRecord) else (st.InField, act.Copy))
-bare_stays true return feed = λ e. refl
-bare_stays false true feed = λ e. absurd (cc e)
-bare_stays false false true = λ e. absurd (cc e)
-bare_stays false false false = λ e. refl
+bare_continues : (comma return feed : Bool) → Continues (if comma then (st.StartField, act.EndField)
+    else if return || feed then (if return then st.AfterCr else st.StartRecord, act.EndRecord) else (st.InField, act.Copy))
+bare_continues true return feed = (λ e. refl, λ e. refl)
+bare_continues false true feed = (λ e. cc, λ e. cc)
+bare_continues false false true = (λ e. cc, λ e. cc)
+bare_continues false false false = (λ e. refl, λ e. cc)
 
-in_bare : (c : ℕ) → Stays (step default_config st.InField c)
-in_bare c = bare_stays (eqb c 44) (eqb c 13) (eqb c 10)
+in_bare : (c : ℕ) → Continues (step default_config st.InField c)
+in_bare c = bare_continues (eqb c 44) (eqb c 13) (eqb c 10)
 
-marked_stays : (mark : Bool) (p : State × Action) (a : Action) → is_end a ≡ false → Stays p → Stays (if mark then (st.InQuoted, a) else p)
-marked_stays true p a n stays = λ e. refl
-marked_stays false p a n stays = stays
-
-quoted_stays : (mark : Bool) → Stays (if mark then (st.AfterQuote, act.Skip) else (st.InQuoted, act.Copy))
-quoted_stays true = λ e. refl
-quoted_stays false = λ e. refl
-
-within_stays : (s : State) (c : ℕ) → is_within s ≡ true → Stays (step default_config s c)
-within_stays st.StartField c w = marked_stays (eqb c 34) (step default_config st.InField c) act.Skip refl (in_bare c)
-within_stays st.InField c w = in_bare c
-within_stays st.InQuoted c w = quoted_stays (eqb c 34)
-within_stays st.AfterQuote c w = marked_stays (eqb c 34) (step default_config st.InField c) act.Copy refl (in_bare c)
-within_stays st.StartRecord c w = absurd (cc w)
-within_stays st.InEscape c w = absurd (cc w)
-within_stays st.InComment c w = absurd (cc w)
-within_stays st.AfterCr c w = absurd (cc w)
+continues : (s : State) (c : ℕ) → is_within s ≡ true → Continues (step default_config s c)
+continues st.StartField c w = cond_both (eqb c 34) _ _ Continues (λ e. (λ e. refl, λ e. cc)) (λ e. in_bare c)
+continues st.InField c w = in_bare c
+continues st.InQuoted c w = cond_both (eqb c 34) _ _ Continues (λ e. (λ e. refl, λ e. cc)) (λ e. (λ e. refl, λ e. cc))
+continues st.AfterQuote c w = cond_both (eqb c 34) _ _ Continues (λ e. (λ e. refl, λ e. cc)) (λ e. in_bare c)
+continues _ c w = absurd (cc w)
 
 -- A record is read that has these fields and at least one more.
 record ReadsMore (fields : List (List ℕ)) (read : Option Read) : Type 0 where
@@ -80,39 +62,28 @@ record ReadsMore (fields : List (List ℕ)) (read : Option Read) : Type 0 where
   pub is : read ≡ Some (fields ++ next ∷ others, after.0, after.1)
 
 more_after : (a : Action) (fields : List (List ℕ)) (field : List ℕ) (read : Option Read) → ReadsMore (fields_after a fields field) read → ReadsMore fields read
-more_after act.EndField fields field read reads = record {
-  next = field;
-  others = reads.next ∷ reads.others;
-  after = reads.after;
-  is = reads.is ∙ ap (λ (fs : List (List ℕ)). Some (fs, reads.after.0, reads.after.1)) (append_assoc fields (field ∷ []) (reads.next ∷ reads.others));
-}
-more_after act.EndRecord fields field read reads = record {
-  next = field;
-  others = reads.next ∷ reads.others;
-  after = reads.after;
-  is = reads.is ∙ ap (λ (fs : List (List ℕ)). Some (fs, reads.after.0, reads.after.1)) (append_assoc fields (field ∷ []) (reads.next ∷ reads.others));
-}
 more_after act.Skip fields field read reads = reads
 more_after act.Copy fields field read reads = reads
+more_after _ fields field read reads = record {
+  next = field;
+  others = reads.next ∷ reads.others;
+  after = reads.after;
+  is = reads.is ∙ ap (λ (fs : List (List ℕ)). Some (fs, reads.after.0, reads.after.1)) (append_assoc fields (field ∷ []) (reads.next ∷ reads.others));
+}
 
 ends_with_field : (a : Action) (fields : List (List ℕ)) (field : List ℕ) → is_end a ≡ true → fields_after a fields field ≡ fields ++ field ∷ []
 ends_with_field act.EndRecord fields field e = refl
-ends_with_field act.EndField fields field e = absurd (cc e)
-ends_with_field act.Skip fields field e = absurd (cc e)
-ends_with_field act.Copy fields field e = absurd (cc e)
+ends_with_field _ fields field e = cc
 
 reads_more : (s : State) (fields : List (List ℕ)) (field xs : List ℕ) → is_within s ≡ true → ReadsMore fields (next_record default_config s fields field xs)
 unfolding next_record
 reads_more s fields field [] w = rw (within_ends s w) (record { next = field; others = []; after = (st.StartRecord, []); is = refl })
 reads_more s fields field (c ∷ rest) w =
-    by (is_end (step default_config s c).1) refl
-    (λ h. reads_more (step default_config s c).0 (fields_after (step default_config s c).1 fields field) (field_after (step default_config s c).1 c field) rest (within_stays s c w h))
-  where
-    by : (b : Bool) → is_end (step default_config s c).1 ≡ b
-        → (is_end (step default_config s c).1 ≡ false → ReadsMore (fields_after (step default_config s c).1 fields field) (next_record default_config (step default_config s c).0 (fields_after (step default_config s c).1 fields field) (field_after (step default_config s c).1 c field) rest))
-        → ReadsMore fields (if b then Some (fields_after (step default_config s c).1 fields field, (step default_config s c).0, rest) else next_record default_config (step default_config s c).0 (fields_after (step default_config s c).1 fields field) (field_after (step default_config s c).1 c field) rest)
-    by true h more = record { next = field; others = []; after = ((step default_config s c).0, rest); is = rw (ends_with_field (step default_config s c).1 fields field h) refl }
-    by false h more = more_after (step default_config s c).1 fields field _ (more h)
+    let a = (step default_config s c).1 in
+    cond_both (is_end a) _ _ (ReadsMore fields)
+    (λ h. record { next = field; others = []; after = ((step default_config s c).0, rest); is = rw (ends_with_field a fields field h) refl })
+    (λ h. more_after a fields field _
+    (reads_more (step default_config s c).0 (fields_after a fields field) (field_after a c field) rest ((continues s c w).0 h)))
 
 -- So many fields of a text's first record are before a place of the text, and this is where the
 -- byte there stands.
@@ -144,10 +115,8 @@ reads_step text i inside count b h e rest =
 
 -- a byte that ends no field
 same_fields : (a : Action) (fields : List (List ℕ)) (field : List ℕ) → is_field_closed a ≡ false → is_end a ≡ false → fields_after a fields field ≡ fields
-same_fields act.EndField fields field e f = absurd (cc e)
-same_fields act.EndRecord fields field e f = absurd (cc f)
 same_fields act.Skip fields field e f = refl
-same_fields act.Copy fields field e f = refl
+same_fields _ fields field e f = cc
 
 pub begins_next : (text : List ℕ) (i : ℕ) (inside next : Inside) (count : ℕ) → Begins text i inside count → i < length text
     → is_end (step default_config (state_of inside) (get_or text i 0)).1 ≡ false → is_field_closed (step default_config (state_of inside) (get_or text i 0)).1 ≡ false
@@ -165,15 +134,11 @@ begins_next text i inside next count b h e f s =
 -- a byte that ends one
 closed_is : (a : Action) (fields : List (List ℕ)) (field : List ℕ) (c : ℕ) → is_field_closed a ≡ true → (fields_after a fields field ≡ fields ++ field ∷ []) × (field_after a c field ≡ [])
 closed_is act.EndField fields field c e = (refl, refl)
-closed_is act.EndRecord fields field c e = absurd (cc e)
-closed_is act.Skip fields field c e = absurd (cc e)
-closed_is act.Copy fields field c e = absurd (cc e)
+closed_is _ fields field c e = absurd (cc e)
 
 closed_ends : (a : Action) → is_field_closed a ≡ true → is_end a ≡ false
 closed_ends act.EndField e = refl
-closed_ends act.EndRecord e = absurd (cc e)
-closed_ends act.Skip e = absurd (cc e)
-closed_ends act.Copy e = absurd (cc e)
+closed_ends _ e = cc
 
 pub begins_field : (text : List ℕ) (i : ℕ) (inside next : Inside) (count : ℕ) → Begins text i inside count → i < length text
     → is_field_closed (step default_config (state_of inside) (get_or text i 0)).1 ≡ true
@@ -190,50 +155,19 @@ begins_field text i inside next count b h f s =
       reads = λ rest. reads_step text i inside count b h (closed_ends a f) rest ∙ rw (s, is.0, is.1) refl;
     }
 
--- it is a comma, and a field begins after it
-abbrev Fronts : State × Action → Type 0
-Fronts p = is_field_closed p.1 ≡ true → p.0 ≡ st.StartField
-
-bare_fronts : (comma return feed : Bool)
-    → Fronts (if comma then (st.StartField, act.EndField) else if return || feed then (if return then st.AfterCr else st.StartRecord, act.EndRecord) else (st.InField, act.Copy))
-bare_fronts true return feed = λ e. refl
-bare_fronts false true feed = λ e. absurd (cc e)
-bare_fronts false false true = λ e. absurd (cc e)
-bare_fronts false false false = λ e. absurd (cc e)
-
-in_bare_fronts : (c : ℕ) → Fronts (step default_config st.InField c)
-in_bare_fronts c = bare_fronts (eqb c 44) (eqb c 13) (eqb c 10)
-
-other_fronts : (test : Bool) (s : State) (a : Action) (p : State × Action) → is_field_closed a ≡ false → Fronts p → Fronts (if test then (s, a) else p)
-other_fronts true s a p n fronts = λ e. absurd (cc (e, n))
-other_fronts false s a p n fronts = fronts
-
-fronts : (inside : Inside) (c : ℕ) → Fronts (step default_config (state_of inside) c)
-fronts Before c = other_fronts (eqb c 13 || eqb c 10) st.StartRecord act.Skip _ refl (other_fronts (eqb c 34) st.InQuoted act.Skip _ refl (in_bare_fronts c))
-fronts Front c = other_fronts (eqb c 34) st.InQuoted act.Skip _ refl (in_bare_fronts c)
-fronts Bare c = in_bare_fronts c
-fronts Quoted c = other_fronts (eqb c 34) st.AfterQuote act.Skip (st.InQuoted, act.Copy) refl (λ e. absurd (cc e))
-fronts Closed c = other_fronts (eqb c 34) st.InQuoted act.Copy _ refl (in_bare_fronts c)
+-- a field begins after it
+fronts : (inside : Inside) (c : ℕ) → is_field_closed (step default_config (state_of inside) c).1 ≡ true
+    → (step default_config (state_of inside) c).0 ≡ st.StartField
+fronts Before c = cond_both (eqb c 13 || eqb c 10) _ _ (λ (p : State × Action). is_field_closed p.1 ≡ true → p.0 ≡ st.StartField)
+    (λ e f. cc) (λ e. (continues st.StartField c refl).1)
+fronts inside c = (continues (state_of inside) c refl).1
 
 -- after the last of this many fields the text is cut
-at_end : (fields : List (List ℕ)) → next_record default_config st.StartField fields [] [] ≡ Some (fields ++ [] ∷ [], st.StartRecord, [])
-unfolding next_record
-at_end fields = refl
-
-none_left : records_in st.StartRecord (Some []) ≡ []
-unfolding next_record
-none_left = records_in-none st.StartRecord [] refl
-
-cut_there : (text cut : List ℕ) (fields : List (List ℕ)) → next_record default_config st.StartRecord [] [] cut ≡ next_record default_config st.StartField fields [] []
-    → records_in st.StartRecord (Some cut) ≡ (fields ++ [] ∷ []) ∷ []
-cut_there text cut fields e =
-    records_in-next st.StartRecord cut (fields ++ [] ∷ [], st.StartRecord, []) (e ∙ at_end fields)
-    ∙ ap (λ (more : List (List (List ℕ))). (fields ++ [] ∷ []) ∷ more) none_left
-
 is_cut : (count : ℕ) (text cut rest : List ℕ) (fields : List (List ℕ)) → length fields ≡ count
     → next_record default_config st.StartRecord [] [] text ≡ next_record default_config st.StartField fields [] rest
     → next_record default_config st.StartRecord [] [] cut ≡ next_record default_config st.StartField fields [] []
     → IsCutRecord count (records_in st.StartRecord (Some text)) (records_in st.StartRecord (Some cut))
+unfolding next_record
 is_cut count text cut rest fields many whole short =
     let r = reads_more st.StartField fields [] rest refl in
     record {
@@ -243,7 +177,8 @@ is_cut count text cut rest fields many whole short =
       others = r.others;
       more = records_in r.after.0 (Some r.after.1);
       whole_is = records_in-next st.StartRecord text (fields ++ r.next ∷ r.others, r.after.0, r.after.1) (whole ∙ r.is);
-      cut_is = cut_there text cut fields short;
+      cut_is = records_in-next st.StartRecord cut (fields ++ [] ∷ [], st.StartRecord, []) short
+          ∙ ap (λ (more : List (List (List ℕ))). (fields ++ [] ∷ []) ∷ more) (records_in-none st.StartRecord [] refl);
     }
 
 pub has_more : (text : List ℕ) (i : ℕ) (inside : Inside) (closed : ℕ) → Begins text i inside closed → i < length text
@@ -269,47 +204,32 @@ longer_if_some count text (Some end) has some = longer count end text has
 -- the byte order mark stays
 short_unmarked : (text : List ℕ) (end : ℕ) → strip_bom text ≡ text → strip_bom (take end text) ≡ take end text
 unfolding strip_bom
-short_unmarked [] zero e = refl
 short_unmarked [] (suc n) e = refl
-short_unmarked (a ∷ []) zero e = refl
-short_unmarked (a ∷ []) (suc zero) e = refl
 short_unmarked (a ∷ []) (suc (suc n)) e = refl
-short_unmarked (a ∷ b ∷ text) zero e = refl
-short_unmarked (a ∷ b ∷ text) (suc zero) e = refl
-short_unmarked (a ∷ b ∷ text) (suc (suc zero)) e = refl
 short_unmarked (a ∷ b ∷ []) (suc (suc (suc n))) e = refl
-short_unmarked (a ∷ b ∷ c ∷ rest) (suc (suc (suc n))) e = by (is_bom a b c) refl e
-  where
-    by : (mark : Bool) → is_bom a b c ≡ mark → (if mark then rest else a ∷ b ∷ c ∷ rest) ≡ a ∷ b ∷ c ∷ rest
-        → (if is_bom a b c then take n rest else a ∷ b ∷ c ∷ take n rest) ≡ a ∷ b ∷ c ∷ take n rest
-    by false m f = rw m refl
-    by true m f = absurd (let same : length rest ≡ suc (suc (suc (length rest))) = ap length f in omega arith)
+short_unmarked (a ∷ b ∷ c ∷ rest) (suc (suc (suc n))) e = elim (cases_Bool (is_bom a b c)) [
+  | inl m ↦ absurd (let f : rest ≡ a ∷ b ∷ c ∷ rest = rw m at e in
+      let same : length rest ≡ suc (suc (suc (length rest))) = ap length f in omega arith)
+  | inr m ↦ rw m refl
+]
+short_unmarked _ _ e = refl
 
 unmarked_cut : (text : List ℕ) (end : ℕ) → strip_bom text ≡ text → strip_bom (take (length text - length text + end) text) ≡ take end text
 unmarked_cut text end e = let same : length text - length text + end ≡ end = omega arith in rw same (short_unmarked text end e)
 
 pub unmarked_take : (text : List ℕ) (end : ℕ) → strip_bom (take (length text - length (strip_bom text) + end) text) ≡ take end (strip_bom text)
 unfolding strip_bom
-unmarked_take [] end = unmarked_cut [] end refl
-unmarked_take (a ∷ []) end = unmarked_cut (a ∷ []) end refl
-unmarked_take (a ∷ b ∷ []) end = unmarked_cut (a ∷ b ∷ []) end refl
-unmarked_take (a ∷ b ∷ c ∷ rest) end = by (is_bom a b c) refl
-  where
-    by : (mark : Bool) → is_bom a b c ≡ mark
-        → strip_bom (take (length (a ∷ b ∷ c ∷ rest) - length (if mark then rest else a ∷ b ∷ c ∷ rest) + end) (a ∷ b ∷ c ∷ rest)) ≡ take end (if mark then rest else a ∷ b ∷ c ∷ rest)
-    by true m = let three : length (a ∷ b ∷ c ∷ rest) - length rest + end ≡ suc (suc (suc end)) = omega arith in rw (three, m) refl
-    by false m = unmarked_cut (a ∷ b ∷ c ∷ rest) end (rw m refl)
+unmarked_take (a ∷ b ∷ c ∷ rest) end = elim (cases_Bool (is_bom a b c)) [
+  | inl m ↦ (let three : length (a ∷ b ∷ c ∷ rest) - length rest + end ≡ suc (suc (suc end)) = omega arith in rw (m, three, m) refl)
+  | inr m ↦ rw m (unmarked_cut (a ∷ b ∷ c ∷ rest) end (rw m refl))
+]
+unmarked_take text end = unmarked_cut text end refl
 
 pub strip_less : (text : List ℕ) → length (strip_bom text) ≤ length text
 unfolding strip_bom
-strip_less [] = omega arith
-strip_less (a ∷ []) = omega arith
-strip_less (a ∷ b ∷ []) = omega arith
-strip_less (a ∷ b ∷ c ∷ rest) = by (is_bom a b c)
-  where
-    by : (mark : Bool) → length (if mark then rest else a ∷ b ∷ c ∷ rest) ≤ length (a ∷ b ∷ c ∷ rest)
-    by true = omega arith
-    by false = omega arith
+strip_less (a ∷ b ∷ c ∷ rest) = cond_both (is_bom a b c) _ _ (λ (left : List ℕ). length left ≤ length (a ∷ b ∷ c ∷ rest))
+    (λ e. omega arith) (λ e. omega arith)
+strip_less _ = omega arith
 
 pub cuts : (count end : ℕ) (text : List ℕ) → HasMoreFields count (strip_bom text) end
     → IsCutAfter count (records_of text) (records_of (take (length text - length (strip_bom text) + end) text))

@@ -1,11 +1,12 @@
 -- A field of digits, alone or after a minus sign.
-use Rattle.std.proofs.Common.{◌≡◌, ◌∙◌, ℕ, ◌-◌, ◌<◌, ◌≤◌, List, [], ◌∷◌, ℤ, Option, Some, None}
-use Rattle.std.proofs.Common.{Bool, true, false, length, take, get_or, refl, sym, ap, arith, leb}
-use Rattle.std.proofs.Common.{ltb, eqb, suc}
+use Rattle.std.proofs.Common.{◌≡◌, ◌∙◌, ℕ, ◌-◌, ◌<◌, List, [], ◌∷◌, ℤ, Option, Some, None}
+use Rattle.std.proofs.Common.{Bool, true, false, length, take, get_or, refl, ap, arith}
+use Rattle.std.proofs.Common.{eqb, suc}
 use Rattle.std.specs.Prelude.{◌&&◌, if◌then◌else◌}
 use Rattle.std.specs.Char.{is_ascii_digit, to_ascii_lowercase}
 use Rattle.std.specs.List.{list_all, suffix_len}
-use Rattle.std.proofs.lemmas.Bool.{leb-true, eqb-true, lt-ltb, ne_eqb}
+use Rattle.std.proofs.lemmas.Bool.{cond_both, eqb-true}
+use Rattle.std.proofs.lemmas.Bool.Decides.{nat_tests}
 use Rattle.std.proofs.Math.Dec.{eqb-suc-zero}
 use Rattle.std.proofs.lemmas.List.{take_all}
 use Rattle.std.proofs.lemmas.List.Sums.{AllPass-from_list_all, suffix_len-take_no}
@@ -20,22 +21,15 @@ pub both : (a b : Bool) → (a && b) ≡ true → (a ≡ true) × (b ≡ true)
 both true b e = (refl, e)
 both false b e = absurd (cc e)
 
--- a digit is byte 48 to 57
-digit_is : (c : ℕ) → is_ascii_digit c ≡ true → (48 ≤ c) × (c ≤ 57)
-digit_is c e = let parts = both (leb 48 c) (leb c 57) e in (leb-true 48 c parts.0, leb-true c 57 parts.1)
-
+-- a digit, byte 48 to 57, is no byte below 48, no blank and not the first letter of NULL
 pub other_than : (c d : ℕ) → is_ascii_digit c ≡ true → (d < 48) → eqb c d ≡ false
-other_than c d e low = let is = digit_is c e in ne_eqb c d (λ same. absurd (omega (arith, is.0, is.1, same)))
+other_than c d e low = grind (arith, nat_tests)
 
 no_blank : (c : ℕ) → is_ascii_digit c ≡ true → is_blank c ≡ false
-no_blank c e = rw (other_than c 32 e (omega arith), other_than c 9 e (omega arith)) refl
+no_blank c e = grind (arith, nat_tests)
 
--- nor is it the first letter of NULL
 no_letter : (c : ℕ) → is_ascii_digit c ≡ true → eqb (to_ascii_lowercase c) 110 ≡ false
-no_letter c e =
-    let is = digit_is c e in
-    let small : ltb c 65 ≡ true = lt-ltb c 65 (omega (arith, is.1)) in
-    rw small (ne_eqb c 110 (λ same. absurd (omega (arith, is.1, same))))
+no_letter c e = grind (arith, nat_tests)
 
 -- digits have no blanks in front, nor after
 front : (c : ℕ) (cs : List ℕ) → is_ascii_digit c ≡ true → without_front_blanks (c ∷ cs) ≡ c ∷ cs
@@ -96,14 +90,12 @@ signed_digits number column [] e = absurd (cc e)
 signed_digits number column (c ∷ cs) e = by_sign number column c cs (eqb c 45) refl e
 
 -- what was read of a field of digits
-read_alone : (number : ℕ) (column : Column) (field : List ℕ) (n : Option ℤ) (digits : Bool) → are_digits (after_minus field) ≡ digits
-    → Some n ≡ (if digits then Some (number_of (is_minus field) (after_minus field)) else None) → value_of_field number column field ≡ within_bounds number column n
-read_alone number column field n true d e = signed_digits number column field d ∙ ap (within_bounds number column) (let same : n ≡ number_of (is_minus field) (after_minus field) = cc e in sym same)
-read_alone number column field n false d e = absurd (cc e)
-
 pub read_digits : (number : ℕ) (column : Column) (field : List ℕ) (n : Option ℤ) (is_negative : Bool) (digits : List ℕ)
     → is_negative ≡ is_minus field → digits ≡ after_minus field
     → Some n ≡ (if are_digits digits then Some (number_of is_negative digits) else None)
     → value_of_field number column field ≡ within_bounds number column n
 read_digits number column field n is_negative digits s d e =
-    read_alone number column field n (are_digits (after_minus field)) refl (rw (← d, ← s) e)
+    let spelled = number_of (is_minus field) (after_minus field) in
+    cond_both (are_digits (after_minus field)) (Some spelled) None (λ (r : Option (Option ℤ)). Some n ≡ r → value_of_field number column field ≡ within_bounds number column n)
+    (λ is read. let same : spelled ≡ n = cc in signed_digits number column field is ∙ ap (within_bounds number column) same)
+    (λ none read. absurd (cc read)) (rw (← d, ← s) e)

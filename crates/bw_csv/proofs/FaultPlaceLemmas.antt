@@ -1,17 +1,18 @@
 -- The errors of CSV texts stand as the table of errors lists them.
-use Rattle.std.proofs.Common.{◌≡◌, ℕ, ℤ, ◌+◌, List, [], ◌∷◌, Bool, true, false, not, ◌&&◌, ◌==◌}
-use Rattle.std.proofs.Common.{if◌then◌else◌, Option, Some, None, Ok, Err, refl, length, nat_lt}
+use Rattle.std.proofs.Common.{◌≡◌, ℕ, ℤ, ◌+◌, List, [], ◌∷◌, not, ◌&&◌, ◌==◌}
+use Rattle.std.proofs.Common.{Option, Some, None, Ok, Err, refl, length, nat_lt}
 use Rattle.std.proofs.Common.{int_le}
+use Rattle.std.proofs.lemmas.Bool.{cond_both}
 use Rattle.csv.specs.Reading.{records, strip_bom, default_config}
 use Rattle.bw_model.specs.declared.column.Column.{Column}
 use Rattle.bw_model.specs.declared.fault.Fault.{Fault}
-use Rattle.bw_model.specs.Fault.{◌>>=◌, at_record, refused_if}
+use Rattle.bw_model.specs.Fault.{◌>>=◌, at_record}
 use Rattle.bw_model.specs.FaultTable.{standing_of, HEADING, RECORD_LENGTH, NOT_A_NUMBER}
 use Rattle.bw_model.specs.FaultTable.{OUT_OF_RANGE, NULL_NOT_ALLOWED, TOO_MANY_ROWS}
 use Rattle.bw_model.specs.FaultPlaces.{StandsAsListed, FaultAsListed}
 use Rattle.bw_model.proofs.FaultPlaceLemmas.{refused_listed, bind_listed, listed_fault}
 use Rattle.bw_text.specs.Number.{are_digits, number_of}
-use Rattle.bw_csv.specs.Rows.{within_bounds, number_value, is_null_text, is_minus, without_sign}
+use Rattle.bw_csv.specs.Rows.{within_bounds, is_null_text, is_minus, without_sign}
 use Rattle.bw_csv.specs.Rows.{text_value, without_blanks, value_of_field, values_of_fields}
 use Rattle.bw_csv.specs.Rows.{row_of_record, with_row, rows_from, is_heading, rows_after, rows_of}
 
@@ -22,11 +23,10 @@ within_listed number column (Some n) = refused_listed (not (int_le column.lo n &
 
 text_listed : (number : ℕ) (column : Column) (text : List ℕ) → FaultAsListed (text_value number column text)
 unfolding standing_of
-text_listed number column text = at (is_null_text text)
-  where
-    at : (null : Bool) → FaultAsListed (if null then refused_if (not column.nullable) (at_record NULL_NOT_ALLOWED number) (Ok None) else number_value number column (is_minus text) (without_sign text))
-    at true = refused_listed (not column.nullable) (at_record NULL_NOT_ALLOWED number) (Ok None) refl tt
-    at false = refused_listed (not (are_digits (without_sign text))) (at_record NOT_A_NUMBER number) _ refl (within_listed number column (number_of (is_minus text) (without_sign text)))
+text_listed number column text = cond_both (is_null_text text) _ _ FaultAsListed
+    (λ null. refused_listed (not column.nullable) (at_record NULL_NOT_ALLOWED number) (Ok None) refl tt)
+    (λ some. refused_listed (not (are_digits (without_sign text))) (at_record NOT_A_NUMBER number) _ refl
+    (within_listed number column (number_of (is_minus text) (without_sign text))))
 
 values_listed : (number : ℕ) (columns : List Column) (fields : List (List ℕ)) → FaultAsListed (values_of_fields number columns fields)
 unfolding standing_of value_of_field values_of_fields

@@ -1,5 +1,6 @@
 -- Where the first record of a text ends.
-use Rattle.std.proofs.Common.{◌≡◌, ◌∙◌, ℕ, ◌+◌, ◌<◌, ◌≤◌, List, [], ◌∷◌, length, drop, get_or, Some}
+use Rattle.std.proofs.Common.{◌≡◌, ◌∙◌, ℕ, ◌+◌, ◌<◌, ◌≤◌, List, [], ◌∷◌, ◌++◌, length, drop, Some}
+use Rattle.std.proofs.Common.{get_or}
 use Rattle.std.proofs.Common.{None, true, false, refl, sym, eqb, add-one, drop-cons, arith}
 use Rattle.csv.specs.Machine.{Read, field_after, fields_after, is_end, next_record, step}
 use Rattle.csv.specs.Reading.{default_config, is_bom, strip_bom}
@@ -7,8 +8,7 @@ use Rattle.csv.specs.declared.parser.State.TheVariants as st
 use Rattle.bw_csv.specs.Plain.{ends_line, state_of}
 use Rattle.bw_csv.specs.Records.{records_in}
 use Rattle.bw_csv.specs.declared.heading_end.Inside.{Inside}
-use Rattle.bw_csv.specs.declared.heading_end.Inside.TheVariants.{Before, Front, Bare, Quoted}
-use Rattle.bw_csv.specs.declared.heading_end.Inside.TheVariants.{Closed}
+use Rattle.bw_csv.specs.declared.heading_end.Inside.TheVariants.{Before, Quoted}
 use Rattle.bw_csv.proofs.PlainRecords.{line_end_is, records-after_return, records-skip}
 use Rattle.bw_csv.proofs.RecordLemmas.{records_in-next, records_in-none}
 
@@ -40,18 +40,14 @@ drop_at text i h = rw (add-one) (drop-cons text i 0 h)
 rest_after_return : (inside : Inside) (rest : List ℕ) → is_end (step default_config (state_of inside) 13).1 ≡ true
     → records_in (step default_config (state_of inside) 13).0 (Some rest) ≡ records_in st.StartRecord (Some (13 ∷ rest))
 rest_after_return Before rest e = absurd (cc e)
-rest_after_return Front rest e = records-after_return rest ∙ sym (records-skip 13 rest refl)
-rest_after_return Bare rest e = records-after_return rest ∙ sym (records-skip 13 rest refl)
 rest_after_return Quoted rest e = absurd (cc e)
-rest_after_return Closed rest e = records-after_return rest ∙ sym (records-skip 13 rest refl)
+rest_after_return _ rest e = records-after_return rest ∙ sym (records-skip 13 rest refl)
 
 rest_after_feed : (inside : Inside) (rest : List ℕ) → is_end (step default_config (state_of inside) 10).1 ≡ true
     → records_in (step default_config (state_of inside) 10).0 (Some rest) ≡ records_in st.StartRecord (Some (10 ∷ rest))
 rest_after_feed Before rest e = absurd (cc e)
-rest_after_feed Front rest e = sym (records-skip 10 rest refl)
-rest_after_feed Bare rest e = sym (records-skip 10 rest refl)
 rest_after_feed Quoted rest e = absurd (cc e)
-rest_after_feed Closed rest e = sym (records-skip 10 rest refl)
+rest_after_feed _ rest e = sym (records-skip 10 rest refl)
 
 rest_after_end : (inside : Inside) (c : ℕ) (rest : List ℕ) → ends_line c ≡ true → is_end (step default_config (state_of inside) c).1 ≡ true
     → records_in (step default_config (state_of inside) c).0 (Some rest) ≡ records_in st.StartRecord (Some (c ∷ rest))
@@ -88,31 +84,22 @@ pub goes-last : (text : List ℕ) (inside : Inside) (fields : List (List ℕ)) (
     → records_in st.StartRecord (Some text) ≡ fields ∷ more → records_in st.StartRecord (Some []) ≡ more
 unfolding next_record
 goes-last text Before fields more on all = no_record text fields more on.reads all
-goes-last text Front fields more on all = same_rest text _ fields more on.reads all
-goes-last text Bare fields more on all = same_rest text _ fields more on.reads all
-goes-last text Quoted fields more on all = same_rest text _ fields more on.reads all
-goes-last text Closed fields more on all = same_rest text _ fields more on.reads all
+goes-last text _ fields more on all = same_rest text (on.fields ++ on.field ∷ [], st.StartRecord, []) fields more on.reads all
 
 -- a byte order mark
 pub short_unmarked : (text : List ℕ) → length text < 3 → text ≡ strip_bom text
 unfolding strip_bom
-short_unmarked [] h = refl
-short_unmarked (a ∷ []) h = refl
-short_unmarked (a ∷ b ∷ []) h = refl
 short_unmarked (a ∷ b ∷ c ∷ rest) h = absurd (omega arith)
+short_unmarked _ h = refl
 
 pub other_unmarked : (text : List ℕ) → is_bom (get_or text 0 0) (get_or text 1 0) (get_or text 2 0) ≡ false → text ≡ strip_bom text
 unfolding strip_bom
-other_unmarked [] h = refl
-other_unmarked (a ∷ []) h = refl
-other_unmarked (a ∷ b ∷ []) h = refl
 other_unmarked (a ∷ b ∷ c ∷ rest) h = rw h refl
+other_unmarked _ h = refl
 
 pub marked : (text : List ℕ) → 3 ≤ length text → is_bom (get_or text 0 0) (get_or text 1 0) (get_or text 2 0) ≡ true → drop 3 text ≡ strip_bom text
 unfolding strip_bom
-marked [] h e = absurd (omega arith)
-marked (a ∷ []) h e = absurd (omega arith)
-marked (a ∷ b ∷ []) h e = absurd (omega arith)
 marked (a ∷ b ∷ c ∷ rest) h e = rw e refl
+marked _ h e = absurd (omega arith)
 
 pub ruleset byte_order_marks = (short_unmarked, other_unmarked, marked)

@@ -1,8 +1,7 @@
 -- A record of more fields than its table has columns is rejected for their number.
-use Rattle.std.proofs.Common.{◌≡◌, ℕ, ◌<◌, List, [], ◌∷◌, length, Err, Bool, true, false, refl}
-use Rattle.std.proofs.Common.{arith, eqb}
-use Rattle.std.specs.Prelude.{◌&&◌}
-use Rattle.std.proofs.lemmas.Bool.{eqb-true}
+use Rattle.std.proofs.Common.{◌≡◌, ℕ, ◌<◌, List, [], ◌∷◌, length, Err, false, refl}
+use Rattle.std.proofs.Common.{arith}
+use Rattle.std.proofs.lemmas.Bool.{and_right, ne_eqb}
 use Rattle.bw_model.specs.declared.column.Column.{Column}
 use Rattle.bw_model.specs.Fault.{at_record}
 use Rattle.bw_text.specs.Text.{same_text}
@@ -12,42 +11,25 @@ use Rattle.bw_csv.specs.Rows.{is_heading, row_of_record, rows_after, rows_from, 
 use Rattle.bw_csv.proofs.BareLemmas.{bare_rows-fault}
 use Rattle.bw_csv.proofs.RowLemmas.{rows_after-other, rows_from-fault}
 
-longer-eqb : (a b : ℕ) → b < a → eqb a b ≡ false
-longer-eqb a b h = by (eqb a b) refl
-  where
-    by : (same : Bool) → eqb a b ≡ same → eqb a b ≡ false
-    by false e = e
-    by true e = absurd (let same = eqb-true a b e in omega arith)
-
-and-false : (a : Bool) → (a && false) ≡ false
-and-false true = refl
-and-false false = refl
-
 longer-heading : (columns : List Column) (fields : List (List ℕ)) → length columns < length fields → is_heading columns fields ≡ false
 unfolding is_heading
 longer-heading [] [] h = absurd (omega arith)
 longer-heading [] (field ∷ fields) h = refl
 longer-heading (column ∷ columns) [] h = refl
 longer-heading (column ∷ columns) (field ∷ fields) h =
-    rw (longer-heading columns fields (omega arith)) (and-false (same_text column.name (without_blanks field)))
+    and_right (same_text column.name (without_blanks field)) _ (longer-heading columns fields (omega arith))
 
 pub rows_after_longer : (columns : List Column) (records : List (List (List ℕ))) → IsLonger (length columns) records → rows_after columns records ≡ Err (at_record 202 0)
 rows_after_longer columns records longer =
     rw longer.2 (rows_after-other columns longer.0 longer.1 (longer-heading columns longer.0 longer.3))
 
-longer-row : (columns : List Column) (number : ℕ) (fields : List (List ℕ)) → length columns < length fields → row_of_record number columns fields ≡ Err (at_record 203 number)
-unfolding row_of_record
-longer-row columns number fields h = rw (longer-eqb (length fields) (length columns) h) refl
-
 pub rows_from_longer : (columns : List Column) (number : ℕ) (records : List (List (List ℕ))) → IsLonger (length columns) records
     → rows_from columns number records ≡ Err (at_record 203 number)
-rows_from_longer columns number records longer =
-    rw longer.2 (rows_from-fault columns number longer.0 longer.1 (at_record 203 number) (longer-row columns number longer.0 longer.3))
-
-longer-bare_row : (width number : ℕ) (fields : List (List ℕ)) → width < length fields → bare_row number width fields ≡ Err (at_record 203 number)
-unfolding bare_row
-longer-bare_row width number fields h = rw (longer-eqb (length fields) width h) refl
+unfolding row_of_record
+rows_from_longer columns number records longer = rows_from-fault columns number longer.0 records longer.1 (at_record 203 number) longer.2
+    (rw (ne_eqb (length longer.0) (length columns) (λ same. omega (arith, longer.3))) refl)
 
 pub bare_rows_longer : (width number : ℕ) (records : List (List (List ℕ))) → IsLonger width records → bare_rows width number records ≡ Err (at_record 203 number)
-bare_rows_longer width number records longer =
-    rw longer.2 (bare_rows-fault width number longer.0 longer.1 (at_record 203 number) (longer-bare_row width number longer.0 longer.3))
+unfolding bare_row
+bare_rows_longer width number records longer = bare_rows-fault width number longer.0 records longer.1 (at_record 203 number) longer.2
+    (rw (ne_eqb (length longer.0) width (λ same. omega (arith, longer.3))) refl)

@@ -1,12 +1,12 @@
 -- The records that were read so far, whichever way records have rows.
 use Rattle.std.proofs.Common.{◌≡◌, ◌∙◌, ℕ, ◌+◌, List, [], ◌∷◌, ◌++◌, length, length-append}
-use Rattle.std.proofs.Common.{append_assoc, Result, Ok, Bool, true, false, ◌&&◌, ◌||◌, not, refl}
+use Rattle.std.proofs.Common.{append_assoc, Result, Ok, true, refl}
 use Rattle.std.proofs.Common.{ap, sym, arith, eqb}
-use Rattle.std.proofs.lemmas.Bool.{eqb-true}
+use Rattle.std.proofs.lemmas.Bool.{and_parts, eqb-true}
 use Rattle.std.proofs.lemmas.List.{append-nil}
 use Rattle.bw_model.specs.declared.fault.Fault.{Fault}
 use Rattle.bw_model.specs.declared.fault.Place.{Place}
-use Rattle.bw_model.specs.declared.fault.Place.TheVariants.{Nowhere, Byte, Line, Rec}
+use Rattle.bw_model.specs.declared.fault.Place.TheVariants.{Rec}
 use Rattle.bw_model.specs.Fault.{at_record}
 use Rattle.bw_model.specs.Row.{Value}
 use Rattle.bw_csv.specs.Rows.{StopsAfter, is_any_record, is_reader_fault, is_record, located_at}
@@ -52,21 +52,15 @@ passed-on rows_at first before number records p = ap (λ (l : Records). rows_at 
 -- an error of the reader's own that stands at the record of a number
 reader_place : (number : ℕ) (place : Place) → is_any_record place ≡ true → is_record number place ≡ true → place ≡ Rec number
 unfolding is_any_record
-reader_place number Nowhere any at = absurd (cc any)
-reader_place number (Byte n) any at = absurd (cc any)
-reader_place number (Line n) any at = absurd (cc any)
 reader_place number (Rec n) any at = ap (λ (m : ℕ). Rec m) (eqb-true n number at)
+reader_place number _ any at = absurd (cc any)
 
 pub reader_fault : (number : ℕ) (fault : Fault) → located_at number fault ≡ true → is_reader_fault fault ≡ true → fault ≡ at_record 209 number
-reader_fault number fault at own = by (eqb fault.code 209) refl at own
-  where
-    by : (is : Bool) → eqb fault.code 209 ≡ is → (not is || is_record number fault.place) ≡ true → (is && is_any_record fault.place) ≡ true → fault ≡ at_record 209 number
-    by true e at own =
-        let code = eqb-true fault.code 209 e in
-        let place = reader_place number fault.place own at in
-        let same : ◌≡◌ {A = Fault} (record { code = fault.code; place = fault.place }) (record { code = 209; place = Rec number }) = rw (code, place) refl in
-        same
-    by false e at own = absurd (cc own)
+reader_fault number fault at own =
+    let is = and_parts (eqb fault.code 209) (is_any_record fault.place) own in
+    let place = reader_place number fault.place is.1 (rw is.0 at at) in
+    let same : ◌≡◌ {A = Fault} (record { code = fault.code; place = fault.place }) (record { code = 209; place = Rec number }) =
+    rw (eqb-true fault.code 209 is.0, place) refl in same
 
 pub passed-stops : (rows_at : ℕ → Records → Result Rows Fault) (first : Records) (before : Rows) (number : ℕ) (records : Records) (fault : Fault) → Passed rows_at first before number records
     → rows_at number [] ≡ Ok [] → located_at number fault ≡ true → is_reader_fault fault ≡ true → StopsAfter rows_at first fault

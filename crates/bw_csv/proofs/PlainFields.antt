@@ -1,11 +1,11 @@
 -- Fields of digits are plain, and spell numbers that 64 bits hold.
-use Rattle.std.proofs.Common.{◌≡◌, ◌∙◌, ℕ, ℤ, pos, ◌-ℤ◌, ◌^◌, ◌<◌, ◌≤◌, List, [], ◌∷◌, Some, None}
+use Rattle.std.proofs.Common.{◌≡◌, ◌∙◌, ℕ, ℤ, pos, ◌-ℤ◌, ◌^◌, List, [], ◌∷◌, Some}
 use Rattle.std.proofs.Common.{Ok, Bool, true, false, refl, arith, eqb, leb, ltb, SFits, w64, of_z}
-use Rattle.std.proofs.Common.{to_z}
-use Rattle.std.specs.Prelude.{◌&&◌, if◌then◌else◌, int_le}
+use Rattle.std.proofs.Common.{to_z, Option}
+use Rattle.std.specs.Prelude.{◌&&◌, int_le}
 use Rattle.std.specs.Char.{is_ascii_digit}
 use Rattle.std.specs.List.{list_all}
-use Rattle.std.proofs.lemmas.Bool.{eqb-true, leb-true, ltb-true}
+use Rattle.std.proofs.lemmas.Bool.{cond_both, eqb-true, leb-true, ltb-true}
 use Rattle.std.proofs.lemmas.Int.{ints, to_z-of_z}
 use Rattle.bw_model.specs.declared.column.Column.{Column}
 use Rattle.bw_text.specs.Number.{are_digits, digits_value, number_of}
@@ -25,33 +25,20 @@ all_digits : (cs : List ℕ) → are_digits cs ≡ true → list_all is_ascii_di
 all_digits [] e = refl
 all_digits (c ∷ cs) e = e
 
-signed_plain : (c : ℕ) (cs : List ℕ) (minus : Bool) → eqb c 45 ≡ minus → are_digits (if minus then cs else c ∷ cs) ≡ true → list_all is_plain (c ∷ cs) ≡ true
-signed_plain c cs true s e = rw (eqb-true c 45 s) (digits_plain cs (all_digits cs e))
-signed_plain c cs false s e = digits_plain (c ∷ cs) e
-
 pub plain_number : (field : List ℕ) → are_digits (after_minus field) ≡ true → list_all is_plain field ≡ true
 plain_number [] e = refl
-plain_number (c ∷ cs) e = signed_plain c cs (eqb c 45) refl e
+plain_number (c ∷ cs) e = cond_both (eqb c 45) _ _ (λ (digits : List ℕ). are_digits digits ≡ true → list_all is_plain (c ∷ cs) ≡ true)
+    (λ s e. rw (eqb-true c 45 s) (digits_plain cs (all_digits cs e))) (λ s e. digits_plain (c ∷ cs) e) e
 
 -- a number within the bounds of a column
-positive_fits : (v : ℕ) (n : ℤ) (small : Bool) → ltb v (2 ^ 63) ≡ small → (if small then Some (pos v) else None) ≡ Some n → SFits w64 n
-positive_fits v n true l e =
-    let below : v < 2 ^ 63 = ltb-true v (2 ^ 63) l in
-    let same : n ≡ pos v = cc e in
-    rw same (grind (arith, ints))
-positive_fits v n false l e = absurd (cc e)
-
-negative_fits : (v : ℕ) (n : ℤ) (small : Bool) → leb v (2 ^ 63) ≡ small → (if small then Some (pos 0 -ℤ pos v) else None) ≡ Some n → SFits w64 n
-negative_fits v n true l e =
-    let below : v ≤ 2 ^ 63 = leb-true v (2 ^ 63) l in
-    let same : n ≡ pos 0 -ℤ pos v = cc e in
-    rw same (grind (arith, ints))
-negative_fits v n false l e = absurd (cc e)
-
 number_fits : (is_negative : Bool) (digits : List ℕ) (n : ℤ) → number_of is_negative digits ≡ Some n → SFits w64 n
 unfolding number_of
-number_fits true digits n e = negative_fits (digits_value digits) n (leb (digits_value digits) (2 ^ 63)) refl e
-number_fits false digits n e = positive_fits (digits_value digits) n (ltb (digits_value digits) (2 ^ 63)) refl e
+number_fits true digits n = cond_both (leb (digits_value digits) (2 ^ 63)) _ _ (λ (r : Option ℤ). r ≡ Some n → SFits w64 n)
+    (λ l e. let below = leb-true _ _ l in let same : n ≡ pos 0 -ℤ pos (digits_value digits) = cc in rw same (grind (arith, ints)))
+    (λ l e. absurd (cc e))
+number_fits false digits n = cond_both (ltb (digits_value digits) (2 ^ 63)) _ _ (λ (r : Option ℤ). r ≡ Some n → SFits w64 n)
+    (λ l e. let below = ltb-true _ _ l in let same : n ≡ pos (digits_value digits) = cc in rw same (grind (arith, ints)))
+    (λ l e. absurd (cc e))
 
 number_within : (number : ℕ) (column : Column) (field : List ℕ) (n : ℤ) → are_digits (after_minus field) ≡ true
     → number_of (is_minus field) (after_minus field) ≡ Some n → (int_le column.lo n && int_le n column.hi) ≡ true

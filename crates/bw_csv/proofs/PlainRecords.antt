@@ -1,16 +1,17 @@
 -- How the csv crate's records are read of a text without quotation marks.
 use Rattle.std.proofs.Common.{◌≡◌, ◌∙◌, ℕ, List, [], ◌∷◌, ◌++◌, Option, Some, None, Bool, true}
-use Rattle.std.proofs.Common.{false, length, drop, get_or, refl, sym, ap, eqb, append_assoc}
+use Rattle.std.proofs.Common.{false, length, drop, get_or, refl, sym, ap, eqb, append_assoc, arith}
 use Rattle.std.specs.Prelude.{◌||◌, not}
 use Rattle.std.specs.List.{list_all}
 use Rattle.std.proofs.lemmas.Bool.{eqb-true}
+use Rattle.std.proofs.lemmas.Bool.Decides.{nat_tests}
 use Rattle.std.proofs.lemmas.List.{append-nil}
 use Rattle.csv.specs.Machine.{Read, next_record, step}
 use Rattle.csv.specs.Reading.{default_config, strip_bom}
 use Rattle.csv.specs.declared.parser.State.{State}
 use Rattle.csv.specs.declared.parser.State.TheVariants as st
 use Rattle.csv.specs.declared.parser.Action.TheVariants as act
-use Rattle.bw_csv.specs.Plain.{ends_line, is_line_end, is_plain}
+use Rattle.bw_csv.specs.Plain.{ends_field, ends_line, is_field_end, is_line_end, is_plain}
 use Rattle.bw_csv.specs.Records.{records_in}
 use Rattle.bw_csv.proofs.DigitsAlone.{both}
 use Rattle.bw_csv.proofs.RecordLemmas.{records_in-next, records_in-none}
@@ -18,10 +19,7 @@ use Rattle.bw_csv.proofs.RecordLemmas.{records_in-next, records_in-none}
 -- a plain byte joins the field
 plain_is : (a b c d : Bool) → not ((a || (b || c)) || d) ≡ true → (a ≡ false) × (b ≡ false) × (c ≡ false) × (d ≡ false)
 plain_is false false false false e = (refl, refl, refl, refl)
-plain_is true b c d e = absurd (cc e)
-plain_is false true c d e = absurd (cc e)
-plain_is false false true d e = absurd (cc e)
-plain_is false false false true e = absurd (cc e)
+plain_is _ _ _ _ e = absurd (cc e)
 
 joins : (c : ℕ) → is_plain c ≡ true → (step default_config st.InField c ≡ (st.InField, act.Copy)) × (step default_config st.StartField c ≡ (st.InField, act.Copy))
 joins c e = let is = plain_is (eqb c 44) (eqb c 13) (eqb c 10) (eqb c 34) e in (rw (is.0, is.1, is.2) refl, rw (is.3, is.0, is.1, is.2) refl)
@@ -35,40 +33,19 @@ run fields field (c ∷ f) rest e =
     let is = both (is_plain c) (list_all is_plain f) e in
     rw ((joins c is.0).0) (run fields (field ++ c ∷ []) f rest is.1 ∙ rw (append_assoc field (c ∷ []) f) refl)
 
--- a field up to a comma
-pub field-comma : (fields : List (List ℕ)) (f rest : List ℕ) → list_all is_plain f ≡ true
-    → next_record default_config st.StartField fields [] (f ++ 44 ∷ rest) ≡ next_record default_config st.StartField (fields ++ f ∷ []) [] rest
-unfolding next_record
-field-comma fields [] rest e = refl
-field-comma fields (c ∷ f) rest e =
-    let is = both (is_plain c) (list_all is_plain f) e in
-    rw ((joins c is.0).1) (run fields (c ∷ []) f (44 ∷ rest) is.1)
+-- nor does it matter at the end of a field whether it has a byte
+unquoted : (c : ℕ) → ends_field c ≡ true → eqb c 34 ≡ false
+unquoted c e = grind (arith, nat_tests)
 
--- a field up to the end of the text
-field-last : (fields : List (List ℕ)) (f : List ℕ) → list_all is_plain f ≡ true
-    → next_record default_config st.StartField fields [] (f ++ []) ≡ Some (fields ++ f ∷ [], st.StartRecord, [])
+-- a field up to its end
+pub field-run : (fields : List (List ℕ)) (f rest : List ℕ) → list_all is_plain f ≡ true → is_field_end rest ≡ true
+    → next_record default_config st.StartField fields [] (f ++ rest) ≡ next_record default_config st.InField fields f rest
 unfolding next_record
-field-last fields [] e = refl
-field-last fields (c ∷ f) e =
+field-run fields [] [] e end = refl
+field-run fields [] (c ∷ rest) e end = rw (unquoted c end) refl
+field-run fields (c ∷ f) rest e end =
     let is = both (is_plain c) (list_all is_plain f) e in
-    rw ((joins c is.0).1) (run fields (c ∷ []) f [] is.1)
-
--- a field up to a line feed, and up to a carriage return
-field-feed : (fields : List (List ℕ)) (f rest : List ℕ) → list_all is_plain f ≡ true
-    → next_record default_config st.StartField fields [] (f ++ 10 ∷ rest) ≡ Some (fields ++ f ∷ [], st.StartRecord, rest)
-unfolding next_record
-field-feed fields [] rest e = refl
-field-feed fields (c ∷ f) rest e =
-    let is = both (is_plain c) (list_all is_plain f) e in
-    rw ((joins c is.0).1) (run fields (c ∷ []) f (10 ∷ rest) is.1)
-
-field-return : (fields : List (List ℕ)) (f rest : List ℕ) → list_all is_plain f ≡ true
-    → next_record default_config st.StartField fields [] (f ++ 13 ∷ rest) ≡ Some (fields ++ f ∷ [], st.AfterCr, rest)
-unfolding next_record
-field-return fields [] rest e = refl
-field-return fields (c ∷ f) rest e =
-    let is = both (is_plain c) (list_all is_plain f) e in
-    rw ((joins c is.0).1) (run fields (c ∷ []) f (13 ∷ rest) is.1)
+    rw ((joins c is.0).1) (run fields (c ∷ []) f rest is.1)
 
 -- the records from one place are those from another, if the next one is
 same_next : (s t : State) (xs ys : List ℕ) (o : Option Read) → next_record default_config t [] [] ys ≡ o
@@ -123,22 +100,19 @@ begins c rest e = rw e refl
 pub field-end : (text : List ℕ) (fields : List (List ℕ)) (f rest : List ℕ) → list_all is_plain f ≡ true → is_line_end rest ≡ true
     → next_record default_config st.StartRecord [] [] text ≡ next_record default_config st.StartField fields [] (f ++ rest)
     → records_in st.StartRecord (Some text) ≡ (fields ++ f ∷ []) ∷ records_in st.StartRecord (Some rest)
-field-end text fields f [] plain e read = records_in-next st.StartRecord text (fields ++ f ∷ [], st.StartRecord, []) (read ∙ field-last fields f plain)
-field-end text fields f (c ∷ rest) plain e read = by (eqb c 13) (eqb c 10) refl refl e
-  where
-    by : (a b : Bool) → eqb c 13 ≡ a → eqb c 10 ≡ b → (a || b) ≡ true → records_in st.StartRecord (Some text) ≡ (fields ++ f ∷ []) ∷ records_in st.StartRecord (Some (c ∷ rest))
-    by true b i j h =
-        let found = records_in-next st.StartRecord text (fields ++ f ∷ [], st.AfterCr, rest) (read ∙ rw (eqb-true c 13 i) (field-return fields f rest plain)) in
-        found ∙ ap (λ (more : List (List (List ℕ))). (fields ++ f ∷ []) ∷ more) (records-after_return rest ∙ sym (records-skip c rest e))
-    by false true i j h =
-        let found = records_in-next st.StartRecord text (fields ++ f ∷ [], st.StartRecord, rest) (read ∙ rw (eqb-true c 10 j) (field-feed fields f rest plain)) in
-        found ∙ ap (λ (more : List (List (List ℕ))). (fields ++ f ∷ []) ∷ more) (sym (records-skip c rest e))
-    by false false i j h = absurd (cc h)
+unfolding next_record
+field-end text fields f [] plain e read = records_in-next st.StartRecord text (fields ++ f ∷ [], st.StartRecord, []) (read ∙ field-run fields f [] plain refl)
+field-end text fields f (c ∷ rest) plain e read = line_end_is
+    (λ d. next_record default_config st.StartRecord [] [] text ≡ next_record default_config st.StartField fields [] (f ++ d ∷ rest)
+    → records_in st.StartRecord (Some text) ≡ (fields ++ f ∷ []) ∷ records_in st.StartRecord (Some (d ∷ rest)))
+    c (eqb c 13) (eqb c 10) refl refl e
+    (λ read. records_in-next st.StartRecord text (fields ++ f ∷ [], st.AfterCr, rest) (read ∙ field-run fields f (13 ∷ rest) plain refl)
+    ∙ ap (λ (more : List (List (List ℕ))). (fields ++ f ∷ []) ∷ more) (records-after_return rest ∙ sym (records-skip 13 rest refl)))
+    (λ read. records_in-next st.StartRecord text (fields ++ f ∷ [], st.StartRecord, rest) (read ∙ field-run fields f (10 ∷ rest) plain refl)
+    ∙ ap (λ (more : List (List (List ℕ))). (fields ++ f ∷ []) ∷ more) (sym (records-skip 10 rest refl))) read
 
 -- no byte order mark begins with a line's end
 pub unmarked : (text : List ℕ) → is_line_end text ≡ true → strip_bom text ≡ text
 unfolding strip_bom
-unmarked [] e = refl
-unmarked (c ∷ []) e = refl
-unmarked (c ∷ d ∷ []) e = refl
 unmarked (c ∷ d ∷ f ∷ rest) e = line_end_is (λ b. strip_bom (b ∷ d ∷ f ∷ rest) ≡ b ∷ d ∷ f ∷ rest) c (eqb c 13) (eqb c 10) refl refl e refl refl
+unmarked _ e = refl

@@ -1,8 +1,9 @@
 -- The values of a record's plain fields, one more at a time.
 use Rattle.std.proofs.Common.{◌≡◌, ◌∙◌, ℕ, ◌+◌, ◌≤◌, List, [], ◌∷◌, ◌++◌, length, take, drop, Ok}
-use Rattle.std.proofs.Common.{Bool, true, false, refl, sym, ap, eqb, append_assoc, length-append}
-use Rattle.std.specs.Prelude.{◌||◌, ◌≤◌}
-use Rattle.std.proofs.lemmas.Bool.{eqb-true, le-ltb, eq-eqb}
+use Rattle.std.proofs.Common.{true, false, refl, sym, ap, eqb, append_assoc, length-append}
+use Rattle.std.specs.Prelude.{◌≤◌}
+use Rattle.std.proofs.Common.{inl, inr}
+use Rattle.std.proofs.lemmas.Bool.{both_ways, eqb-true, or_cases}
 use Rattle.std.proofs.lemmas.List.{append-nil, take-append-drop}
 use Rattle.csv.specs.Machine.{next_record}
 use Rattle.csv.specs.Reading.{default_config}
@@ -11,9 +12,10 @@ use Rattle.bw_model.specs.declared.column.Column.{Column}
 use Rattle.bw_model.specs.Limits.{most_rows}
 use Rattle.bw_model.specs.Row.{Value}
 use Rattle.bw_csv.specs.Plain.{HasRow, IsPlainField, ends_line, is_field_end, is_line_end}
-use Rattle.bw_csv.specs.Rows.{row_of_record, value_of_field, values_of_fields}
+use Rattle.bw_csv.specs.Rows.{value_of_field, values_of_fields}
 use Rattle.bw_csv.proofs.FieldLemmas.{after, after-nothing, values-end, values-next}
-use Rattle.bw_csv.proofs.PlainRecords.{begins, field-comma, field-end}
+use Rattle.bw_csv.proofs.PlainRecords.{begins, field-end, field-run}
+use Rattle.bw_csv.proofs.RowLemmas.{row_made}
 
 -- Of a text's first record these are the values so far, of this many fields, and this is left of
 -- the text.
@@ -41,16 +43,16 @@ values_more number columns i values done field column value spelled here v more 
 -- what is left after a field begins with a comma, unless the field is the last
 comma_is : (after_field : List ℕ) → is_field_end after_field ≡ true → is_line_end after_field ≡ false → after_field ≡ 44 ∷ drop 1 after_field
 comma_is [] e f = absurd (cc f)
-comma_is (c ∷ cs) e f = by (eqb c 44) refl e f
-  where
-    by : (comma : Bool) → eqb c 44 ≡ comma → (eqb c 44 || ends_line c) ≡ true → ends_line c ≡ false → c ∷ cs ≡ 44 ∷ cs
-    by true i h k = ap (λ (d : ℕ). d ∷ cs) (eqb-true c 44 i)
-    by false i h k = absurd (cc (i, h, k))
+comma_is (c ∷ cs) e f = elim (or_cases (eqb c 44) (ends_line c) e) [
+  | inl h ↦ ap (λ (d : ℕ). d ∷ cs) (eqb-true c 44 h)
+  | inr k ↦ absurd (both_ways (ends_line c) f k)
+]
 
 pub read-next : (number : ℕ) (columns : List Column) (text rest : List ℕ) (i : ℕ) (values : List Value) (column : Column) (size : ℕ) (value : Value)
     → ReadSoFar number columns text rest i values → drop i columns ≡ column ∷ drop (i + 1) columns
     → IsPlainField rest size → value_of_field number column (take size rest) ≡ Ok value → is_line_end (drop size rest) ≡ false
     → ReadSoFar number columns text (drop 1 (drop size rest)) (i + 1) (values ++ value ∷ [])
+unfolding next_record
 read-next number columns text rest i values column size value so_far here plain v e =
     let field = take size rest in
     let next = drop 1 (drop size rest) in
@@ -58,17 +60,11 @@ read-next number columns text rest i values column size value so_far here plain 
     record {
       done = so_far.done ++ field ∷ [];
       many = length-append so_far.done (field ∷ []) ∙ ap (λ (n : ℕ). n + 1) so_far.many;
-      reads = so_far.reads ∙ ap (λ (l : List ℕ). next_record default_config st.StartField so_far.done [] l) parts ∙ field-comma so_far.done field next plain.1;
+      reads = so_far.reads ∙ ap (λ (l : List ℕ). next_record default_config st.StartField so_far.done [] l) parts ∙ field-run so_far.done field (44 ∷ next) plain.1 refl;
       spelled = values_more number columns i values so_far.done field column value so_far.spelled here v;
     }
 
 -- the last field
-row_is : (number : ℕ) (columns : List Column) (fields : List (List ℕ)) (values : List Value) → number ≤ most_rows → length fields ≡ length columns
-    → values_of_fields number columns fields ≡ Ok values → row_of_record number columns fields ≡ Ok values
-unfolding row_of_record
-row_is number columns fields values few same e =
-    rw (eq-eqb (length fields) (length columns) same, le-ltb most_rows number few) e
-
 pub read-last : (number : ℕ) (columns : List Column) (text rest : List ℕ) (i : ℕ) (values : List Value) (column : Column) (size : ℕ) (value : Value)
     → ReadSoFar number columns text rest i values → drop i columns ≡ column ∷ drop (i + 1) columns
     → IsPlainField rest size → value_of_field number column (take size rest) ≡ Ok value → is_line_end (drop size rest) ≡ true
@@ -83,6 +79,6 @@ read-last number columns text rest i values column size value so_far here plain 
     record {
       fields = fields;
       first = field-end text so_far.done field (drop size rest) plain.1 e reads;
-      row = row_is number columns fields (values ++ value ∷ []) few many
+      row = row_made number columns fields (values ++ value ∷ []) few many
           (ap (λ (l : List (List ℕ)). values_of_fields number columns l) (sym (append-nil fields)) ∙ spelled ∙ values-end number (drop (i + 1) columns) [] (values ++ value ∷ []) none);
     }

@@ -1,8 +1,9 @@
 -- Each read gives the first of the records to come, however many turns are left for the others.
 use Rattle.std.proofs.Common.{◌≡◌, ◌∙◌, ℕ, zero, suc, ◌+◌, ◌<◌, List, [], ◌∷◌, ◌++◌, length, Option}
-use Rattle.std.proofs.Common.{Some, None, Bool, true, false, refl, sym, ap, arith, add-one, inl}
+use Rattle.std.proofs.Common.{Some, None, true, false, refl, sym, ap, arith, add-one, inl}
 use Rattle.std.proofs.Common.{inr}
 use Rattle.std.specs.Prelude.{IsSome, ◌⊎◌}
+use Rattle.std.proofs.lemmas.Bool.{cond_both}
 use Rattle.std.specs.Borrow.{Bor}
 use Rattle.csv.specs.Machine.{Read, next_record, step, is_end, ends_at_end, fields_after}
 use Rattle.csv.specs.Machine.{field_after}
@@ -23,25 +24,17 @@ more_eaten : (p : Read) (n : ℕ) → Eats p n → Eats p (suc n)
 more_eaten p n (inl shorter) = inl (omega arith)
 more_eaten p n (inr end) = inr end
 
-last-eats : (p : Read) (fields : List (List ℕ)) (b : Bool) → Rattle.std.proofs.Common.cond b (Some (fields, st.StartRecord, [])) None ≡ Some p → Eats p 0
-last-eats p fields true e =
-    let same : ◌≡◌ {A = Read} (fields, st.StartRecord, []) p = cc in
-    inr (ap (λ (q : Read). q.1) (sym same), ap (λ (q : Read). q.2) (sym same))
-last-eats p fields false e = cc e
-
 next-eats : (cfg : Config) (s : State) (fields : List (List ℕ)) (field xs : List ℕ) (p : Read) → next_record cfg s fields field xs ≡ Some p → Eats p (length xs)
 unfolding next_record
-next-eats cfg s fields field [] p e = last-eats p (fields ++ (field ∷ [])) (ends_at_end s) e
-next-eats cfg s fields field (c ∷ rest) p e = by (is_end (step cfg s c).1) refl (next-eats cfg (step cfg s c).0 (fields_after (step cfg s c).1 fields field) (field_after (step cfg s c).1 c field) rest p)
-  where
-    by : (b : Bool) → is_end (step cfg s c).1 ≡ b
-        → (next_record cfg (step cfg s c).0 (fields_after (step cfg s c).1 fields field) (field_after (step cfg s c).1 c field) rest ≡ Some p → Eats p (length rest))
-        → Eats p (suc (length rest))
-    by true h more =
-        let found = rw h at e in
-        let same : ◌≡◌ {A = Read} (fields_after (step cfg s c).1 fields field, (step cfg s c).0, rest) p = cc found in
-        inl (let left : length rest ≡ length p.2 = ap (λ (q : Read). length q.2) same in omega arith)
-    by false h more = more_eaten p (length rest) (more (rw h at e))
+next-eats cfg s fields field [] p e = cond_both (ends_at_end s) _ _ (λ (r : Option Read). r ≡ Some p → Eats p 0)
+    (λ h found. let same : ◌≡◌ {A = Read} (fields ++ field ∷ [], st.StartRecord, []) p = cc in
+    inr (ap (λ (q : Read). q.1) (sym same), ap (λ (q : Read). q.2) (sym same))) (λ h none. absurd (cc none)) e
+next-eats cfg s fields field (c ∷ rest) p e =
+    let a = (step cfg s c).1 in
+    cond_both (is_end a) _ _ (λ (r : Option Read). r ≡ Some p → Eats p (suc (length rest)))
+    (λ h found. let same : ◌≡◌ {A = Read} (fields_after a fields field, (step cfg s c).0, rest) p = cc in
+    inl (let left : length rest ≡ length p.2 = ap (λ (q : Read). length q.2) same in omega arith))
+    (λ h found. more_eaten p (length rest) (next-eats cfg (step cfg s c).0 (fields_after a fields field) (field_after a c field) rest p found)) e
 
 -- at the end of a text there is no record
 records_from-end : (cfg : Config) (n : ℕ) → records_from cfg n st.StartRecord [] ≡ []

@@ -1,11 +1,12 @@
 -- The rows of a text, one more at a time.
-use Rattle.std.proofs.Common.{◌≡◌, ◌∙◌, ℕ, ℤ, ◌+◌, ◌^◌, ◌≤◌, inl, inr, arith, ltb, lt-ltb, List, []}
-use Rattle.std.proofs.Common.{◌∷◌, ◌++◌, length, Option, Some, None, Result, Ok, Err, Bool, true}
+use Rattle.std.proofs.Common.{◌≡◌, ◌∙◌, ℕ, ℤ, ◌+◌, ◌^◌, ◌≤◌, arith, ltb, List, []}
+use Rattle.std.proofs.Common.{◌∷◌, ◌++◌, length, Option, Some, None, Result, Ok, Err, true}
 use Rattle.std.proofs.Common.{false, refl, ap, eqb}
-use Rattle.std.specs.Prelude.{◌&&◌, not, int_le, if◌then◌else◌}
-use Rattle.std.specs.Prelude.{IfOk, IsOkAnd, IsTrue}
+use Rattle.std.specs.Prelude.{◌&&◌, not, int_le}
+use Rattle.std.specs.Prelude.{IfOk, IsOkAnd}
 use Rattle.std.specs.List.{list_all}
-use Rattle.std.proofs.lemmas.Bool.{cases_lt}
+use Rattle.std.proofs.lemmas.Bool.{and_from, cond_both, eq-eqb, eqb-true, le-ltb, ltb-false}
+use Rattle.std.proofs.lemmas.Bool.{not-false}
 use Rattle.std.proofs.lemmas.List.{append-nil}
 use Rattle.bw_model.specs.declared.column.Column.{Column}
 use Rattle.bw_model.specs.declared.fault.Fault.{Fault}
@@ -14,75 +15,66 @@ use Rattle.bw_model.specs.Column.{admits_value, admits_values}
 use Rattle.bw_text.specs.Number.{are_digits, number_of}
 use Rattle.bw_model.specs.Row.{Value}
 use Rattle.bw_csv.specs.Rows.{StopsAfter, is_reader_fault, located_at, is_heading, is_minus}
-use Rattle.bw_csv.specs.Rows.{is_null_text, number_value, row_of_record, rows_from, rows_after}
+use Rattle.bw_csv.specs.Rows.{is_null_text, row_of_record, rows_from, rows_after}
 use Rattle.bw_csv.specs.Rows.{without_sign, value_of_field, values_of_fields, with_row, within_bounds}
 use Rattle.bw_csv.specs.Rows.{without_blanks}
-use Rattle.bw_csv.proofs.FieldLemmas.{after}
+use Rattle.bw_csv.proofs.FieldLemmas.{after, bound, passed}
 use Rattle.bw_csv.proofs.Passed.{Passed, passed-nothing, passed-next, passed-on, passed-stops}
 
 -- a column admits the value of a field
-bounds_admitted : (number : ℕ) (column : Column) (n : ℤ) (value : Value) (within : Bool) → (int_le column.lo n && int_le n column.hi) ≡ within
-    → refused_if (not within) (at_record 205 number) (Ok (Some n)) ≡ Ok value → admits_value column value ≡ true
-bounds_admitted number column n value true w e = let same : ◌≡◌ {A = Value} (Some n) value = cc in rw (← same) w
-bounds_admitted number column n value false w e = cc e
-
 within_admitted : (number : ℕ) (column : Column) (spelled : Option ℤ) (value : Value) → within_bounds number column spelled ≡ Ok value → admits_value column value ≡ true
 within_admitted number column None value e = cc e
-within_admitted number column (Some n) value e = bounds_admitted number column n value (int_le column.lo n && int_le n column.hi) refl e
-
-number_admitted : (number : ℕ) (column : Column) (spelled : Option ℤ) (value : Value) (digits : Bool)
-    → refused_if (not digits) (at_record 204 number) (within_bounds number column spelled) ≡ Ok value → admits_value column value ≡ true
-number_admitted number column spelled value true e = within_admitted number column spelled value e
-number_admitted number column spelled value false e = cc e
-
-null_admitted : (number : ℕ) (column : Column) (value : Value) (nullable : Bool) → column.nullable ≡ nullable
-    → refused_if (not nullable) (at_record 206 number) (Ok None) ≡ Ok value → admits_value column value ≡ true
-null_admitted number column value true n e = let same : ◌≡◌ {A = Value} None value = cc in rw (← same) n
-null_admitted number column value false n e = cc e
-
-either_admitted : (number : ℕ) (column : Column) (text : List ℕ) (value : Value) (null : Bool)
-    → (if null then refused_if (not column.nullable) (at_record 206 number) (Ok None) else number_value number column (is_minus text) (without_sign text)) ≡ Ok value
-    → admits_value column value ≡ true
-either_admitted number column text value true e = null_admitted number column value column.nullable refl e
-either_admitted number column text value false e = number_admitted number column (number_of (is_minus text) (without_sign text)) value (are_digits (without_sign text)) e
+within_admitted number column (Some n) value e =
+    let p = passed (not (int_le column.lo n && int_le n column.hi)) (at_record 205 number) (Ok (Some n)) value e in
+    let same : ◌≡◌ {A = Value} (Some n) value = cc in rw (← same) (not-false _ p.0)
 
 value_admitted : (number : ℕ) (column : Column) (field : List ℕ) (value : Value) → value_of_field number column field ≡ Ok value → admits_value column value ≡ true
 unfolding value_of_field
-value_admitted number column field value e = either_admitted number column (without_blanks field) value (is_null_text (without_blanks field)) e
+value_admitted number column field value =
+    let text = without_blanks field in
+    cond_both (is_null_text text) _ _ (λ (r : Result Value Fault). r ≡ Ok value → admits_value column value ≡ true)
+    (λ null e. let p = passed (not column.nullable) (at_record 206 number) (Ok None) value e in
+    let same : ◌≡◌ {A = Value} None value = cc in rw (← same) (not-false _ p.0))
+    (λ some e. within_admitted number column (number_of (is_minus text) (without_sign text)) value
+    (passed (not (are_digits (without_sign text))) (at_record 204 number) _ value e).1)
 
 -- columns admit the values of fields
-more_admitted : (column : Column) (columns : List Column) (value : Value) (more : Result (List Value) Fault) (values : List Value) → admits_value column value ≡ true
-    → ((rest : List Value) → more ≡ Ok rest → admits_values columns rest ≡ true)
-    → (more >>= λ rest. Ok (value ∷ rest)) ≡ Ok values → admits_values (column ∷ columns) values ≡ true
-more_admitted column columns value (Ok rest) values first all e = let same : ◌≡◌ {A = List Value} (value ∷ rest) values = cc in rw (← same, first) (all rest refl)
-more_admitted column columns value (Err fault) values first all e = cc e
-
-next_admitted : (number : ℕ) (column : Column) (columns : List Column) (fields : List (List ℕ)) (field : List ℕ) (first : Result Value Fault) (values : List Value)
-    → value_of_field number column field ≡ first
-    → ((rest : List Value) → values_of_fields number columns fields ≡ Ok rest → admits_values columns rest ≡ true)
-    → (first >>= λ value. values_of_fields number columns fields >>= λ rest. Ok (value ∷ rest)) ≡ Ok values → admits_values (column ∷ columns) values ≡ true
-next_admitted number column columns fields field (Ok value) values v all e = more_admitted column columns value (values_of_fields number columns fields) values (value_admitted number column field value v) all e
-next_admitted number column columns fields field (Err fault) values v all e = cc e
-
 values_admitted : (number : ℕ) (columns : List Column) (fields : List (List ℕ)) (values : List Value)
     → values_of_fields number columns fields ≡ Ok values → admits_values columns values ≡ true
 unfolding values_of_fields
 values_admitted number [] fields values e = let same : ◌≡◌ {A = List Value} [] values = cc in rw (← same) refl
 values_admitted number (column ∷ columns) [] values e = cc e
 values_admitted number (column ∷ columns) (field ∷ fields) values e =
-    next_admitted number column columns fields field (value_of_field number column field) values refl (values_admitted number columns fields) e
+    let one = bound (value_of_field number column field) (λ value. values_of_fields number columns fields >>= λ rest. Ok (value ∷ rest)) values e in
+    let more = bound (values_of_fields number columns fields) (λ rest. Ok (one.0 ∷ rest)) values one.2 in
+    let same : ◌≡◌ {A = List Value} (one.0 ∷ more.0) values = cc more.2 in
+    rw (← same) (and_from _ _ (value_admitted number column field one.0 one.1) (values_admitted number columns fields more.0 more.1))
+
+-- the width and the number of a record that has a row, and the values of that row
+pub record_passed : (number width : ℕ) (fields : List (List ℕ)) (values : Result (List Value) Fault) (row : List Value)
+    → refused_if (not (eqb (length fields) width)) (at_record 203 number) (refused_if (ltb (2 ^ 24) number) (at_record 207 number) values) ≡ Ok row
+    → (length fields ≡ width) × (number ≤ 2 ^ 24) × (values ≡ Ok row)
+record_passed number width fields values row e =
+    let one = passed (not (eqb (length fields) width)) (at_record 203 number) (refused_if (ltb (2 ^ 24) number) (at_record 207 number) values) row e in
+    let two = passed (ltb (2 ^ 24) number) (at_record 207 number) values row one.1 in
+    (eqb-true _ _ (not-false _ one.0), ltb-false _ _ two.0, two.1)
+
+-- a record's row, if it has the width, the number and the values
+pub row_made : (number : ℕ) (columns : List Column) (fields : List (List ℕ)) (values : List Value) → number ≤ 2 ^ 24 → length fields ≡ length columns
+    → values_of_fields number columns fields ≡ Ok values → row_of_record number columns fields ≡ Ok values
+unfolding row_of_record
+row_made number columns fields values few same e =
+    rw (eq-eqb (length fields) (length columns) same, le-ltb (2 ^ 24) number few) e
 
 -- columns admit the row of a record
 pub row_admitted : (number : ℕ) (columns : List Column) (fields : List (List ℕ)) (row : List Value) → row_of_record number columns fields ≡ Ok row → admits_values columns row ≡ true
 unfolding row_of_record
-row_admitted number columns fields row e = tested (eqb (length fields) (length columns)) (ltb (2 ^ 24) number) e
-  where
-    tested : (wide late : Bool)
-        → refused_if (not wide) (at_record 203 number) (refused_if late (at_record 207 number) (values_of_fields number columns fields)) ≡ Ok row
-        → admits_values columns row ≡ true
-    tested true false h = values_admitted number columns fields row h
-    tested true true h = cc h
-    tested false late h = cc h
+row_admitted number columns fields row e =
+    values_admitted number columns fields row (record_passed number (length columns) fields (values_of_fields number columns fields) row e).2
+
+pub row_within : (number : ℕ) (columns : List Column) (fields : List (List ℕ)) (row : List Value) → row_of_record number columns fields ≡ Ok row → number ≤ 2 ^ 24
+unfolding row_of_record
+row_within number columns fields row e = (record_passed number (length columns) fields (values_of_fields number columns fields) row e).1
 
 -- the rows of a record and of those after it
 pub rows_from-next : (columns : List Column) (number : ℕ) (fields : List (List ℕ)) (row : List Value) (records more : List (List (List ℕ)))
@@ -90,10 +82,10 @@ pub rows_from-next : (columns : List Column) (number : ℕ) (fields : List (List
 unfolding rows_from
 rows_from-next columns number fields row records more e r = rw (e, r) refl
 
-pub rows_from-fault : (columns : List Column) (number : ℕ) (fields : List (List ℕ)) (more : List (List (List ℕ))) (fault : Fault)
-    → row_of_record number columns fields ≡ Err fault → rows_from columns number (fields ∷ more) ≡ Err fault
+pub rows_from-fault : (columns : List Column) (number : ℕ) (fields : List (List ℕ)) (records more : List (List (List ℕ))) (fault : Fault)
+    → records ≡ fields ∷ more → row_of_record number columns fields ≡ Err fault → rows_from columns number records ≡ Err fault
 unfolding rows_from
-rows_from-fault columns number fields more fault r = rw r refl
+rows_from-fault columns number fields records more fault e r = rw (e, r) refl
 
 pub rows_from-end : (columns : List Column) (number : ℕ) (records : List (List (List ℕ))) → records ≡ [] → rows_from columns number records ≡ Ok []
 unfolding rows_from
@@ -154,75 +146,26 @@ rows_after-rows columns records more heading e h = rw (e, h) refl
 
 pub ruleset after_heading = (rows_after-none, rows_after-other, rows_after-rows)
 
--- the number of a record that has a row
-pub row_within : (number : ℕ) (columns : List Column) (fields : List (List ℕ)) (row : List Value) → row_of_record number columns fields ≡ Ok row → number ≤ 2 ^ 24
-unfolding row_of_record
-row_within number columns fields row e =
-    elim (cases_lt (2 ^ 24) number) [
-      | inl late ↦ absurd (tested (eqb (length fields) (length columns)) (ltb (2 ^ 24) number) (lt-ltb (2 ^ 24) number late) e)
-      | inr fine ↦ fine
-    ]
-  where
-    tested : (wide late : Bool) → late ≡ true
-        → refused_if (not wide) (at_record 203 number) (refused_if late (at_record 207 number) (values_of_fields number columns fields)) ≡ Ok row → ⊥
-    tested true true l h = cc h
-    tested true false l h = cc l
-    tested false late l h = cc h
-
--- a text has at most 2^24 rows
-abbrev AreFew : ℕ → Result (List (List Value)) Fault → Type 0
-AreFew number rows = IfOk rows (λ rows. number + length rows ≤ 2 ^ 24 + 1)
-
-first_few : (number : ℕ) (row : List Value) (more : Result (List (List Value)) Fault) → AreFew (number + 1) more → AreFew number (more >>= λ rows. Ok (row ∷ rows))
-first_few number row (Ok rows) few = omega (arith, few)
-first_few number row (Err fault) few = tt
-
-record_few : (columns : List Column) (number : ℕ) (fields : List (List ℕ)) (row : Result (List Value) Fault) (more : Result (List (List Value)) Fault)
-    → row_of_record number columns fields ≡ row → (number ≤ 2 ^ 24 → AreFew (number + 1) more) → AreFew number (row >>= λ first. more >>= λ rows. Ok (first ∷ rows))
-record_few columns number fields (Ok row) more e few = first_few number row more (few (row_within number columns fields row e))
-record_few columns number fields (Err fault) more e few = tt
-
-rows_few : (columns : List Column) (records : List (List (List ℕ))) (number : ℕ) → number ≤ 2 ^ 24 + 1 → AreFew number (rows_from columns number records)
+-- a text has at most 2^24 rows, each of which columns admit
+rows_good : (columns : List Column) (records : List (List (List ℕ))) (number : ℕ) (rows : List (List Value)) → number ≤ 2 ^ 24 + 1
+    → rows_from columns number records ≡ Ok rows → (number + length rows ≤ 2 ^ 24 + 1) × (list_all (admits_values columns) rows ≡ true)
 unfolding rows_from
-rows_few columns [] number h = omega (arith, h)
-rows_few columns (fields ∷ more) number h =
-    record_few columns number fields (row_of_record number columns fields) (rows_from columns (number + 1) more) refl (λ fine. rows_few columns more (number + 1) (omega (arith, fine)))
+rows_good columns [] number rows h e = let same : ◌≡◌ {A = List (List Value)} [] rows = cc e in rw (← same) (omega (arith, h), refl)
+rows_good columns (fields ∷ more) number rows h e =
+    let one = bound (row_of_record number columns fields) (λ row. with_row row (rows_from columns (number + 1) more)) rows e in
+    let others = bound (rows_from columns (number + 1) more) (λ rest. Ok (one.0 ∷ rest)) rows one.2 in
+    let same : ◌≡◌ {A = List (List Value)} (one.0 ∷ others.0) rows = cc others.2 in
+    let good = rows_good columns more (number + 1) others.0 (omega (arith, row_within number columns fields one.0 one.1)) others.1 in
+    rw (← same) (omega (arith, good.0), and_from _ _ (row_admitted number columns fields one.0 one.1) good.1)
 
-heading_few : (other : Bool) (rows : Result (List (List Value)) Fault) → AreFew 1 rows → IfOk (refused_if other (at_record 202 0) rows) (λ rows. length rows ≤ 2 ^ 24)
-heading_few true rows few = tt
-heading_few false (Ok rows) few = omega (arith, few)
-heading_few false (Err fault) few = tt
-
-pub text_few : (columns : List Column) (records : List (List (List ℕ))) → IfOk (rows_after columns records) (λ rows. length rows ≤ 2 ^ 24)
+pub text_good : (columns : List Column) (records : List (List (List ℕ))) (rows : List (List Value)) → rows_after columns records ≡ Ok rows
+    → (length rows ≤ 2 ^ 24) × (list_all (admits_values columns) rows ≡ true)
 unfolding rows_after
-text_few columns [] = tt
-text_few columns (heading ∷ more) = heading_few (not (is_heading columns heading)) (rows_from columns 1 more) (rows_few columns more 1 (omega arith))
+text_good columns [] rows e = absurd (cc e)
+text_good columns (heading ∷ more) rows e =
+    let good = rows_good columns more 1 rows (omega arith) (passed (not (is_heading columns heading)) (at_record 202 0) (rows_from columns 1 more) rows e).1 in
+    (omega (arith, good.0), good.1)
 
--- columns admit each row of a text
-abbrev AreAdmitted : List Column → Result (List (List Value)) Fault → Type 0
-AreAdmitted columns rows = IfOk rows (λ rows. IsTrue (list_all (admits_values columns) rows))
-
-first_admitted : (columns : List Column) (row : List Value) (more : Result (List (List Value)) Fault) → admits_values columns row ≡ true → AreAdmitted columns more
-    → AreAdmitted columns (more >>= λ rows. Ok (row ∷ rows))
-first_admitted columns row (Ok rows) first all = rw first all
-first_admitted columns row (Err fault) first all = tt
-
-record_admitted : (columns : List Column) (number : ℕ) (fields : List (List ℕ)) (row : Result (List Value) Fault) (more : Result (List (List Value)) Fault)
-    → row_of_record number columns fields ≡ row → AreAdmitted columns more → AreAdmitted columns (row >>= λ first. more >>= λ rows. Ok (first ∷ rows))
-record_admitted columns number fields (Ok row) more e all = first_admitted columns row more (row_admitted number columns fields row e) all
-record_admitted columns number fields (Err fault) more e all = tt
-
-rows_admitted : (columns : List Column) (records : List (List (List ℕ))) (number : ℕ) → AreAdmitted columns (rows_from columns number records)
-unfolding rows_from
-rows_admitted columns [] number = refl
-rows_admitted columns (fields ∷ more) number =
-    record_admitted columns number fields (row_of_record number columns fields) (rows_from columns (number + 1) more) refl (rows_admitted columns more (number + 1))
-
-heading_admitted : (columns : List Column) (other : Bool) (rows : Result (List (List Value)) Fault) → AreAdmitted columns rows → AreAdmitted columns (refused_if other (at_record 202 0) rows)
-heading_admitted columns true rows all = tt
-heading_admitted columns false rows all = all
-
-pub text_admitted : (columns : List Column) (records : List (List (List ℕ))) → IfOk (rows_after columns records) (λ rows. IsTrue (list_all (admits_values columns) rows))
-unfolding rows_after
-text_admitted columns [] = tt
-text_admitted columns (heading ∷ more) = heading_admitted columns (not (is_heading columns heading)) (rows_from columns 1 more) (rows_admitted columns more 1)
+pub if_ok : {A : Type 0} (r : Result A Fault) (P : A → Type 0) → ((x : A) → r ≡ Ok x → P x) → IfOk r P
+if_ok (Ok x) P holds = holds x refl
+if_ok (Err fault) P holds = tt

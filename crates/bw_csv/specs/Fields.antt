@@ -9,9 +9,7 @@ use Rattle.bw_csv.specs.Records.{records_in}
 -- the action ends a field, and not the record
 abbrev pub is_field_closed : Action → Bool
 is_field_closed act.EndField = true
-is_field_closed act.Skip = false
-is_field_closed act.Copy = false
-is_field_closed act.EndRecord = false
+is_field_closed _ = false
 
 -- The first of the records has more than `count` fields. The other list has one record, of the
 -- first `count` of these fields and an empty one.

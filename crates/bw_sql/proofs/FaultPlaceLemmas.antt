@@ -6,8 +6,7 @@ use Rattle.bw_model.specs.Fault.{at_byte}
 use Rattle.bw_model.specs.FaultTable.{standing_of}
 use Rattle.bw_model.specs.FaultPlaces.{StandsAsListed}
 use Rattle.bw_sql.specs.declared.reader.Refusal.{Refusal}
-use Rattle.bw_sql.specs.declared.reader.Refusal.TheVariants.{Syntax, UnknownTable, UnknownColumn}
-use Rattle.bw_sql.specs.declared.reader.Refusal.TheVariants.{Literal, MixedItems, Nesting}
+use Rattle.bw_sql.specs.declared.reader.Refusal.TheVariants.{Syntax}
 use Rattle.bw_sql.specs.Refusal.{code_of}
 use Rattle.bw_sql.specs.Statement.{IsFault, too_long, refused, token_refused, end_refused}
 use Rattle.bw_sql.specs.Statement.{byte_refused}
@@ -16,11 +15,7 @@ use Rattle.bw_sql.specs.Statement.{byte_refused}
 by_reason : (why : Refusal) (at : ℕ) → StandsAsListed (at_byte (code_of why) at)
 unfolding standing_of
 by_reason Syntax at = refl
-by_reason UnknownTable at = refl
-by_reason UnknownColumn at = refl
-by_reason Literal at = refl
-by_reason MixedItems at = refl
-by_reason Nesting at = refl
+by_reason _ at = refl
 
 pub fault_listed : (schema : Schema) (text : List ℕ) (fault : Fault) → IsFault schema text fault → StandsAsListed fault
 unfolding standing_of

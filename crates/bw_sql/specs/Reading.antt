@@ -67,20 +67,12 @@ same_mark a b = bytes_eq (mark_spelling a) (mark_spelling b)
 
 -- the tokens after a reserved word or a mark, if it is first
 unfoldable pub after_keyword : Keyword → List Lexeme → Option (List Lexeme)
-after_keyword word [] = None
 after_keyword word (Reserved found ∷ tokens) = if same_keyword found word then Some tokens else None
-after_keyword word (Name text ∷ tokens) = None
-after_keyword word (Digits text ∷ tokens) = None
-after_keyword word (Compare op ∷ tokens) = None
-after_keyword word (Punct found ∷ tokens) = None
+after_keyword word _ = None
 
 unfoldable pub after_mark : Mark → List Lexeme → Option (List Lexeme)
-after_mark mark [] = None
 after_mark mark (Punct found ∷ tokens) = if same_mark found mark then Some tokens else None
-after_mark mark (Name text ∷ tokens) = None
-after_mark mark (Digits text ∷ tokens) = None
-after_mark mark (Compare op ∷ tokens) = None
-after_mark mark (Reserved found ∷ tokens) = None
+after_mark mark _ = None
 
 unfoldable pub keyword_at : Keyword → List Lexeme → Result (List Lexeme) Halt
 keyword_at word tokens = ok_or_refuse (after_keyword word tokens) Syntax tokens
@@ -89,20 +81,12 @@ unfoldable pub mark_at : Mark → List Lexeme → Result (List Lexeme) Halt
 mark_at mark tokens = ok_or_refuse (after_mark mark tokens) Syntax tokens
 
 unfoldable pub name_at : List Lexeme → ReadResult (List ℕ)
-name_at [] = refuse Syntax []
 name_at (Name text ∷ tokens) = Ok (text, tokens)
-name_at (Digits text ∷ tokens) = refuse Syntax (Digits text ∷ tokens)
-name_at (Reserved found ∷ tokens) = refuse Syntax (Reserved found ∷ tokens)
-name_at (Compare op ∷ tokens) = refuse Syntax (Compare op ∷ tokens)
-name_at (Punct found ∷ tokens) = refuse Syntax (Punct found ∷ tokens)
+name_at tokens = refuse Syntax tokens
 
 unfoldable pub digits_at : List Lexeme → ReadResult (List ℕ)
-digits_at [] = refuse Syntax []
 digits_at (Digits text ∷ tokens) = Ok (text, tokens)
-digits_at (Name text ∷ tokens) = refuse Syntax (Name text ∷ tokens)
-digits_at (Reserved found ∷ tokens) = refuse Syntax (Reserved found ∷ tokens)
-digits_at (Compare op ∷ tokens) = refuse Syntax (Compare op ∷ tokens)
-digits_at (Punct found ∷ tokens) = refuse Syntax (Punct found ∷ tokens)
+digits_at tokens = refuse Syntax tokens
 
 -- whether a minus is first, and the tokens after the sign, if there is one
 abbrev pub after_plus : Option (List Lexeme) → List Lexeme → Bool × List Lexeme
@@ -135,12 +119,8 @@ table_at schema tokens = do
 
 -- an operand: NULL, a column, or a literal
 abbrev pub begins_with_name : List Lexeme → Bool
-begins_with_name [] = false
 begins_with_name (Name text ∷ tokens) = true
-begins_with_name (Digits text ∷ tokens) = false
-begins_with_name (Reserved found ∷ tokens) = false
-begins_with_name (Compare op ∷ tokens) = false
-begins_with_name (Punct found ∷ tokens) = false
+begins_with_name _ = false
 
 abbrev pub column_operand : Schema → List Lexeme → ReadResult Operand
 column_operand schema tokens = do
@@ -228,12 +208,8 @@ unfoldable pub null_test_at : Operand → List Lexeme → ReadResult CondTree
 null_test_at x tokens = null_after (after_keyword word.Not tokens) x tokens
 
 unfoldable pub after_comparison : List Lexeme → Option (Op × List Lexeme)
-after_comparison [] = None
 after_comparison (Compare op ∷ tokens) = Some (op, tokens)
-after_comparison (Name text ∷ tokens) = None
-after_comparison (Digits text ∷ tokens) = None
-after_comparison (Reserved found ∷ tokens) = None
-after_comparison (Punct found ∷ tokens) = None
+after_comparison _ = None
 
 -- what follows the first operand of a predicate
 abbrev pub after_not : Schema → Operand → Option (List Lexeme) → List Lexeme → ReadResult CondTree
@@ -414,9 +390,7 @@ count_item schema None tokens = column_of schema aggregate.Count tokens
 
 unfoldable pub aggregated_at : Schema → Aggregate → List Lexeme → ReadResult Item
 aggregated_at schema aggregate.Count tokens = count_item schema (after_mark mark.Star tokens) tokens
-aggregated_at schema aggregate.Sum tokens = column_of schema aggregate.Sum tokens
-aggregated_at schema aggregate.Min tokens = column_of schema aggregate.Min tokens
-aggregated_at schema aggregate.Max tokens = column_of schema aggregate.Max tokens
+aggregated_at schema kind tokens = column_of schema kind tokens
 
 abbrev pub plain_item : Schema → List Lexeme → ReadResult Item
 plain_item schema tokens = do
