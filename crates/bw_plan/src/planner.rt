@@ -137,5 +137,11 @@ fn emit_condition(code: &mut Code<'_>, part: &Part) -> Result<Register, Refusal>
     let made = code.truths(part, wanted)?;
     let answer = made.yes.ok_or(Refusal::NoProgram)?;
     code.meet()?;
+    if !code.has_skips_from(0) {
+        let first = code.waiting()?;
+        code.skip(answer)?;
+        code.meet_from(first);
+        code.meet()?;
+    }
     Ok(answer)
 }
