@@ -70,8 +70,7 @@ known_after_join through (Some join) = kept_by nothing_known join.keeps
 abbrev pub known_past : Facts → KnownNodes → Option Instr → Option Part → KnownNodes
 known_past facts known (Some instr) (Some part) = known_after_join
     (known_on_fallthrough facts known instr part) part.join
-known_past facts known (Some instr) None = nothing_known
-known_past facts known None part = nothing_known
+known_past facts known _ _ = nothing_known
 
 -- What is known before each place.
 unfoldable pub known_before : Facts → List Instr → List Part → ℕ → KnownNodes
@@ -104,10 +103,9 @@ are_kept facts through edges least (k ∷ keeps) =
 -- by each skip.
 abbrev pub is_valid_join : Facts → KnownNodes → List Edge → Option JoinLines → Bool
 is_valid_join facts through [] None = true
-is_valid_join facts through [] (Some join) = false
-is_valid_join facts through (edge ∷ edges) None = false
 is_valid_join facts through (edge ∷ edges) (Some join) = are_kept facts through
     (edge ∷ edges) 0 join.keeps
+is_valid_join facts through _ _ = false
 
 -- Parts, one for each instruction, satisfy their rules: each instruction's line its own, and each
 -- place's join its own.

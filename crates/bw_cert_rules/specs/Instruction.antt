@@ -26,38 +26,23 @@ use Rattle.bw_cert_rules.specs.Known.{KnownNodes, node_of, with_node}
 -- chain of a byte comparison, if it names one; or that it is the line of a constant or of a skip
 abbrev pub loaded_node : InstructionEntry → Option ℕ
 loaded_node (entry.Load node) = Some node
-loaded_node entry.Fill = None
-loaded_node (entry.Op row) = None
-loaded_node (entry.Byte chain) = None
-loaded_node entry.Skip = None
+loaded_node _ = None
 
 abbrev pub operation_row : InstructionEntry → Option ℕ
-operation_row (entry.Load node) = None
-operation_row entry.Fill = None
 operation_row (entry.Op row) = Some row
-operation_row (entry.Byte chain) = None
-operation_row entry.Skip = None
+operation_row _ = None
 
 abbrev pub byte_chain : InstructionEntry → Option (Option ℕ)
-byte_chain (entry.Load node) = None
-byte_chain entry.Fill = None
-byte_chain (entry.Op row) = None
 byte_chain (entry.Byte chain) = Some chain
-byte_chain entry.Skip = None
+byte_chain _ = None
 
 abbrev pub is_fill : InstructionEntry → Bool
-is_fill (entry.Load node) = false
 is_fill entry.Fill = true
-is_fill (entry.Op row) = false
-is_fill (entry.Byte chain) = false
-is_fill entry.Skip = false
+is_fill _ = false
 
 abbrev pub is_skip_line : InstructionEntry → Bool
-is_skip_line (entry.Load node) = false
-is_skip_line entry.Fill = false
-is_skip_line (entry.Op row) = false
-is_skip_line (entry.Byte chain) = false
 is_skip_line entry.Skip = true
+is_skip_line _ = false
 
 -- the terminal of a bit
 abbrev pub terminal : Bool → ℕ

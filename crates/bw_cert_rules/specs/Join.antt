@@ -8,24 +8,15 @@ use Rattle.bw_diagram.specs.References.{product_node}
 use Rattle.bw_cert_text.specs.declared.lines.EdgeProducts.{EdgeProducts}
 use Rattle.bw_cert_text.specs.declared.lines.Keep.{Keep}
 use Rattle.bw_program.specs.declared.instr.Instr.{Instr}
-use Rattle.bw_program.specs.declared.instr.Instr.TheVariants.{Load, Nulls, Fill, And, Or, Xor, Not}
-use Rattle.bw_program.specs.declared.instr.Instr.TheVariants.{ByteLt, ByteEq, Skip}
+use Rattle.bw_program.specs.declared.instr.Instr.TheVariants.{Skip}
 use Rattle.bw_text.specs.Register.{is_register}
 use Rattle.bw_cert_rules.specs.declared.edge.Edge.{Edge}
 use Rattle.bw_cert_rules.specs.Known.{KnownNodes, node_of}
 
 -- the edge of an instruction that is a skip: its target, its register, and what is known there
 abbrev pub edge_of : KnownNodes → Instr → Option Edge
-edge_of known (Load r column bit) = None
-edge_of known (Nulls r column) = None
-edge_of known (Fill r bit) = None
-edge_of known (And r x y) = None
-edge_of known (Or r x y) = None
-edge_of known (Xor r x y) = None
-edge_of known (Not r x) = None
-edge_of known (ByteLt r column slice k) = None
-edge_of known (ByteEq r column slice k) = None
 edge_of known (Skip x target) = Some (record { target = target; register = x; known = known })
+edge_of known _ = None
 
 abbrev pub with_edge : List Edge → Option Edge → List Edge
 with_edge edges None = edges

@@ -34,11 +34,9 @@ abbrev pub instruction_on : Facts → KnownNodes → Instr → BodyLine → Entr
 instruction_on facts known instr line (line_of.Instruction given) = check_instruction_line facts
     known line.line
     instr given
-instruction_on facts known instr line (line_of.Condition given) = Err
-    (at_line INSTRUCTION_LINE line.line)
-instruction_on facts known instr line (line_of.Join place) = Err
-    (at_line INSTRUCTION_LINE line.line)
 instruction_on facts known instr line (line_of.Keep keep) = Err (at_line INSTRUCTION_LINE line.line)
+instruction_on facts known instr line _ = Err
+    (at_line INSTRUCTION_LINE line.line)
 
 abbrev pub instruction_taken : Facts → ℕ → KnownNodes → Instr → List BodyLine
     → Result WalkState Fault
@@ -50,9 +48,7 @@ instruction_taken facts end known instr (line ∷ lines) =
 -- the line JOIN of a place
 abbrev pub is_join : ℕ → Entry → Bool
 is_join place (line_of.Join target) = target == place
-is_join place (line_of.Instruction given) = false
-is_join place (line_of.Condition given) = false
-is_join place (line_of.Keep keep) = false
+is_join place _ = false
 
 abbrev pub join_taken : ℕ → ℕ → List BodyLine → Result (List BodyLine) Fault
 join_taken end place [] = Err (at_line JOIN end)
@@ -61,9 +57,7 @@ join_taken end place (line ∷ lines) = refused_if (not (is_join place line.entr
 
 abbrev pub keep_in : Entry → Option Keep
 keep_in (line_of.Keep keep) = Some keep
-keep_in (line_of.Instruction given) = None
-keep_in (line_of.Condition given) = None
-keep_in (line_of.Join place) = None
+keep_in _ = None
 
 -- a result for a line KEEP, or another for any other line
 abbrev pub by_keep : {A : Type 0} → Option Keep → A → (Keep → A) → A

@@ -21,13 +21,10 @@ use Rattle.bw_cert_text.specs.declared.lines.NodeLine.{NodeLine}
 use Rattle.bw_cert_text.specs.declared.lines.ProductLine.{ProductLine}
 use Rattle.bw_cert_text.specs.declared.lines.EndLine.{EndLine}
 use Rattle.bw_cert_text.specs.declared.lines.EdgeProducts.{EdgeProducts}
-use Rattle.bw_cert_text.specs.declared.lines.ConditionEntry.{ConditionEntry}
-use Rattle.bw_cert_text.specs.declared.lines.ConditionEntry.TheVariants.{Compare, CompareColumns}
 use Rattle.bw_cert_text.specs.declared.lines.ConditionEntry.TheVariants.{Fixed}
-use Rattle.bw_cert_text.specs.declared.lines.InstructionEntry.{InstructionEntry}
-use Rattle.bw_cert_text.specs.declared.lines.InstructionEntry.TheVariants.{Fill, Byte}
+use Rattle.bw_cert_text.specs.declared.lines.InstructionEntry.TheVariants.{Fill}
 use Rattle.bw_cert_text.specs.CertificateFields.{ColumnFields, One, Two, ChainFields, EntryFields}
-use Rattle.bw_cert_text.specs.CertificateFields.{Condition, Instruction, Join, Kept, BodyFields}
+use Rattle.bw_cert_text.specs.CertificateFields.{Condition, Instruction, Kept, BodyFields}
 use Rattle.bw_cert_text.specs.CertificateFields.{CertificateFields}
 use Rattle.bw_cert_text.specs.Columns.{is_found, are_columns, has_columns}
 use Rattle.bw_cert_text.specs.CertificateText.{section_of, with_part, end_alone, SpellsFrom}
@@ -40,8 +37,8 @@ use Rattle.bw_cert_text.specs.Reprint.{node_at, chain_at, row_at, body_at, numbe
 use Rattle.bw_cert_text.specs.Reprint.{is_small, numbers_fit}
 use Rattle.bw_cert_text.specs.Token.{Token, Key, Number, Perhaps, Column, Register, IsSpelled}
 use Rattle.bw_cert_text.specs.Token.{AreSpelled, none, next, node_tokens, column_tokens}
-use Rattle.bw_cert_text.specs.Token.{chain_tokens, reason_tokens, row_tokens, condition_tokens}
-use Rattle.bw_cert_text.specs.Token.{instruction_tokens, edge_tokens, entry_tokens, end_tokens}
+use Rattle.bw_cert_text.specs.Token.{chain_tokens, reason_tokens, row_tokens}
+use Rattle.bw_cert_text.specs.Token.{edge_tokens, entry_tokens, end_tokens}
 use Rattle.bw_cert_text.specs.Token.{part_tokens, part_line}
 use Rattle.bw_cert_text.specs.Connective.{connective_spelling}
 use Rattle.bw_model.proofs.BitsLemmas.{both}
@@ -112,45 +109,47 @@ tokens_said number (Key key ∷ ts) rest begins h =
     line_said number key (map token_text ts) rest here.0 (negated (begins_comment key) begins) (tokens_plain ts here.1)
 tokens_said number _ rest begins h = absurd (cc begins)
 
--- so are lines whose numbers fit, with the schema's columns
-row_clear : (a b c : ℕ) (o : Connective) (r : Reason) → list_all is_small (Key (connective_spelling o) ∷ Number a ∷ Number b ∷ Number c ∷ reason_tokens r) ≡ true →
-    list_all is_clear (Key (connective_spelling o) ∷ Number a ∷ Number b ∷ Number c ∷ reason_tokens r) ≡ true
-row_clear a b c op.And Shortcut h = h
-row_clear a b c op.Or Shortcut h = h
-row_clear a b c op.Xor Shortcut h = h
-row_clear a b c op.Diff Shortcut h = h
-row_clear a b c _ _ h = h
+-- a token whose numbers fit is clear, if its words are plain
+abbrev is_plain_token : Token → Bool
+is_plain_token (Key key) = is_plain_word key
+is_plain_token (Column word) = is_plain_word word
+is_plain_token _ = true
 
-edges_clear : (edges : List EdgeProducts) → list_all is_small (edge_tokens edges) ≡ true → list_all is_clear (edge_tokens edges) ≡ true
+token_clear : (t : Token) → is_small t ≡ true → is_plain_token t ≡ true → is_clear t ≡ true
+token_clear (Key key) small plain = plain
+token_clear (Column word) small plain = plain
+token_clear (Perhaps None) small plain = small
+token_clear _ small plain = small
+
+tokens_clear : (ts : List Token) → list_all is_small ts ≡ true → list_all is_plain_token ts ≡ true → list_all is_clear ts ≡ true
+tokens_clear [] small plain = refl
+tokens_clear (t ∷ ts) small plain =
+    let a = both (is_small t) (list_all is_small ts) small in
+    let b = both (is_plain_token t) (list_all is_plain_token ts) plain in
+    rw (token_clear t a.0 b.0) (tokens_clear ts a.1 b.1)
+
+-- the words of lines are plain, with the schema's columns
+row_plain : (o : Connective) (r : Reason) → (is_plain_word (connective_spelling o) && list_all is_plain_token (reason_tokens r)) ≡ true
+row_plain o r = and_from (is_plain_word (connective_spelling o)) (list_all is_plain_token (reason_tokens r)) (word o) (reason r)
+  where
+    word : (o : Connective) → is_plain_word (connective_spelling o) ≡ true
+    word op.And = refl
+    word _ = refl
+
+    reason : (r : Reason) → list_all is_plain_token (reason_tokens r) ≡ true
+    reason Shortcut = refl
+    reason _ = refl
+
+edges_plain : (edges : List EdgeProducts) → list_all is_plain_token (edge_tokens edges) ≡ true
 unfolding edge_tokens
-edges_clear [] h = refl
-edges_clear (edge ∷ edges) h =
-    let first = both (nat_lt edge.differs (2 ^ 64)) (nat_lt edge.within (2 ^ 64) && list_all is_small (edge_tokens edges)) h in
-    let second = both (nat_lt edge.within (2 ^ 64)) (list_all is_small (edge_tokens edges)) first.1 in
-    rw (first.0, second.0) (edges_clear edges second.1)
+edges_plain [] = refl
+edges_plain (edge ∷ edges) = edges_plain edges
 
-perhaps_clear : (o : Option ℕ) → is_small (Perhaps o) ≡ is_clear (Perhaps o)
-perhaps_clear None = refl
-perhaps_clear (Some n) = refl
-
-condition_clear : (x : ConditionEntry) → list_all is_small (condition_tokens x) ≡ true → list_all is_clear (condition_tokens x) ≡ true
-condition_clear (Compare chain value p q) h = rw (perhaps_clear chain, perhaps_clear value) at h
-condition_clear (CompareColumns chain left right both p q) h = rw (perhaps_clear chain, perhaps_clear left, perhaps_clear right) at h
-condition_clear _ h = h
-
-instruction_clear : (x : InstructionEntry) → list_all is_small (instruction_tokens x) ≡ true → list_all is_clear (instruction_tokens x) ≡ true
-instruction_clear (Byte chain) h = rw (perhaps_clear chain) at h
-instruction_clear _ h = h
-
-entry_clear : (x : EntryFields) → list_all is_small (entry_tokens x) ≡ true → list_all is_clear (entry_tokens x) ≡ true
-entry_clear (Condition x) h = condition_clear x h
-entry_clear (Instruction x) h = instruction_clear x h
-entry_clear (Join target) h = h
-entry_clear (Kept keep) h =
-    let a = both (nat_lt keep.register 64) _ h in
-    let b = both (nat_lt keep.node (2 ^ 64)) _ a.1 in
-    let d = both (nat_lt keep.through (2 ^ 64)) _ b.1 in
-    rw (a.0, b.0, d.0) (edges_clear keep.edges d.1)
+entry_plain : (x : EntryFields) → list_all is_plain_token (entry_tokens x) ≡ true
+entry_plain (Condition Fixed) = refl
+entry_plain (Instruction Fill) = refl
+entry_plain (Kept keep) = edges_plain keep.edges
+entry_plain _ = refl
 
 entry_begins : (x : EntryFields) → begins_line (entry_tokens x) ≡ true
 entry_begins (Condition Fixed) = refl
@@ -158,38 +157,23 @@ entry_begins (Instruction Fill) = refl
 entry_begins _ = refl
 
 module _ (columns : List stored.Column) (names : list_all is_name (names_of columns) ≡ true) where
-  one_clear : (word : List ℕ) (start len bound node : ℕ) (prev : Option ℕ) → list_all is_small (Number start ∷ Number len ∷ Number bound ∷ Number node ∷ Perhaps prev ∷ []) ≡ true →
-      is_found (column_named columns word) ≡ true → list_all is_clear (Column (schema_spelling columns word) ∷ Number start ∷ Number len ∷ Number bound ∷ Number node ∷ Perhaps prev ∷ []) ≡ true
-  one_clear word start len bound node None h there =
-      and_from (is_plain_word (schema_spelling columns word)) (list_all is_clear (Number start ∷ Number len ∷ Number bound ∷ Number node ∷ Perhaps None ∷ [])) (plain_spelling columns word names there) h
-  one_clear word start len bound node (Some prev) h there =
-      and_from (is_plain_word (schema_spelling columns word)) (list_all is_clear (Number start ∷ Number len ∷ Number bound ∷ Number node ∷ Perhaps (Some prev) ∷ [])) (plain_spelling columns word names there) h
-
-  two_clear : (left right : List ℕ) (len node : ℕ) (prev : Option ℕ) → list_all is_small (Number len ∷ Number node ∷ Perhaps prev ∷ []) ≡ true →
-      is_found (column_named columns left) ≡ true → is_found (column_named columns right) ≡ true →
-      list_all is_clear (Column (schema_spelling columns left) ∷ Column (schema_spelling columns right) ∷ Number len ∷ Number node ∷ Perhaps prev ∷ []) ≡ true
-  two_clear left right len node prev h there too =
-      and_from (is_plain_word (schema_spelling columns left)) (list_all is_clear (Column (schema_spelling columns right) ∷ Number len ∷ Number node ∷ Perhaps prev ∷ [])) (plain_spelling columns left names there)
-      (and_from (is_plain_word (schema_spelling columns right)) (list_all is_clear (Number len ∷ Number node ∷ Perhaps prev ∷ [])) (plain_spelling columns right names too) (go prev h))
-    where
-      go : (prev : Option ℕ) → list_all is_small (Number len ∷ Number node ∷ Perhaps prev ∷ []) ≡ true → list_all is_clear (Number len ∷ Number node ∷ Perhaps prev ∷ []) ≡ true
-      go None h = h
-      go (Some n) h = h
-
-  columns_clear : (x : ColumnFields) → list_all is_small (column_tokens x) ≡ true → are_columns columns x ≡ true → list_all is_clear (column_tokens (respelled_columns columns x)) ≡ true
-  columns_clear (One compared.Less word start len bound node prev) h g = one_clear word start len bound node prev h g
-  columns_clear (One compared.Equal word start len bound node prev) h g = one_clear word start len bound node prev h g
-  columns_clear (Two compared.Less left right len node prev) h g =
+  columns_plain : (x : ColumnFields) → are_columns columns x ≡ true → list_all is_plain_token (column_tokens (respelled_columns columns x)) ≡ true
+  columns_plain (One compared.Less word start len bound node prev) g = rw (plain_spelling columns word names g) refl
+  columns_plain (One compared.Equal word start len bound node prev) g = rw (plain_spelling columns word names g) refl
+  columns_plain (Two compared.Less left right len node prev) g =
       let named = both (is_found (column_named columns left)) (is_found (column_named columns right)) g in
-      two_clear left right len node prev h named.0 named.1
-  columns_clear (Two compared.Equal left right len node prev) h g =
+      rw (plain_spelling columns left names named.0, plain_spelling columns right names named.1) refl
+  columns_plain (Two compared.Equal left right len node prev) g =
       let named = both (is_found (column_named columns left)) (is_found (column_named columns right)) g in
-      two_clear left right len node prev h named.0 named.1
+      rw (plain_spelling columns left names named.0, plain_spelling columns right names named.1) refl
+
+  columns_small : (x : ColumnFields) → list_all is_small (column_tokens (respelled_columns columns x)) ≡ list_all is_small (column_tokens x)
+  columns_small (One k word start len bound node prev) = refl
+  columns_small _ = refl
 
   chain_clear : (x : ChainFields) → list_all is_small (chain_tokens x) ≡ true → are_columns columns x.columns ≡ true → list_all is_clear (chain_tokens (respelled_chain columns x)) ≡ true
   chain_clear x h g =
-      let first = both (nat_lt x.n (2 ^ 64)) (list_all is_small (column_tokens x.columns)) h in
-      rw first.0 (columns_clear x.columns first.1 g)
+      tokens_clear (chain_tokens (respelled_chain columns x)) (ap (λ b. nat_lt x.n (2 ^ 64) && b) (columns_small x.columns) ∙ h) (columns_plain x.columns g)
 
   -- all lines of a section
   chains_clear : (xs : List ChainFields) → list_all (λ x. list_all is_small (chain_tokens x)) xs ≡ true → list_all (λ x. are_columns columns x.columns) xs ≡ true →
@@ -201,12 +185,12 @@ module _ (columns : List stored.Column) (names : list_all is_name (names_of colu
       and_from (list_all is_clear (chain_tokens (respelled_chain columns x))) (list_all (λ x. list_all is_clear (chain_tokens x)) (map (respelled_chain columns) xs))
       (chain_clear x small.0 there.0) (chains_clear xs small.1 there.1)
 
-all_clear : {A : Type 0} (tokens : A → List Token) → ((x : A) → list_all is_small (tokens x) ≡ true → list_all is_clear (tokens x) ≡ true) → (xs : List A) →
+all_clear : {A : Type 0} (tokens : A → List Token) → ((x : A) → list_all is_plain_token (tokens x) ≡ true) → (xs : List A) →
     list_all (λ x. list_all is_small (tokens x)) xs ≡ true → list_all (λ x. list_all is_clear (tokens x)) xs ≡ true
-all_clear tokens clear [] h = refl
-all_clear tokens clear (x ∷ xs) h =
+all_clear tokens plain [] h = refl
+all_clear tokens plain (x ∷ xs) h =
     let here = both (list_all is_small (tokens x)) (list_all (λ x. list_all is_small (tokens x)) xs) h in
-    and_from (list_all is_clear (tokens x)) (list_all (λ x. list_all is_clear (tokens x)) xs) (clear x here.0) (all_clear tokens clear xs here.1)
+    and_from (list_all is_clear (tokens x)) (list_all (λ x. list_all is_clear (tokens x)) xs) (tokens_clear (tokens x) here.0 (plain x)) (all_clear tokens plain xs here.1)
 
 -- a section's lines, before a certificate that follows them
 from_lower : (s t : ℕ) (lines : List NumberedWords) (c : CertificateFields) → t ≤ s → SpellsFrom s lines c → SpellsFrom t lines c
@@ -244,11 +228,6 @@ end_spelled n end h =
     let whole : numbered_from n (cut_lines (token_line (end_tokens end))) ≡ numbered_words n (map token_text (end_tokens end)) ∷ [] =
     ap (λ (t : List ℕ). numbered_from n (cut_lines t)) (sym (append-nil (token_line (end_tokens end)))) ∙ said in
     rw whole (at_end (record { line = n; row = end.row }) (refl, tokens_spelled (end_tokens end) h))
-
-row_all : (x : ProductLine) → list_all is_small (row_tokens x) ≡ true → list_all is_clear (row_tokens x) ≡ true
-row_all x h =
-    let first = both (nat_lt x.n (2 ^ 64)) (list_all is_small (Key (connective_spelling x.op) ∷ Number x.a ∷ Number x.b ∷ Number x.c ∷ reason_tokens x.reason)) h in
-    rw first.0 (row_clear x.a x.b x.c x.op x.reason first.1)
 
 nodes_after : (first : ℕ) (xs : List NodeLine) (c : CertificateFields) →
     with_section Node node_at first xs c ≡ record { nodes = numbered_on node_at first xs ++ c.nodes; chains = c.chains; products = c.products; body = c.body; end = c.end }
@@ -317,5 +296,5 @@ text_spells columns first c names small there =
     let k = both (list_all (λ x. list_all is_small (chain_tokens x)) c.chains) _ n.1 in
     let r = both (list_all (λ x. list_all is_small (row_tokens x)) c.products) _ k.1 in
     let b = both (list_all (λ x. list_all is_small (body_tokens x)) c.body) (list_all is_small (end_tokens c.end)) r.1 in
-    certificate_spelled first (respell columns c) (all_clear node_tokens (λ x h. h) c.nodes n.0) (chains_clear columns names c.chains k.0 there) (all_clear row_tokens row_all c.products r.0)
-    (all_clear body_tokens (λ x h. entry_clear x.entry h) c.body b.0) b.1
+    certificate_spelled first (respell columns c) (all_clear node_tokens (λ x. refl) c.nodes n.0) (chains_clear columns names c.chains k.0 there) (all_clear row_tokens (λ x. row_plain x.op x.reason) c.products r.0)
+    (all_clear body_tokens (λ x. entry_plain x.entry) c.body b.0) b.1

@@ -1,7 +1,8 @@
 -- The numbers of what a text spells are below 2^64, and its registers are of the 64.
-use Rattle.std.proofs.Common.{◌≡◌, refl, ℕ, ◌^◌, Bool, true, false, ◌&&◌, cond, List, Some, None}
+use Rattle.std.proofs.Common.{◌≡◌, refl, ℕ, ◌^◌, Bool, true, false, cond, List, Some, None}
 use Rattle.std.proofs.Common.{nat_lt}
 use Rattle.std.specs.List.{list_all}
+use Rattle.std.proofs.lemmas.Option.{cond_some}
 use Rattle.bw_text.specs.Lines.{NumberedWords, lines_in, from_line}
 use Rattle.bw_text.specs.Number.{natural_of, are_digits, digits_value, where_64_bits_hold}
 use Rattle.bw_cert_text.specs.CertificateFields.{CertificateFields}
@@ -15,11 +16,7 @@ use Rattle.bw_cert_text.specs.Token.{AreSpelled, none, next, node_tokens, chain_
 use Rattle.bw_cert_text.specs.Token.{end_tokens}
 
 below_so : (bound m n : ℕ) → cond (nat_lt m bound) (Some m) None ≡ Some n → nat_lt n bound ≡ true
-below_so bound m n e = go (nat_lt m bound) refl e
-  where
-    go : (b : Bool) → nat_lt m bound ≡ b → cond b (Some m) None ≡ Some n → nat_lt n bound ≡ true
-    go true is e = let same : m ≡ n = cc e in rw (← same) is
-    go false is e = absurd (cc e)
+below_so bound m n e = let is = cond_some (nat_lt m bound) m n e in rw (← is.1) is.0
 
 natural_small : (word : List ℕ) (n : ℕ) → natural_of word ≡ Some n → nat_lt n (2 ^ 64) ≡ true
 unfolding natural_of
@@ -39,31 +36,11 @@ tokens_small : (ts : List Token) (words : List (List ℕ)) → AreSpelled ts wor
 tokens_small _ _ none = refl
 tokens_small _ _ (next {token = t} {word = word} {tokens = ts} {words = words} is rest) = rw (token_small t word is) (tokens_small ts words rest)
 
--- one more line in front of a section's
-first_front : (a n r : Bool) → a ≡ true → (n && r) ≡ true → ((a && n) && r) ≡ true
-first_front a n r x e = rw x e
-
-second_front : (n a k r : Bool) → a ≡ true → (n && (k && r)) ≡ true → (n && ((a && k) && r)) ≡ true
-second_front n a k r x e = rw x e
-
-third_front : (n k a o r : Bool) → a ≡ true → (n && (k && (o && r))) ≡ true → (n && (k && ((a && o) && r))) ≡ true
-third_front n k a o r x e = rw x e
-
-fourth_front : (n k o a b r : Bool) → a ≡ true → (n && (k && (o && (b && r)))) ≡ true → (n && (k && (o && ((a && b) && r)))) ≡ true
-fourth_front n k o a b r x e = rw x e
-
 lines_small : (s : ℕ) (lines : List NumberedWords) (c : CertificateFields) → SpellsFrom s lines c → numbers_fit c ≡ true
-lines_small s _ _ (before_end {line = line} (Node x) {lines = lines} {rest = c} le says rest) =
-    first_front (list_all is_small (node_tokens x)) (list_all (λ x. list_all is_small (node_tokens x)) c.nodes) _ (tokens_small (node_tokens x) line.words says.1) (lines_small 0 lines c rest)
-lines_small s _ _ (before_end {line = line} (Chain x) {lines = lines} {rest = c} le says rest) =
-    second_front (list_all (λ x. list_all is_small (node_tokens x)) c.nodes) (list_all is_small (chain_tokens x)) (list_all (λ x. list_all is_small (chain_tokens x)) c.chains) _
-    (tokens_small (chain_tokens x) line.words says.1) (lines_small 1 lines c rest)
-lines_small s _ _ (before_end {line = line} (Row x) {lines = lines} {rest = c} le says rest) =
-    third_front (list_all (λ x. list_all is_small (node_tokens x)) c.nodes) (list_all (λ x. list_all is_small (chain_tokens x)) c.chains) (list_all is_small (row_tokens x))
-    (list_all (λ x. list_all is_small (row_tokens x)) c.products) _ (tokens_small (row_tokens x) line.words says.1) (lines_small 2 lines c rest)
-lines_small s _ _ (before_end {line = line} (Body x) {lines = lines} {rest = c} le says rest) =
-    fourth_front (list_all (λ x. list_all is_small (node_tokens x)) c.nodes) (list_all (λ x. list_all is_small (chain_tokens x)) c.chains) (list_all (λ x. list_all is_small (row_tokens x)) c.products)
-    (list_all is_small (body_tokens x)) (list_all (λ x. list_all is_small (body_tokens x)) c.body) _ (tokens_small (body_tokens x) line.words says.1) (lines_small 3 lines c rest)
+lines_small s _ _ (before_end {line = line} (Node x) {lines = lines} {rest = c} le says rest) = rw (tokens_small (node_tokens x) line.words says.1) (lines_small 0 lines c rest)
+lines_small s _ _ (before_end {line = line} (Chain x) {lines = lines} {rest = c} le says rest) = rw (tokens_small (chain_tokens x) line.words says.1) (lines_small 1 lines c rest)
+lines_small s _ _ (before_end {line = line} (Row x) {lines = lines} {rest = c} le says rest) = rw (tokens_small (row_tokens x) line.words says.1) (lines_small 2 lines c rest)
+lines_small s _ _ (before_end {line = line} (Body x) {lines = lines} {rest = c} le says rest) = rw (tokens_small (body_tokens x) line.words says.1) (lines_small 3 lines c rest)
 lines_small s _ _ (at_end {line = line} end says) = tokens_small (end_tokens end) line.words says.1
 
 pub text_small : (first : ℕ) (text : List ℕ) (c : CertificateFields) → IsCertificateText first text c → numbers_fit c ≡ true

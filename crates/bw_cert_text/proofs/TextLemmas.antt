@@ -9,15 +9,6 @@ use Rattle.bw_cert_text.specs.LineText.{Part, ParsedLine, Before, End}
 use Rattle.bw_cert_text.specs.CertificateText.{section_of, with_part, end_alone, form_fault}
 use Rattle.bw_cert_text.specs.CertificateText.{parse_line_on, last_line, certificate_after, certificate_from}
 
-pub certificate_from-end : (section : ℕ) (lines : List NumberedWords) (end : ℕ) → lines ≡ [] → certificate_from section lines end ≡ Err (form_fault end)
-unfolding certificate_from
-certificate_from-end section lines end e = rw e refl
-
-pub certificate_from-next : (section : ℕ) (lines rest : List NumberedWords) (line : NumberedWords) (end : ℕ) → lines ≡ line ∷ rest →
-    certificate_from section lines end ≡ (parse_line_on section line >>= λ said. certificate_after rest (λ s. certificate_from s rest end) said)
-unfolding certificate_from
-certificate_from-next section lines rest line end e = rw e refl
-
 both_steps : (r : Result CertificateFields Fault) (part : Part) (f g : CertificateFields → CertificateFields) → ((x : CertificateFields) → g x ≡ f (with_part part x)) →
     ((r >>= λ rest. Ok (with_part part rest)) >>= λ rest. Ok (f rest)) ≡ (r >>= λ rest. Ok (g rest))
 both_steps (Ok x) part f g same = ap Ok (sym (same x))
@@ -26,16 +17,18 @@ both_steps (Err fault) part f g same = refl
 -- the lines end
 pub whole-end : (whole : Result CertificateFields Fault) (section : ℕ) (lines : List NumberedWords) (end : ℕ) (f : CertificateFields → CertificateFields) →
     whole ≡ (certificate_from section lines end >>= λ c. Ok (f c)) → lines ≡ [] → whole ≡ Err (form_fault end)
-whole-end whole section lines end f told e = told ∙ ap (λ (r : Result CertificateFields Fault). r >>= λ c. Ok (f c)) (certificate_from-end section lines end e)
+unfolding certificate_from
+whole-end whole section lines end f told e = rw e at told
 
 module _ (whole : Result CertificateFields Fault) (section : ℕ) (lines rest : List NumberedWords) (line : NumberedWords) (end : ℕ) (f : CertificateFields → CertificateFields)
     (told : whole ≡ (certificate_from section lines end >>= λ c. Ok (f c))) where
   -- a line is read, or rejected
   pub whole-next : lines ≡ line ∷ rest → (r : Result ParsedLine Fault) → parse_line_on section line ≡ r →
       whole ≡ ((r >>= λ said. certificate_after rest (λ s. certificate_from s rest end) said) >>= λ c. Ok (f c))
+  unfolding certificate_from
   whole-next e r is =
-      told ∙ ap (λ (r : Result CertificateFields Fault). r >>= λ c. Ok (f c))
-      (certificate_from-next section lines rest line end e ∙ ap (λ (r : Result ParsedLine Fault). r >>= λ said. certificate_after rest (λ s. certificate_from s rest end) said) is)
+      told ∙ ap (λ (lines : List NumberedWords). certificate_from section lines end >>= λ c. Ok (f c)) e
+      ∙ ap (λ (r : Result ParsedLine Fault). (r >>= λ said. certificate_after rest (λ s. certificate_from s rest end) said) >>= λ c. Ok (f c)) is
 
   pub whole-before : lines ≡ line ∷ rest → (part : Part) (g : CertificateFields → CertificateFields) (next : ℕ) → parse_line_on section line ≡ Ok (Before part) → next ≡ section_of part →
       ((x : CertificateFields) → g x ≡ f (with_part part x)) → whole ≡ (certificate_from next rest end >>= λ c. Ok (g c))

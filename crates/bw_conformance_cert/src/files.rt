@@ -3,47 +3,63 @@
 /// A table with a column from 0 to 255 and a nullable one from -10 to 10.
 pub(crate) const SCHEMA: &str = "TABLE t\nCOLUMN a 0 255 NOT NULL\nCOLUMN b -10 10\n";
 
+/// A program file for `a >= 192` by its two top bits: its program, and the lines of its
+/// instructions and joins.
+macro_rules! by_top_bits {
+    ($program:literal, $lines:literal) => {
+        concat!(
+            $program,
+            "\
+            CERTIFICATE\n\
+            NODE 2 1 1 0\n\
+            NODE 3 0 1 2\n\
+            NODE 4 1 0 1\n\
+            NODE 5 0 0 1\n\
+            NODE 6 0 0 4\n\
+            NODE 7 0 0 2\n\
+            CHAIN 0 LT a 0 0 0 0 -\n\
+            CHAIN 1 LT a 0 1 0 0 0\n\
+            CHAIN 2 LT a 0 2 0 0 1\n\
+            CHAIN 3 LT a 0 3 0 0 2\n\
+            CHAIN 4 LT a 0 4 0 0 3\n\
+            CHAIN 5 LT a 0 5 0 0 4\n\
+            CHAIN 6 LT a 0 6 0 0 5\n\
+            CHAIN 7 LT a 0 7 64 2 6\n\
+            CHAIN 8 LT a 0 8 192 3 7\n\
+            ROW 0 DIFF 1 1 0 S\n\
+            ROW 1 DIFF 1 0 1 S\n\
+            ROW 2 DIFF 1 2 4 V 1 0 1\n\
+            ROW 3 DIFF 1 3 6 V 0 0 2\n\
+            ROW 4 AND 1 3 3 S\n\
+            ROW 5 AND 0 4 0 S\n\
+            ROW 6 AND 1 4 4 S\n\
+            ROW 7 AND 5 4 6 V 0 5 6\n\
+            ROW 8 XOR 6 6 0 S\n\
+            ROW 9 XOR 0 0 0 S\n\
+            ROW 10 XOR 1 0 1 S\n\
+            ROW 11 XOR 1 1 0 S\n\
+            ROW 12 XOR 1 4 2 V 1 10 11\n\
+            ROW 13 XOR 5 6 7 V 0 9 12\n\
+            ROW 14 DIFF 0 0 0 S\n\
+            ROW 15 DIFF 2 1 0 S\n\
+            ROW 16 DIFF 7 5 0 V 0 14 15\n\
+            CMP 8 - 4 3\n\
+            ",
+            $lines
+        )
+    };
+}
+
 /// `a >= 192` by its two top bits, with a skip between them: 46 lines.
-pub(crate) const TOP_BITS: &str = "\
+pub(crate) const TOP_BITS: &str = by_top_bits!(
+    "\
     LOAD r0 a 7\n\
     SKIP r0 4\n\
     LOAD r1 a 6\n\
     AND r0 r0 r1\n\
     RESULT r0\n\
-    CERTIFICATE\n\
-    NODE 2 1 1 0\n\
-    NODE 3 0 1 2\n\
-    NODE 4 1 0 1\n\
-    NODE 5 0 0 1\n\
-    NODE 6 0 0 4\n\
-    NODE 7 0 0 2\n\
-    CHAIN 0 LT a 0 0 0 0 -\n\
-    CHAIN 1 LT a 0 1 0 0 0\n\
-    CHAIN 2 LT a 0 2 0 0 1\n\
-    CHAIN 3 LT a 0 3 0 0 2\n\
-    CHAIN 4 LT a 0 4 0 0 3\n\
-    CHAIN 5 LT a 0 5 0 0 4\n\
-    CHAIN 6 LT a 0 6 0 0 5\n\
-    CHAIN 7 LT a 0 7 64 2 6\n\
-    CHAIN 8 LT a 0 8 192 3 7\n\
-    ROW 0 DIFF 1 1 0 S\n\
-    ROW 1 DIFF 1 0 1 S\n\
-    ROW 2 DIFF 1 2 4 V 1 0 1\n\
-    ROW 3 DIFF 1 3 6 V 0 0 2\n\
-    ROW 4 AND 1 3 3 S\n\
-    ROW 5 AND 0 4 0 S\n\
-    ROW 6 AND 1 4 4 S\n\
-    ROW 7 AND 5 4 6 V 0 5 6\n\
-    ROW 8 XOR 6 6 0 S\n\
-    ROW 9 XOR 0 0 0 S\n\
-    ROW 10 XOR 1 0 1 S\n\
-    ROW 11 XOR 1 1 0 S\n\
-    ROW 12 XOR 1 4 2 V 1 10 11\n\
-    ROW 13 XOR 5 6 7 V 0 9 12\n\
-    ROW 14 DIFF 0 0 0 S\n\
-    ROW 15 DIFF 2 1 0 S\n\
-    ROW 16 DIFF 7 5 0 V 0 14 15\n\
-    CMP 8 - 4 3\n\
+    ",
+    "\
     LOAD 5\n\
     SKIP\n\
     LOAD 4\n\
@@ -51,50 +67,20 @@ pub(crate) const TOP_BITS: &str = "\
     JOIN 4\n\
     KEEP r0 6 8 13 16\n\
     END 8\n\
-    ";
+    "
+);
 
 /// The same with the skip twice, one after the other.
-pub(crate) const SAME_SKIP_TWICE: &str = "\
+pub(crate) const SAME_SKIP_TWICE: &str = by_top_bits!(
+    "\
     LOAD r0 a 7\n\
     SKIP r0 5\n\
     SKIP r0 5\n\
     LOAD r1 a 6\n\
     AND r0 r0 r1\n\
     RESULT r0\n\
-    CERTIFICATE\n\
-    NODE 2 1 1 0\n\
-    NODE 3 0 1 2\n\
-    NODE 4 1 0 1\n\
-    NODE 5 0 0 1\n\
-    NODE 6 0 0 4\n\
-    NODE 7 0 0 2\n\
-    CHAIN 0 LT a 0 0 0 0 -\n\
-    CHAIN 1 LT a 0 1 0 0 0\n\
-    CHAIN 2 LT a 0 2 0 0 1\n\
-    CHAIN 3 LT a 0 3 0 0 2\n\
-    CHAIN 4 LT a 0 4 0 0 3\n\
-    CHAIN 5 LT a 0 5 0 0 4\n\
-    CHAIN 6 LT a 0 6 0 0 5\n\
-    CHAIN 7 LT a 0 7 64 2 6\n\
-    CHAIN 8 LT a 0 8 192 3 7\n\
-    ROW 0 DIFF 1 1 0 S\n\
-    ROW 1 DIFF 1 0 1 S\n\
-    ROW 2 DIFF 1 2 4 V 1 0 1\n\
-    ROW 3 DIFF 1 3 6 V 0 0 2\n\
-    ROW 4 AND 1 3 3 S\n\
-    ROW 5 AND 0 4 0 S\n\
-    ROW 6 AND 1 4 4 S\n\
-    ROW 7 AND 5 4 6 V 0 5 6\n\
-    ROW 8 XOR 6 6 0 S\n\
-    ROW 9 XOR 0 0 0 S\n\
-    ROW 10 XOR 1 0 1 S\n\
-    ROW 11 XOR 1 1 0 S\n\
-    ROW 12 XOR 1 4 2 V 1 10 11\n\
-    ROW 13 XOR 5 6 7 V 0 9 12\n\
-    ROW 14 DIFF 0 0 0 S\n\
-    ROW 15 DIFF 2 1 0 S\n\
-    ROW 16 DIFF 7 5 0 V 0 14 15\n\
-    CMP 8 - 4 3\n\
+    ",
+    "\
     LOAD 5\n\
     SKIP\n\
     SKIP\n\
@@ -103,7 +89,8 @@ pub(crate) const SAME_SKIP_TWICE: &str = "\
     JOIN 5\n\
     KEEP r0 6 8 13 16 13 16\n\
     END 8\n\
-    ";
+    "
+);
 
 /// `a >= 224` by its three top bits, with a skip after the first and one after the second, both to
 /// the same place.

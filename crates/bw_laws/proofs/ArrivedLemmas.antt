@@ -2,7 +2,7 @@
 use Rattle.std.proofs.Common.{◌≡◌, ℕ, List, Result, Ok, Err, refl, sym, ap, subst}
 use Rattle.bw_model.specs.declared.fault.Fault.{Fault}
 use Rattle.bw_model.specs.declared.schema.Schema.{Schema}
-use Rattle.bw_io.specs.Source.{Arrival, NotReached, Whole, TooLong, Failed}
+use Rattle.bw_io.specs.Source.{Arrival, NotReached, Whole}
 use Rattle.bw_csv.specs.Input.{IsMadeOf, IsMadeAfter}
 use Rattle.bw_csv_calls.specs.ReadInputs.{IsSchemaFrom}
 use Rattle.bw_csv_calls.specs.Direct.{IsAnswer, IsAnswerUnder, answer_of}
@@ -18,21 +18,17 @@ pub record CsvText {A : Type 0} (csv : Arrival) (make : List ℕ → Result A Fa
 pub csv_text_of : {A : Type 0} (csv : Arrival) (make : List ℕ → Result A Fault) (x : A) → IsMadeOf make csv (Ok x) → CsvText csv make x
 csv_text_of NotReached make x made = absurd made
 csv_text_of (Whole text) make x made = record { text = text; came = refl; given = sym made }
-csv_text_of TooLong make x made = absurd (cc made)
-csv_text_of (Failed fault) make x made = absurd (cc made)
+csv_text_of _ make x made = absurd (cc made)
 
 -- if a schema or bytes were read from a source of a text, they are those of that text
 pub schema_came_whole : (limit : ℕ) (text : List ℕ) (came : Arrival) (schema : Schema) → IsArrivalOf limit text came → IsSchemaFrom came (Ok schema) → came ≡ Whole text
 schema_came_whole limit text NotReached schema source from = absurd from
 schema_came_whole limit text (Whole bytes) schema source from = ap Whole source.is.0.1
-schema_came_whole limit text TooLong schema source from = absurd (cc from)
-schema_came_whole limit text (Failed fault) schema source from = absurd (cc from)
+schema_came_whole limit text _ schema source from = absurd (cc from)
 
 csv_came_whole : (limit : ℕ) (text bytes : List ℕ) (came : Arrival) → IsArrivalOf limit text came → came ≡ Whole bytes → came ≡ Whole text
-csv_came_whole limit text bytes NotReached source is = absurd (cc is)
 csv_came_whole limit text bytes (Whole all) source is = ap Whole source.is.0.1
-csv_came_whole limit text bytes TooLong source is = absurd (cc is)
-csv_came_whole limit text bytes (Failed fault) source is = absurd (cc is)
+csv_came_whole limit text bytes _ source is = absurd (cc is)
 
 pub came_whole_after : {A : Type 0} (limit : ℕ) (csv given : List ℕ) (came : Arrival) (first : Result A Fault) (make : A → List ℕ → Result (List ℕ) Fault) → IsArrivalOf limit csv came
     → IsMadeAfter first make came (Ok given) → came ≡ Whole csv

@@ -37,12 +37,15 @@ use Rattle.bw_file.specs.declared.layout.Layout.{Layout}
 use Rattle.bw_file.specs.FileBytes.{IsFileBytes, bytes_of_version, file_bytes, file_bytes2}
 use Rattle.bw_file.specs.FileBytes.{front_bytes, header_bytes, magic}
 use Rattle.bw_file.specs.Reading.{Tail, tail}
-use Rattle.bw_file.specs.TableReading.{Found, HeaderShape, IsReadAfter, IsReadAs, found_as}
+use Rattle.bw_file.specs.TableReading.{Found, HeaderShape, IsReadAfter, found_as}
 use Rattle.bw_file.specs.TableReading.{found_in, header}
 use Rattle.bw_file.proofs.ReaderLemmas.{head_at}
+use Rattle.bw_file.proofs.SpelledFile.{spelled_is_read}
 use Rattle.bw_query.specs.TableAnswer.{AnswersFile, IsEveryRow, by_dump}
 use Rattle.bw_laws.specs.OneAnswer.{IsArrivalOf}
 use Rattle.bw_laws.specs.Backup.{IsOfNeededVersion, IsThatFile, IsTold, LoadsUnder, table_text}
+use Rattle.bw_laws.proofs.OneFileLemmas.{file_alike}
+use Rattle.bw_laws.proofs.SchemaTextLemmas.{one_schema}
 use Rattle.bw_laws.proofs.SpelledRecords.{is_record, records_read, unmarked}
 use Rattle.bw_laws.proofs.SpelledValues.{AreColumns, first_is, is_solid, name_is_solid, names_head}
 use Rattle.bw_laws.proofs.SpelledValues.{others_are, shows, solid_shows, value_shows, value_spelled}
@@ -64,17 +67,15 @@ values_spelled : (number : ℕ) (columns : List Column) (row : List Value) → A
     → values_of_fields number columns (row_fields row) ≡ Ok row
 unfolding values_of_fields
 values_spelled number [] [] are e = refl
-values_spelled number [] (value ∷ row) are e = absurd (cc e)
-values_spelled number (column ∷ columns) [] are e = absurd (cc e)
 values_spelled number (column ∷ columns) (value ∷ row) are e =
     let is = both (admits_value column value) (admits_values columns row) e in
     rw (value_spelled number column value (first_is column columns are) is.0, values_spelled number columns row (others_are column columns are) is.1) refl
+values_spelled number _ _ are e = absurd (cc e)
 
 pub as_wide : (columns : List Column) (row : List Value) → admits_values columns row ≡ true → length row ≡ length columns
 as_wide [] [] e = refl
-as_wide [] (value ∷ row) e = absurd (cc e)
-as_wide (column ∷ columns) [] e = absurd (cc e)
 as_wide (column ∷ columns) (value ∷ row) e = ap suc (as_wide columns row (both (admits_value column value) (admits_values columns row) e).1)
+as_wide _ _ e = absurd (cc e)
 
 row_spelled : (number : ℕ) (columns : List Column) (row : List Value) → AreColumns columns → admits_values columns row ≡ true → number ≤ most_rows
     → row_of_record number columns (row_fields row) ≡ Ok row
@@ -94,11 +95,10 @@ rows_spelled columns (row ∷ rows) number are e few =
 -- each field shows itself, in the rows and in the heading
 row_shows : (columns : List Column) (row : List Value) → AreColumns columns → admits_values columns row ≡ true → list_all shows (row_fields row) ≡ true
 row_shows [] [] are e = refl
-row_shows [] (value ∷ row) are e = absurd (cc e)
-row_shows (column ∷ columns) [] are e = absurd (cc e)
 row_shows (column ∷ columns) (value ∷ row) are e =
     let is = both (admits_value column value) (admits_values columns row) e in
     rw (value_shows column value (first_is column columns are) is.0, row_shows columns row (others_are column columns are) is.1) refl
+row_shows _ _ are e = absurd (cc e)
 
 names_show : (columns : List Column) → AreColumns columns → list_all shows (names_of columns) ≡ true
 names_show [] are = refl
@@ -231,19 +231,6 @@ never_past : (limit : ℕ) (bytes : List ℕ) (left : Option (List ℕ)) → len
 never_past limit bytes None short past = past.1
 never_past limit bytes (Some left) short past = not_past bytes left past.0 limit short past.1 past.2
 
--- schema texts that spell a schema have its columns
-spelled_alike : (text : List ℕ) (shape other : SchemaShape) → IsSchemaText text shape → IsSchemaText text other → shape ≡ other
-spelled_alike text shape other one two = done_same shape other (sym (read_of text shape one) ∙ read_of text other two)
-  where
-    done_same : (a b : SchemaShape) → ◌≡◌ {A = Result SchemaShape Fault} (Ok a) (Ok b) → a ≡ b
-    done_same a b e = cc e
-
-under_alike : (layout : Layout) (under schema : Schema) (csv : List ℕ) → schema_shape under ≡ schema_shape schema → file_of layout under csv ≡ file_of layout schema csv
-under_alike layout under schema csv e =
-    let columns : under.columns.items ≡ schema.columns.items = columns_same _ _ (ap (λ (shape : SchemaShape). shape.columns) e) in
-    let name : under.name ≡ schema.name = ap (λ (shape : SchemaShape). shape.name) e in
-    rw (columns, name) refl
-
 -- a load of a text that spells the rows, and is no longer than a CSV text may be
 module _ (layout : Layout) (schema : Schema) (rows : Rows) (csv : List ℕ) (spelled : rows_of schema.columns.items csv ≡ Ok rows) where
   abbrev IsGiven : Result (List ℕ) Fault → Type 0
@@ -257,14 +244,14 @@ module _ (layout : Layout) (schema : Schema) (rows : Rows) (csv : List ℕ) (spe
   with_csv under NotReached given alike short of made = absurd made
   with_csv under (Whole all) given alike short of made =
       let file : given ≡ Ok (file_bytes layout schema rows) =
-      made ∙ ap (file_of layout under) of.is.0.1 ∙ under_alike layout under schema csv alike ∙ text_loads layout schema rows csv spelled in
+      made ∙ ap (file_of layout under) of.is.0.1 ∙ file_alike layout under schema csv alike ∙ text_loads layout schema rows csv spelled in
       rw file refl
   with_csv under TooLong given alike short of made = absurd (never_past longest_csv csv of.left short of.is.0)
   with_csv under (Failed fault) given alike short of made = failed_is_given given fault (failed_input longest_csv csv fault of) made
 
   with_schema : (text : List ℕ) (under : Result Schema Fault) (came : Arrival) (given : Result (List ℕ) Fault) → IsSchemaText text (schema_shape schema)
       → IsSchemaFrom (Whole text) under → length csv ≤ longest_csv → IsArrivalOf longest_csv csv came → IsMadeAfter under (file_of layout) came given → IsGiven given
-  with_schema text (Ok under) came given is from short of made = with_csv under came given (spelled_alike text (schema_shape under) (schema_shape schema) from is) short of made
+  with_schema text (Ok under) came given is from short of made = with_csv under came given (one_schema text (schema_shape under) (schema_shape schema) from is) short of made
   with_schema text (Err fault) came given is from short of made =
       absurd (let clash : ◌≡◌ {A = Result SchemaShape Fault} (Ok (schema_shape schema)) (Err fault) = sym (read_of text (schema_shape schema) is) ∙ from in cc clash)
 
@@ -295,9 +282,9 @@ found_schema told found (Ok x) e =
     sym (ap (λ (found : Found). found.schema) same)
 found_schema told found (Err fault) e = absurd (cc e)
 
-pub told_spells : (bytes : List ℕ) (layout : Layout) (schema : Schema) (rows : Rows) (text : List ℕ) → IsReadAs bytes (Ok (found_as layout (schema_shape schema) rows))
-    → IsTold bytes text → IsSchemaText text (schema_shape schema)
-told_spells bytes layout schema rows text read is =
+pub told_spells : (bytes : List ℕ) (layout : Layout) (schema : Schema) (rows : Rows) (text : List ℕ) → IsFileBytes bytes layout schema rows → IsTold bytes text → IsSchemaText text (schema_shape schema)
+told_spells bytes layout schema rows text file is =
+    let read = spelled_is_read bytes layout schema rows file in
     let told = is.header.told in
     let head = is.header.read in
     let rest = rest_of is.now.known bytes head.bytes head.took.consumed in

@@ -1,27 +1,24 @@
 -- How long the text of a dump is at most: a name has 63 bytes at most, a number 20, and a byte
 -- follows each field.
-use Rattle.std.proofs.Common.{◌≡◌, ◌∙◌, ℕ, zero, suc, ◌+◌, ◌*◌, ◌≤◌, List, [], ◌∷◌, ◌++◌, length}
-use Rattle.std.proofs.Common.{length-append, append_assoc, map, Some, None, true, not, ap, arith}
-use Rattle.std.specs.Prelude.{◌&&◌, ⊤, nat_le}
+use Rattle.std.proofs.Common.{◌≡◌, ◌∙◌, ℕ, suc, ◌+◌, ◌*◌, ◌≤◌, List, [], ◌∷◌, ◌++◌, length}
+use Rattle.std.proofs.Common.{length-append, append_assoc, map, Some, None, true, ap, arith}
+use Rattle.std.specs.Prelude.{⊤}
 use Rattle.std.specs.List.{join_with_byte, list_all}
-use Rattle.std.proofs.lemmas.Bool.{leb-true}
 use Rattle.std.proofs.lemmas.List.{length-map}
 use Rattle.bw_model.specs.declared.column.Column.{Column}
 use Rattle.bw_model.specs.declared.schema.Schema.{Schema}
 use Rattle.bw_model.specs.Column.{admits_value, admits_values, names_of}
 use Rattle.bw_model.specs.Limits.{longest_csv, most_rows}
-use Rattle.bw_model.specs.Name.{is_name}
 use Rattle.bw_model.specs.Row.{Value}
 use Rattle.bw_model.specs.Schema.{IsColumn}
 use Rattle.bw_model.specs.SchemaText.{column_shape}
-use Rattle.bw_text.specs.Keyword.{is_reserved}
-use Rattle.bw_text.specs.Text.{is_word}
 use Rattle.bw_answer.specs.Answer.{csv_text, record_text, value_text}
 use Rattle.bw_csv.proofs.DigitsAlone.{both}
 use Rattle.bw_file.specs.declared.layout.Layout.{Layout}
 use Rattle.bw_file.specs.FileBytes.{IsFileBytes}
 use Rattle.bw_schemas.proofs.PrintedBounds.{bound_length}
 use Rattle.bw_laws.specs.Backup.{table_text}
+use Rattle.bw_file.proofs.EncoderLemmas.{short_name}
 use Rattle.bw_laws.proofs.BackupLemmas.{as_wide}
 use Rattle.bw_laws.proofs.SpelledValues.{AreColumns, first_is, fits_in, others_are}
 
@@ -37,13 +34,9 @@ record_short most field (next ∷ fields) short =
     let split : record_text (field ∷ next ∷ fields) ≡ field ++ 44 ∷ record_text (next ∷ fields) = append_assoc field (44 ∷ join_with_byte 44 (next ∷ fields)) (10 ∷ []) in
     omega (arith, ap length split, length-append field (44 ∷ record_text (next ∷ fields)), short.0, record_short most next fields short.1)
 
-name_short : (name : List ℕ) → is_name name ≡ true → length name ≤ 63
-unfolding is_name
-name_short name e = leb-true (length name) 63 (both (is_word name) (nat_le (length name) 63) (both (is_word name && nat_le (length name) 63) (not (is_reserved name)) e).0).1
-
 names_short : (columns : List Column) → AreColumns columns → AreShort 63 (names_of columns)
 names_short [] are = tt
-names_short (column ∷ columns) are = (name_short column.name (first_is column columns are).name, names_short columns (others_are column columns are))
+names_short (column ∷ columns) are = (short_name column.name (first_is column columns are).name, names_short columns (others_are column columns are))
 
 value_short : (column : Column) (value : Value) → IsColumn (column_shape column) → admits_value column value ≡ true → length (value_text value) ≤ 20
 value_short column None is e = omega arith
@@ -51,11 +44,10 @@ value_short column (Some n) is e = bound_length n (fits_in column n is e)
 
 row_short : (columns : List Column) (row : List Value) → AreColumns columns → admits_values columns row ≡ true → AreShort 20 (map value_text row)
 row_short [] [] are e = tt
-row_short [] (value ∷ row) are e = absurd (cc e)
-row_short (column ∷ columns) [] are e = absurd (cc e)
 row_short (column ∷ columns) (value ∷ row) are e =
     let is = both (admits_value column value) (admits_values columns row) e in
     (value_short column value (first_is column columns are) is.0, row_short columns row (others_are column columns are) is.1)
+row_short _ _ are e = absurd (cc e)
 
 fields_short : (most : ℕ) (fields : List (List ℕ)) → 1 ≤ length fields → AreShort most fields → length (record_text fields) ≤ length fields * (most + 1)
 fields_short most [] some short = absurd (omega (arith, some))
@@ -82,11 +74,8 @@ table_short bytes layout schema rows file =
 
 -- of at most three columns, even the most rows have room in a CSV text
 few_columns : (columns rows size : ℕ) → size ≤ columns * 64 + rows * (columns * 21) → columns ≤ 3 → rows ≤ most_rows → size ≤ longest_csv
-few_columns zero rows size most few all = omega (arith, most, all)
-few_columns (suc zero) rows size most few all = omega (arith, most, all)
-few_columns (suc (suc zero)) rows size most few all = omega (arith, most, all)
-few_columns (suc (suc (suc zero))) rows size most few all = omega (arith, most, all)
 few_columns (suc (suc (suc (suc columns)))) rows size most few all = absurd (omega (arith, few))
+few_columns _ rows size most few all = omega (arith, most, all)
 
 pub three_columns : (bytes : List ℕ) (layout : Layout) (schema : Schema) (rows : List (List Value)) → IsFileBytes bytes layout schema rows
     → length schema.columns.items ≤ 3 → length (table_text schema rows) ≤ longest_csv

@@ -5,7 +5,7 @@ use Rattle.std.proofs.Common.{Bool, true, false, not, if◌then◌else◌, nat_l
 use Rattle.std.proofs.Common.{◌++◌, length, map, get_or, All, Option, Some, None, Ok, FitsSigned}
 use Rattle.std.proofs.Common.{w64, length-append, arith, refl}
 use Rattle.std.specs.List.{list_any}
-use Rattle.std.proofs.lemmas.Bool.{leb-false}
+use Rattle.std.proofs.lemmas.Bool.{leb-false, not-false}
 use Rattle.std.proofs.lemmas.Int.{ints, clamps}
 use Rattle.std.proofs.lemmas.List.{length-map}
 use Rattle.std.proofs.lemmas.List.Elements.{All-nil, All-cons, All-head, All-tail, All-push}
@@ -130,10 +130,6 @@ no_names : AreNames []
 unfolding are_apart
 no_names = record { within_limit = omega arith; are = All-nil IsName; apart = refl }
 
-not_not : (b : Bool) → not b ≡ false → b ≡ true
-not_not true h = refl
-not_not false h = absurd (cc h)
-
 names_after : (before names all : List (List ℕ)) → AreNames before → names_from before names ≡ Ok all → AreNames all
 unfolding names_from
 names_after before [] all good e = let same : before ≡ all = cc e in subst AreNames same good
@@ -146,7 +142,7 @@ names_after before (name ∷ names) all good e =
     let fewer : length before < 64 = leb-false _ _ room.0 in
     names_after (before ++ name ∷ []) names all (record {
       within_limit = omega (arith, length-append before (name ∷ []));
-      are = All-push IsName before name good.are (not_not (is_name name) named.0);
+      are = All-push IsName before name good.are (not-false (is_name name) named.0);
       apart = are_apart-push before name good.apart new.0;
     }) new.1
 
@@ -174,7 +170,7 @@ column_sound rows i name column fits named e =
     let same : over ≡ column = cc one.1 in
     let is : IsSound over = record {
       is = record { name = named; lo = bound_fits (total (Min i) rows) (least_fits rows i fits); hi = bound_fits (total (Max i) rows) (greatest_fits rows i fits) };
-      range = not_not (is_range over.lo over.hi) one.0;
+      range = not-false (is_range over.lo over.hi) one.0;
     } in
     subst (λ (column : ColumnShape). IsSound column × (column.name ≡ name)) same (is, refl)
 

@@ -13,7 +13,9 @@ use Rattle.bw_model.specs.Row.{Value}
 use Rattle.bw_model.specs.Schema.{IsSchema}
 use Rattle.bw_model.specs.SchemaText.{schema_shape}
 use Rattle.bw_answer.specs.Answer.{csv_text, meaning}
+use Rattle.csv.specs.Reading.{default_config, records, strip_bom}
 use Rattle.bw_csv.specs.Rows.{rows_of}
+use Rattle.bw_csv.proofs.RowLemmas.{text_admitted, text_few}
 use Rattle.bw_file.specs.declared.layout.Layout.{Layout}
 use Rattle.bw_file.specs.FileBytes.{IsFileBytes, file_bytes}
 use Rattle.bw_file.specs.TableReading.{Found, found_as}
@@ -38,10 +40,11 @@ pub loaded : (layout : Layout) (schema : Schema) (csv bytes : List ℕ) → file
 loaded layout schema csv bytes made = loaded_by layout schema csv bytes (rows_of schema.columns.items csv) refl made
 
 -- that file has the bytes of the table of these rows
-pub loaded_text : (layout : Layout) (schema : Schema) (csv bytes : List ℕ) → IsSchema (schema_shape schema) → (of : Loaded layout schema csv bytes)
-    → IfOk (rows_of schema.columns.items csv) (λ rows. IsTrue (list_all (admits_values schema.columns.items) rows))
-    → IfOk (rows_of schema.columns.items csv) (λ rows. length rows ≤ most_rows) → IsFileBytes bytes layout schema of.rows
-loaded_text layout schema csv bytes under of admitted few =
+pub loaded_text : (layout : Layout) (schema : Schema) (csv bytes : List ℕ) → IsSchema (schema_shape schema) → (of : Loaded layout schema csv bytes) → IsFileBytes bytes layout schema of.rows
+loaded_text layout schema csv bytes under of =
+    let columns = schema.columns.items in
+    let admitted : IfOk (rows_of columns csv) (λ rows. IsTrue (list_all (admits_values columns) rows)) = text_admitted columns (records default_config (strip_bom csv)) in
+    let few : IfOk (rows_of columns csv) (λ rows. length rows ≤ most_rows) = text_few columns (records default_config (strip_bom csv)) in
     rw of.text (record { under = under; admitted = record { within_limit = rw of.spelled at few; admitted = rw of.spelled at admitted }; text = inl refl })
 
 -- what is answered over that file is answered over the CSV text

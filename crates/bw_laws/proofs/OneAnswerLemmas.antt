@@ -8,7 +8,7 @@ use Rattle.bw_model.specs.declared.schema.Schema.{Schema}
 use Rattle.bw_model.specs.Column.{names_of}
 use Rattle.bw_model.specs.Fault.{◌>>=◌}
 use Rattle.bw_model.specs.SchemaText.{SchemaShape, schema_shape}
-use Rattle.bw_io.specs.Source.{Arrival, NotReached, Whole, TooLong, Failed}
+use Rattle.bw_io.specs.Source.{Arrival, NotReached, Whole}
 use Rattle.bw_sql.specs.declared.reader.Refusal.{Refusal}
 use Rattle.bw_sql.specs.declared.reader.Refusal.TheVariants.{Syntax, Literal}
 use Rattle.bw_sql.specs.QueryShape.{QueryShape, query_shape}
@@ -84,8 +84,7 @@ one_schema (Whole text) (Ok schema) (Err fault) a b = absurd (texts.not_both tex
 one_schema (Whole text) (Err fault) (Ok schema) a b = absurd (texts.not_both text (schema_shape schema) fault b a)
 one_schema (Whole text) (Err fault) (Err other) a b =
     ap Err (texts.one_fault text fault other a b)
-one_schema TooLong reading second a b = ap shape_in (a ∙ sym b)
-one_schema (Failed fault) reading second a b = ap shape_in (a ∙ sym b)
+one_schema _ reading second a b = ap shape_in (a ∙ sym b)
 
 -- what follows from an answer, if it is the same of each
 then_alike : {A B : Type 0} (first : Result A Fault) (f g : A → Result B Fault) → ((x : A) → f x ≡ g x) → (first >>= f) ≡ (first >>= g)
@@ -107,17 +106,15 @@ made_alike : (f g : List ℕ → Result (List ℕ) Fault) (csv : Arrival) (given
     → given ≡ other
 made_alike f g NotReached given other alike a b = absurd a
 made_alike f g (Whole text) given other alike a b = a ∙ alike text ∙ sym b
-made_alike f g TooLong given other alike a b = a ∙ sym b
-made_alike f g (Failed fault) given other alike a b = a ∙ sym b
+made_alike f g _ given other alike a b = a ∙ sym b
 
 pub after_alike : {A B : Type 0} (view : A → B) (f g : A → List ℕ → Result (List ℕ) Fault) (first second : Result A Fault) (csv : Arrival) (given other : Result (List ℕ) Fault)
     → ((x y : A) (text : List ℕ) → view x ≡ view y → f x text ≡ g y text) → (first >>= λ x. Ok (view x)) ≡ (second >>= λ x. Ok (view x))
     → IsMadeAfter first f csv given → IsMadeAfter second g csv other → given ≡ other
 after_alike view f g (Ok x) (Ok y) csv given other alike same a b =
     let one : view x ≡ view y = cc same in made_alike (f x) (g y) csv given other (λ text. alike x y text one) a b
-after_alike view f g (Ok x) (Err fault) csv given other alike same a b = absurd (cc same)
-after_alike view f g (Err fault) (Ok y) csv given other alike same a b = absurd (cc same)
 after_alike view f g (Err fault) (Err second) csv given other alike same a b = let one : fault ≡ second = cc same in a.1 ∙ ap Err one ∙ sym b.1
+after_alike view f g _ _ csv given other alike same a b = absurd (cc same)
 
 under_alike : (reading second : Result Schema Fault) (sql : List ℕ) (csv : Arrival) (given other : Result (List ℕ) Fault)
     → shape_in reading ≡ shape_in second → IsAnswerUnder reading sql csv given → IsAnswerUnder second sql csv other → given ≡ other
@@ -125,9 +122,8 @@ under_alike (Ok s) (Ok t) sql csv given other same a b =
     let shape : schema_shape s ≡ schema_shape t = cc same in
     after_alike query_shape (answer_of s.columns.items) (answer_of t.columns.items) a.0 b.0 csv given other (λ x y text one. answers_alike s t x y text (columns_too s t shape) one)
     (one_reading s t sql a.0 b.0 shape a.1 b.1) a.2 b.2
-under_alike (Ok s) (Err fault) sql csv given other same a b = absurd (cc same)
-under_alike (Err fault) (Ok t) sql csv given other same a b = absurd (cc same)
 under_alike (Err fault) (Err second) sql csv given other same a b = let one : fault ≡ second = cc same in a.1 ∙ ap Err one ∙ sym b.1
+under_alike _ _ sql csv given other same a b = absurd (cc same)
 
 pub one_answer : (schema csv : Arrival) (sql : List ℕ) (given other : Result (List ℕ) Fault) → IsAnswer schema sql csv given → IsAnswer schema sql csv other → given ≡ other
 one_answer schema csv sql given other a b = under_alike a.0 b.0 sql csv given other (one_schema schema a.0 b.0 a.1 b.1) a.2 b.2

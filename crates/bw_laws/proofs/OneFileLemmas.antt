@@ -19,7 +19,7 @@ use Rattle.bw_laws.proofs.ArrivedLemmas.{Arrived, came_whole_after, schema_came_
 use Rattle.bw_laws.proofs.OneAnswerLemmas.{after_alike, one_schema}
 
 -- the file of a CSV text is the same under schemas of one shape
-file_alike : (layout : Layout) (s t : Schema) (text : List ℕ) → schema_shape s ≡ schema_shape t → file_of layout s text ≡ file_of layout t text
+pub file_alike : (layout : Layout) (s t : Schema) (text : List ℕ) → schema_shape s ≡ schema_shape t → file_of layout s text ≡ file_of layout t text
 file_alike layout s t text shape =
     ap₂ (λ (name : List ℕ) (cs : List Column). rows_of cs text >>= λ rows. Ok (bytes_of_version (version_for cs) layout name cs rows))
     (ap (λ (h : SchemaShape). h.name) shape) (columns_too s t shape)

@@ -4,7 +4,7 @@ use Rattle.std.proofs.Common.{◌≡◌, ◌∙◌, refl, sym, ap, subst, ℕ, s
 use Rattle.std.proofs.Common.{cond, List, [], ◌∷◌, ◌++◌, codes, length, Result, Ok, append_assoc}
 use Rattle.std.specs.Fmt.{decimal}
 use Rattle.std.specs.List.{list_all}
-use Rattle.std.proofs.lemmas.Bool.{and_parts, eqb-true}
+use Rattle.std.proofs.lemmas.Bool.{and_parts, eqb-true, not-true}
 use Rattle.bw_model.specs.declared.column.Column.{Column}
 use Rattle.bw_model.specs.declared.fault.Fault.{Fault}
 use Rattle.bw_text.specs.Lines.{NumberedWords, begins_comment, cut_lines, is_line_feed, is_skipped}
@@ -14,19 +14,17 @@ use Rattle.bw_text.specs.Text.{same_text}
 use Rattle.bw_program.specs.declared.instr.Instr.{Instr}
 use Rattle.bw_program.specs.PrintText.{instr_words, lines_text, print_text}
 use Rattle.bw_program.specs.Program.{ProgramShape}
-use Rattle.bw_program.specs.ProgramText.{IsProgramText, SpellsInstr, SpellsLines, load, nulls, fill}
-use Rattle.bw_program.specs.ProgramText.{conjunction, disjunction, difference, negation, below}
-use Rattle.bw_program.specs.ProgramText.{same, skip, result_line, instr_line}
+use Rattle.bw_program.specs.ProgramText.{IsProgramText, SpellsInstr, SpellsLines}
+use Rattle.bw_program.specs.ProgramText.{same, result_line, instr_line}
 use Rattle.bw_cert_text.specs.CertificateFields.{CertificateFields}
 use Rattle.bw_cert_text.specs.CertificateText.{IsCertificateText, SpellsFrom}
 use Rattle.bw_cert.specs.ProgramFile.{after_divider, before_divider, divides, is_divider_word}
-use Rattle.bw_cert.proofs.SplitLemmas.{feed, no_lines}
+use Rattle.bw_cert.proofs.SplitLemmas.{feed, no_lines, nothing_fed}
 
 -- two words or more
 abbrev is_several : List (List ℕ) → Bool
-is_several [] = false
-is_several (word ∷ []) = false
 is_several (word ∷ other ∷ words) = true
+is_several _ = false
 
 abbrev are_several : List NumberedWords → Bool
 are_several lines = list_all (λ line. is_several line.words) lines
@@ -36,16 +34,8 @@ none_divides lines = list_all (λ line. not (divides line)) lines
 
 -- each line of a program has several words
 instr_several : (columns : List Column) (end number : ℕ) (words : List (List ℕ)) (instr : Instr) → SpellsInstr columns end number words instr → is_several words ≡ true
-instr_several columns end number words instr (load a b c d e) = refl
-instr_several columns end number words instr (nulls a b c d) = refl
-instr_several columns end number words instr (fill a b c d) = refl
-instr_several columns end number words instr (conjunction a b c d) = refl
-instr_several columns end number words instr (disjunction a b c d) = refl
-instr_several columns end number words instr (difference a b c d) = refl
-instr_several columns end number words instr (negation a b c) = refl
-instr_several columns end number words instr (below a b c d e f g) = refl
 instr_several columns end number words instr (same a b c d e f g) = refl
-instr_several columns end number words instr (skip a b c d e) = refl
+instr_several columns end number words instr _ = refl
 
 lines_several : (columns : List Column) (end number : ℕ) (lines : List NumberedWords) (instrs : List Instr) (result : ℕ) → SpellsLines columns end number lines instrs result → are_several lines ≡ true
 lines_several columns end number lines instrs result (result_line a b) = refl
@@ -54,9 +44,8 @@ lines_several columns end number (line ∷ lines) (instr ∷ instrs) result (ins
 
 -- several words aren't one, and a comment's first word isn't CERTIFICATE
 several_apart : (words : List (List ℕ)) → is_several words ≡ true → is_divider_word (only_of words) ≡ false
-several_apart [] h = absurd (cc h)
-several_apart (word ∷ []) h = absurd (cc h)
 several_apart (word ∷ other ∷ words) h = refl
+several_apart _ h = absurd (cc h)
 
 comment_apart : (word : List ℕ) → begins_comment word ≡ true → same_text word (codes "CERTIFICATE") ≡ false
 unfolding same_text
@@ -64,9 +53,8 @@ comment_apart [] h = absurd (cc h)
 comment_apart (c ∷ cs) h = let is : c ≡ 35 = eqb-true _ _ h in rw is refl
 
 skipped_apart : (words : List (List ℕ)) → is_skipped words ≡ true → is_divider_word (only_of words) ≡ false
-skipped_apart [] h = refl
 skipped_apart (word ∷ []) h = comment_apart word h
-skipped_apart (word ∷ other ∷ words) h = refl
+skipped_apart _ h = refl
 
 said_apart : (n : ℕ) (lines : List (List ℕ)) → are_several (numbered_from n lines) ≡ true → none_divides lines ≡ true
 unfolding numbered_from
@@ -80,30 +68,22 @@ said_apart n (line ∷ lines) h = go (is_skipped (words_of line)) refl h (said_a
         let two = and_parts (is_several (words_of line)) (are_several (numbered_from (n + 1) lines)) h in
         rw (several_apart (words_of line) two.0) (more two.1)
 
-not_true : (b : Bool) → not b ≡ true → b ≡ false
-not_true true e = absurd (cc e)
-not_true false e = refl
-
 -- lines that don't divide, and then one that does
 before_all : (lines : List (List ℕ)) (line : List ℕ) (rest : List (List ℕ)) → none_divides lines ≡ true → divides line ≡ true → before_divider (lines ++ line ∷ rest) ≡ lines
 unfolding before_divider
 before_all [] line rest h is = rw is refl
 before_all (first ∷ lines) line rest h is =
     let two = and_parts (not (divides first)) (none_divides lines) h in
-    rw (not_true (divides first) two.0, before_all lines line rest two.1 is) refl
+    rw (not-true (divides first) two.0, before_all lines line rest two.1 is) refl
 
 after_all : (lines : List (List ℕ)) (line : List ℕ) (rest : List (List ℕ)) → none_divides lines ≡ true → divides line ≡ true → after_divider (lines ++ line ∷ rest) ≡ rest
 unfolding after_divider
 after_all [] line rest h is = rw is refl
 after_all (first ∷ lines) line rest h is =
     let two = and_parts (not (divides first)) (none_divides lines) h in
-    rw (not_true (divides first) two.0) (after_all lines line rest two.1 is)
+    rw (not-true (divides first) two.0) (after_all lines line rest two.1 is)
 
 -- a text that ends with a line feed is cut apart from what comes after it
-nothing_fed : (line rest : List ℕ) → line ++ 10 ∷ rest ≡ [] → ⊥
-nothing_fed [] rest e = cc
-nothing_fed (c ∷ line) rest e = cc
-
 first_append : (c : ℕ) (xs ys : List (List ℕ)) → (xs ≡ [] → ⊥) → with_first c (xs ++ ys) ≡ with_first c xs ++ ys
 first_append c [] ys some = absurd (some refl)
 first_append c (x ∷ xs) ys some = refl

@@ -5,6 +5,7 @@ use Rattle.std.proofs.Common.{refl, subst, arith, nat_le, nat_lt, codes, if◌th
 use Rattle.std.specs.List.{AllZip}
 use Rattle.std.proofs.lemmas.Bool.{leb-true, ltb-true}
 use Rattle.std.proofs.lemmas.Int.{ints}
+use Rattle.std.proofs.lemmas.Option.{cond_some}
 use Rattle.std.proofs.lemmas.List.Elements.{All-nil, All-cons}
 use Rattle.bw_text.specs.Lines.{NumberedWords, lines_in, whole}
 use Rattle.bw_text.specs.Number.{are_digits, digits_value, number_of}
@@ -15,24 +16,18 @@ use Rattle.bw_model.specs.SchemaText.{with_bounds, are_not_null, column_words, S
 use Rattle.bw_model.specs.SchemaText.{SpellsSchema, IsSchemaText}
 
 -- a number that a sign and digits spell is one that 64 bits hold
-negative_fits : (v : ℕ) (within : Bool) (n : ℤ) → nat_le v (2 ^ 63) ≡ within → (if within then Some (pos 0 -ℤ pos v) else None) ≡ Some n → FitsSigned w64 n
-negative_fits v true n w e =
-    let few : v ≤ 2 ^ 63 = leb-true _ _ w in
-    let same : pos 0 -ℤ pos v ≡ n = cc e in
-    omega (arith, ints)
-negative_fits v false n w e = absurd (cc e)
-
-positive_fits : (v : ℕ) (within : Bool) (n : ℤ) → nat_lt v (2 ^ 63) ≡ within → (if within then Some (pos v) else None) ≡ Some n → FitsSigned w64 n
-positive_fits v true n w e =
-    let few : v < 2 ^ 63 = ltb-true _ _ w in
-    let same : pos v ≡ n = cc e in
-    omega (arith, ints)
-positive_fits v false n w e = absurd (cc e)
-
 pub number_fits : (is_negative : Bool) (digits : List ℕ) (n : ℤ) → number_of is_negative digits ≡ Some n → FitsSigned w64 n
 unfolding number_of
-number_fits true digits n e = negative_fits (digits_value digits) (nat_le (digits_value digits) (2 ^ 63)) n refl e
-number_fits false digits n e = positive_fits (digits_value digits) (nat_lt (digits_value digits) (2 ^ 63)) n refl e
+number_fits true digits n e =
+    let is = cond_some (nat_le (digits_value digits) (2 ^ 63)) (pos 0 -ℤ pos (digits_value digits)) n e in
+    let few : digits_value digits ≤ 2 ^ 63 = leb-true _ _ is.0 in
+    let same : pos 0 -ℤ pos (digits_value digits) ≡ n = is.1 in
+    omega (arith, ints)
+number_fits false digits n e =
+    let is = cond_some (nat_lt (digits_value digits) (2 ^ 63)) (pos (digits_value digits)) n e in
+    let few : digits_value digits < 2 ^ 63 = ltb-true _ _ is.0 in
+    let same : pos (digits_value digits) ≡ n = is.1 in
+    omega (arith, ints)
 
 signed_fits : (is_negative : Bool) (digits : List ℕ) (are : Bool) (n : ℤ) → (if are then number_of is_negative digits else None) ≡ Some n → FitsSigned w64 n
 signed_fits is_negative digits true n e = number_fits is_negative digits n e
@@ -52,10 +47,9 @@ BoundsFit column = FitsSigned w64 column.lo × FitsSigned w64 column.hi
 
 bounds_fit : (name : List ℕ) (lo hi : Option ℤ) (nullable : Bool) (column : ColumnShape) → ((n : ℤ) → lo ≡ Some n → FitsSigned w64 n)
     → ((n : ℤ) → hi ≡ Some n → FitsSigned w64 n) → with_bounds name lo hi nullable ≡ Some column → BoundsFit column
-bounds_fit name None hi nullable column low high e = absurd (cc e)
-bounds_fit name (Some l) None nullable column low high e = absurd (cc e)
 bounds_fit name (Some l) (Some h) nullable column low high e =
     let same : shape name l h nullable ≡ column = cc e in subst BoundsFit same (low l refl, high h refl)
+bounds_fit name _ _ nullable column low high e = absurd (cc e)
 
 after_test : (b : Bool) (r : Option ColumnShape) (column : ColumnShape) → (if b then None else r) ≡ Some column → r ≡ Some column
 after_test true r column e = absurd (cc e)
@@ -63,26 +57,20 @@ after_test false r column e = e
 
 column_fits : (words : List (List ℕ)) (column : ColumnShape) → column_words words ≡ Some column → BoundsFit column
 unfolding column_words
-column_fits [] column e = absurd (cc e)
-column_fits (a ∷ []) column e = absurd (cc e)
-column_fits (a ∷ b ∷ []) column e = absurd (cc e)
-column_fits (a ∷ b ∷ c ∷ []) column e = absurd (cc e)
 column_fits (keyword ∷ name ∷ lo ∷ hi ∷ []) column e =
     bounds_fit name (bound_of lo) (bound_of hi) true column (bound_fits lo) (bound_fits hi)
     (after_test (not (same_text keyword (codes "COLUMN"))) (with_bounds name (bound_of lo) (bound_of hi) true) column e)
-column_fits (a ∷ b ∷ c ∷ d ∷ f ∷ []) column e = absurd (cc e)
 column_fits (keyword ∷ name ∷ lo ∷ hi ∷ negates ∷ null ∷ []) column e =
     bounds_fit name (bound_of lo) (bound_of hi) false column (bound_fits lo) (bound_fits hi)
     (after_test (not (same_text keyword (codes "COLUMN")) || not (are_not_null negates null)) (with_bounds name (bound_of lo) (bound_of hi) false) column e)
-column_fits (a ∷ b ∷ c ∷ d ∷ f ∷ g ∷ h ∷ more) column e = absurd (cc e)
+column_fits _ column e = absurd (cc e)
 
 columns_sound : (lines : List NumberedWords) (columns : List ColumnShape) → AllZip SpellsColumn lines columns → All IsColumn columns
 columns_sound [] [] h = All-nil IsColumn
-columns_sound [] (column ∷ columns) h = absurd h
-columns_sound (line ∷ lines) [] h = absurd h
 columns_sound (line ∷ lines) (column ∷ columns) h =
     let fit = column_fits line.words column h.0.0 in
     All-cons IsColumn column columns (record { name = h.0.1; lo = fit.0; hi = fit.1 }) (columns_sound lines columns h.1)
+columns_sound _ _ h = absurd h
 
 sound_by : (lines : List NumberedWords) (schema : SchemaShape) → SpellsSchema lines schema → IsSchema schema
 sound_by [] schema h = absurd h

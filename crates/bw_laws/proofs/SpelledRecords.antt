@@ -20,8 +20,7 @@ shown_plain (c ∷ cs) e = e
 
 no_line_end : (comma line quote : Bool) → not ((comma || line) || quote) ≡ true → line ≡ false
 no_line_end false false quote e = refl
-no_line_end true line quote e = absurd (cc e)
-no_line_end false true quote e = absurd (cc e)
+no_line_end _ _ quote e = absurd (cc e)
 
 -- the fields from one on, of a record of which others were read
 fields_read : (text : List ℕ) (done : List (List ℕ)) (field : List ℕ) (more : List (List ℕ)) (rest : List ℕ) → list_all shows (field ∷ more) ≡ true
@@ -53,12 +52,11 @@ begun c cs (next ∷ more) rest e = begins c _ e
 
 pub record_read : (fields : List (List ℕ)) (rest : List ℕ) → is_record fields ≡ true
     → records_in st.StartRecord (Some (record_text fields ++ rest)) ≡ fields ∷ records_in st.StartRecord (Some rest)
-record_read [] rest e = absurd (cc e)
-record_read ([] ∷ more) rest e = absurd (cc e)
 record_read ((c ∷ cs) ∷ more) rest e =
     let plain = both (is_plain c) (list_all is_plain cs) (both (shows (c ∷ cs)) (list_all shows more) e).0 in
     fields_read (record_text ((c ∷ cs) ∷ more) ++ rest) [] (c ∷ cs) more rest e
     (begun c cs more rest (no_line_end (eqb c 44) (ends_line c) (eqb c 34) plain.0))
+record_read _ rest e = absurd (cc e)
 
 no_records : records_in st.StartRecord (Some []) ≡ []
 unfolding next_record
@@ -74,9 +72,8 @@ records_read (fields ∷ more) e =
 -- no byte order mark begins with another byte
 unmarked_text : (c : ℕ) (rest : List ℕ) → eqb c 0xEF ≡ false → strip_bom (c ∷ rest) ≡ c ∷ rest
 unfolding strip_bom
-unmarked_text c [] e = refl
-unmarked_text c (d ∷ []) e = refl
 unmarked_text c (d ∷ f ∷ rest) e = rw e refl
+unmarked_text c _ e = refl
 
 pub unmarked : (c : ℕ) (cs : List ℕ) (fields : List (List ℕ)) (more : List (List (List ℕ))) → eqb c 0xEF ≡ false
     → strip_bom (csv_text (((c ∷ cs) ∷ fields) ∷ more)) ≡ csv_text (((c ∷ cs) ∷ fields) ∷ more)

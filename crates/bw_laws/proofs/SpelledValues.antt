@@ -115,13 +115,11 @@ words_plain [] e = refl
 words_plain (c ∷ cs) e = let is = both (goes_on_in_word c) (list_all goes_on_in_word cs) e in rw (word_plain c is.0, words_plain cs is.1) refl
 
 goes_on : (a b u d : Bool) → ((a || b) || u) ≡ true → (((d || a) || b) || u) ≡ true
-goes_on true b u true e = refl
 goes_on true b u false e = refl
-goes_on false true u true e = refl
 goes_on false true u false e = refl
-goes_on false false true true e = refl
 goes_on false false true false e = refl
 goes_on false false false d e = absurd (cc e)
+goes_on _ _ _ _ e = refl
 
 -- a name begins with a byte, and continues in words' bytes
 abbrev pub is_solid : List ℕ → Bool

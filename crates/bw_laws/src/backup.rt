@@ -16,8 +16,6 @@ ghost use Rattle.bw_query.specs.TableAnswer.{AnswersFile, IsEveryRow, by_dump};
 ghost use Rattle.bw_laws.specs.Backup.{IsOfNeededVersion, IsTold, Loads, LoadsUnder, longest_dump};
 ghost use Rattle.bw_laws.specs.Backup.{table_text};
 
-use bw_csv::rows_are_admitted;
-use bw_file::{a_file_is_of_one_table, what_is_spelled_is_read};
 use bw_model::Schema;
 
 /// A theorem: what a dump writes of a table is the table as a CSV text, which spells the table's
@@ -61,9 +59,7 @@ pub fn what_is_dumped_is_loaded()
     ensures same { (bytes : List ℕ) (layout : Layout) (schema : Schema) (rows : List (List Value))
         → IsFileBytes bytes layout schema rows → length (table_text schema rows) ≤ longest_csv
         → IsOfNeededVersion bytes schema → LoadsUnder layout schema (table_text schema rows) bytes }
-{
-    a_file_is_of_one_table();
-}
+{}
 
 /// A theorem about `info`, `dump` and `load`: what `info` writes of a table file spells the table's
 /// schema. Under it, loading the dump in the same layout yields the bytes of the file, unless that
@@ -82,7 +78,6 @@ pub fn a_file_is_restored()
         × (length (table_text schema rows) ≤ longest_csv
         → Loads layout told (table_text schema rows) bytes) }
 {
-    what_is_spelled_is_read();
     what_is_dumped_is_loaded();
 }
 
@@ -97,8 +92,6 @@ pub fn a_load_is_restored(schema: &Schema)
         × (file_of layout schema.now (table_text schema.now rows) ≡ Ok bytes) }
 {
     schema.has_names_and_bounds();
-    a_file_is_of_one_table();
-    rows_are_admitted();
     what_is_dumped_is_loaded();
     a_dump_is_a_backup();
 }

@@ -14,10 +14,7 @@ ghost use Rattle.bw_query.specs.Plan.{IsPlan, IsPlanned};
 ghost use Rattle.bw_query.specs.Served.{ByProgram, IsServed};
 ghost use Rattle.bw_query.specs.TableAnswer.{AnswersFile, by_statement};
 
-use crate::schema_text::a_schema_text_spells_one_schema_or_has_one_fault;
 use bw_cert::{certificates_are_checked_by_their_fields, one_verdict, valid_exactly_where_checked};
-use bw_file::a_file_is_of_one_table;
-use bw_sql::{one_query_of_a_text, schemas_of_one_shape};
 
 /// A theorem about `plan_text` and `answer`: a query with a stored plan is scanned by the plan's
 /// program, never row by row.
@@ -51,10 +48,6 @@ pub fn a_kept_plan_is_used()
         → IsServed (Some plan) answers.schema answers.query answers.rows served
         → ByProgram kept.program schema.columns.items rows served }
 {
-    a_file_is_of_one_table();
-    a_schema_text_spells_one_schema_or_has_one_fault();
-    schemas_of_one_shape();
-    one_query_of_a_text();
     valid_exactly_where_checked();
     certificates_are_checked_by_their_fields();
     one_verdict();

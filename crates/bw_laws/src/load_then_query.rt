@@ -6,10 +6,7 @@ ghost use Rattle.bw_sql.specs.Statement.{IsReadAs};
 ghost use Rattle.bw_laws.specs.LoadThenQuery.{AnswersCsv};
 ghost use Rattle.bw_csv_calls.specs.Load.{file_of};
 
-use bw_csv::rows_are_admitted;
-use bw_file::a_file_is_of_one_table;
 use bw_model::Schema;
-use bw_sql::schemas_of_one_shape;
 
 /// A theorem about `load`, `answer` and `dump`: over the bytes that a load writes for a CSV text
 /// under this schema, in either layout, the answer to a statement is its meaning over the rows of
@@ -26,7 +23,4 @@ pub fn what_is_loaded_is_answered(schema: &Schema)
         → AnswersCsv (IsEveryRow schema.now) schema.now csv old new }
 {
     schema.has_names_and_bounds();
-    a_file_is_of_one_table();
-    rows_are_admitted();
-    schemas_of_one_shape();
 }

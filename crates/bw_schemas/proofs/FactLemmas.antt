@@ -72,11 +72,6 @@ joined s a b c d e one two three four five p q r t u =
     ∙ ap (λ (l : List ℕ). l ++ (c ++ (d ++ e))) q ∙ append_assoc one b (c ++ (d ++ e)) ∙ ap (λ (l : List ℕ). l ++ (b ++ (c ++ (d ++ e)))) p
     ∙ append_assoc s a (b ++ (c ++ (d ++ e)))
 
-pub whole_text : (version : ℕ) (layout : Layout) (schema : Schema) (rows : ℕ) (text : List ℕ) → text ≡ schema_text (schema_shape schema) ++ facts_text version layout schema rows
-    → text ≡ info_text version layout schema rows
-unfolding info_text
-whole_text version layout schema rows text e = e
-
 -- so the text is what a header says, by its numbers
 pub told_by : (version : ℕ) (layout : Layout) (schema : Schema) (rows : ℕ) (s w one two three four five : List ℕ) (r g v z : ℕ)
     → one ≡ s ++ comment (codes "rows") (decimal r) → two ≡ one ++ comment (codes "segments") (decimal g)
@@ -84,9 +79,9 @@ pub told_by : (version : ℕ) (layout : Layout) (schema : Schema) (rows : ℕ) (
     → five ≡ four ++ comment (codes "bytes") (decimal z) → s ≡ schema_text (schema_shape schema) → w ≡ layout_word layout
     → r ≡ rows → g ≡ segment_count rows → v ≡ version → z ≡ file_size version layout schema rows
     → five ≡ info_text version layout schema rows
+unfolding info_text
 told_by version layout schema rows s w one two three four five r g v z p q t u x is word a b c d =
-    whole_text version layout schema rows five
-    (joined s _ _ _ _ _ one two three four five p q t u x ∙ rw (is, word, a, b, c, d) refl)
+    joined s _ _ _ _ _ one two three four five p q t u x ∙ rw (is, word, a, b, c, d) refl
 
 -- the size of a file, by that of its header and of a segment
 pub size_by : (version : ℕ) (layout : Layout) (schema : Schema) (rows head count size : ℕ) → head ≡ length (header_bytes version layout schema.name schema.columns.items rows) → count ≡ rows

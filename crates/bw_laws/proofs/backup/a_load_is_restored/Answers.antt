@@ -10,7 +10,6 @@ returns c = λ layout csv bytes rows old new spelled made wrote.
     let schema = c.args.schema.now in
     let of = loaded layout schema csv bytes made in
     let same = same_rows of.rows rows (sym of.spelled ∙ spelled) in
-    let admitted = c.rows_are_admitted.ensures.admitted schema.columns.items csv in
-    let file = rw same at (loaded_text layout schema csv bytes c.has_names_and_bounds.ensures.schema of admitted (c.rows_are_admitted.ensures.within_limit schema.columns.items csv)) in
+    let file = rw same at (loaded_text layout schema csv bytes c.has_names_and_bounds.ensures.schema of) in
     let text = of.text ∙ ap (file_bytes layout schema) same in
     (c.what_is_dumped_is_loaded.ensures.took bytes layout schema rows old new file wrote, c.a_dump_is_a_backup.ensures.loads bytes layout layout schema rows file ∙ ap Ok (sym text))

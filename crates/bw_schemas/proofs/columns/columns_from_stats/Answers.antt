@@ -1,6 +1,6 @@
 -- Each turn makes one column more.
 use Rattle.std.proofs.Common.{◌∙◌, ◌<◌, length, arith, refl}
-use Rattle.std.proofs.lemmas.Result.{err_from_is_err_and}
+use Rattle.bw_file.proofs.ErrLemmas.{err_passed_on}
 use Rattle.bw_schemas.specs.ColumnStats.{no_stats}
 use Rattle.bw_schemas.proofs.ColumnLemmas.{column_more, columns_end, names-push, out_of_range}
 use Rattle.bw_model.proofs.SchemaLemmas.{shapes-push}
@@ -8,9 +8,8 @@ use Rattle.bw_schemas.proofs.columns.columns_from_stats.Goals as goal
 
 pub returns-in_err-column-clause-columns : goal.returns-in_err-column-clause-columns
 returns-in_err-column-clause-columns c =
-    let p = err_from_is_err_and c.from_residual.result c.from_residual.ensures.1 in
     let second : c.loop-i.i < length c.args.seen.now = omega arith in
-    rw (p.1, p.2) (λ aside. c.loop-i.invariant.rest
+    rw (err_passed_on _ c.from_residual.ensures.1) (λ aside. c.loop-i.invariant.rest
     ∙ out_of_range c.args.names.now c.args.seen.now c.loop-i.i c.index-names-i.result no_stats _ _ c.loop-i-test.true second c.index-names-i.is (c.in_err-column.ensures.column aside))
 
 pub loop-i-preserved : goal.loop-i-preserved

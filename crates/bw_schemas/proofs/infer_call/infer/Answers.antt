@@ -1,6 +1,6 @@
 -- Each exit, by the contracts of its calls.
 use Rattle.std.proofs.Common.{◌∙◌, Err, refl, sym, ap}
-use Rattle.std.proofs.lemmas.Result.{err_from_is_err_and}
+use Rattle.bw_file.proofs.ErrLemmas.{err_passed_on}
 use Rattle.bw_csv.specs.Rows.{is_exempt}
 use Rattle.bw_io.specs.Sink.{is_write_fault}
 use Rattle.bw_io.proofs.SinkLemmas.{no_write_fault, wrote_nothing, wrote_text}
@@ -15,18 +15,16 @@ returns-then-not-is_name-clause-schema g c =
 
 pub returns-in_err-csv-clause-schema : goal.returns-in_err-csv-clause-schema
 returns-in_err-csv-clause-schema g c =
-    let p = err_from_is_err_and c.from_residual.result c.from_residual.ensures.1 in
     let fault = c.in_err-csv.field-0.0 in
     let csv = c.in_err-csv.ensures.answered in
-    rw (p.1, p.2) (csv_exit c.args.table.now _ _ csv.0 fault (sym c.is_name.ensures ∙ c.if-not-is_name.false) csv.1 csv.2
+    rw (err_passed_on _ c.from_residual.ensures.1) (csv_exit c.args.table.now _ _ csv.0 fault (sym c.is_name.ensures ∙ c.if-not-is_name.false) csv.1 csv.2
     (wrote_nothing (Unit {0}) is_exempt _ _ fault _ c.in_err-csv.ensures.fault (λ other. refl)))
 
 pub returns-in_err-text-clause-schema : goal.returns-in_err-text-clause-schema
 returns-in_err-text-clause-schema g c =
-    let p = err_from_is_err_and c.from_residual-in_err-text.result c.from_residual-in_err-text.ensures.1 in
     let fault = c.in_err-text.field-0.0 in
     let csv = c.in_ok-csv.ensures.answered in
-    rw (p.1, p.2) (text_exit c.args.table.now _ _ csv.0 c.deref.result.now (sym c.is_name.ensures ∙ c.if-not-is_name.false) csv.1 (rw c.deref.ensures.value csv.2)
+    rw (err_passed_on _ c.from_residual-in_err-text.ensures.1) (text_exit c.args.table.now _ _ csv.0 c.deref.result.now (sym c.is_name.ensures ∙ c.if-not-is_name.false) csv.1 (rw c.deref.ensures.value csv.2)
     (wrote_nothing (Unit {0}) is_exempt _ _ fault _ (no_write_fault is_inferring_fault fault c.in_err-text.ensures.fault refl) c.in_err-text.ensures.text))
 
 pub returns-clause-schema : goal.returns-clause-schema

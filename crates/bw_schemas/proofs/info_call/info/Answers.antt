@@ -1,6 +1,6 @@
 -- Each exit, by the contracts of its calls.
 use Rattle.std.proofs.Common.{ℕ, [], refl}
-use Rattle.std.proofs.lemmas.Result.{err_from_is_err_and}
+use Rattle.bw_file.proofs.ErrLemmas.{err_passed_on}
 use Rattle.bw_file.specs.Reading.{State, state}
 use Rattle.bw_file.specs.TableReader.{bytes_taken}
 use Rattle.bw_schemas.proofs.InfoExits.{header_exit, input_verdict, memory_exit, text_exit}
@@ -15,22 +15,19 @@ info_text-requires-clause-head g c = header_taken _ _ c.in_ok-reader.reader refl
 
 pub returns-in_err-reader-clause-info : goal.returns-in_err-reader-clause-info
 returns-in_err-reader-clause-info g c =
-    let p = err_from_is_err_and c.from_residual.result c.from_residual.ensures.1 in
-    rw (p.1, p.2) (header_exit _ _ _ c.in_err-reader.field-0.0 c.in_err-reader.ensures.head (refused_table _ _ _ c.in_err-reader.ensures.fault))
+    rw (err_passed_on _ c.from_residual.ensures.1) (header_exit _ _ _ c.in_err-reader.field-0.0 c.in_err-reader.ensures.head (refused_table _ _ _ c.in_err-reader.ensures.fault))
 
 pub returns-in_err-reader-clause-accepted : goal.returns-in_err-reader-clause-accepted
 returns-in_err-reader-clause-accepted g c =
-    let p = err_from_is_err_and c.from_residual.result c.from_residual.ensures.1 in
     let refused = c.in_err-reader.ensures.refused in
-    rw (p.1, p.2) (λ bytes layout schema rows known file.
+    rw (err_passed_on _ c.from_residual.ensures.1) (λ bytes layout schema rows known file.
     input_verdict c.in_err-reader.field-0.0 (c.a_file_is_read_whole.ensures.faults bytes layout schema rows file _ _ _ _ known refused.1))
 
 pub returns-in_err-text-clause-info : goal.returns-in_err-text-clause-info
 returns-in_err-text-clause-info g c =
-    let p = err_from_is_err_and c.from_residual-in_err-text.result c.from_residual-in_err-text.ensures.1 in
     let reader = c.in_ok-reader.reader in
     let now : ℕ → State = λ offset. state (g.S.Source.to_come c.begin.new.source) offset (g.S.Source.failures c.begin.new.source) in
-    rw (p.1, p.2) (memory_exit _ now (bytes_taken reader) _ c.in_err-text.field-0.0 reader c.in_ok-reader.ensures.stated c.in_err-text.ensures.only_oom (refused_memory _ _ _ c.in_err-text.ensures.only_oom))
+    rw (err_passed_on _ c.from_residual-in_err-text.ensures.1) (memory_exit _ now (bytes_taken reader) _ c.in_err-text.field-0.0 reader c.in_ok-reader.ensures.stated c.in_err-text.ensures.only_oom (refused_memory _ _ _ c.in_err-text.ensures.only_oom))
 
 pub returns-clause-info : goal.returns-clause-info
 returns-clause-info g c =

@@ -1,6 +1,6 @@
 -- Each turn takes one row more.
 use Rattle.std.proofs.Common.{◌∙◌, ◌+◌, [], ◌∷◌, ap, refl, sym, arith, length}
-use Rattle.std.proofs.lemmas.Result.{err_from_is_err_and}
+use Rattle.bw_file.proofs.ErrLemmas.{err_passed_on}
 use Rattle.bw_csv.specs.Bare.{bare_rows}
 use Rattle.bw_csv.specs.Records.{remaining_records}
 use Rattle.bw_csv.proofs.BareLemmas.{bare_rows-end, bare_rows-next}
@@ -34,7 +34,6 @@ returns-clause-seen c =
 
 pub returns-in_err-read_bare_row-clause-reader : goal.returns-in_err-read_bare_row-clause-reader
 returns-in_err-read_bare_row-clause-reader c =
-    let p = err_from_is_err_and c.from_residual.result c.from_residual.ensures.1 in
     let passed = c.rows.invariant.passed in
     let width = c.len-width.result in
-    rw (p.1, p.2) (λ own. rw c.rows.invariant.width at (passed-stops (bare_rows width) _ passed.0 c.rows.number _ _ passed.1 (bare_rows-end width c.rows.number [] refl) c.in_err-read_bare_row.ensures.place own))
+    rw (err_passed_on _ c.from_residual.ensures.1) (λ own. rw c.rows.invariant.width at (passed-stops (bare_rows width) _ passed.0 c.rows.number _ _ passed.1 (bare_rows-end width c.rows.number [] refl) c.in_err-read_bare_row.ensures.place own))
