@@ -7,7 +7,7 @@ use Rattle.std.proofs.Common.{◌⊎◌}
 use Rattle.std.specs.Int.{w16, w32, w64, to_le_bytes, from_le_bytes, cast_signed}
 use Rattle.std.specs.List.{flat_map, list_all}
 use Rattle.std.specs.Str.{bytes_eq}
-use Rattle.std.proofs.lemmas.Bool.{eqb-true, ltb-false, not-false, or_cases, or_parts}
+use Rattle.std.proofs.lemmas.Bool.{cases_Bool, eqb-true, ltb-false, not-false, or_cases, or_parts}
 use borrow.Author.Differences.{fits_in, read_fits}
 use Rattle.std.proofs.lemmas.Int.{of_z-to_z}
 use Rattle.std.proofs.lemmas.List.Elements.{All-nil, All-cons}
@@ -119,27 +119,20 @@ version_is text version long e =
     (single text long ∙ ap (λ (b : ℕ). b ∷ []) g.1, elim (or_cases _ _ g.0) [ inl a ↦ inl (sym g.1 ∙ eqb-true _ _ a) | inr b ↦ inr (sym g.1 ∙ eqb-true _ _ b) ])
 
 -- one of two values, by a byte that is 0 or 1
-two_values : {A : Type 0} (a b : A) (code : ℕ) (zero_is one_is : Bool) (x : A) → cond zero_is (Ok a) (cond one_is (Ok b) (Err code)) ≡ said x
-    → ((zero_is ≡ true) × (x ≡ a)) ⊎ ((one_is ≡ true) × (x ≡ b))
-two_values a b code true one_is x e = inl (refl, sym (ok_is a x e))
-two_values a b code false true x e = inr (refl, sym (ok_is b x e))
-two_values a b code false false x e = absurd cc
+by_byte : {A : Type 0} (spell : A → ℕ) (a b : A) (code : ℕ) (text : List ℕ) (x : A) → spell a ≡ 0 → spell b ≡ 1 → length text ≡ 1
+    → cond (eqb (get_or text 0 0) 0) (Ok a) (cond (eqb (get_or text 0 0) 1) (Ok b) (Err code)) ≡ said x → text ≡ spell x ∷ []
+by_byte spell a b code text x at_zero at_one long e = elim (cases_Bool (eqb (get_or text 0 0) 0)) [
+  | inl i ↦ single text long ∙ rw (eqb-true _ _ i, ← ok_is a x (rw i at e), at_zero) refl
+  | inr n ↦ (let g = chosen (eqb (get_or text 0 0) 1) b x code (rw n at e) in single text long ∙ rw (eqb-true _ _ g.0, ← g.1, at_one) refl)
+]
 
 layout_is : (text : List ℕ) (layout : Layout) → length text ≡ 1 → parse_layout text ≡ Ok layout → text ≡ layout_byte layout ∷ []
 unfolding parse_layout
-layout_is text layout long e =
-    elim (two_values Planes Slices 303 (eqb (get_or text 0 0) 0) (eqb (get_or text 0 0) 1) layout e) [
-      | inl a ↦ single text long ∙ rw (eqb-true _ _ a.0, a.1) refl
-      | inr b ↦ single text long ∙ rw (eqb-true _ _ b.0, b.1) refl
-    ]
+layout_is text layout = by_byte layout_byte Planes Slices 303 text layout refl refl
 
 nullable_is : (text : List ℕ) (nullable : Bool) → length text ≡ 1 → parse_nullable text ≡ Ok nullable → text ≡ flag_byte nullable ∷ []
 unfolding parse_nullable
-nullable_is text nullable long e =
-    elim (two_values false true 304 (eqb (get_or text 0 0) 0) (eqb (get_or text 0 0) 1) nullable e) [
-      | inl a ↦ single text long ∙ rw (eqb-true _ _ a.0, a.1) refl
-      | inr b ↦ single text long ∙ rw (eqb-true _ _ b.0, b.1) refl
-    ]
+nullable_is text nullable = by_byte flag_byte false true 304 text nullable refl refl
 
 count_is : (text : List ℕ) (count : ℕ) → length text ≡ 2 → IsBytes text → parse_count text ≡ Ok count → text ≡ to_le_bytes w16 count
 unfolding parse_count
