@@ -1,12 +1,11 @@
 -- The rows of a text without a schema, one more at a time.
-use Rattle.std.proofs.Common.{◌≡◌, ◌∙◌, ℕ, ℤ, zero, suc, ◌+◌, ◌<◌, List, [], ◌∷◌}
-use Rattle.std.proofs.Common.{◌++◌, length, get_or, arith, Option, Some, None, Ok, Err}
+use Rattle.std.proofs.Common.{◌≡◌, ◌∙◌, ℕ, ℤ, suc, ◌+◌, List, [], ◌∷◌}
+use Rattle.std.proofs.Common.{◌++◌, length, Option, Some, None, Ok, Err}
 use Rattle.std.proofs.Common.{Bool, true, false, refl, sym, ap, subst, All}
 use Rattle.std.specs.Prelude.{◌&&◌, not, int_le, if◌then◌else◌}
 use Rattle.std.specs.List.{list_all}
 use Rattle.std.proofs.lemmas.List.{append-nil}
 use Rattle.std.proofs.lemmas.List.Elements.{All-nil, All-cons}
-use Rattle.csv.specs.Records.{field_at}
 use Rattle.bw_model.specs.declared.column.Column.{Column}
 use Rattle.bw_model.specs.declared.fault.Fault.{Fault}
 use Rattle.bw_model.specs.Fault.{◌>>=◌, at_record}
@@ -113,20 +112,6 @@ rows_are columns number (fields ∷ more) rows e admitted =
     let same : one.0 ∷ others.0 ≡ rows = cc others.2 in
     let all = both (admits_values columns one.0) (list_all (admits_values columns) others.0) (rw (← same) at admitted) in
     rw (row_is number columns fields one.0 one.1 all.0, rows_are columns (number + 1) more others.0 others.1 all.1) (ap Ok same)
-
--- the field at a place
-pub field_found : (fields : List (List ℕ)) (i : ℕ) (field : List ℕ) → field_at fields i ≡ Some field → field ≡ get_or fields i []
-unfolding field_at
-field_found [] i field e = cc e
-field_found (f ∷ fs) zero field e = let same : f ≡ field = cc e in sym same
-field_found (f ∷ fs) (suc i) field e = field_found fs i field e
-
-pub field_there : (fields : List (List ℕ)) (i : ℕ) → field_at fields i ≡ None → i < length fields → ⊥
-unfolding field_at
-field_there [] zero e h = omega arith
-field_there [] (suc i) e h = omega arith
-field_there (f ∷ fs) zero e h = cc e
-field_there (f ∷ fs) (suc i) e h = field_there fs i e (omega arith)
 
 -- a row has as many values as its record has fields, and each row as many as are wanted
 values_wide : (number : ℕ) (fields : List (List ℕ)) (values : List Value) → bare_values number fields ≡ Ok values → length values ≡ length fields

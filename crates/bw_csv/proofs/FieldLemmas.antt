@@ -1,9 +1,9 @@
 -- The fields of a record, and what they spell, one more at a time.
 use Rattle.std.proofs.Common.{◌≡◌, ◌∙◌, ℕ, zero, suc, ◌+◌, ◌<◌, ◌≤◌, List, [], ◌∷◌, ◌++◌, length}
 use Rattle.std.proofs.Common.{drop, get_or, Some, None, Result, Ok, Err, true, false, eqb, refl}
-use Rattle.std.proofs.Common.{sym, ap, arith, add-one, append_assoc, drop-cons, Bool}
+use Rattle.std.proofs.Common.{sym, ap, arith, append_assoc, Bool}
 use Rattle.std.specs.Prelude.{◌&&◌}
-use Rattle.std.proofs.lemmas.List.{append-nil}
+use Rattle.std.proofs.lemmas.List.{append-nil, drop_all, drop_more}
 use Rattle.std.proofs.Math.Dec.{eqb-suc-suc, eqb-suc-zero}
 use Rattle.csv.specs.Records.{field_at}
 use Rattle.bw_model.specs.declared.column.Column.{Column}
@@ -13,32 +13,28 @@ use Rattle.bw_model.specs.Row.{Value}
 use Rattle.bw_text.specs.Text.{same_text}
 use Rattle.bw_csv.specs.Rows.{is_heading, without_blanks, value_of_field, values_of_fields}
 
--- the fields from a place on
-drop-suc : (fields : List (List ℕ)) (i : ℕ) (field : List ℕ) → field_at fields i ≡ Some field → drop i fields ≡ field ∷ drop (suc i) fields
+-- a field at a place, and the fields from there on
+pub field_found : (fields : List (List ℕ)) (i : ℕ) (field : List ℕ) → field_at fields i ≡ Some field → (i < length fields) × (get_or fields i [] ≡ field)
 unfolding field_at
-drop-suc [] i field e = cc e
-drop-suc (f ∷ fs) zero field e = ap (λ (g : List ℕ). g ∷ fs) (let same : f ≡ field = cc e in same)
-drop-suc (f ∷ fs) (suc i) field e = drop-suc fs i field e
+field_found [] i field e = absurd (cc e)
+field_found (f ∷ fs) zero field e = (omega arith, cc)
+field_found (f ∷ fs) (suc i) field e = let more = field_found fs i field e in (omega (arith, more.0), more.1)
+
+pub field_missed : (fields : List (List ℕ)) (i : ℕ) → field_at fields i ≡ None → length fields ≤ i
+unfolding field_at
+field_missed [] i e = omega arith
+field_missed (f ∷ fs) zero e = absurd (cc e)
+field_missed (f ∷ fs) (suc i) e = let more = field_missed fs i e in omega arith
 
 pub drop-field_at : (fields : List (List ℕ)) (i : ℕ) (field : List ℕ) → field_at fields i ≡ Some field → drop i fields ≡ field ∷ drop (i + 1) fields
-drop-field_at fields i field e = rw (add-one) (drop-suc fields i field e)
+drop-field_at fields i field e = let found = field_found fields i field e in drop_more fields i [] found.0 ∙ rw found.1 refl
 
 pub drop-no_field : (fields : List (List ℕ)) (i : ℕ) → field_at fields i ≡ None → drop i fields ≡ []
-unfolding field_at
-drop-no_field [] zero e = refl
-drop-no_field [] (suc i) e = refl
-drop-no_field (f ∷ fs) zero e = cc e
-drop-no_field (f ∷ fs) (suc i) e = drop-no_field fs i e
-
-pub within-field_at : (fields : List (List ℕ)) (i : ℕ) (field : List ℕ) → field_at fields i ≡ Some field → i < length fields
-unfolding field_at
-within-field_at [] i field e = cc e
-within-field_at (f ∷ fs) zero field e = omega arith
-within-field_at (f ∷ fs) (suc i) field e = let more = within-field_at fs i field e in omega arith
+drop-no_field fields i e = drop_all i fields (field_missed fields i e)
 
 -- the columns from a place on
 pub drop-column : (columns : List Column) (i : ℕ) (column : Column) → i < length columns → column ≡ get_or columns i column → drop i columns ≡ column ∷ drop (i + 1) columns
-drop-column columns i column h e = drop-cons columns i column h ∙ rw (← e, add-one) refl
+drop-column columns i column h e = drop_more columns i column h ∙ rw (← e) refl
 
 -- one more name of a heading
 pub is_heading-next : (cs cs2 : List Column) (fs fs2 : List (List ℕ)) (column : Column) (field : List ℕ) → cs ≡ column ∷ cs2 → fs ≡ field ∷ fs2

@@ -1,7 +1,7 @@
 -- Where the first record of a text ends.
 use Rattle.std.proofs.Common.{◌≡◌, ◌∙◌, ℕ, ◌+◌, ◌<◌, ◌≤◌, List, [], ◌∷◌, ◌++◌, length, drop, Some}
 use Rattle.std.proofs.Common.{get_or}
-use Rattle.std.proofs.Common.{None, true, false, refl, sym, eqb, add-one, drop-cons, arith}
+use Rattle.std.proofs.Common.{None, true, false, refl, sym, eqb, arith}
 use Rattle.csv.specs.Machine.{Read, field_after, fields_after, is_end, next_record, step}
 use Rattle.csv.specs.Reading.{default_config, is_bom, strip_bom}
 use Rattle.csv.specs.declared.parser.State.TheVariants as st
@@ -31,10 +31,6 @@ goes-next text rest c inside next on e s =
       field = field_after act c on.field;
       reads = on.reads ∙ rw (e, s) refl;
     }
-
--- a text from a byte on
-pub drop_at : (text : List ℕ) (i : ℕ) → i < length text → drop i text ≡ get_or text i 0 ∷ drop (i + 1) text
-drop_at text i h = rw (add-one) (drop-cons text i 0 h)
 
 -- what is to come after the byte that ends it
 rest_after_return : (inside : Inside) (rest : List ℕ) → is_end (step default_config (state_of inside) 13).1 ≡ true

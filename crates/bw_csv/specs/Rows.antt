@@ -12,7 +12,7 @@ use Rattle.bw_model.specs.FaultTable.{CSV_FAULT}
 use Rattle.bw_model.specs.declared.column.Column.{Column}
 use Rattle.bw_model.specs.declared.fault.Fault.{Fault}
 use Rattle.bw_model.specs.declared.fault.Place.{Place}
-use Rattle.bw_model.specs.declared.fault.Place.TheVariants.{Nowhere, Byte, Line, Rec}
+use Rattle.bw_model.specs.declared.fault.Place.TheVariants.{Rec}
 use Rattle.bw_model.specs.Fault.{at_record, is_memory, ◌>>=◌, refused_if}
 use Rattle.bw_model.specs.Limits.{most_rows}
 use Rattle.bw_text.specs.Number.{are_digits, number_of}
@@ -127,16 +127,12 @@ rows_of columns text = rows_after columns (records default_config (strip_bom tex
 
 -- the place is a record; it is the record of this number
 unfoldable pub is_any_record : Place → Bool
-is_any_record Nowhere = false
-is_any_record (Byte at) = false
-is_any_record (Line at) = false
 is_any_record (Rec at) = true
+is_any_record _ = false
 
 abbrev pub is_record : ℕ → Place → Bool
-is_record number Nowhere = false
-is_record number (Byte at) = false
-is_record number (Line at) = false
 is_record number (Rec at) = at == number
+is_record number _ = false
 
 -- the error is one of the reader's own at a record (209), which no rule of the rows foresees
 abbrev pub is_reader_fault : Fault → Bool

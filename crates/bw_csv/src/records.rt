@@ -52,6 +52,7 @@ impl<'a> Records<'a> {
     ///
     /// Errors: 209, an error of the reader's own; 801 if memory is refused. Then nothing more is
     /// read.
+    #[tactic(auto, unfolding(crate::specs::Records::remaining_records))]
     pub fn next(&mut self, number: u32) -> Result<bool, Fault>
         requires { IsOpen self.old }
         ensures nonempty { IfOk result (λ found. found ≡ true → remaining_records self.old

@@ -1,6 +1,6 @@
 -- What is read after a table file's header is spelled so.
 use Rattle.std.proofs.Common.{◌≡◌, ℕ, zero, suc, min, ◌+◌, ◌-◌, ◌^◌, ◌<◌, ◌≤◌, true, false, List}
-use Rattle.std.proofs.Common.{[], ◌∷◌, ◌++◌, length, take, drop, Option, Some, None, Result, Ok}
+use Rattle.std.proofs.Common.{[], ◌∷◌, ◌++◌, length, take, drop, Option, Some, None, Ok}
 use Rattle.std.proofs.Common.{refl, sym, ap, subst, ◌∙◌, append_assoc, length-append, arith, inl}
 use Rattle.std.proofs.Common.{inr, All, lit<}
 use Rattle.std.specs.List.{flat_map, list_all}
@@ -9,7 +9,6 @@ use Rattle.std.proofs.lemmas.List.{append-nil, get_or_default, nil_from_length, 
 use Rattle.std.proofs.lemmas.List.{take_all, drop_all}
 use Rattle.std.proofs.lemmas.List.Folds.{list_all-append}
 use Rattle.bw_model.specs.declared.column.Column.{Column}
-use Rattle.bw_model.specs.declared.fault.Fault.{Fault}
 use Rattle.bw_model.specs.Column.{admits_values}
 use Rattle.bw_model.specs.Fault.{at_byte}
 use Rattle.bw_model.specs.Groups.{group_size, groups_of, together}
@@ -24,13 +23,11 @@ use Rattle.bw_file.specs.Reading.{Tail, give, field}
 use Rattle.bw_file.specs.TableReading.{sound_at, one_block, blocks, segment, group_sizes, has_bytes}
 use Rattle.bw_file.specs.TableReading.{end, body}
 use Rattle.bw_file.proofs.ReaderLemmas.{group_sizes-some, group_sizes-none}
+use Rattle.bw_file.proofs.ReadingLemmas.{both_bytes}
 use Rattle.bw_file.proofs.SegmentLemmas.{is_packing}
 use Rattle.bw_file.proofs.SpellingLemmas.{IsBytes, Takes, TakesBoth, bind_ok, not_refused}
 use Rattle.bw_file.proofs.SpellingLemmas.{field_takes, takes_then, both_of}
 use Rattle.bw_file.proofs.SpellingLemmas.{ok_is}
-
-abbrev done : {A : Type 0} → A → Result A Fault
-done x = Ok x
 
 abbrev pair : List ℕ → Tail → List ℕ × Tail
 pair bytes t = (bytes, t)
@@ -57,11 +54,6 @@ block_takes layout schema rows number t x fits e =
     let s = sound_ok t.at layout schema rows number b.0.0 (block_fault layout schema number rows b.0.0) b.0.1 x b.2 in
     subst (λ (y : List ℕ × Tail). BlockTaken layout schema rows number t y) s.1 (record { takes = f.0; long = f.1; good = s.0 })
 
-IsBytes-append : (a b : List ℕ) → IsBytes a → IsBytes b → IsBytes (a ++ b)
-IsBytes-append [] b fa fb i = fb i
-IsBytes-append (x ∷ a) b fa fb zero = fa 0
-IsBytes-append (x ∷ a) b fa fb (suc i) = IsBytes-append a b (λ k. fa (suc k)) fb i
-
 record BlocksTaken (layout : Layout) (schema : List Column) (rows count : ℕ) (before : List ℕ) (t : Tail) (x : List ℕ × Tail) : Type 0 where
   text : List ℕ
   after : x.0 ≡ before ++ text
@@ -87,7 +79,7 @@ blocks_take layout schema rows (suc more) number before t x fits own sound e =
     let a = bind_ok (one_block layout schema rows number t) (λ bytes. blocks layout schema rows (suc number) more (before ++ bytes)) x e in
     let b = block_takes layout schema rows number t a.0 fits a.1 in
     let added : AreSound layout schema rows (suc number) (before ++ a.0.0) = block_added (form_of layout) schema rows number before a.0.0 sound b.long b.good in
-    let r = blocks_take layout schema rows more (suc number) (before ++ a.0.0) a.0.1 x b.takes.rest (IsBytes-append before a.0.0 own b.takes.fits) added a.2 in
+    let r = blocks_take layout schema rows more (suc number) (before ++ a.0.0) a.0.1 x b.takes.rest (both_bytes before a.0.0 own b.takes.fits) added a.2 in
     let next : suc number + more ≡ number + suc more = omega arith in
     record {
       text = a.0.0 ++ r.text;
@@ -186,21 +178,29 @@ first_group group rest rows some here there =
     let any : 0 < length (group ++ rest) = simp length-append (some_group group_size rows (length group) (length rest) positive_size some here) in
     groups_of-first (group ++ rest) any ∙ cut_group group rest rows here there
 
--- groups that were read of this many rows are the groups of these rows
-pub record GroupsFound (rows : ℕ) (before found : List (List (List Value))) : Type 0 where
+-- groups that were read of this many rows are the groups of these rows, and if bytes were read,
+-- their text is what was read
+pub record GroupsFound (layout : Layout) (schema : List Column) (rows : ℕ) (before : List (List (List Value))) (t : Tail) (found : List (List (List Value))) : Type 0 where
   pub groups : List (List (List Value))
   pub after : found ≡ before ++ groups
   pub count : length (together groups) ≡ rows
   pub cut : groups_of (together groups) ≡ groups
+  pub taken : IsBytes t.bytes → (t.bytes ≡ flat_map (segment_bytes layout schema) groups) × (list_all (admits_values schema) (together groups) ≡ true)
 
 pub groups_found : (layout : Layout) (schema : List Column) (sizes : List ℕ) (rows : ℕ) (before : List (List (List Value))) (t : Tail) (x : List (List (List Value)) × Tail)
-    → sizes ≡ group_sizes rows → body layout schema sizes before t ≡ Ok x → GroupsFound rows before x.0
+    → sizes ≡ group_sizes rows → body layout schema sizes before t ≡ Ok x → GroupsFound layout schema rows before t x.0
 unfolding body
 groups_found layout schema [] rows before t x sized e =
     let none : rows ≡ 0 = no_sizes rows (sym sized) in
     let a = bind_ok (end t) (λ _. give before) x e in
     let same : before ≡ x.0 = ap (λ (z : List (List (List Value)) × Tail). z.0) (ok_is (found_pair before a.0.1) x a.2) in
-    record { groups = []; after = sym same ∙ sym (append-nil before); count = sym none; cut = groups_of-nothing {A = List Value} }
+    record {
+      groups = [];
+      after = sym same ∙ sym (append-nil before);
+      count = sym none;
+      cut = groups_of-nothing {A = List Value};
+      taken = λ fits. (end_takes t a.0 a.1, refl);
+    }
 groups_found layout schema (size ∷ sizes) rows before t x sized e =
     let some = some_sizes rows size sizes (sym sized) in
     let first = first_size rows size sizes some sized in
@@ -212,31 +212,10 @@ groups_found layout schema (size ∷ sizes) rows before t x sized e =
       after = r.after ∙ append_assoc before (a.0.0 ∷ []) r.groups;
       count = length-append a.0.0 (together r.groups) ∙ omega (arith, count, r.count, first.0);
       cut = first_group a.0.0 (together r.groups) rows some (count ∙ first.0) r.count ∙ ap (λ (l : List (List (List Value))). a.0.0 ∷ l) r.cut;
-    }
-
--- their text is what was read
-pub record GroupsTaken (layout : Layout) (schema : List Column) (before : List (List (List Value))) (t : Tail) (found : List (List (List Value))) : Type 0 where
-  pub groups : List (List (List Value))
-  pub after : found ≡ before ++ groups
-  pub text : t.bytes ≡ flat_map (segment_bytes layout schema) groups
-  pub admitted : list_all (admits_values schema) (together groups) ≡ true
-
-pub body_take : (layout : Layout) (schema : List Column) (sizes : List ℕ) (rows : ℕ) (before : List (List (List Value))) (t : Tail) (x : List (List (List Value)) × Tail)
-    → IsBytes t.bytes → sizes ≡ group_sizes rows → body layout schema sizes before t ≡ Ok x → GroupsTaken layout schema before t x.0
-unfolding body
-body_take layout schema [] rows before t x fits sized e =
-    let a = bind_ok (end t) (λ _. give before) x e in
-    let same : before ≡ x.0 = ap (λ (z : List (List (List Value)) × Tail). z.0) (ok_is (found_pair before a.0.1) x a.2) in
-    record { groups = []; after = sym same ∙ sym (append-nil before); text = end_takes t a.0 a.1; admitted = refl }
-body_take layout schema (size ∷ sizes) rows before t x fits sized e =
-    let some = some_sizes rows size sizes (sym sized) in
-    let first = first_size rows size sizes some sized in
-    let a = bind_ok (segment layout schema size t) (λ group. body layout schema sizes (before ++ group ∷ [])) x e in
-    let g = segment_takes layout schema size t a.0 fits (first.1).0 (first.1).1 a.1 in
-    let r = body_take layout schema sizes (rows - group_size) (before ++ a.0.0 ∷ []) a.0.1 x g.takes.rest first.2 a.2 in
-    record {
-      groups = a.0.0 ∷ r.groups;
-      after = r.after ∙ append_assoc before (a.0.0 ∷ []) r.groups;
-      text = g.takes.parts ∙ ap (λ (l : List ℕ). segment_bytes layout schema a.0.0 ++ l) r.text;
-      admitted = list_all-append (admits_values schema) a.0.0 (together r.groups) ∙ rw (g.admitted, r.admitted) refl;
+      taken = λ fits.
+          let g = segment_takes layout schema size t a.0 fits (first.1).0 (first.1).1 a.1 in
+          let more = r.taken g.takes.rest in (
+            g.takes.parts ∙ ap (λ (l : List ℕ). segment_bytes layout schema a.0.0 ++ l) more.0,
+            list_all-append (admits_values schema) a.0.0 (together r.groups) ∙ rw (g.admitted, more.1) refl,
+          );
     }

@@ -3,10 +3,12 @@ use Rattle.std.proofs.Common.{◌≡◌, ◌∙◌, ap, refl, subst, ℕ, zero, 
 use Rattle.std.proofs.Common.{Bool, true, false, not, ◌||◌, ◌&&◌, ◌==◌, List, Option, Some, None}
 use Rattle.std.proofs.Common.{Result, Ok, Err, if◌then◌else◌, IfErr, nat_lt, nat_le, slice_index}
 use Rattle.std.specs.Prelude.{IfSome, slice_index_or}
+use Rattle.std.proofs.Common.{inl, inr, length}
 use Rattle.std.proofs.Math.Bool.{or-true}
+use Rattle.std.proofs.lemmas.Bool.{cases_Bool}
 use Rattle.bw_model.specs.declared.column.Column.{Column}
 use Rattle.bw_model.specs.declared.fault.Fault.{Fault}
-use Rattle.bw_model.specs.Fault.{at_byte, is_memory, refused_if}
+use Rattle.bw_model.specs.Fault.{at_byte, is_memory}
 use Rattle.bw_model.specs.Groups.{group_size}
 use Rattle.bw_model.specs.SchemaText.{ColumnShape, shape_names}
 use Rattle.bw_io.specs.Source.{is_read_fault, is_input_fault}
@@ -39,11 +41,7 @@ then_own first next here there t = passed_own (first t) next (here t) there
 
 field_own : (size : ℕ) → RefusesOwn (field size)
 unfolding field
-field_own size t = refused_own (nat_lt _ size) _ _
-  where
-    refused_own : {A : Type 0} (b : Bool) (at : ℕ) (x : A) → IfErr (refused_if b (at_byte 305 at) (Ok x)) IsTableFault
-    refused_own true at x = refl
-    refused_own false at x = tt
+field_own size t = elim (cases_Bool (nat_lt (length t.bytes) size)) [ inl e ↦ rw e refl | inr e ↦ rw e tt ]
 
 said_own : {A : Type 0} (at : ℕ) (said : Result A ℕ) → IfErr said IsOwn → RefusesOwn (parsed_at at said)
 said_own at (Ok x) own t = tt
@@ -173,15 +171,13 @@ input_own fault e = ap (λ b. (nat_le 301 fault.code && nat_le fault.code 310) |
 
 -- so whatever a call that reads so answers is one of them, and so is a byte more than is wanted
 pub refused_by : {A : Type 0} (reading : Reading A) (old new : State) (fault : Fault) → RefusesOwn reading → Fails reading old new fault → IsTableFault fault
-refused_by reading old new fault own p = go (is_input_fault fault) refl
-  where
-    go : (b : Bool) → is_input_fault fault ≡ b → IsTableFault fault
-    go true e = input_own fault e
-    go false e = let has = p.refused e in subst (λ r. IfErr r IsTableFault) has.gives (own (tail old.offset (p.bytes ++ has.rest)))
+refused_by reading old new fault own p = elim (cases_Bool (is_input_fault fault)) [
+  | inl e ↦ input_own fault e
+  | inr e ↦ (let has = p.refused e in subst (λ r. IfErr r IsTableFault) has.gives (own (tail old.offset (p.bytes ++ has.rest))))
+]
 
 pub byte_own : (old new : State) (fault : Fault) → HasByteMore old new fault → IsTableFault fault
-byte_own old new fault p = go (is_read_fault fault) refl
-  where
-    go : (b : Bool) → is_read_fault fault ≡ b → IsTableFault fault
-    go true e = input_own fault (ap (λ b. is_memory fault || b) e ∙ or-true (is_memory fault))
-    go false e = rw (p.refused e).1 refl
+byte_own old new fault p = elim (cases_Bool (is_read_fault fault)) [
+  | inl e ↦ input_own fault (ap (λ b. is_memory fault || b) e ∙ or-true (is_memory fault))
+  | inr e ↦ rw (p.refused e).1 refl
+]

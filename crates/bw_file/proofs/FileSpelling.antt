@@ -22,7 +22,7 @@ use Rattle.bw_file.specs.TableReading.{IsReadAs, IsReadAfter}
 use Rattle.bw_model.proofs.SameColumns.{columns_same}
 use Rattle.bw_file.proofs.SpellingLemmas.{IsBytes, TakesBoth, schema_bytes, fits_version}
 use Rattle.bw_file.proofs.SpellingLemmas.{head_bytes, IsHeader, header_takes}
-use Rattle.bw_file.proofs.BodySpelling.{groups_found, body_take}
+use Rattle.bw_file.proofs.BodySpelling.{groups_found}
 
 shapes_spelled : (columns : List Column) → flat_map schema_bytes (map column_shape columns) ≡ flat_map (λ (c : Column). column_bytes c.name c.lo c.hi c.nullable) columns
 shapes_spelled [] = refl
@@ -70,19 +70,19 @@ spelled_with : (bytes : List ℕ) (h : HeaderShape) (t : Tail) (schema : Schema)
 unfolding bytes_of_version segments_bytes
 spelled_with bytes h t schema y head known same e =
     let columns = schema.columns.items in
-    let b = body_take h.layout columns (group_sizes h.rows) h.rows [] t y head.rest refl e in
     let rows = together y.0 in
     let f = groups_found h.layout columns (group_sizes h.rows) h.rows [] t y refl e in
+    let taken = f.taken head.rest in
     let cut : groups_of rows ≡ y.0 = rw f.after f.cut in
     let count : length rows ≡ h.rows = rw f.after f.count in
-    let body_bytes : t.bytes ≡ segments_bytes h.layout columns rows = b.text ∙ ap (flat_map (segment_bytes h.layout columns)) (sym b.after ∙ sym cut) in
+    let body_bytes : t.bytes ≡ segments_bytes h.layout columns rows = taken.0 ∙ ap (flat_map (segment_bytes h.layout columns)) (sym f.after ∙ sym cut) in
     let shaped : head_bytes h ≡ header_bytes h.version h.layout schema.name columns (length rows) =
     ap (λ (s : SchemaShape). head_bytes (record { version = h.version; layout = h.layout; rows = h.rows; schema = s })) (sym same)
     ∙ head_is h.version h.rows h.layout schema ∙ ap (header_bytes h.version h.layout schema.name columns) (sym count) in
     let whole : bytes ≡ bytes_of_version h.version h.layout schema.name columns rows = head.parts ∙ ap (λ (l : List ℕ). head_bytes h ++ l) body_bytes ∙ ap (λ (l : List ℕ). l ++ segments_bytes h.layout columns rows) shaped in
     let narrow : list_all (λ (c : Column). are_bounds h.version c.lo c.hi) columns ≡ true =
     sym (shapes_fit h.version columns) ∙ ap (λ (s : SchemaShape). list_all (fits_version h.version) s.columns) same ∙ known.bounds in
-    let admitted : list_all (admits_values columns) rows ≡ true = rw b.after b.admitted in
+    let admitted : list_all (admits_values columns) rows ≡ true = rw f.after taken.1 in
     record {
       schema = schema;
       shape = same;

@@ -1,10 +1,10 @@
 -- What the bytes of a file say, segment by segment.
-use Rattle.std.proofs.Common.{◌≡◌, ℕ, zero, suc, min, Bool, true, false, ◌||◌, ◌+◌, ◌-◌, ◌<◌, ◌≤◌}
+use Rattle.std.proofs.Common.{◌≡◌, ℕ, zero, suc, min, Bool, true, false, ◌+◌, ◌-◌, ◌<◌, ◌≤◌}
 use Rattle.std.proofs.Common.{inl, inr, List, [], ◌∷◌, ◌++◌, length, length-append, take, Ok, Err}
 use Rattle.std.proofs.Common.{refl, sym, ap, ◌∙◌, append_assoc, arith}
 use Rattle.std.specs.Io.KnownBytes.{IsAtEnd}
 use Rattle.std.proofs.Math.Seq.{take-append-add}
-use Rattle.std.proofs.lemmas.Bool.{cases_lt}
+use Rattle.std.proofs.lemmas.Bool.{cases_lt, or_parts}
 use Rattle.std.proofs.lemmas.List.{append-nil, take-append-le, take_at}
 use Rattle.bw_model.specs.declared.column.Column.{Column}
 use Rattle.bw_model.specs.declared.fault.Fault.{Fault}
@@ -226,11 +226,7 @@ end_needed start old reader groups fault all so_far byte false none one =
 
 -- an error that isn't a failed read, nor out of memory
 own_fault : (fault : Fault) → is_input_fault fault ≡ false → is_read_fault fault ≡ false
-own_fault fault own = either (is_memory fault) (is_read_fault fault) own
-  where
-    either : (a b : Bool) → (a || b) ≡ false → b ≡ false
-    either true b e = absurd (cc e)
-    either false b e = e
+own_fault fault own = (or_parts (is_memory fault) (is_read_fault fault) own).1
 
 pub end_missed : (start old new : State) (reader : TableReader) (groups : List (List (List Value))) (fault : Fault) → reader.given ≡ reader.rows → ReadProgress start old reader groups
     → HasByteMore old new fault → AnswersFault start old new fault

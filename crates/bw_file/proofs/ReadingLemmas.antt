@@ -1,10 +1,10 @@
 -- Reading bytes step by step, as calls take them of a source.
-use Rattle.std.proofs.Common.{◌≡◌, ℕ, ◌+◌, ◌-◌, ◌≤◌, ◌<◌, Bool, true, false, zero, suc, List, []}
+use Rattle.std.proofs.Common.{◌≡◌, ℕ, ◌+◌, ◌-◌, ◌≤◌, ◌<◌, true, false, zero, suc, List, []}
 use Rattle.std.proofs.Common.{◌∷◌, ◌++◌, length, take, lit<, Option, Some, None, Result, Ok, Err}
 use Rattle.std.proofs.Common.{refl, sym, ap, ◌∙◌, append_assoc, length-append, arith, inl, inr}
-use Rattle.std.proofs.Common.{nat_lt, ◌&&◌, ◌==◌}
+use Rattle.std.proofs.Common.{nat_lt, ◌==◌}
 use Rattle.std.specs.Prelude.{IfSome}
-use Rattle.std.proofs.lemmas.Bool.{true≢false}
+use Rattle.std.proofs.lemmas.Bool.{and_right, true≢false}
 use Rattle.std.proofs.lemmas.List.{take_at, drop_at, length-take-le, take-append-le}
 use Rattle.std.proofs.Math.Seq.{take-append-add}
 use borrow.Rule.Slice.PartMut.{put_mid, post_of}
@@ -30,7 +30,7 @@ pub front_bytes : (n : ℕ) (bytes : List ℕ) → AreBytes bytes → AreBytes (
 front_bytes (suc n) (c ∷ bytes) each = one_byte_more c (take n bytes) (each 0) (front_bytes n bytes (λ k. each (suc k)))
 front_bytes _ _ each = no_bytes
 
-both_bytes : (xs ys : List ℕ) → AreBytes xs → AreBytes ys → AreBytes (xs ++ ys)
+pub both_bytes : (xs ys : List ℕ) → AreBytes xs → AreBytes ys → AreBytes (xs ++ ys)
 both_bytes [] ys p q = q
 both_bytes (x ∷ xs) ys p q = one_byte_more x (xs ++ ys) (p 0) (both_bytes xs ys (λ k. p (suc k)) q)
 
@@ -108,12 +108,7 @@ pub is_coming : (known : Option (List ℕ)) → IfSome known (λ bytes. bytes �
 is_coming None = tt
 is_coming (Some bytes) = refl
 
--- an error that stands at a byte is neither a failed read nor out of memory
-refused_place : (b : Bool) → (b && false) ≡ false
-refused_place true = refl
-refused_place false = refl
-
--- so a call that passes on what another rejected rejects by it
+-- a call that passes on what another rejected rejects by it
 pub stops : {A B : Type 0} (reading : Reading B) (first : Reading A) (next : A → Reading B) (old mid new : State) (fault : Fault)
     → GoesOn reading old (first >>= next) mid → Fails first mid new fault → Fails reading old new fault
 stops {A = A} reading first next old mid new fault p q = record {
@@ -150,7 +145,7 @@ stops_memory reading next old mid p = record {
 refuses_after : {A : Type 0} (reading : Reading A) (old new : State) (bytes : List ℕ) (code place : ℕ) → HasConsumed old new bytes → NeedsEach reading old.offset bytes → new.failures ≡ old.failures
     → ((rest : List ℕ) → reading (tail old.offset (bytes ++ rest)) ≡ Err (at_byte code place)) → Fails reading old new (at_byte code place)
 refuses_after reading old new bytes code place took needed same e =
-    let own : is_read_fault (at_byte code place) ≡ false = refused_place (code == 701) in
+    let own : is_read_fault (at_byte code place) ≡ false = and_right (code == 701) false refl in
     record {
       bytes = bytes;
       took = took;

@@ -6,7 +6,7 @@ use Rattle.std.proofs.Common.{length-append, arith, slice_index, inl, inr, ◌�
 use Rattle.std.proofs.Math.Facts.{Fits-lt-pow, Fits-of_z}
 use Rattle.std.specs.Int.{w16, w32, w64, to_le_bytes, cast_unsigned}
 use Rattle.std.specs.List.{flat_map, list_all, list_any}
-use Rattle.std.proofs.lemmas.Bool.{le-ltb, ne_eqb}
+use Rattle.std.proofs.lemmas.Bool.{le-ltb, ne_eqb, not-true, or_parts}
 use Rattle.std.proofs.lemmas.Int.{to_z-of_z}
 use Rattle.std.proofs.lemmas.List.{append-nil, take_at, drop_at, take_all}
 use Rattle.std.proofs.lemmas.List.Elements.{All-head, All-tail}
@@ -155,8 +155,7 @@ column_reads version before c is room apart =
 
 -- a name among others that are apart is none of those before it
 not_any : (a b : Bool) → (not (a || b)) ≡ true → (a ≡ false) × (b ≡ false)
-not_any false false e = (refl, refl)
-not_any _ _ e = absurd cc
+not_any a b e = or_parts a b (not-true (a || b) e)
 
 apart_there : (text name : List ℕ) (before after : List (List ℕ)) → not (list_any (same_text name) (before ++ text ∷ after)) ≡ true → same_text name text ≡ false
 apart_there text name [] after e = (not_any (same_text name text) (list_any (same_text name) after) e).0

@@ -1,18 +1,18 @@
 -- What is read of a table file is spelled so.
-use Rattle.std.proofs.Common.{◌≡◌, ℕ, zero, suc, ◌+◌, ◌^◌, ◌<◌, ◌≤◌, Bool, true, false, ◌||◌, not}
+use Rattle.std.proofs.Common.{◌≡◌, ℕ, zero, suc, ◌+◌, ◌^◌, ◌<◌, ◌≤◌, Bool, true, false, ◌||◌}
 use Rattle.std.proofs.Common.{All, FitsSigned, cond, eqb, nat_lt, List, [], ◌∷◌, ◌++◌, length}
 use Rattle.std.proofs.Common.{get_or, take, drop, Result, Ok, Err, refl, sym, ap, subst, ◌∙◌}
-use Rattle.std.proofs.Common.{append_assoc, length-take, length-drop, arith, slice_index, inl, inr}
+use Rattle.std.proofs.Common.{append_assoc, length-drop, arith, slice_index, inl, inr}
 use Rattle.std.proofs.Common.{◌⊎◌}
 use Rattle.std.specs.Int.{w16, w32, w64, to_le_bytes, from_le_bytes, cast_signed}
 use Rattle.std.specs.List.{flat_map, list_all}
 use Rattle.std.specs.Str.{bytes_eq}
-use Rattle.std.proofs.lemmas.Bool.{cases_lt, ltb-false, eqb-true}
+use Rattle.std.proofs.lemmas.Bool.{cases_Bool, eqb-true, ltb-false, not-false, or_cases, or_parts}
 use borrow.Author.Differences.{fits_in, read_fits}
 use Rattle.std.proofs.lemmas.Int.{of_z-to_z}
 use Rattle.std.proofs.lemmas.List.Elements.{All-nil, All-cons}
-use Rattle.std.proofs.lemmas.List.{take-append-drop, length-take-le, take_all, get_or-take}
-use Rattle.std.proofs.lemmas.List.{get_or-drop, get_or_past, append-nil}
+use Rattle.std.proofs.lemmas.List.{take-append-drop, length-take-le, take_all}
+use Rattle.std.proofs.lemmas.List.{get_or-drop, append-nil}
 use Rattle.std.proofs.lemmas.Nat.{le_bytes_2, le_bytes_4, le_bytes_8}
 use Rattle.std.proofs.lemmas.Slice.Eq.{bytes_eq-Decides}
 use Rattle.bw_model.specs.declared.fault.Fault.{Fault}
@@ -32,19 +32,13 @@ use Rattle.bw_file.specs.TableReading.{parse_magic, parse_version, parse_layout,
 use Rattle.bw_file.specs.TableReading.{parse_row_count, bound_in, parse_bounds, parse_nullable}
 use Rattle.bw_file.specs.TableReading.{parse_name, name, column, columns, FrontShape, front_of}
 use Rattle.bw_file.specs.TableReading.{front, HeaderShape, header_of, header}
+use Rattle.bw_file.proofs.ReadingLemmas.{front_bytes as bytes_in_front}
 
 abbrev pub IsBytes : List ℕ → Type 0
 IsBytes bytes = (i : ℕ) → get_or bytes i 0 < 256
 
 IsBytes-drop : (n : ℕ) (bytes : List ℕ) → IsBytes bytes → IsBytes (drop n bytes)
 IsBytes-drop n bytes h i = rw get_or-drop (h (n + i))
-
-IsBytes-take : (n : ℕ) (bytes : List ℕ) → IsBytes bytes → IsBytes (take n bytes)
-IsBytes-take n bytes h i =
-    elim (cases_lt i n) [
-      | inl lt ↦ rw (get_or-take n bytes i 0 lt) (h i)
-      | inr le ↦ rw (get_or_past (take n bytes) i 0 (omega (arith, length-take n bytes))) (omega arith)
-    ]
 
 -- what reading took
 pub record Takes (from : Tail) (text : List ℕ) (to : Tail) : Type 0 where
@@ -66,10 +60,7 @@ pub not_refused : {A : Type 0} (b : Bool) (fault : Fault) (r : Result A Fault) (
 not_refused true fault r x e = absurd cc
 not_refused false fault r x e = (refl, e)
 
-abbrev done : {A : Type 0} → A → Result A Fault
-done x = Ok x
-
-pub ok_is : {A : Type 0} (x y : A) → done x ≡ done y → x ≡ y
+pub ok_is : {A E : Type 0} (x y : A) → ◌≡◌ {A = Result A E} (Ok x) (Ok y) → x ≡ y
 ok_is x y e = cc
 
 pub field_takes : (size : ℕ) (t : Tail) (x : List ℕ × Tail) → IsBytes t.bytes → field size t ≡ Ok x → Takes t x.0 x.1 × (length x.0 ≡ size)
@@ -79,7 +70,7 @@ field_takes size t x fits e =
     let long : size ≤ length t.bytes = ltb-false _ _ g.0 in
     let taken : List ℕ × Tail = (take size t.bytes, tail (t.at + size) (drop size t.bytes)) in
     subst (λ (y : List ℕ × Tail). Takes t y.0 y.1 × (length y.0 ≡ size)) (ok_is taken x g.1)
-    (record { parts = sym (take-append-drop size t.bytes); fits = IsBytes-take size t.bytes fits; rest = IsBytes-drop size t.bytes fits }, length-take-le size t.bytes long)
+    (record { parts = sym (take-append-drop size t.bytes); fits = bytes_in_front size t.bytes fits; rest = IsBytes-drop size t.bytes fits }, length-take-le size t.bytes long)
 
 said_ok : {A : Type 0} (at : ℕ) (said : Result A ℕ) (t : Tail) (x : A × Tail) → parsed_at at said t ≡ Ok x → (said ≡ Ok x.0) × (t ≡ x.1)
 said_ok {A = A} at (Ok y) t x e = let same = ok_is (y, t) x e in (ap (λ (z : A × Tail). Ok z.0) same, ap (λ (z : A × Tail). z.1) same)
@@ -108,61 +99,40 @@ single _ e = absurd (omega (arith, e))
 abbrev said : {A : Type 0} → A → Result A ℕ
 said x = Ok x
 
-said_is : {A : Type 0} (x y : A) → said x ≡ said y → x ≡ y
-said_is x y e = cc
-
 -- a choice that was made
 chosen : {A : Type 0} (b : Bool) (x y : A) (code : ℕ) → cond b (Ok x) (Err code) ≡ said y → (b ≡ true) × (x ≡ y)
-chosen true x y code e = (refl, said_is x y e)
+chosen true x y code e = (refl, ok_is x y e)
 chosen false x y code e = absurd cc
 
 left : {A : Type 0} (b : Bool) (x y : A) (code : ℕ) → cond b (Err code) (Ok x) ≡ said y → (b ≡ false) × (x ≡ y)
 left true x y code e = absurd cc
-left false x y code e = (refl, said_is x y e)
+left false x y code e = (refl, ok_is x y e)
 
-abbrev nothing_said : Result (Unit {0}) ℕ
-nothing_said = Ok tt
-
-chosen_unit : (b : Bool) → cond b nothing_said (Err 301) ≡ nothing_said → b ≡ true
-chosen_unit true e = refl
-chosen_unit false e = absurd cc
-
-magic_is : (text : List ℕ) → parse_magic text ≡ nothing_said → text ≡ magic
+magic_is : (text : List ℕ) → parse_magic text ≡ said tt → text ≡ magic
 unfolding parse_magic
-magic_is text e = (bytes_eq-Decides text magic).0 (chosen_unit (bytes_eq text magic) e)
-
-either : (a b : Bool) → (a || b) ≡ true → (a ≡ true) ⊎ (b ≡ true)
-either true b e = inl refl
-either false b e = inr e
+magic_is text e = (bytes_eq-Decides text magic).0 (chosen (bytes_eq text magic) tt tt 301 e).0
 
 version_is : (text : List ℕ) (version : ℕ) → length text ≡ 1 → parse_version text ≡ Ok version → (text ≡ version ∷ []) × ((version ≡ 1) ⊎ (version ≡ 2))
 unfolding parse_version
 version_is text version long e =
     let g = chosen (eqb (get_or text 0 0) 1 || eqb (get_or text 0 0) 2) (get_or text 0 0) version 302 e in
-    (single text long ∙ ap (λ (b : ℕ). b ∷ []) g.1, elim (either _ _ g.0) [ inl a ↦ inl (sym g.1 ∙ eqb-true _ _ a) | inr b ↦ inr (sym g.1 ∙ eqb-true _ _ b) ])
+    (single text long ∙ ap (λ (b : ℕ). b ∷ []) g.1, elim (or_cases _ _ g.0) [ inl a ↦ inl (sym g.1 ∙ eqb-true _ _ a) | inr b ↦ inr (sym g.1 ∙ eqb-true _ _ b) ])
 
 -- one of two values, by a byte that is 0 or 1
-two_values : {A : Type 0} (a b : A) (code : ℕ) (zero_is one_is : Bool) (x : A) → cond zero_is (Ok a) (cond one_is (Ok b) (Err code)) ≡ said x
-    → ((zero_is ≡ true) × (x ≡ a)) ⊎ ((one_is ≡ true) × (x ≡ b))
-two_values a b code true one_is x e = inl (refl, sym (said_is a x e))
-two_values a b code false true x e = inr (refl, sym (said_is b x e))
-two_values a b code false false x e = absurd cc
+by_byte : {A : Type 0} (spell : A → ℕ) (a b : A) (code : ℕ) (text : List ℕ) (x : A) → spell a ≡ 0 → spell b ≡ 1 → length text ≡ 1
+    → cond (eqb (get_or text 0 0) 0) (Ok a) (cond (eqb (get_or text 0 0) 1) (Ok b) (Err code)) ≡ said x → text ≡ spell x ∷ []
+by_byte spell a b code text x at_zero at_one long e = elim (cases_Bool (eqb (get_or text 0 0) 0)) [
+  | inl i ↦ single text long ∙ rw (eqb-true _ _ i, ← ok_is a x (rw i at e), at_zero) refl
+  | inr n ↦ (let g = chosen (eqb (get_or text 0 0) 1) b x code (rw n at e) in single text long ∙ rw (eqb-true _ _ g.0, ← g.1, at_one) refl)
+]
 
 layout_is : (text : List ℕ) (layout : Layout) → length text ≡ 1 → parse_layout text ≡ Ok layout → text ≡ layout_byte layout ∷ []
 unfolding parse_layout
-layout_is text layout long e =
-    elim (two_values Planes Slices 303 (eqb (get_or text 0 0) 0) (eqb (get_or text 0 0) 1) layout e) [
-      | inl a ↦ single text long ∙ rw (eqb-true _ _ a.0, a.1) refl
-      | inr b ↦ single text long ∙ rw (eqb-true _ _ b.0, b.1) refl
-    ]
+layout_is text layout = by_byte layout_byte Planes Slices 303 text layout refl refl
 
 nullable_is : (text : List ℕ) (nullable : Bool) → length text ≡ 1 → parse_nullable text ≡ Ok nullable → text ≡ flag_byte nullable ∷ []
 unfolding parse_nullable
-nullable_is text nullable long e =
-    elim (two_values false true 304 (eqb (get_or text 0 0) 0) (eqb (get_or text 0 0) 1) nullable e) [
-      | inl a ↦ single text long ∙ rw (eqb-true _ _ a.0, a.1) refl
-      | inr b ↦ single text long ∙ rw (eqb-true _ _ b.0, b.1) refl
-    ]
+nullable_is text nullable = by_byte flag_byte false true 304 text nullable refl refl
 
 count_is : (text : List ℕ) (count : ℕ) → length text ≡ 2 → IsBytes text → parse_count text ≡ Ok count → text ≡ to_le_bytes w16 count
 unfolding parse_count
@@ -200,9 +170,9 @@ bounds_are version text bounds long fits e =
     let made : Bounds = record { lo = lo; hi = hi } in
     let g = chosen (are_bounds version lo hi) made bounds 304 e in
     let back : length (drop 8 text) ≡ 8 = omega (arith, length-drop 8 text) in
-    let first : bound_bytes lo ≡ take 8 text = bound_is (take 8 text) (length-take-le 8 text (omega (arith, long))) (IsBytes-take 8 text fits) in
+    let first : bound_bytes lo ≡ take 8 text = bound_is (take 8 text) (length-take-le 8 text (omega (arith, long))) (bytes_in_front 8 text fits) in
     let all : take 8 (drop 8 text) ≡ drop 8 text = take_all 8 (drop 8 text) (omega (arith, back)) in
-    let second : bound_bytes hi ≡ drop 8 text = bound_is (take 8 (drop 8 text)) (length-take-le 8 (drop 8 text) (omega (arith, back))) (IsBytes-take 8 (drop 8 text) (IsBytes-drop 8 text fits)) ∙ all in
+    let second : bound_bytes hi ≡ drop 8 text = bound_is (take 8 (drop 8 text)) (length-take-le 8 (drop 8 text) (omega (arith, back))) (bytes_in_front 8 (drop 8 text) (IsBytes-drop 8 text fits)) ∙ all in
     let whole : bound_bytes lo ++ bound_bytes hi ≡ text =
     ap (λ (l : List ℕ). l ++ bound_bytes hi) first ∙ ap (λ (l : List ℕ). take 8 text ++ l) second ∙ take-append-drop 8 text in
     subst (AreBounds version text) g.1 (record {
@@ -222,14 +192,10 @@ both_of a b x p = record { parts = p.parts; rest = p.rest }
 takes_as : (a b : Tail) (x y : List ℕ) → Takes a x b → x ≡ y → TakesBoth a y b
 takes_as a b x y p e = rw (← e) (both_of a b x p)
 
-neither : (a b : Bool) → (not a || b) ≡ false → a ≡ true
-neither true b e = refl
-neither false b e = absurd cc
-
 named : (before : List (List ℕ)) (text found : List ℕ) → parse_name before text ≡ Ok found → (text ≡ found) × (is_name found ≡ true)
 unfolding parse_name
 named before text found e =
-    let g = left _ text found 304 e in (g.1, ap is_name (sym g.1) ∙ neither _ _ g.0)
+    let g = left _ text found 304 e in (g.1, ap is_name (sym g.1) ∙ not-false _ (or_parts _ _ g.0).0)
 
 name_takes : (before : List (List ℕ)) (t : Tail) (x : List ℕ × Tail) → IsBytes t.bytes → name before t ≡ Ok x → TakesBoth t (name_bytes x.0) x.1 × (is_name x.0 ≡ true)
 unfolding name

@@ -3,6 +3,7 @@ use Rattle.std.proofs.Common.{◌≡◌, ◌∙◌, refl, sym, ap, subst, ℕ, �
 use Rattle.std.proofs.Common.{not, List, [], ◌∷◌, drop, Option, Some, None, Result, Ok, Err, nat_le}
 use Rattle.std.proofs.Common.{nat_lt}
 use Rattle.std.proofs.lemmas.Bool.{ltb-true, ltb-false, leb-false, lt-ltb, le-ltb, lt-leb}
+use Rattle.std.proofs.lemmas.Bool.{not-false}
 use Rattle.bw_model.specs.declared.column.Column.{Column}
 use Rattle.bw_model.specs.declared.fault.Fault.{Fault}
 use Rattle.bw_model.specs.Code.{width_at, slices_at}
@@ -23,10 +24,6 @@ use Rattle.bw_program.specs.ProgramText.{goes_past, SpellsInstr, load, nulls, fi
 use Rattle.bw_program.specs.ProgramText.{disjunction, difference, negation, below, same, skip}
 use Rattle.bw_text.specs.Register.{register_of}
 
-negated_not : (b : Bool) → not b ≡ false → b ≡ true
-negated_not true e = refl
-negated_not false e = absurd (cc e)
-
 -- what is after a test that did not reject
 passed : {A : Type 0} (b : Bool) (fault : Fault) (r : Result A Fault) (x : A) → refused_if b fault r ≡ Ok x → (b ≡ false) × (r ≡ Ok x)
 passed true fault r x e = absurd (cc e)
@@ -40,13 +37,11 @@ module _ (columns : List Column) (end number line : ℕ) where
           (found_on 501 line nb >>= λ bit. found_on 502 line nr >>= λ register. found_on 503 line nc >>= λ column.
           refused_if (not (nat_lt bit (width_at columns column))) (at_line 503 line) (Ok (Load register column bit))) ≡ Ok instr →
           SpellsInstr columns end number (word ∷ r ∷ c ∷ b ∷ []) instr
-      go None nr nc x y z e = absurd (cc e)
-      go (Some bit) None nc x y z e = absurd (cc e)
-      go (Some bit) (Some register) None x y z e = absurd (cc e)
       go (Some bit) (Some register) (Some column) x y z e =
           let ok = passed (not (nat_lt bit (width_at columns column))) (at_line 503 line) (Ok (Load register column bit)) instr e in
           let there : Load register column bit ≡ instr = cc ok.1 in
-          rw (← there) (load is y z x (ltb-true bit (width_at columns column) (negated_not (nat_lt bit (width_at columns column)) ok.0)))
+          rw (← there) (load is y z x (ltb-true bit (width_at columns column) (not-false (nat_lt bit (width_at columns column)) ok.0)))
+      go _ _ _ x y z e = absurd (cc e)
 
   nulls_spelled : (word r c : List ℕ) (instr : Instr) → opcode_of word ≡ Some op.Nulls → nulls_on columns line (r ∷ c ∷ []) ≡ Ok instr → SpellsInstr columns end number (word ∷ r ∷ c ∷ []) instr
   nulls_spelled word r c instr is e = go (register_of r) (column_named columns c) refl refl e
@@ -55,12 +50,11 @@ module _ (columns : List Column) (end number line : ℕ) where
           (found_on 502 line nr >>= λ register. found_on 503 line nc >>= λ column.
           refused_if (not (is_nullable columns column)) (at_line 507 line) (Ok (Nulls register column))) ≡ Ok instr →
           SpellsInstr columns end number (word ∷ r ∷ c ∷ []) instr
-      go None nc y z e = absurd (cc e)
-      go (Some register) None y z e = absurd (cc e)
       go (Some register) (Some column) y z e =
           let ok = passed (not (is_nullable columns column)) (at_line 507 line) (Ok (Nulls register column)) instr e in
           let there : Nulls register column ≡ instr = cc ok.1 in
-          rw (← there) (nulls is y z (negated_not (is_nullable columns column) ok.0))
+          rw (← there) (nulls is y z (not-false (is_nullable columns column) ok.0))
+      go _ _ y z e = absurd (cc e)
 
   fill_spelled : (word r b : List ℕ) (instr : Instr) → opcode_of word ≡ Some op.Fill → fill_on line (r ∷ b ∷ []) ≡ Ok instr → SpellsInstr columns end number (word ∷ r ∷ b ∷ []) instr
   fill_spelled word r b instr is e = go (natural_of b) (register_of r) refl refl e
@@ -89,20 +83,15 @@ module _ (columns : List Column) (end number line : ℕ) where
     third : register_of b ≡ Some t.2
 
   three_read : (words : List (List ℕ)) (t : ℕ × ℕ × ℕ) → three_on line words ≡ Ok t → Three words t
-  three_read [] t e = absurd (cc e)
-  three_read (r ∷ []) t e = absurd (cc e)
-  three_read (r ∷ a ∷ []) t e = absurd (cc e)
-  three_read (r ∷ a ∷ b ∷ c ∷ words) t e = absurd (cc e)
   three_read (r ∷ a ∷ b ∷ []) t e = go (register_of r) (register_of a) (register_of b) refl refl refl e
     where
       go : (nr na nb : Option ℕ) → register_of r ≡ nr → register_of a ≡ na → register_of b ≡ nb →
           (found_on 502 line nr >>= λ register. found_on 502 line na >>= λ x. found_on 502 line nb >>= λ y. Ok (register, x, y)) ≡ Ok t → Three (r ∷ a ∷ b ∷ []) t
-      go None na nb x y z e = absurd (cc e)
-      go (Some n) None nb x y z e = absurd (cc e)
-      go (Some n) (Some m) None x y z e = absurd (cc e)
       go (Some n) (Some m) (Some k) x y z e =
           let there : ◌≡◌ {A = ℕ × ℕ × ℕ} (n, m, k) t = cc e in
           rw (← there) (record { r = r; a = a; b = b; words_are = refl; first = x; second = y; third = z })
+      go _ _ _ x y z e = absurd (cc e)
+  three_read _ t e = absurd (cc e)
 
   logic_spelled : (op : Opcode) (f : ℕ → ℕ → ℕ → Instr) (words : List (List ℕ)) (instr : Instr) → (three_on line words >>= λ three. Ok (f three.0 three.1 three.2)) ≡ Ok instr →
       (t : ℕ × ℕ × ℕ) × Three words t × (f t.0 t.1 t.2 ≡ instr)
@@ -126,19 +115,12 @@ module _ (columns : List Column) (end number line : ℕ) where
     small : t.3 ≤ 255
 
   four_read : (words : List (List ℕ)) (t : ℕ × ℕ × ℕ × ℕ) → byte_on columns line words ≡ Ok t → Four words t
-  four_read [] t e = absurd (cc e)
-  four_read (r ∷ []) t e = absurd (cc e)
-  four_read (r ∷ a ∷ []) t e = absurd (cc e)
-  four_read (r ∷ a ∷ b ∷ []) t e = absurd (cc e)
-  four_read (r ∷ a ∷ b ∷ c ∷ d ∷ words) t e = absurd (cc e)
   four_read (r ∷ c ∷ s ∷ b ∷ []) t e = go (natural_of s) (natural_of b) refl refl e
     where
       go : (ns nb : Option ℕ) → natural_of s ≡ ns → natural_of b ≡ nb →
           (found_on 501 line ns >>= λ slice. found_on 501 line nb >>= λ byte. refused_if (nat_lt 255 byte) (at_line 501 line)
           (found_on 502 line (register_of r) >>= λ register. found_on 503 line (column_named columns c) >>= λ column.
           refused_if (not (nat_lt slice (slices_at columns column))) (at_line 503 line) (Ok (register, column, slice, byte)))) ≡ Ok t → Four (r ∷ c ∷ s ∷ b ∷ []) t
-      go None nb x y e = absurd (cc e)
-      go (Some slice) None x y e = absurd (cc e)
       go (Some slice) (Some byte) x y e =
           let small = passed (nat_lt 255 byte) (at_line 501 line) _ t e in
           named (ltb-false 255 byte small.0) (register_of r) (column_named columns c) refl refl small.1
@@ -146,8 +128,6 @@ module _ (columns : List Column) (end number line : ℕ) where
           named : byte ≤ 255 → (nr nc : Option ℕ) → register_of r ≡ nr → column_named columns c ≡ nc →
               (found_on 502 line nr >>= λ register. found_on 503 line nc >>= λ column.
               refused_if (not (nat_lt slice (slices_at columns column))) (at_line 503 line) (Ok (register, column, slice, byte))) ≡ Ok t → Four (r ∷ c ∷ s ∷ b ∷ []) t
-          named le None nc z w e = absurd (cc e)
-          named le (Some register) None z w e = absurd (cc e)
           named le (Some register) (Some column) z w e =
               let there = passed (not (nat_lt slice (slices_at columns column))) (at_line 503 line) (Ok (register, column, slice, byte)) t e in
               let is : ◌≡◌ {A = ℕ × ℕ × ℕ × ℕ} (register, column, slice, byte) t = cc there.1 in
@@ -160,10 +140,13 @@ module _ (columns : List Column) (end number line : ℕ) where
                 register = z;
                 column = w;
                 slice = x;
-                there = ltb-true slice (slices_at columns column) (negated_not (nat_lt slice (slices_at columns column)) there.0);
+                there = ltb-true slice (slices_at columns column) (not-false (nat_lt slice (slices_at columns column)) there.0);
                 byte = y;
                 small = le;
               })
+          named le _ _ z w e = absurd (cc e)
+      go _ _ x y e = absurd (cc e)
+  four_read _ t e = absurd (cc e)
 
   byte_spelled : (op : Opcode) (f : ℕ → ℕ → ℕ → ℕ → Instr) (words : List (List ℕ)) (instr : Instr) → (byte_on columns line words >>= λ four. Ok (f four.0 four.1 four.2 four.3)) ≡ Ok instr →
       (t : ℕ × ℕ × ℕ × ℕ) × Four words t × (f t.0 t.1 t.2 t.3 ≡ instr)
@@ -178,9 +161,8 @@ module _ (columns : List Column) (end number line : ℕ) where
     where
       go : (nr na : Option ℕ) → register_of r ≡ nr → register_of a ≡ na → (found_on 502 line nr >>= λ register. found_on 502 line na >>= λ x. Ok (Not register x)) ≡ Ok instr →
           SpellsInstr columns end number (word ∷ r ∷ a ∷ []) instr
-      go None na x y e = absurd (cc e)
-      go (Some n) None x y e = absurd (cc e)
       go (Some n) (Some m) x y e = let there : Not n m ≡ instr = cc e in rw (← there) (negation is x y)
+      go _ _ x y e = absurd (cc e)
 
   skip_spelled : (word a l : List ℕ) (instr : Instr) → opcode_of word ≡ Some op.Skip → skip_on number line (a ∷ l ∷ []) ≡ Ok instr → goes_past end instr ≡ false → SpellsInstr columns end number (word ∷ a ∷ l ∷ []) instr
   skip_spelled word a l instr is e within = go (natural_of l) (register_of a) refl refl e
@@ -188,13 +170,12 @@ module _ (columns : List Column) (end number line : ℕ) where
       go : (nl na : Option ℕ) → natural_of l ≡ nl → register_of a ≡ na →
           (found_on 501 line nl >>= λ target. found_on 502 line na >>= λ x. refused_if (nat_le target number) (at_line 504 line) (Ok (Skip x target))) ≡ Ok instr →
           SpellsInstr columns end number (word ∷ a ∷ l ∷ []) instr
-      go None na x y e = absurd (cc e)
-      go (Some target) None x y e = absurd (cc e)
       go (Some target) (Some n) x y e =
           let ok = passed (nat_le target number) (at_line 504 line) (Ok (Skip n target)) instr e in
           let there : Skip n target ≡ instr = cc ok.1 in
           let near : nat_lt end target ≡ false = ap (goes_past end) there ∙ within in
           rw (← there) (skip is y x (leb-false target number ok.0) (ltb-false end target near))
+      go _ _ x y e = absurd (cc e)
 
   placed_so : (word : List ℕ) (rest words : List (List ℕ)) (instr i : Instr) → rest ≡ words → i ≡ instr → SpellsInstr columns end number (word ∷ words) i → SpellsInstr columns end number (word ∷ rest) instr
   placed_so word rest words instr i alike there spelled =
@@ -202,39 +183,22 @@ module _ (columns : List Column) (end number line : ℕ) where
 
   by_opcode : (word : List ℕ) (rest : List (List ℕ)) (o : Option Opcode) (instr : Instr) → opcode_of word ≡ o → instr_after columns number line o rest ≡ Ok instr → goes_past end instr ≡ false →
       SpellsInstr columns end number (word ∷ rest) instr
-  by_opcode word rest None instr is e within = absurd (cc e)
-  by_opcode word (r ∷ c ∷ b ∷ []) (Some op.Load) instr is e within = load_spelled word r c b instr is e
-  by_opcode word [] (Some op.Load) instr is e within = absurd (cc e)
-  by_opcode word (r ∷ []) (Some op.Load) instr is e within = absurd (cc e)
-  by_opcode word (r ∷ c ∷ []) (Some op.Load) instr is e within = absurd (cc e)
-  by_opcode word (r ∷ c ∷ b ∷ d ∷ rest) (Some op.Load) instr is e within = absurd (cc e)
-  by_opcode word (r ∷ c ∷ []) (Some op.Nulls) instr is e within = nulls_spelled word r c instr is e
-  by_opcode word [] (Some op.Nulls) instr is e within = absurd (cc e)
-  by_opcode word (r ∷ []) (Some op.Nulls) instr is e within = absurd (cc e)
-  by_opcode word (r ∷ c ∷ d ∷ rest) (Some op.Nulls) instr is e within = absurd (cc e)
-  by_opcode word (r ∷ b ∷ []) (Some op.Fill) instr is e within = fill_spelled word r b instr is e
-  by_opcode word [] (Some op.Fill) instr is e within = absurd (cc e)
-  by_opcode word (r ∷ []) (Some op.Fill) instr is e within = absurd (cc e)
-  by_opcode word (r ∷ c ∷ d ∷ rest) (Some op.Fill) instr is e within = absurd (cc e)
   by_opcode word rest (Some op.And) instr is e within =
       let t = logic_spelled op.And And rest instr e in placed_so word rest _ instr _ t.1.words_are t.2 (conjunction is t.1.first t.1.second t.1.third)
+  by_opcode word (r ∷ c ∷ b ∷ []) (Some op.Load) instr is e within = load_spelled word r c b instr is e
+  by_opcode word (r ∷ c ∷ []) (Some op.Nulls) instr is e within = nulls_spelled word r c instr is e
+  by_opcode word (r ∷ b ∷ []) (Some op.Fill) instr is e within = fill_spelled word r b instr is e
   by_opcode word rest (Some op.Or) instr is e within =
       let t = logic_spelled op.Or Or rest instr e in placed_so word rest _ instr _ t.1.words_are t.2 (disjunction is t.1.first t.1.second t.1.third)
   by_opcode word rest (Some op.Xor) instr is e within =
       let t = logic_spelled op.Xor Xor rest instr e in placed_so word rest _ instr _ t.1.words_are t.2 (difference is t.1.first t.1.second t.1.third)
   by_opcode word (r ∷ a ∷ []) (Some op.Not) instr is e within = not_spelled word r a instr is e
-  by_opcode word [] (Some op.Not) instr is e within = absurd (cc e)
-  by_opcode word (r ∷ []) (Some op.Not) instr is e within = absurd (cc e)
-  by_opcode word (r ∷ c ∷ d ∷ rest) (Some op.Not) instr is e within = absurd (cc e)
   by_opcode word rest (Some op.ByteLt) instr is e within =
       let t = byte_spelled op.ByteLt ByteLt rest instr e in placed_so word rest _ instr _ t.1.words_are t.2 (below is t.1.register t.1.column t.1.slice t.1.there t.1.byte t.1.small)
   by_opcode word rest (Some op.ByteEq) instr is e within =
       let t = byte_spelled op.ByteEq ByteEq rest instr e in placed_so word rest _ instr _ t.1.words_are t.2 (same is t.1.register t.1.column t.1.slice t.1.there t.1.byte t.1.small)
   by_opcode word (a ∷ l ∷ []) (Some op.Skip) instr is e within = skip_spelled word a l instr is e within
-  by_opcode word [] (Some op.Skip) instr is e within = absurd (cc e)
-  by_opcode word (r ∷ []) (Some op.Skip) instr is e within = absurd (cc e)
-  by_opcode word (r ∷ c ∷ d ∷ rest) (Some op.Skip) instr is e within = absurd (cc e)
-  by_opcode word rest (Some op.Result) instr is e within = absurd (cc e)
+  by_opcode word rest _ instr is e within = absurd (cc e)
 
 pub instr_spelled : (columns : List Column) (end number : ℕ) (line : NumberedWords) (instr : Instr) → instr_on columns number line ≡ Ok instr → goes_past end instr ≡ false →
     SpellsInstr columns end number line.words instr

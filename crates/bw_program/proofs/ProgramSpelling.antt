@@ -1,12 +1,12 @@
 -- What is read of a program text is spelled by it, and what is spelled is read; what is spelled is
 -- a program that fits.
 use Rattle.std.proofs.Common.{◌≡◌, ◌∙◌, refl, sym, ap, subst, ℕ, suc, ◌+◌, ◌<◌, ◌≤◌, Bool, true}
-use Rattle.std.proofs.Common.{false, ◌&&◌, cond, List, [], ◌∷◌, ◌++◌, length, drop, Option, Some}
+use Rattle.std.proofs.Common.{false, cond, List, [], ◌∷◌, ◌++◌, length, drop, Option, Some}
 use Rattle.std.proofs.Common.{None, Result, Ok, Err, nat_le, arith, append_assoc, length-append}
 use Rattle.std.proofs.Common.{add-one}
 use Rattle.std.specs.List.{list_all}
 use Rattle.std.specs.Prelude.{IfOk, IsTrue}
-use Rattle.std.proofs.lemmas.Bool.{lt-ltb, le-leb, leb-false, lt-leb}
+use Rattle.std.proofs.lemmas.Bool.{and_from, lt-ltb, le-leb, leb-false, lt-leb}
 use Rattle.std.proofs.lemmas.List.{append-nil, length-map, map-append}
 use Rattle.bw_model.specs.declared.column.Column.{Column}
 use Rattle.bw_model.specs.declared.fault.Fault.{Fault}
@@ -69,26 +69,14 @@ record Read (columns : List Column) (before : List Placed) (lines : List Numbere
 
 pub result_spelled : (columns : List Column) (end number line : ℕ) (words : List (List ℕ)) (lines : List NumberedWords) (result : ℕ) → names_result (opcode_in words) ≡ true →
     result_after line (drop 1 words) ≡ Ok result → lines ≡ [] → SpellsLines columns end number (record { number = line; words = words } ∷ lines) [] result
-result_spelled columns end number line [] lines result is e last = absurd (cc is)
-result_spelled columns end number line (word ∷ []) lines result is e last = absurd (cc e)
-result_spelled columns end number line (word ∷ r ∷ s ∷ words) lines result is e last = absurd (cc e)
 result_spelled columns end number line (word ∷ r ∷ []) lines result is e last = go (opcode_of word) (register_of r) refl refl is e
   where
     go : (o : Option Opcode) (n : Option ℕ) → opcode_of word ≡ o → register_of r ≡ n → names_result o ≡ true → found_on 502 line n ≡ Ok result →
         SpellsLines columns end number (record { number = line; words = word ∷ r ∷ [] } ∷ lines) [] result
     go (Some op.Result) (Some n) o r is e = let same : n ≡ result = cc e in rw last (result_line {result = result} o (r ∙ ap Some same))
     go (Some op.Result) None o r is e = absurd (cc e)
-    go None n o r is e = absurd (cc is)
-    go (Some op.Load) n o r is e = absurd (cc is)
-    go (Some op.Nulls) n o r is e = absurd (cc is)
-    go (Some op.Fill) n o r is e = absurd (cc is)
-    go (Some op.And) n o r is e = absurd (cc is)
-    go (Some op.Or) n o r is e = absurd (cc is)
-    go (Some op.Xor) n o r is e = absurd (cc is)
-    go (Some op.Not) n o r is e = absurd (cc is)
-    go (Some op.ByteLt) n o r is e = absurd (cc is)
-    go (Some op.ByteEq) n o r is e = absurd (cc is)
-    go (Some op.Skip) n o r is e = absurd (cc is)
+    go _ n o r is e = absurd (cc is)
+result_spelled columns end number line _ lines result is e last = absurd (cc e)
 
 -- the lines after the result's line, and the end
 finished_read : (columns : List Column) (before : List Placed) (line : NumberedWords) (lines : List NumberedWords) (program : ProgramShape) →
@@ -218,22 +206,19 @@ pub spelled_text : (columns : List Column) (bytes : List ℕ) (program : Program
 spelled_text columns bytes program is =
     spelled_read columns (length program.instrs) 0 (lines_in (whole bytes)) program.instrs program.result [] (end_in (whole bytes)) is.1 refl (omega arith) is.0 tt
 
-all_true : (a b : Bool) → a ≡ true → b ≡ true → (a && b) ≡ true
-all_true a b x y = rw (x, y) refl
-
 instr_sound : (columns : List Column) (end number : ℕ) (words : List (List ℕ)) (instr : Instr) → SpellsInstr columns end number words instr →
     (is_sound end number instr ≡ true) × (instr_fits columns instr ≡ true)
 instr_sound columns end number _ _ (text.load {r = r} {c = c} {register = n} {column = m} {bit = k} o rr cc' b lt) =
-    (register_is r n rr, all_true _ _ (named_column_is_there columns c m cc') (lt-ltb _ _ lt))
-instr_sound columns end number _ _ (text.nulls {r = r} {c = c} {register = n} {column = m} o rr cc' nullable) = (register_is r n rr, all_true _ _ (named_column_is_there columns c m cc') nullable)
+    (register_is r n rr, and_from _ _ (named_column_is_there columns c m cc') (lt-ltb _ _ lt))
+instr_sound columns end number _ _ (text.nulls {r = r} {c = c} {register = n} {column = m} o rr cc' nullable) = (register_is r n rr, and_from _ _ (named_column_is_there columns c m cc') nullable)
 instr_sound columns end number _ _ (text.fill {r = r} {register = n} o rr b le) = (register_is r n rr, refl)
-instr_sound columns end number _ _ (text.conjunction {r = r} {a = a} {b = b} o x y z) = (all_true _ _ (all_true _ _ (register_is r _ x) (register_is a _ y)) (register_is b _ z), refl)
-instr_sound columns end number _ _ (text.disjunction {r = r} {a = a} {b = b} o x y z) = (all_true _ _ (all_true _ _ (register_is r _ x) (register_is a _ y)) (register_is b _ z), refl)
-instr_sound columns end number _ _ (text.difference {r = r} {a = a} {b = b} o x y z) = (all_true _ _ (all_true _ _ (register_is r _ x) (register_is a _ y)) (register_is b _ z), refl)
-instr_sound columns end number _ _ (text.negation {r = r} {a = a} o x y) = (all_true _ _ (register_is r _ x) (register_is a _ y), refl)
-instr_sound columns end number _ _ (text.below {r = r} {c = c} o x y s lt b le) = (all_true _ _ (register_is r _ x) (le-leb _ _ le), all_true _ _ (named_column_is_there columns c _ y) (lt-ltb _ _ lt))
-instr_sound columns end number _ _ (text.same {r = r} {c = c} o x y s lt b le) = (all_true _ _ (register_is r _ x) (le-leb _ _ le), all_true _ _ (named_column_is_there columns c _ y) (lt-ltb _ _ lt))
-instr_sound columns end number _ _ (text.skip {a = a} o x l forward near) = (all_true _ _ (all_true _ _ (register_is a _ x) (lt-ltb _ _ forward)) (le-leb _ _ near), refl)
+instr_sound columns end number _ _ (text.conjunction {r = r} {a = a} {b = b} o x y z) = (and_from _ _ (and_from _ _ (register_is r _ x) (register_is a _ y)) (register_is b _ z), refl)
+instr_sound columns end number _ _ (text.disjunction {r = r} {a = a} {b = b} o x y z) = (and_from _ _ (and_from _ _ (register_is r _ x) (register_is a _ y)) (register_is b _ z), refl)
+instr_sound columns end number _ _ (text.difference {r = r} {a = a} {b = b} o x y z) = (and_from _ _ (and_from _ _ (register_is r _ x) (register_is a _ y)) (register_is b _ z), refl)
+instr_sound columns end number _ _ (text.negation {r = r} {a = a} o x y) = (and_from _ _ (register_is r _ x) (register_is a _ y), refl)
+instr_sound columns end number _ _ (text.below {r = r} {c = c} o x y s lt b le) = (and_from _ _ (register_is r _ x) (le-leb _ _ le), and_from _ _ (named_column_is_there columns c _ y) (lt-ltb _ _ lt))
+instr_sound columns end number _ _ (text.same {r = r} {c = c} o x y s lt b le) = (and_from _ _ (register_is r _ x) (le-leb _ _ le), and_from _ _ (named_column_is_there columns c _ y) (lt-ltb _ _ lt))
+instr_sound columns end number _ _ (text.skip {a = a} o x l forward near) = (and_from _ _ (and_from _ _ (register_is a _ x) (lt-ltb _ _ forward)) (le-leb _ _ near), refl)
 
 lines_sound : (columns : List Column) (end number : ℕ) (lines : List NumberedWords) (instrs : List Instr) (result : ℕ) → SpellsLines columns end number lines instrs result →
     (are_sound end number instrs ≡ true) × (list_all (instr_fits columns) instrs ≡ true) × (is_register result ≡ true)
@@ -242,13 +227,13 @@ lines_sound columns end number _ _ result (result_line {r = r} o is) = (refl, re
 lines_sound columns end number _ _ result (instr_line {line = line} {lines = lines} {instr = instr} {instrs = instrs} first others) =
     let here = instr_sound columns end number line.words instr first in
     let more = lines_sound columns end (suc number) lines instrs result others in
-    (all_true _ _ here.0 more.0, all_true _ _ here.1 more.1, more.2)
+    (and_from _ _ here.0 more.0, and_from _ _ here.1 more.1, more.2)
 
 pub text_is_program : (columns : List Column) (bytes : List ℕ) (program : ProgramShape) → IsProgramText columns bytes program → (is_program program ≡ true) × (fits columns program ≡ true)
 unfolding fits
 text_is_program columns bytes program is =
     let sound = lines_sound columns (length program.instrs) 0 (lines_in (whole bytes)) program.instrs program.result is.1 in
-    (all_true _ _ (all_true _ _ (le-leb _ _ is.0) sound.2) sound.0, sound.1)
+    (and_from _ _ (and_from _ _ (le-leb _ _ is.0) sound.2) sound.0, sound.1)
 
 -- so a call that reads a text is exact
 abbrev Told : List Column → List ℕ → Result ProgramShape Fault → Type 0

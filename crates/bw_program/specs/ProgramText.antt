@@ -142,16 +142,8 @@ last_line (line ∷ lines) x = Err (at_line PROGRAM_FORM line.number)
 -- no skip goes past the end, which is the number of instructions; else the first one that does is
 -- the error
 abbrev pub goes_past : ℕ → Instr → Bool
-goes_past end (Load r column bit) = false
-goes_past end (Nulls r column) = false
-goes_past end (Fill r bit) = false
-goes_past end (And r x y) = false
-goes_past end (Or r x y) = false
-goes_past end (Xor r x y) = false
-goes_past end (Not r x) = false
-goes_past end (ByteLt r column slice k) = false
-goes_past end (ByteEq r column slice k) = false
 goes_past end (Skip x target) = nat_lt end target
+goes_past end _ = false
 
 unfoldable pub within_end : {A : Type 0} → ℕ → List Placed → A → Result A Fault
 within_end end [] x = Ok x

@@ -1,8 +1,9 @@
 -- The reader finds the end of a statement: its state after the bytes so far decides whether the
 -- next one ends it.
 use Rattle.std.proofs.Common.{◌≡◌, refl, sym, ap, ◌∙◌, subst, ℕ, Bool, true, false, List, [], ◌∷◌}
-use Rattle.std.proofs.Common.{◌++◌, arith}
-use Rattle.std.proofs.lemmas.Bool.Decides.{nat_tests}
+use Rattle.std.proofs.Common.{◌++◌, inl, inr}
+use Rattle.std.proofs.lemmas.Bool.{cases_eq, ne_eqb}
+use Rattle.std.proofs.lemmas.List.Folds.{list_all-append}
 use Rattle.std.specs.Prelude.{◌==◌, ◌&&◌, ◌||◌, not, if◌then◌else◌}
 use Rattle.std.specs.List.{list_all}
 use Rattle.bw_session.specs.declared.statement_state.StatementState.{StatementState}
@@ -12,28 +13,21 @@ use Rattle.bw_session.specs.StatementState.{after, is_ended, statement_state_aft
 use Rattle.bw_session.specs.Statements.{IsOpen, ends_statement, has_comment, is_blank, last_line}
 use Rattle.bw_session.specs.Statements.{line_from}
 
-pub true_is_not_false : true ≡ false → ⊥
-true_is_not_false p = cc
-
-pub statement_state_after-snoc : (standing : StatementState) (bytes : List ℕ) (byte : ℕ)
-    → statement_state_after standing (bytes ++ byte ∷ []) ≡ after (statement_state_after standing bytes) byte
-unfolding statement_state_after
-statement_state_after-snoc standing [] byte = refl
-statement_state_after-snoc standing (first ∷ rest) byte = statement_state_after-snoc (after standing first) rest byte
-
 statement_state_after-mid : (standing : StatementState) (bytes : List ℕ) (byte : ℕ) (rest : List ℕ)
     → statement_state_after standing (bytes ++ byte ∷ rest) ≡ statement_state_after (after (statement_state_after standing bytes) byte) rest
 unfolding statement_state_after
 statement_state_after-mid standing [] byte rest = refl
 statement_state_after-mid standing (first ∷ bytes) byte rest = statement_state_after-mid (after standing first) bytes byte rest
 
+pub statement_state_after-snoc : (standing : StatementState) (bytes : List ℕ) (byte : ℕ)
+    → statement_state_after standing (bytes ++ byte ∷ []) ≡ after (statement_state_after standing bytes) byte
+unfolding statement_state_after
+statement_state_after-snoc standing bytes byte = statement_state_after-mid standing bytes byte []
+
 -- what has ended has ended for good
 not_before : (standing : StatementState) (byte : ℕ) → is_ended (after standing byte) ≡ false → is_ended standing ≡ false
-not_before Blank byte goes = refl
-not_before Text byte goes = refl
-not_before Dash byte goes = refl
-not_before Comment byte goes = refl
 not_before Ended byte goes = goes
+not_before _ byte goes = refl
 
 not_before_all : (standing : StatementState) (bytes : List ℕ) → is_ended (statement_state_after standing bytes) ≡ false
     → is_ended standing ≡ false
@@ -66,16 +60,11 @@ record Tracks (line : List ℕ) (standing : StatementState) : Type 0 where
   dash : is_in_comment standing ≡ false → ends_in_dash line ≡ is_at_dash standing
 
 all-snoc : (line : List ℕ) (byte : ℕ) → list_all is_blank (line ++ byte ∷ []) ≡ (list_all is_blank line && is_blank byte)
-all-snoc [] byte = by_test (is_blank byte)
+all-snoc line byte = list_all-append is_blank line (byte ∷ []) ∙ ap (λ b. list_all is_blank line && b) (and-true (is_blank byte))
   where
-    by_test : (b : Bool) → (b && true) ≡ (true && b)
-    by_test true = refl
-    by_test false = refl
-all-snoc (first ∷ rest) byte = by_test (is_blank first) _ _ _ (all-snoc rest byte)
-  where
-    by_test : (b x y z : Bool) → x ≡ (y && z) → (b && x) ≡ ((b && y) && z)
-    by_test true x y z e = e
-    by_test false x y z e = refl
+    and-true : (b : Bool) → (b && true) ≡ b
+    and-true true = refl
+    and-true false = refl
 
 ends-snoc : (line : List ℕ) (byte : ℕ) → ends_in_dash (line ++ byte ∷ []) ≡ (byte == 45)
 ends-snoc [] byte = refl
@@ -99,56 +88,39 @@ comment-snoc (first ∷ second ∷ rest) byte =
     by_test true x y z e = refl
     by_test false x y z e = e
 
--- if a text continues, by whether its next byte is an LF, a ; or a dash, and in a blank line by
--- whether it is blank, too
-abbrev text_on : Bool → Bool → Bool → StatementState
-text_on lf end dash = if lf then Blank else if end then Ended else if dash then Dash else Text
+-- what a byte is to a statement: an LF, a semicolon, a dash, or another, which is blank or isn't
+data Kind : ℕ → Type 0 where
+  lf_byte : Kind 10
+  end_byte : Kind 59
+  dash_byte : Kind 45
+  other_byte : {byte : ℕ} (blank : Bool) → is_blank byte ≡ blank → (byte == 10) ≡ false → (byte == 59) ≡ false
+      → (byte == 45) ≡ false → Kind byte
 
-abbrev blank_on : Bool → Bool → Bool → Bool → StatementState
-blank_on lf blank end dash = if lf then Ended else if blank then Blank else text_on lf end dash
-
-abbrev dash_on : Bool → Bool → Bool → StatementState
-dash_on lf end dash = if dash then Comment else text_on lf end dash
-
--- no byte is two of these
-lf_no_end : (byte : ℕ) → (byte == 10) ≡ true → (byte == 59) ≡ false
-lf_no_end byte e = grind (arith, nat_tests)
-
-lf_no_dash : (byte : ℕ) → (byte == 10) ≡ true → (byte == 45) ≡ false
-lf_no_dash byte e = grind (arith, nat_tests)
-
-blank_no_end : (byte : ℕ) → is_blank byte ≡ true → (byte == 59) ≡ false
-blank_no_end byte e = grind (arith, nat_tests)
-
-blank_no_dash : (byte : ℕ) → is_blank byte ≡ true → (byte == 45) ≡ false
-blank_no_dash byte e = grind (arith, nat_tests)
-
-dash_no_end : (byte : ℕ) → (byte == 45) ≡ true → (byte == 59) ≡ false
-dash_no_end byte e = grind (arith, nat_tests)
+kind_of : (byte : ℕ) → Kind byte
+kind_of byte = elim (cases_eq byte 10) [
+  | inl e ↦ subst Kind (sym e) lf_byte
+  | inr no_feed ↦ elim (cases_eq byte 59) [
+    | inl e ↦ subst Kind (sym e) end_byte
+    | inr no_end ↦ elim (cases_eq byte 45) [
+      | inl e ↦ subst Kind (sym e) dash_byte
+      | inr no_dash ↦ other_byte (is_blank byte) refl (ne_eqb byte 10 no_feed) (ne_eqb byte 59 no_end) (ne_eqb byte 45 no_dash)
+    ]
+  ]
+]
 
 -- what a standing says after one more byte of the line
 abbrev Says : (blank comment dash : Bool) → StatementState → Type 0
 Says blank comment dash now =
     (blank ≡ is_at_blank now) × (comment ≡ is_in_comment now) × (is_in_comment now ≡ false → dash ≡ is_at_dash now)
 
-at_blank : (blank end dash : Bool) → (blank ≡ true → dash ≡ false) → is_ended (blank_on false blank end dash) ≡ false
-    → Says blank false dash (blank_on false blank end dash)
-at_blank true end dash no_dash goes = (refl, refl, λ _. no_dash refl)
-at_blank false true dash no_dash goes = absurd (true_is_not_false goes)
-at_blank false false true no_dash goes = (refl, refl, λ _. refl)
-at_blank false false false no_dash goes = (refl, refl, λ _. refl)
+-- a line gets one more byte, in a comment or not
+in_comment : (line : List ℕ) (byte : ℕ) → Tracks line Comment → Tracks (line ++ byte ∷ []) Comment
+in_comment line byte tracks = record {
+  blank = all-snoc line byte ∙ ap (λ b. b && is_blank byte) tracks.blank;
+  comment = comment-snoc line byte ∙ ap (λ c. c || (ends_in_dash line && (byte == 45))) tracks.comment;
+  dash = λ e. absurd (cc e);
+}
 
-at_text : (end dash : Bool) → is_ended (text_on false end dash) ≡ false → Says false false dash (text_on false end dash)
-at_text true dash goes = absurd (true_is_not_false goes)
-at_text false true goes = (refl, refl, λ _. refl)
-at_text false false goes = (refl, refl, λ _. refl)
-
-at_dash : (end dash : Bool) → is_ended (dash_on false end dash) ≡ false → Says false dash dash (dash_on false end dash)
-at_dash end true goes = (refl, refl, λ comment. absurd (true_is_not_false comment))
-at_dash true false goes = absurd (true_is_not_false goes)
-at_dash false false goes = (refl, refl, λ _. refl)
-
--- a line that isn't in a comment gets one more byte
 grows : (line : List ℕ) (byte : ℕ) (standing now : StatementState) → Tracks line standing → is_in_comment standing ≡ false
     → Says (is_at_blank standing && is_blank byte) (is_at_dash standing && (byte == 45)) (byte == 45) now
     → Tracks (line ++ byte ∷ []) now
@@ -159,93 +131,46 @@ grows line byte standing now tracks outside says = record {
   dash = λ comment. ends-snoc line byte ∙ says.2 comment;
 }
 
-step : (line : List ℕ) (byte : ℕ) (standing : StatementState) → Tracks line standing → (byte == 10) ≡ false
-    → is_ended (after standing byte) ≡ false → Tracks (line ++ byte ∷ []) (after standing byte)
-step line byte Blank tracks inside goes =
-    let goes : is_ended (blank_on false (is_blank byte) (byte == 59) (byte == 45)) ≡ false = rw inside at goes in
-    rw inside (grows line byte Blank _ tracks refl (at_blank (is_blank byte) (byte == 59) (byte == 45) (blank_no_dash byte) goes))
-step line byte Text tracks inside goes =
-    let goes : is_ended (text_on false (byte == 59) (byte == 45)) ≡ false = rw inside at goes in
-    rw inside (grows line byte Text _ tracks refl (at_text (byte == 59) (byte == 45) goes))
-step line byte Dash tracks inside goes =
-    let goes : is_ended (dash_on false (byte == 59) (byte == 45)) ≡ false = rw inside at goes in
-    rw inside (grows line byte Dash _ tracks refl (at_dash (byte == 59) (byte == 45) goes))
-step line byte Comment tracks inside goes = rw inside (record {
-  blank = all-snoc line byte ∙ ap (λ b. b && is_blank byte) tracks.blank;
-  comment = comment-snoc line byte ∙ ap (λ c. c || (ends_in_dash line && (byte == 45))) tracks.comment;
-  dash = λ comment. absurd (true_is_not_false comment);
-})
-step line byte Ended tracks inside goes = absurd (true_is_not_false goes)
-
--- an LF that ends no statement begins a blank line
-after_lf : (standing : StatementState) (byte : ℕ) → (byte == 10) ≡ true → is_ended (after standing byte) ≡ false
-    → after standing byte ≡ Blank
-after_lf Blank byte lf goes = absurd (true_is_not_false (rw lf at goes))
-after_lf Text byte lf goes = rw lf refl
-after_lf Dash byte lf goes = rw (lf_no_dash byte lf, lf) refl
-after_lf Comment byte lf goes = rw lf refl
-after_lf Ended byte lf goes = absurd (true_is_not_false goes)
-
 begins : Tracks [] Blank
 unfolding has_comment
 begins = record { blank = refl; comment = refl; dash = λ _. refl }
+
+-- an LF that ends no statement begins a blank line
+after_lf : (standing : StatementState) → is_ended (after standing 10) ≡ false → after standing 10 ≡ Blank
+after_lf Comment goes = refl
+after_lf _ goes = cc
+
+step : (line : List ℕ) (byte : ℕ) (standing : StatementState) → Kind byte → Tracks line standing
+    → is_ended (after standing byte) ≡ false → Tracks (if byte == 10 then [] else line ++ byte ∷ []) (after standing byte)
+step line _ standing lf_byte tracks goes = subst (Tracks []) (sym (after_lf standing goes)) begins
+step line _ Comment end_byte tracks goes = in_comment line 59 tracks
+step line _ standing end_byte tracks goes = absurd (cc goes)
+step line _ Comment dash_byte tracks goes = in_comment line 45 tracks
+step line _ Ended dash_byte tracks goes = absurd (cc goes)
+step line _ standing dash_byte tracks goes = grows line 45 standing _ tracks refl (refl, refl, λ e. cc)
+step line byte Comment (other_byte blank b l s d) tracks goes = rw l (in_comment line byte tracks)
+step line byte Ended (other_byte blank b l s d) tracks goes = absurd (cc goes)
+step line byte Blank (other_byte true b l s d) tracks goes = rw (l, b) (grows line byte Blank Blank tracks refl (b, refl, λ _. d))
+step line byte Blank (other_byte false b l s d) tracks goes = rw (l, b, s, d) (grows line byte Blank Text tracks refl (b, refl, λ _. d))
+step line byte Text (other_byte blank b l s d) tracks goes = rw (l, s, d) (grows line byte Text Text tracks refl (refl, refl, λ _. d))
+step line byte Dash (other_byte blank b l s d) tracks goes = rw (d, l, s) (grows line byte Dash Text tracks refl (refl, d, λ _. d))
 
 tracks_all : (line : List ℕ) (standing : StatementState) (text : List ℕ) → Tracks line standing
     → is_ended (statement_state_after standing text) ≡ false → Tracks (line_from line text) (statement_state_after standing text)
 unfolding statement_state_after line_from
 tracks_all line standing [] tracks goes = tracks
-tracks_all line standing (byte ∷ rest) tracks goes =
-    by_test (byte == 10) refl (λ line standing. tracks_all line standing rest)
-  where
-    next : is_ended (after standing byte) ≡ false
-    next = not_before_all (after standing byte) rest goes
+tracks_all line standing (byte ∷ rest) tracks goes = tracks_all (if byte == 10 then [] else line ++ byte ∷ []) (after standing byte) rest
+    (step line byte standing (kind_of byte) tracks (not_before_all (after standing byte) rest goes)) goes
 
-    by_test : (lf : Bool) → (byte == 10) ≡ lf → ((line : List ℕ) (standing : StatementState) → Tracks line standing
-        → is_ended (statement_state_after standing rest) ≡ false → Tracks (line_from line rest) (statement_state_after standing rest))
-        → Tracks (if lf then line_from [] rest else line_from (line ++ byte ∷ []) rest) (statement_state_after (after standing byte) rest)
-    by_test true lf all =
-        let blank : Blank ≡ after standing byte = sym (after_lf standing byte lf next) in
-        all [] (after standing byte) (subst (Tracks []) blank begins) goes
-    by_test false inside all = all (line ++ byte ∷ []) (after standing byte) (step line byte standing tracks inside next) goes
-
-ends_at_blank : (lf blank end dash : Bool) → (lf ≡ true → end ≡ false) → (blank ≡ true → end ≡ false)
-    → ((end && true) || (lf && true)) ≡ is_ended (blank_on lf blank end dash)
-ends_at_blank true blank true dash no_lf no_blank = absurd (true_is_not_false (no_lf refl))
-ends_at_blank true blank false dash no_lf no_blank = refl
-ends_at_blank false true true dash no_lf no_blank = absurd (true_is_not_false (no_blank refl))
-ends_at_blank false true false dash no_lf no_blank = refl
-ends_at_blank false false true dash no_lf no_blank = refl
-ends_at_blank false false false true no_lf no_blank = refl
-ends_at_blank false false false false no_lf no_blank = refl
-
-ends_at_text : (lf end dash : Bool) → (lf ≡ true → end ≡ false)
-    → ((end && true) || (lf && false)) ≡ is_ended (text_on lf end dash)
-ends_at_text true true dash no_lf = absurd (true_is_not_false (no_lf refl))
-ends_at_text true false dash no_lf = refl
-ends_at_text false true dash no_lf = refl
-ends_at_text false false true no_lf = refl
-ends_at_text false false false no_lf = refl
-
-ends_at_dash : (lf end dash : Bool) → (lf ≡ true → end ≡ false) → (dash ≡ true → end ≡ false)
-    → ((end && true) || (lf && false)) ≡ is_ended (dash_on lf end dash)
-ends_at_dash lf true true no_lf no_dash = absurd (true_is_not_false (no_dash refl))
-ends_at_dash true false true no_lf no_dash = refl
-ends_at_dash false false true no_lf no_dash = refl
-ends_at_dash lf end false no_lf no_dash = ends_at_text lf end false no_lf
-
-ends_at_comment : (lf end : Bool) → ((end && false) || (lf && false)) ≡ is_ended (if lf then Blank else Comment)
-ends_at_comment true true = refl
-ends_at_comment true false = refl
-ends_at_comment false true = refl
-ends_at_comment false false = refl
-
-ends_by : (standing : StatementState) (byte : ℕ) → is_ended standing ≡ false
+ends_by : (standing : StatementState) (byte : ℕ) → Kind byte → is_ended standing ≡ false
     → (((byte == 59) && not (is_in_comment standing)) || ((byte == 10) && is_at_blank standing)) ≡ is_ended (after standing byte)
-ends_by Blank byte goes = ends_at_blank (byte == 10) (is_blank byte) (byte == 59) (byte == 45) (lf_no_end byte) (blank_no_end byte)
-ends_by Text byte goes = ends_at_text (byte == 10) (byte == 59) (byte == 45) (lf_no_end byte)
-ends_by Dash byte goes = ends_at_dash (byte == 10) (byte == 59) (byte == 45) (lf_no_end byte) (dash_no_end byte)
-ends_by Comment byte goes = ends_at_comment (byte == 10) (byte == 59)
-ends_by Ended byte goes = absurd (true_is_not_false goes)
+ends_by Ended byte kind goes = absurd (cc goes)
+ends_by Blank byte (other_byte true b l s d) goes = rw (l, s, b) refl
+ends_by Blank byte (other_byte false b l s d) goes = rw (l, s, b, d) refl
+ends_by Text byte (other_byte blank b l s d) goes = rw (l, s, d) refl
+ends_by Dash byte (other_byte blank b l s d) goes = rw (d, l, s) refl
+ends_by Comment byte (other_byte blank b l s d) goes = rw (l, s) refl
+ends_by _ _ _ goes = refl
 
 -- the next byte ends the statement if and only if the reader's state says so
 ends_as_read : (front : List ℕ) (byte : ℕ) → is_ended (statement_state_after Blank front) ≡ false
@@ -254,7 +179,7 @@ ends_as_read front byte goes =
     let tracks : Tracks (last_line front) (statement_state_after Blank front) = tracks_all [] Blank front begins goes in
     ap (λ c. ((byte == 59) && not c) || ((byte == 10) && list_all is_blank (last_line front))) tracks.comment
     ∙ ap (λ b. ((byte == 59) && not (is_in_comment (statement_state_after Blank front))) || ((byte == 10) && b)) tracks.blank
-    ∙ ends_by (statement_state_after Blank front) byte goes
+    ∙ ends_by (statement_state_after Blank front) byte (kind_of byte) goes
 
 pub opened : (bytes : List ℕ) → is_ended (statement_state_after Blank bytes) ≡ false → IsOpen bytes
 opened bytes goes front rest byte cut =

@@ -1,5 +1,5 @@
 -- What is kept of a statement that is too long is answered as the whole of it is.
-use Rattle.std.proofs.Common.{◌≡◌, refl, sym, ◌∙◌, subst, ℕ, ◌<◌, Bool, true, false, List, Option}
+use Rattle.std.proofs.Common.{◌≡◌, refl, subst, ℕ, ◌<◌, Bool, true, false, List, Option}
 use Rattle.std.proofs.Common.{length, take, arith, length-take, take_all}
 use Rattle.std.proofs.lemmas.Bool.{leb-true, leb-false}
 use Rattle.std.specs.Prelude.{leb}

@@ -13,12 +13,8 @@ use Rattle.bw_session.specs.declared.statement_state.StatementState.TheVariants.
 use Rattle.bw_session.specs.StatementState.{after, is_ended, statement_state_after}
 use Rattle.bw_session.specs.Statements.{IsOpen}
 use Rattle.bw_session.proofs.CutLemmas.{ended_by, opened, statement_state_after-snoc}
-use Rattle.bw_session.proofs.CutLemmas.{true_is_not_false}
 use Rattle.bw_session.specs.Reading.{Reads, HasReadBeginning, HasReadStatement, most_stored}
 use Rattle.bw_session.specs.Reading.{with_byte}
-
-no_bool : {A : Type 0} → true ≡ false → A
-no_bool p = absurd (true_is_not_false p)
 
 -- the stored bytes, if one more is read
 kept_or_all : (most : ℕ) (bytes : List ℕ) (byte : ℕ) (fits : Bool) → ltb (length (take most bytes)) most ≡ fits
@@ -37,10 +33,6 @@ kept_or_all most bytes byte false full =
 pub kept_more : (bytes : List ℕ) (byte : ℕ) → with_byte (take most_stored bytes) byte ≡ take most_stored (bytes ++ byte ∷ [])
 kept_more bytes byte = kept_or_all most_stored bytes byte _ refl
 
-is_open : (old now : Option (List ℕ)) (statement : List ℕ) (standing : StatementState) → (so_far : Reads old now statement standing)
-    → is_ended (statement_state_after Blank so_far.bytes) ≡ false
-is_open old now statement standing so_far = ap is_ended so_far.stands ∙ so_far.opened
-
 -- nothing came yet
 pub begun : (known : Option (List ℕ)) (statement : List ℕ) → statement ≡ [] → Reads known known statement Blank
 unfolding statement_state_after
@@ -52,91 +44,65 @@ begun known statement none = record {
   opened = refl;
 }
 
--- a byte came, and no statement ended with it
-pub more : (old before now : Option (List ℕ)) (statement : List ℕ) (standing : StatementState) (byte : ℕ)
-    → Reads old before statement standing → Consumes before now (byte ∷ []) → is_ended (after standing byte) ≡ false
-    → Reads old now (with_byte statement byte) (after standing byte)
-more old before now statement standing byte so_far came goes_on = record {
-  bytes = so_far.bytes ++ byte ∷ [];
-  consumes = Consumes-trans old before now so_far.bytes (byte ∷ []) so_far.consumes came;
-  kept = ap (λ kept. with_byte kept byte) so_far.kept ∙ kept_more so_far.bytes byte;
-  stands = statement_state_after-snoc Blank so_far.bytes byte ∙ ap (λ now. after now byte) so_far.stands;
-  opened = goes_on;
-}
+is_open : {old before : Option (List ℕ)} {statement : List ℕ} {standing : StatementState}
+    (so_far : Reads old before statement standing) → is_ended (statement_state_after Blank so_far.bytes) ≡ false
+is_open so_far = ap is_ended so_far.stands ∙ so_far.opened
 
--- a byte came, and the statement ended with it
-pub whole : (old before now : Option (List ℕ)) (statement : List ℕ) (standing : StatementState) (byte : ℕ)
-    → Reads old before statement standing → Consumes before now (byte ∷ []) → is_ended (after standing byte) ≡ true
-    → HasReadStatement old now (with_byte statement byte) true
-whole old before now statement standing byte so_far came end = record {
-  bytes = so_far.bytes ++ byte ∷ [];
-  consumes = Consumes-trans old before now so_far.bytes (byte ∷ []) so_far.consumes came;
-  kept = ap (λ kept. with_byte kept byte) so_far.kept ∙ kept_more so_far.bytes byte;
-  whole = λ _. record {
-    front = so_far.bytes;
-    last = byte;
-    is = refl;
-    before = opened so_far.bytes (is_open _ _ _ _ so_far);
-    ended = ended_by so_far.bytes byte (is_open _ _ _ _ so_far) (ap (λ now. is_ended (after now byte)) so_far.stands ∙ end);
-  };
-  last = λ (p : true ≡ false). no_bool p;
-  end = λ (p : true ≡ false). no_bool p;
-}
+module _ {old before now : Option (List ℕ)} {statement : List ℕ} {standing : StatementState}
+    (so_far : Reads old before statement standing) where
+  -- a byte came, and no statement ended with it
+  pub more : (byte : ℕ) → Consumes before now (byte ∷ []) → is_ended (after standing byte) ≡ false
+      → Reads old now (with_byte statement byte) (after standing byte)
+  more byte came goes_on = record {
+    bytes = so_far.bytes ++ byte ∷ [];
+    consumes = Consumes-trans old before now so_far.bytes (byte ∷ []) so_far.consumes came;
+    kept = ap (λ kept. with_byte kept byte) so_far.kept ∙ kept_more so_far.bytes byte;
+    stands = statement_state_after-snoc Blank so_far.bytes byte ∙ ap (λ now. after now byte) so_far.stands;
+    opened = goes_on;
+  }
 
--- the source ended
-pub ended : (old before now : Option (List ℕ)) (statement : List ℕ) (standing : StatementState)
-    → Reads old before statement standing → Consumes before now [] → IsAtEnd now
-    → HasReadStatement old now statement false
-ended old before now statement standing so_far came end = record {
-  bytes = so_far.bytes ++ [];
-  consumes = Consumes-trans old before now so_far.bytes [] so_far.consumes came;
-  kept = so_far.kept ∙ ap (take most_stored) (sym (append-nil so_far.bytes));
-  whole = λ (p : false ≡ true). no_bool (sym p);
-  last = λ _. subst IsOpen (sym (append-nil so_far.bytes)) (opened so_far.bytes (is_open _ _ _ _ so_far));
-  end = λ _. end;
-}
+  -- a byte came, and the statement ended with it
+  pub whole : (byte : ℕ) → Consumes before now (byte ∷ []) → is_ended (after standing byte) ≡ true
+      → HasReadStatement old now (with_byte statement byte) true
+  whole byte came end = record {
+    bytes = so_far.bytes ++ byte ∷ [];
+    consumes = Consumes-trans old before now so_far.bytes (byte ∷ []) so_far.consumes came;
+    kept = ap (λ kept. with_byte kept byte) so_far.kept ∙ kept_more so_far.bytes byte;
+    whole = λ _. record {
+      front = so_far.bytes;
+      last = byte;
+      is = refl;
+      before = opened so_far.bytes (is_open so_far);
+      ended = ended_by so_far.bytes byte (is_open so_far) (ap (λ now. is_ended (after now byte)) so_far.stands ∙ end);
+    };
+    last = λ p. absurd (cc p);
+    end = λ p. absurd (cc p);
+  }
+
+  -- the source ended
+  pub ended : Consumes before now [] → IsAtEnd now → HasReadStatement old now statement false
+  ended came end = record {
+    bytes = so_far.bytes ++ [];
+    consumes = Consumes-trans old before now so_far.bytes [] so_far.consumes came;
+    kept = so_far.kept ∙ ap (take most_stored) (sym (append-nil so_far.bytes));
+    whole = λ p. absurd (cc p);
+    last = λ _. subst IsOpen (sym (append-nil so_far.bytes)) (opened so_far.bytes (is_open so_far));
+    end = λ _. end;
+  }
+
+  -- one byte more came, or none, and then no more
+  pub no_more : (rest : List ℕ) → length rest ≤ 1 → Consumes before now rest → HasReadBeginning old now
+  no_more rest few came = record {
+    bytes = so_far.bytes ++ rest;
+    consumes = Consumes-trans old before now so_far.bytes rest so_far.consumes came;
+    begun = record { front = so_far.bytes; rest = rest; is = refl; short = few; opened = opened so_far.bytes (is_open so_far) };
+  }
 
 -- known bytes that stay as they were are as many as before
-keeps_as_none : (before now : Option (List ℕ)) → Keeps before now → Consumes before now []
+pub keeps_as_none : (before now : Option (List ℕ)) → Keeps before now → Consumes before now []
 keeps_as_none None now kept = tt
 keeps_as_none (Some bytes) None kept = absurd kept
 keeps_as_none (Some bytes) (Some others) kept = sym kept
-
--- no more of a statement came
-pub no_more : (old before now : Option (List ℕ)) (statement : List ℕ) (standing : StatementState)
-    → Reads old before statement standing → Consumes before now [] → HasReadBeginning old now
-no_more old before now statement standing so_far same = record {
-  bytes = so_far.bytes ++ [];
-  consumes = Consumes-trans old before now so_far.bytes [] so_far.consumes same;
-  begun = record {
-    front = so_far.bytes;
-    rest = [];
-    is = refl;
-    short = omega arith;
-    opened = opened so_far.bytes (is_open _ _ _ _ so_far);
-  };
-}
-
--- a read failed
-pub unread : (old before now : Option (List ℕ)) (statement : List ℕ) (standing : StatementState)
-    → Reads old before statement standing → Keeps before now → HasReadBeginning old now
-unread old before now statement standing so_far kept =
-    no_more old before now statement standing so_far (keeps_as_none before now kept)
-
--- one byte more came, and no more
-pub one_more : (old before now : Option (List ℕ)) (statement : List ℕ) (standing : StatementState) (byte : ℕ)
-    → Reads old before statement standing → Consumes before now (byte ∷ []) → HasReadBeginning old now
-one_more old before now statement standing byte so_far came = record {
-  bytes = so_far.bytes ++ byte ∷ [];
-  consumes = Consumes-trans old before now so_far.bytes (byte ∷ []) so_far.consumes came;
-  begun = record {
-    front = so_far.bytes;
-    rest = byte ∷ [];
-    is = refl;
-    short = omega arith;
-    opened = opened so_far.bytes (is_open _ _ _ _ so_far);
-  };
-}
 
 -- what holds in any case holds of an error
 pub of_any : {A E : Type 0} (P : Type 0) (result : Result A E) → P → IfErr result (λ fault. P)

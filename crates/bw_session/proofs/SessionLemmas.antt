@@ -1,16 +1,15 @@
 -- One statement more of a session, and how it ends.
 use Rattle.std.proofs.Common.{◌≡◌, refl, sym, ap, ◌∙◌, subst, ℕ, ◌+◌, Bool, true, false, List, []}
-use Rattle.std.proofs.Common.{◌++◌, Option, None, length, arith, append-nil, length-append, IsTrue}
+use Rattle.std.proofs.Common.{◌++◌, Option, None, arith, append-nil, IsTrue}
 use Rattle.std.proofs.Common.{inl, inr}
-use Rattle.std.proofs.Math.Seq.{take-append-add}
 use Rattle.std.proofs.KnownBytes.{Appends-nil, Appends-trans, Consumes-nil, Consumes-trans}
-use Rattle.std.specs.Io.KnownBytes.{Appends, Consumes}
+use Rattle.std.specs.Io.KnownBytes.{Consumes}
 use Rattle.bw_model.specs.FaultTable.{WRITE_FAILED}
 use Rattle.bw_model.specs.declared.fault.Fault.{Fault}
 use Rattle.bw_model.specs.declared.schema.Schema.{Schema}
 use Rattle.bw_model.specs.Fault.{nowhere}
 use Rattle.bw_model.specs.Row.{Value}
-use Rattle.bw_io.specs.Sink.{TookPart, is_write_fault}
+use Rattle.bw_io.specs.Sink.{is_write_fault}
 use Rattle.bw_io.specs.Source.{failed_reads, is_input_fault}
 use Rattle.bw_io.proofs.SinkLemmas.{no_write_fault}
 use Rattle.bw_session.specs.Reading.{HasReadBeginning, HasReadStatement}
@@ -21,9 +20,7 @@ use Rattle.bw_session.specs.Session.{first_of, more}
 use Rattle.bw_session.specs.Session.{reading, whole, writing}
 use Rattle.bw_session.proofs.CutLemmas.{none_opened}
 use Rattle.bw_session.proofs.KeptLemmas.{kept_output}
-
-true_is_not_false : true ≡ false → ⊥
-true_is_not_false p = cc
+use Rattle.bw_session.proofs.WriteLemmas.{part_after}
 
 pub begins : (schema : Schema) (rows : List (List Value)) (known taken : Option (List ℕ))
     → RanSoFar schema rows known known taken taken None
@@ -91,15 +88,6 @@ came_whole : (old new : Option (List ℕ)) (statement : List ℕ) (goes_on : Boo
 came_whole old new statement true took = inl (took.whole refl)
 came_whole old new statement false took = inr (took.last refl, took.end refl)
 
--- a text was written, and then a part of what follows it
-part_after : (old mid new : Option (List ℕ)) (text rest : List ℕ) → Appends old mid text → TookPart mid new rest
-    → TookPart old new (text ++ rest)
-part_after old mid new text rest went part = (
-  length text + part.0,
-  omega (arith, length-append text rest, part.1),
-  subst (Appends old new) (sym (take-append-add text rest part.0)) (Appends-trans old mid new text _ went part.2),
-)
-
 -- it ended by a failed write
 pub stops_writing : (schema : Schema) (rows : List (List Value)) (old before now taken_old taken_before taken_now : Option (List ℕ))
     (statement sql : List ℕ) (goes : Bool) (first : Option Fault) (fault : Fault)
@@ -114,29 +102,6 @@ stops_writing schema rows old before now taken_old taken_before taken_now statem
     (of_all schema rows before now statement goes wrote.fault wrote.out took
     (subst (λ text. IsOutput schema rows text wrote.fault wrote.out) same wrote.is))
     (part_after taken_old taken_before taken_now so_far.output wrote.out so_far.appends wrote.appends))
-
--- what is read and written once more, as the loop has it
-pub goes_on_as : (schema : Schema) (rows : List (List Value)) (old before now taken_old taken_before taken_now : Option (List ℕ))
-    (statement sql : List ℕ) (first fault result : Option Fault) (goes : Bool)
-    → RanSoFar schema rows old before taken_old taken_before first → HasReadStatement before now statement goes → goes ≡ true
-    → HasWrittenOutput schema rows sql taken_before taken_now fault → sql ≡ statement → result ≡ first_of first fault
-    → RanSoFar schema rows old now taken_old taken_now result
-goes_on_as schema rows old before now taken_old taken_before taken_now statement sql first fault result goes so_far took on wrote same is =
-    subst (RanSoFar schema rows old now taken_old taken_now) (sym is)
-    (goes_on schema rows old before now taken_old taken_before taken_now statement first fault so_far
-    (subst (HasReadStatement before now statement) on took)
-    (subst (λ text. HasWrittenOutput schema rows text taken_before taken_now fault) same wrote))
-
-pub ends_as : (schema : Schema) (rows : List (List Value)) (old before now taken_old taken_before taken_now : Option (List ℕ))
-    (statement sql : List ℕ) (first fault result : Option Fault) (goes : Bool)
-    → RanSoFar schema rows old before taken_old taken_before first → HasReadStatement before now statement goes → goes ≡ false
-    → HasWrittenOutput schema rows sql taken_before taken_now fault → sql ≡ statement → result ≡ first_of first fault
-    → Ended schema rows old now taken_old taken_now result
-ends_as schema rows old before now taken_old taken_before taken_now statement sql first fault result goes so_far took off wrote same is =
-    subst (Ended schema rows old now taken_old taken_now) (sym is)
-    (ends schema rows old before now taken_old taken_before taken_now statement first fault so_far
-    (subst (HasReadStatement before now statement) off took)
-    (subst (λ text. HasWrittenOutput schema rows text taken_before taken_now fault) same wrote))
 
 -- an error that isn't that of a failed write counts for none
 pub no_writes : (fault : Fault) (before after : ℕ) → is_write_fault fault ≡ false → after ≡ before

@@ -2,6 +2,7 @@
 use Rattle.std.proofs.Common.{◌≡◌, refl, sym, ap, ◌∙◌, subst, ℕ, ◌+◌, Bool, true, false, List, []}
 use Rattle.std.proofs.Common.{◌∷◌, ◌++◌, Option, Some, None, Result, Ok, Err, length, arith}
 use Rattle.std.proofs.Common.{length-append, inl, inr}
+use Rattle.std.proofs.lemmas.Bool.{both_ways}
 use Rattle.std.proofs.lemmas.List.{take-append-le}
 use Rattle.std.proofs.Math.Seq.{take-append-add}
 use Rattle.std.proofs.KnownBytes.{Appends-nil, Appends-trans}
@@ -18,15 +19,12 @@ use Rattle.bw_sql.specs.Statement.{IsReadAs}
 use Rattle.bw_session.specs.Session.{AnswersOne, AsksNothing, EndsLine, IsOutput, answer, refusal}
 use Rattle.bw_session.specs.Session.{nothing as none}
 
-true_is_not_false : true ≡ false → ⊥
-true_is_not_false p = cc
-
 -- what the test said that a statement asks
 pub asks_something : (sql : List ℕ) (test : Bool) → (IsTrue test ↔ AsksNothing sql) → test ≡ false → AsksNothing sql → ⊥
-asks_something sql test says fails asks = true_is_not_false (sym (says.1 asks) ∙ fails)
+asks_something sql test says fails asks = both_ways test fails (says.1 asks)
 
 -- a text was written, and then a part of what follows it
-part_after : (old mid new : Option (List ℕ)) (text more : List ℕ) → Appends old mid text → TookPart mid new more
+pub part_after : (old mid new : Option (List ℕ)) (text more : List ℕ) → Appends old mid text → TookPart mid new more
     → TookPart old new (text ++ more)
 part_after old mid new text more went part = (
   length text + part.0,
@@ -54,31 +52,34 @@ statement_fault : (schema : Schema) (sql : List ℕ) (fault : Fault) → by_stat
 statement_fault schema sql fault (inl refused) = refused
 statement_fault schema sql fault (inr program) = absurd program.refused
 
+-- an LF follows what was written
+line_ends : (schema : Schema) (rows : List (List Value)) (sql text : List ℕ) (old mid new : Option (List ℕ))
+    (before between after : ℕ) (fault : Option Fault) (result : Result (Option Fault) Fault)
+    → IsOutput schema rows sql fault (text ++ 10 ∷ []) → Appends old mid text → between ≡ before
+    → EndsLine mid new between after fault result → AnswersOne schema rows sql old new before after result
+line_ends schema rows sql text old mid new before between after fault (Ok found) is went count line = (
+  record {
+    out = text ++ 10 ∷ [];
+    is = subst (λ f. IsOutput schema rows sql f (text ++ 10 ∷ [])) (sym line.0) is;
+    appends = Appends-trans old mid new text (10 ∷ []) went line.1;
+  },
+  line.2 ∙ count,
+)
+line_ends schema rows sql text old mid new before between after fault (Err failed) is went count line = (
+  line.0,
+  record { out = text ++ 10 ∷ []; fault = fault; is = is; appends = part_after old mid new text (10 ∷ []) went line.1 },
+  line.2 ∙ ap (λ n. n + 1) count,
+)
+
 -- an LF follows an answer
 pub answered : (T : Type 0) (schema : Schema) (rows : List (List Value)) (sql : List ℕ)
     (old mid new : Option (List ℕ)) (before between after : ℕ) (given : Result (List ℕ) Fault) (served : T)
     (result : Result (Option Fault) Fault)
     → IsMemoryAnswer (by_statement None sql) schema rows given → WriteOutcome none_aside old mid before between given (Ok served)
     → EndsLine mid new between after None result → AnswersOne schema rows sql old new before after result
-answered T schema rows sql old mid new before between after given served (Ok fault) is (everything text gave went count) line = (
-  record {
-    out = text ++ 10 ∷ [];
-    is = subst (λ f. IsOutput schema rows sql f (text ++ 10 ∷ [])) (sym line.0)
-        (answer_line schema rows sql text (subst (IsMemoryAnswer (by_statement None sql) schema rows) gave is));
-    appends = Appends-trans old mid new text (10 ∷ []) went line.1;
-  },
-  line.2 ∙ count,
-)
-answered T schema rows sql old mid new before between after given served (Err fault) is (everything text gave went count) line = (
-  line.0,
-  record {
-    out = text ++ 10 ∷ [];
-    fault = None;
-    is = answer_line schema rows sql text (subst (IsMemoryAnswer (by_statement None sql) schema rows) gave is);
-    appends = part_after old mid new text (10 ∷ []) went line.1;
-  },
-  line.2 ∙ ap (λ n. n + 1) count,
-)
+answered T schema rows sql old mid new before between after given served result is (everything text gave went count) =
+    line_ends schema rows sql text old mid new before between after None result
+    (answer_line schema rows sql text (subst (IsMemoryAnswer (by_statement None sql) schema rows) gave is)) went count
 
 -- a write of an answer failed
 pub answer_failed : (T : Type 0) (schema : Schema) (rows : List (List Value)) (sql : List ℕ)
@@ -97,7 +98,7 @@ answer_failed T schema rows sql old new before after given _ is (beginning text 
   count,
 )
 answer_failed T schema rows sql old new before after given fault is (nothing other gave same count) write =
-    absurd (true_is_not_false (sym write ∙ other))
+    absurd (both_ways (is_write_fault fault) other write)
 
 -- an LF follows a rejection
 pub refused : (T : Type 0) (schema : Schema) (rows : List (List Value)) (sql : List ℕ)
@@ -107,26 +108,11 @@ pub refused : (T : Type 0) (schema : Schema) (rows : List (List Value)) (sql : L
     → WriteOutcome {T = T} none_aside old mid before between given (Err fault) → is_write_fault fault ≡ false
     → EndsLine mid new between after (Some fault) result → AnswersOne schema rows sql old new before after result
 refused T schema rows sql old mid new before between after given _ result asks is (beginning text gave part count) other line =
-    absurd (true_is_not_false other)
-refused T schema rows sql old mid new before between after given fault (Ok found) asks is (nothing _ gave same count) other line = (
-  record {
-    out = 10 ∷ [];
-    is = subst (λ f. IsOutput schema rows sql f (10 ∷ [])) (sym line.0)
-        (refusal asks (λ no_memory. statement_fault schema sql fault (subst (IsMemoryAnswer (by_statement None sql) schema rows) (gave refl) is no_memory)));
-    appends = subst (λ known. Appends known new (10 ∷ [])) same line.1;
-  },
-  line.2 ∙ count,
-)
-refused T schema rows sql old mid new before between after given fault (Err failed) asks is (nothing _ gave same count) other line = (
-  line.0,
-  record {
-    out = 10 ∷ [];
-    fault = Some fault;
-    is = refusal asks (λ no_memory. statement_fault schema sql fault (subst (IsMemoryAnswer (by_statement None sql) schema rows) (gave refl) is no_memory));
-    appends = subst (λ known. TookPart known new (10 ∷ [])) same line.1;
-  },
-  line.2 ∙ ap (λ n. n + 1) count,
-)
+    absurd (cc other)
+refused T schema rows sql old mid new before between after given fault result asks is (nothing _ gave same count) other line =
+    line_ends schema rows sql [] old mid new before between after (Some fault) result
+    (refusal asks (λ no_memory. statement_fault schema sql fault (subst (IsMemoryAnswer (by_statement None sql) schema rows) (gave refl) is no_memory)))
+    (subst (λ known. Appends old known []) (sym same) (Appends-nil old)) count line
 
 -- nothing is asked
 pub silent : (schema : Schema) (rows : List (List Value)) (sql : List ℕ) (known : Option (List ℕ)) (count : ℕ)
@@ -138,7 +124,7 @@ silent schema rows sql known count asks =
 pub count_kept : (T : Type 0) (old new : Option (List ℕ)) (before after : ℕ) (given : Result (List ℕ) Fault)
     (fault : Fault) → WriteOutcome {T = T} none_aside old new before after given (Err fault) → is_write_fault fault ≡ false
     → after ≡ before
-count_kept T old new before after given _ (beginning text gave part count) other = absurd (true_is_not_false other)
+count_kept T old new before after given _ (beginning text gave part count) other = cc
 count_kept T old new before after given fault (nothing _ gave same count) other = count
 
 pub count_same : (T : Type 0) (old new : Option (List ℕ)) (before after : ℕ) (given : Result (List ℕ) Fault) (x : T)

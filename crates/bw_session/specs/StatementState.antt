@@ -36,8 +36,5 @@ statement_state_after standing [] = standing
 statement_state_after standing (byte ∷ rest) = statement_state_after (after standing byte) rest
 
 abbrev pub is_ended : StatementState → Bool
-is_ended Blank = false
-is_ended Text = false
-is_ended Dash = false
-is_ended Comment = false
 is_ended Ended = true
+is_ended _ = false

@@ -12,8 +12,7 @@ is_blank byte = (byte == 32) || (byte == 9) || (byte == 13)
 -- the last line of a text: the line so far, and then the text that continues it
 unfoldable pub line_from : List ℕ → List ℕ → List ℕ
 line_from line [] = line
-line_from line (byte ∷ rest) = if byte == 10 then line_from [] rest
-    else line_from (line ++ byte ∷ []) rest
+line_from line (byte ∷ rest) = line_from (if byte == 10 then [] else line ++ byte ∷ []) rest
 
 -- the last line of a text: what follows its last LF
 abbrev pub last_line : List ℕ → List ℕ

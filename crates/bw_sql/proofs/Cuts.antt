@@ -295,9 +295,6 @@ goes_on (token {at = at} {tokens = tokens} u b more) rest p a =
     let same = one_longest _ _ rest (Token u) p b a in
     (tokens, moved at _ _ _ rest tokens _ (ap length same.1) same.2 more, ap (λ q. pushed q at tokens) same.0)
 
-pub true_is_not_false : true ≡ false → ⊥
-true_is_not_false p = cc
-
 -- what is left after a gap has no token if the text has none
 pub bare_after : (n : ℕ) (text rest : List ℕ) → length text ≤ n → (a : IsLongest text rest Gap)
     → IsCut (n - length text) text [] None → IsCut (n - length rest) rest [] None

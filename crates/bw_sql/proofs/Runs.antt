@@ -30,7 +30,7 @@ use Rattle.bw_sql.specs.Reading.{literal_at, column_at, table_at, operand_at, re
 use Rattle.bw_sql.specs.Reading.{operands_at, range_at, list_at, range_or_list_at, null_test_at}
 use Rattle.bw_sql.specs.Reading.{after_comparison, predicate_after, predicate_at, truth_value_at}
 use Rattle.bw_sql.specs.Reading.{truth_test_at, primary_in, test_in, factor_in, part_in, joined_in}
-use Rattle.bw_sql.specs.Reading.{series_at, series_after, term_in, condition_in, nested_readers}
+use Rattle.bw_sql.specs.Reading.{series_at, series_after, condition_in, nested_readers}
 use Rattle.bw_sql.specs.Reading.{selection_at, table_expression_at, end_at, after_aggregate}
 use Rattle.bw_sql.specs.Reading.{aggregated_at, argument_at, item_at, of_one_kind, next_item_at}
 use Rattle.bw_sql.specs.Reading.{items_at, statement_at}
@@ -301,7 +301,7 @@ module _ (schema : Schema) (n depth : ℕ) (level : LevelRuns schema depth (nest
   series_runs by laws = joined_runs schema (PartTail by depth) _ (word_of by) (part_in schema (nested_readers schema n) by) laws (join_of by)
 
   term_runs : Runs schema (a_part connective.Or depth) (part_in schema (nested_readers schema n) connective.Or)
-  unfolding joined_in part_in term_in
+  unfolding joined_in part_in
   term_runs = series_runs connective.And (part_laws connective.And factor_runs)
 
   pub part_runs : (by : Connective) → Runs schema (a_part by depth) (part_in schema (nested_readers schema n) by)
@@ -309,7 +309,7 @@ module _ (schema : Schema) (n depth : ℕ) (level : LevelRuns schema depth (nest
   part_runs connective.Or = term_runs
 
   condition_runs : Runs schema (λ stack. a_part connective.Or depth (PartTail connective.Or depth ∷ stack)) (condition_in schema (nested_readers schema n))
-  unfolding joined_in part_in condition_in
+  unfolding condition_in
   condition_runs = series_runs connective.Or (part_laws connective.Or term_runs)
 
 pub level_runs : (schema : Schema) (n depth : ℕ) → n + depth ≡ deepest_nesting → LevelRuns schema depth (nested_readers schema n)

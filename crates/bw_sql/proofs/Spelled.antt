@@ -36,7 +36,7 @@ use Rattle.bw_sql.specs.Reading.{after_mark, keyword_at, mark_at, name_at, digit
 use Rattle.bw_sql.specs.Reading.{literal_at, column_at, table_at, operand_at, read_many}
 use Rattle.bw_sql.specs.Reading.{range_or_list_at, null_test_at, after_comparison, predicate_after}
 use Rattle.bw_sql.specs.Reading.{predicate_at, truth_value_at, truth_test_at, primary_in, test_in}
-use Rattle.bw_sql.specs.Reading.{factor_in, part_in, term_in, condition_in, joined_in, nested_readers}
+use Rattle.bw_sql.specs.Reading.{factor_in, part_in, condition_in, joined_in, nested_readers}
 use Rattle.bw_sql.specs.Reading.{selection_at, table_expression_at, end_at, after_aggregate}
 use Rattle.bw_sql.specs.Reading.{aggregated_at, item_at, of_one_kind, next_item_at, items_at}
 use Rattle.bw_sql.specs.Reading.{statement_at}
@@ -173,7 +173,7 @@ module _ (schema : Schema) (met : Demand → Bool) where
   parts_begin (next_part {by = by} {tokens = next} c cs) e = (word_comes by next).1
 
   mutual
-    unfolding joined_in part_in condition_in term_in factor_in test_in primary_in truth_test_at read_many after_keyword after_mark mark_at nested_readers meets predicate_at
+    unfolding joined_in part_in condition_in factor_in test_in primary_in truth_test_at read_many after_keyword after_mark mark_at nested_readers meets predicate_at
 
     joined_read : {by : Connective} {depth : ℕ} {tokens rest : List Lexeme} {c : CondTree} →
         JoinedIs columns met by depth tokens rest c → (n : ℕ) → n + depth ≡ deepest_nesting → JoinedEnds by rest →
@@ -275,7 +275,7 @@ module _ (schema : Schema) (met : Demand → Bool) where
 
   selection_read : {tokens last : List Lexeme} {c : CondTree} → SelectionIs columns met tokens last c → EndIs last →
       Outcome schema met (selection_at schema tokens) (c, last)
-  unfolding selection_at after_keyword condition_in joined_in part_in
+  unfolding selection_at after_keyword condition_in
   selection_read all_rows e = rw (end_read e).1 (reads refl)
   selection_read (rows_where c) e = joined_read c deepest_nesting refl (end_read e).2
 

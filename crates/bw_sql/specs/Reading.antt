@@ -18,7 +18,7 @@ use Rattle.bw_text.specs.Number.{number_of}
 use Rattle.bw_text.specs.Text.{same_text}
 use Rattle.bw_sql.specs.QueryShape.{QueryShape}
 use Rattle.bw_model.specs.CondTree.{CondTree, CondTrees, Always, Cmp, Between, Among, IsNull, And}
-use Rattle.bw_model.specs.CondTree.{Or, Not, Test, trees_of}
+use Rattle.bw_model.specs.CondTree.{Not, Test, trees_of}
 use Rattle.bw_sql.specs.declared.condition.Connective.{Connective}
 use Rattle.bw_sql.specs.declared.condition.Connective.TheVariants as connective
 use Rattle.bw_sql.specs.declared.items.Aggregate.{Aggregate}
@@ -309,19 +309,16 @@ series_at word join one tokens = do
   first ← one tokens
   series_after word join one first.0 (after_keyword word first.1) first.1
 
-unfoldable pub term_in : Schema → NestedReaders → List Lexeme → ReadResult CondTree
-term_in schema inner tokens = series_at word.And And (factor_in schema inner) tokens
-
-unfoldable pub condition_in : Schema → NestedReaders → List Lexeme → ReadResult CondTree
-condition_in schema inner tokens = series_at word.Or Or (term_in schema inner) tokens
-
 -- the parts of either connective: a term's are factors, and a condition's are terms
 unfoldable pub part_in : Schema → NestedReaders → Connective → List Lexeme → ReadResult CondTree
 part_in schema inner connective.And = factor_in schema inner
-part_in schema inner connective.Or = term_in schema inner
+part_in schema inner connective.Or = series_at word.And And (factor_in schema inner)
 
 unfoldable pub joined_in : Schema → NestedReaders → Connective → List Lexeme → ReadResult CondTree
 joined_in schema inner c tokens = series_at (word_of c) (join_of c) (part_in schema inner c) tokens
+
+unfoldable pub condition_in : Schema → NestedReaders → List Lexeme → ReadResult CondTree
+condition_in schema inner tokens = joined_in schema inner connective.Or tokens
 
 abbrev pub more_parts_in : Schema → NestedReaders → Connective → List Lexeme
     → ReadResult (List CondTree)

@@ -59,7 +59,7 @@ impl Connective {
 
 /// Reads a condition, which is required here.
 #[cycle(condition)]
-#[tactic(auto, unfolding(crate::specs::Reading::condition_in, crate::specs::Reading::joined_in, crate::specs::Reading::part_in))]
+#[tactic(auto, unfolding(crate::specs::Reading::condition_in))]
 pub fn condition<'t>(
     alloc: Global,
     schema: &Schema,
@@ -123,7 +123,7 @@ fn more_parts<'t>(
 
 /// Reads a required part: a factor of a term, or a term of a condition.
 #[cycle(condition)]
-#[tactic(auto, unfolding(crate::specs::Reading::part_in, crate::specs::Reading::joined_in, crate::specs::Reading::term_in))]
+#[tactic(auto, unfolding(crate::specs::Reading::part_in, crate::specs::Reading::joined_in))]
 fn part<'t>(
     alloc: Global,
     schema: &Schema,

@@ -124,10 +124,7 @@ pub fn keyword<'t>(word: Keyword, tokens: &'t [Placed<'t>]) -> Result<&'t [Place
     ensures read { Reads (λ rest. lexemes rest.now) result (keyword_at word (lexemes tokens.now)) }
     ensures consumes_input { IfOk result (λ rest. length rest.now < length tokens.now) }
 {
-    match after_keyword(word, tokens) {
-        Some(rest) => Ok(rest),
-        None => Err(Stop::at(Refusal::Syntax, tokens)),
-    }
+    after_keyword(word, tokens).ok_or(Stop::at(Refusal::Syntax, tokens))
 }
 
 /// Returns the tokens after a mark, which is required here.
@@ -136,10 +133,7 @@ pub fn mark<'t>(mark: Mark, tokens: &'t [Placed<'t>]) -> Result<&'t [Placed<'t>]
     ensures read { Reads (λ rest. lexemes rest.now) result (mark_at mark (lexemes tokens.now)) }
     ensures consumes_input { IfOk result (λ rest. length rest.now < length tokens.now) }
 {
-    match after_mark(mark, tokens) {
-        Some(rest) => Ok(rest),
-        None => Err(Stop::at(Refusal::Syntax, tokens)),
-    }
+    after_mark(mark, tokens).ok_or(Stop::at(Refusal::Syntax, tokens))
 }
 
 /// Reads a required name, and returns it with the tokens after it.

@@ -4,12 +4,11 @@ use Rattle.std.proofs.lemmas.List.{drop_all}
 use Rattle.std.proofs.lemmas.Result.{err_from_is_err_and}
 use Rattle.csv.specs.Records.{fields_of}
 use Rattle.bw_csv.proofs.BareLemmas.{bare_values-end, bare_values-fault, bare_values-next}
-use Rattle.bw_csv.proofs.BareLemmas.{field_there}
-use Rattle.bw_csv.proofs.FieldLemmas.{drop-field_at}
+use Rattle.bw_csv.proofs.FieldLemmas.{drop-field_at, field_missed}
 use Rattle.bw_csv.proofs.bare.read_values.Goals as goal
 
 pub returns-in_default-clause-values : goal.returns-in_default-clause-values
-returns-in_default-clause-values c = λ _. absurd (field_there (fields_of c.args.fields.now) c.loop-i.i (sym c.in_default.ensures.value) (omega (arith, c.len-i-end.ensures)))
+returns-in_default-clause-values c = λ _. absurd (omega (arith, c.len-i-end.ensures, field_missed (fields_of c.args.fields.now) c.loop-i.i (sym c.in_default.ensures.value)))
 
 pub returns-in_err-value-clause-values : goal.returns-in_err-value-clause-values
 returns-in_err-value-clause-values c =

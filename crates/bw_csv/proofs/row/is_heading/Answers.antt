@@ -1,7 +1,7 @@
 -- Each turn compares one more name.
 use Rattle.std.proofs.Common.{◌≡◌, ◌∙◌, refl, sym, arith, length}
 use Rattle.std.proofs.lemmas.List.{drop_all}
-use Rattle.bw_csv.proofs.FieldLemmas.{drop-column, drop-field_at, drop-no_field, within-field_at}
+use Rattle.bw_csv.proofs.FieldLemmas.{drop-column, drop-field_at, drop-no_field, field_found}
 use Rattle.bw_csv.proofs.FieldLemmas.{is_heading-next, is_heading-short, is_heading-end}
 use Rattle.bw_csv.proofs.row.is_heading.Goals as goal
 
@@ -21,7 +21,7 @@ pub loop-i-preserved : goal.loop-i-preserved
 loop-i-preserved c =
     let column = drop-column _ _ _ c.loop-i-test.true c.index-columns-i.is in
     let field = drop-field_at _ c.loop-i.i _ (sym c.in-Some.ensures.value) in
-    let within = within-field_at _ c.loop-i.i _ (sym c.in-Some.ensures.value) in
+    let within = (field_found _ c.loop-i.i _ (sym c.in-Some.ensures.value)).0 in
     record {
       within = omega arith;
       rest = c.loop-i.invariant.rest ∙ is_heading-next _ _ _ _ _ _ column field ∙ rw (← c.without_blanks.ensures, ← c.is.ensures, c.if-not-is.false) refl;

@@ -1,6 +1,6 @@
-use Rattle.std.proofs.Common.{◌≡◌, refl, sym, ◌∙◌, ap, rules, false, true}
+use Rattle.std.proofs.Common.{◌≡◌, refl, sym, ◌∙◌, ap, rules, false, true, [], ◌∷◌, arith}
 use Rattle.bw_session.specs.StatementState.{after, is_ended}
-use Rattle.bw_session.proofs.ReadingLemmas.{begun, ended, more, no_more, of_any, one_more, unread}
+use Rattle.bw_session.proofs.ReadingLemmas.{begun, ended, keeps_as_none, more, no_more, of_any}
 use Rattle.bw_session.proofs.ReadingLemmas.{whole}
 use Rattle.std.proofs.KnownBytes.{Consumes-nil}
 use Rattle.bw_session.proofs.reading.next_statement.Goals as goal
@@ -13,7 +13,7 @@ returns-then-is_ended-clause-statement g c =
     let came = rw c.in-Some.is at c.in_ok-byte.ensures.byte in
     let end : is_ended (after c.loop.standing c.in-Some.byte) ≡ true =
     ap is_ended (sym c.after-standing.ensures) ∙ sym c.is_ended.ensures ∙ c.if-is_ended.true in
-    rw c.in_ok-store_byte.ensures (whole _ _ _ _ _ _ c.loop.invariant.reads came end)
+    rw c.in_ok-store_byte.ensures (whole c.loop.invariant.reads _ came end)
 
 pub loop-preserved : goal.loop-preserved
 loop-preserved g c =
@@ -21,23 +21,23 @@ loop-preserved g c =
     let goes_on : is_ended (after c.loop.standing c.in-Some.byte) ≡ false =
     ap is_ended (sym c.after-standing.ensures) ∙ sym c.is_ended.ensures ∙ c.if-is_ended.false in
     record {
-      reads = rw c.in_ok-store_byte.ensures (rw c.after-standing.ensures (more _ _ _ _ _ _ c.loop.invariant.reads came goes_on));
+      reads = rw c.in_ok-store_byte.ensures (rw c.after-standing.ensures (more c.loop.invariant.reads _ came goes_on));
       count = search rules;
     }
 
 pub returns-in_default-clause-statement : goal.returns-in_default-clause-statement
 returns-in_default-clause-statement g c =
     let came = rw c.in_default.is at c.in_ok-byte.ensures.byte in
-    ended _ _ _ _ _ c.loop.invariant.reads came.0 came.1
+    ended c.loop.invariant.reads came.0 came.1
 
 pub returns-in_err-byte-clause-begun : goal.returns-in_err-byte-clause-begun
 returns-in_err-byte-clause-begun g c =
-    of_any _ c.from_residual.result (unread _ _ _ _ _ c.loop.invariant.reads c.in_err-byte.ensures.same)
+    of_any _ c.from_residual.result (no_more c.loop.invariant.reads [] (omega arith) (keeps_as_none _ _ c.in_err-byte.ensures.same))
 
 pub returns-in_err-store_byte-clause-begun : goal.returns-in_err-store_byte-clause-begun
 returns-in_err-store_byte-clause-begun g c =
     let came = rw c.in-Some.is at c.in_ok-byte.ensures.byte in
-    of_any _ c.from_residual-in_err-store_byte.result (one_more _ _ _ _ _ _ c.loop.invariant.reads came)
+    of_any _ c.from_residual-in_err-store_byte.result (no_more c.loop.invariant.reads (c.in-Some.byte ∷ []) (omega arith) came)
 
 pub returns-clause-begun : goal.returns-clause-begun
-returns-clause-begun g c = no_more _ _ _ _ _ c.loop.invariant.reads (Consumes-nil _)
+returns-clause-begun g c = no_more c.loop.invariant.reads [] (omega arith) (Consumes-nil _)

@@ -1,7 +1,7 @@
 use Rattle.std.proofs.Common.{◌≡◌, refl, ap, ◌∙◌, ◌+◌, false, arith, IsTrue}
 use Rattle.bw_io.specs.Sink.{is_write_fault}
 use Rattle.bw_io.specs.Source.{failed_reads, is_input_fault}
-use Rattle.bw_session.proofs.SessionLemmas.{begins, ends_as, goes_on_as, input_alone, no_reads}
+use Rattle.bw_session.proofs.SessionLemmas.{begins, ends, goes_on, input_alone, no_reads}
 use Rattle.bw_session.proofs.SessionLemmas.{no_writes, one_write, stops, stops_reading}
 use Rattle.bw_session.proofs.SessionLemmas.{stops_writing}
 use Rattle.bw_session.proofs.session.answer_statements.Goals as goal
@@ -29,8 +29,8 @@ returns-in-Err-answer_one g c =
 pub returns-then-not-more : goal.returns-then-not-more
 returns-then-not-more g c =
     let wrote = c.in-Ok-answer_one.ensures.answers in (
-      ends_as _ _ _ _ _ _ _ _ _ _ _ _ _ _ c.loop.invariant.so_far c.in-Ok.ensures.statement c.if-not-more.true wrote.0
-          c.deref.ensures.value c.first_of-first.ensures,
+      rw c.first_of-first.ensures (ends _ _ _ _ _ _ _ _ _ _ _ c.loop.invariant.so_far (rw c.if-not-more.true at c.in-Ok.ensures.statement)
+          (rw c.deref.ensures.value at wrote.0)),
       omega (arith, c.in-Ok.ensures.failed, c.loop.invariant.reads),
       omega (arith, wrote.1, c.loop.invariant.writes),
     )
@@ -39,8 +39,8 @@ pub loop-preserved : goal.loop-preserved
 loop-preserved g c =
     let wrote = c.in-Ok-answer_one.ensures.answers in
     record {
-      so_far = goes_on_as _ _ _ _ _ _ _ _ _ _ _ _ _ _ c.loop.invariant.so_far c.in-Ok.ensures.statement c.if-not-more.false
-          wrote.0 c.deref.ensures.value c.first_of-first.ensures;
+      so_far = rw c.first_of-first.ensures (goes_on _ _ _ _ _ _ _ _ _ _ _ c.loop.invariant.so_far
+          (rw c.if-not-more.false at c.in-Ok.ensures.statement) (rw c.deref.ensures.value at wrote.0));
       reads = omega (arith, c.in-Ok.ensures.failed, c.loop.invariant.reads);
       writes = omega (arith, wrote.1, c.loop.invariant.writes);
       serves = c.in-Ok-answer_one.ensures.serves;

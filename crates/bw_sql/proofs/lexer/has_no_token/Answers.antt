@@ -2,19 +2,18 @@
 use Rattle.std.proofs.Common.{refl, ◌<◌, None, [], length, arith, sym, ◌∙◌}
 use Rattle.std.proofs.lemmas.Bool.{eqb-true, eqb-false}
 use Rattle.bw_sql.proofs.Cuts.{bare_after, cut_step, ended_at, none_first, shrinks, token_first}
-use Rattle.bw_sql.proofs.Cuts.{true_is_not_false}
 use Rattle.bw_sql.proofs.lexer.has_no_token.Goals as goal
 
 pub returns-in_default : goal.returns-in_default
 returns-in_default c =
     let ne = eqb-false (length c.loop-rest.rest.now) 0 (sym c.is_empty.ensures ∙ c.loop-rest-test.true) in
     let some : 0 < length c.loop-rest.rest.now = omega arith in
-    ((λ no. absurd (true_is_not_false (sym no))), (λ bare. absurd (none_first _ _ (c.loop-rest.invariant.of_text bare) some c.in_default.ensures)))
+    ((λ no. absurd (cc no)), (λ bare. absurd (none_first _ _ (c.loop-rest.invariant.of_text bare) some c.in_default.ensures)))
 
 pub returns-in-Token : goal.returns-in-Token
 returns-in-Token c =
     let longest = rw c.in-Token.is at c.in-Some.ensures in
-    ((λ no. absurd (true_is_not_false (sym no))), (λ bare. absurd (token_first _ _ _ _ (c.loop-rest.invariant.of_text bare) longest)))
+    ((λ no. absurd (cc no)), (λ bare. absurd (token_first _ _ _ _ (c.loop-rest.invariant.of_text bare) longest)))
 
 pub returns : goal.returns
 returns c =

@@ -1,19 +1,11 @@
 -- The text is followed past the record that the reader read.
 use Rattle.std.proofs.Common.{◌∙◌}
-use Rattle.bw_csv.specs.Records.{IsOpen, remaining_records}
+use Rattle.bw_csv.specs.Records.{IsOpen}
 use Rattle.bw_csv.proofs.records.Records.next.Goals as goal
 
 pub read_fields-requires : goal.read_fields-requires
 unfolding IsOpen
 read_fields-requires c = c.requires.0
-
-pub returns-then-not-branch-clause-none : goal.returns-then-not-branch-clause-none
-unfolding remaining_records
-returns-then-not-branch-clause-none c = λ _. c.in_ok-read_fields.ensures.none c.if-not-branch.true
-
-pub returns-clause-nonempty : goal.returns-clause-nonempty
-unfolding remaining_records
-returns-clause-nonempty c = λ _. c.in_ok-read_fields.ensures.nonempty c.if-not-branch.false
 
 pub returns-clause-open : goal.returns-clause-open
 unfolding IsOpen

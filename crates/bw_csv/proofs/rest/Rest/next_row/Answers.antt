@@ -20,20 +20,16 @@ returns-in-Some-clause-readable c = λ _.
 pub read_row-requires : goal.read_row-requires
 read_row-requires c = reader-open _ c.turn_to_reader.ensures.reader c.turn_to_reader.ensures.readable
 
-pub returns-clause-nonempty : goal.returns-clause-nonempty
-returns-clause-nonempty c =
-    let old = sym c.turn_to_reader.ensures.to_come ∙ reader-to_come _ c.turn_to_reader.ensures.reader in
-    rw old (found_still (λ fields. row_of_record c.args.number c.args.columns.now fields ≡ Ok (values_of c.read_row.new.row)) c.read_row.result _ _ c.turn_to_reader.ensures.reader c.read_row.ensures.nonempty)
-
-pub returns-clause-readable : goal.returns-clause-readable
-returns-clause-readable c = readable_still _ _ c.read_row.result _ c.turn_to_reader.ensures.reader c.read_row.ensures.open
-
-pub returns-clause-none : goal.returns-clause-none
-returns-clause-none c =
-    let old = sym c.turn_to_reader.ensures.to_come ∙ reader-to_come _ c.turn_to_reader.ensures.reader in
-    rw old c.read_row.ensures.none
-
-pub returns-clause-row : goal.returns-clause-row
-returns-clause-row c =
-    let old = sym c.turn_to_reader.ensures.to_come ∙ reader-to_come _ c.turn_to_reader.ensures.reader in
-    rw old c.read_row.ensures.row
+pub returns : goal.returns
+returns c =
+    let turned = c.turn_to_reader.ensures in
+    let read = c.read_row.ensures in
+    let old = sym turned.to_come ∙ reader-to_come _ turned.reader in
+    record {
+      nonempty = rw old (found_still (λ fields. row_of_record c.args.number c.args.columns.now fields ≡ Ok (values_of c.read_row.new.row)) c.read_row.result _ _ turned.reader read.nonempty);
+      readable = readable_still _ _ c.read_row.result _ turned.reader read.open;
+      none = rw old read.none;
+      row = rw old read.row;
+      fault = read.fault;
+      place = read.place;
+    }
