@@ -23,7 +23,7 @@ use Rattle.bw_model.proofs.TotalLemmas.{total_append}
 use Rattle.bw_csv.specs.Bare.{bare_number, bare_row, bare_rows, bare_value, bare_values, records_of}
 use Rattle.bw_csv.specs.Bare.{within_64_bits}
 use Rattle.bw_csv.specs.Rows.{is_minus, is_null_text, without_sign, with_row, without_blanks}
-use Rattle.bw_csv.proofs.BareLemmas.{bound, passed}
+use Rattle.bw_csv.proofs.FieldLemmas.{bound, passed}
 use Rattle.bw_schemas.specs.Heading.{heading_names, names_from, some_names}
 use Rattle.bw_schemas.specs.InferredSchema.{column_over, columns_over, infer_schema, inferred_after}
 use Rattle.bw_schemas.specs.InferredSchema.{or_zero, check_bounds, ranged_column, schema_over}

@@ -26,7 +26,9 @@ use Rattle.bw_model.specs.Truth.{is_null}
 use Rattle.bw_model.proofs.TotalLemmas.{total_append}
 use Rattle.bw_csv.specs.Bare.{bare_rows, records_of}
 use Rattle.bw_csv.specs.Rows.{is_heading, rows_after, without_blanks}
-use Rattle.bw_csv.proofs.BareLemmas.{both, bound, passed, rows_are, rows_wide}
+use Rattle.bw_csv.proofs.DigitsAlone.{both}
+use Rattle.bw_csv.proofs.FieldLemmas.{bound, passed}
+use Rattle.bw_csv.proofs.BareLemmas.{rows_are, rows_wide}
 use Rattle.bw_schemas.specs.Heading.{heading_names}
 use Rattle.bw_schemas.specs.InferredSchema.{column_over, columns_over, has_null, infer_schema}
 use Rattle.bw_schemas.specs.InferredSchema.{inferred_after, or_zero, check_bounds, ranged_column}

@@ -13,7 +13,7 @@ use Rattle.bw_text.specs.Lines.{is_empty}
 use Rattle.bw_model.specs.Name.{is_name, are_apart}
 use Rattle.bw_text.specs.Text.{same_text}
 use Rattle.bw_csv.specs.Rows.{without_blanks}
-use Rattle.bw_csv.proofs.BareLemmas.{passed}
+use Rattle.bw_csv.proofs.FieldLemmas.{passed}
 use Rattle.bw_schemas.specs.Heading.{heading_names, names_from, some_names}
 
 -- the names of the fields from a place on
