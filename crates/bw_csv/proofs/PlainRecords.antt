@@ -47,6 +47,11 @@ field-run fields (c ∷ f) rest e end =
     let is = both (is_plain c) (list_all is_plain f) e in
     rw ((joins c is.0).1) (run fields (c ∷ []) f rest is.1)
 
+pub field-comma : (fields : List (List ℕ)) (f rest : List ℕ) → list_all is_plain f ≡ true
+    → next_record default_config st.StartField fields [] (f ++ 44 ∷ rest) ≡ next_record default_config st.StartField (fields ++ f ∷ []) [] rest
+unfolding next_record
+field-comma fields f rest e = field-run fields f (44 ∷ rest) e refl
+
 -- the records from one place are those from another, if the next one is
 same_next : (s t : State) (xs ys : List ℕ) (o : Option Read) → next_record default_config t [] [] ys ≡ o
     → next_record default_config s [] [] xs ≡ o → records_in s (Some xs) ≡ records_in t (Some ys)

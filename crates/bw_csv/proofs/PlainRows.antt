@@ -14,7 +14,7 @@ use Rattle.bw_model.specs.Row.{Value}
 use Rattle.bw_csv.specs.Plain.{HasRow, IsPlainField, ends_line, is_field_end, is_line_end}
 use Rattle.bw_csv.specs.Rows.{value_of_field, values_of_fields}
 use Rattle.bw_csv.proofs.FieldLemmas.{after, after-nothing, values-end, values-next}
-use Rattle.bw_csv.proofs.PlainRecords.{begins, field-end, field-run}
+use Rattle.bw_csv.proofs.PlainRecords.{begins, field-comma, field-end}
 use Rattle.bw_csv.proofs.RowLemmas.{row_made}
 
 -- Of a text's first record these are the values so far, of this many fields, and this is left of
@@ -52,7 +52,6 @@ pub read-next : (number : ℕ) (columns : List Column) (text rest : List ℕ) (i
     → ReadSoFar number columns text rest i values → drop i columns ≡ column ∷ drop (i + 1) columns
     → IsPlainField rest size → value_of_field number column (take size rest) ≡ Ok value → is_line_end (drop size rest) ≡ false
     → ReadSoFar number columns text (drop 1 (drop size rest)) (i + 1) (values ++ value ∷ [])
-unfolding next_record
 read-next number columns text rest i values column size value so_far here plain v e =
     let field = take size rest in
     let next = drop 1 (drop size rest) in
@@ -60,7 +59,7 @@ read-next number columns text rest i values column size value so_far here plain 
     record {
       done = so_far.done ++ field ∷ [];
       many = length-append so_far.done (field ∷ []) ∙ ap (λ (n : ℕ). n + 1) so_far.many;
-      reads = so_far.reads ∙ ap (λ (l : List ℕ). next_record default_config st.StartField so_far.done [] l) parts ∙ field-run so_far.done field (44 ∷ next) plain.1 refl;
+      reads = so_far.reads ∙ ap (λ (l : List ℕ). next_record default_config st.StartField so_far.done [] l) parts ∙ field-comma so_far.done field next plain.1;
       spelled = values_more number columns i values so_far.done field column value so_far.spelled here v;
     }
 
