@@ -15,7 +15,7 @@ use crate::truth_pair::TruthPair;
 use bw_cert_text::Certificate;
 use bw_diagram::Connective;
 use bw_model::{Cond, Fault, Schema};
-use bw_program::{Program, Register};
+use bw_program::Program;
 use std::alloc::Global;
 
 /// A program for a condition, and a certificate that is to prove that it selects the right rows.
@@ -98,7 +98,8 @@ fn program_of(
     ensures { IfOk result (λ made. IsTrue (fits schema.now.columns.items made.0)) }
 {
     let node = code.begin(cond)?;
-    let part = part_of(&mut code.facts, order)?;
+    let part = part_of(&mut code.facts, order);
+    code.facts.check_refusal()?;
     match emit_program(schema, &part, node, code) {
         Err(Refusal::NoProgram) => {
             code.begin_again();
@@ -118,24 +119,19 @@ fn emit_program(
 ) -> Result<(Program, u32), Refusal>
     ensures { IfOk result (λ made. IsTrue (fits schema.now.columns.items made.0)) }
 {
-    let answer = emit_condition(code, part)?;
-    let made = code.node(answer)?;
-    let row = code.row(Connective::Xor, made, node)?;
+    let wanted = TruthPair {
+        yes: true,
+        no: false,
+    };
+    let answer = code.truths(part, wanted).yes;
+    let answer = code.facts.expect(answer, 0);
+    code.meet();
+    let made = code.node(answer);
+    let row = code.row(Connective::Xor, made, node);
+    code.facts.check_refusal()?;
     if row.node != 0 {
         return Err(Refusal::NoProgram);
     }
     let program = emit::program(code.alloc, schema, &code.instrs, answer)?;
     Ok((program, row.number))
-}
-
-/// Appends the instructions of a condition, and returns the result register.
-fn emit_condition(code: &mut Code<'_>, part: &Part) -> Result<Register, Refusal> {
-    let wanted = TruthPair {
-        yes: true,
-        no: false,
-    };
-    let made = code.truths(part, wanted)?;
-    let answer = made.yes.ok_or(Refusal::NoProgram)?;
-    code.meet()?;
-    Ok(answer)
 }
