@@ -142,16 +142,11 @@ impl<'a> Facts<'a> {
     /// Returns the number of a node that tests a variable, which is added if it is missing.
     fn test(&mut self, v: u32, low: u32, high: u32) -> u32 {
         match self.nodes.insert_full((v, low, high)) {
-            Ok((index, _)) if index < MAX_NODES => index as u32 + 2,
-            made => {
-                self.refuse(if made.is_ok() {
-                    Refusal::NoProgram
-                } else {
-                    Refusal::NoMemory
-                });
-                0
-            }
+            Ok((index, _)) if index < MAX_NODES => return index as u32 + 2,
+            Ok(_) => self.refuse(Refusal::NoProgram),
+            Err(_) => self.refuse(Refusal::NoMemory),
         }
+        0
     }
 
     /// Returns the node that tests a variable and has these children. If they are the same node, it

@@ -47,7 +47,9 @@ impl Ranks {
         let groups = Groups::of(&sequence, &compared);
         let mut positions = Vec::new(alloc);
         for (column, each) in schema.columns.iter().enumerate() {
-            let number = u8::try_from(column)?;
+            let Ok(number) = u8::try_from(column) else {
+                return Err(Refusal::NoProgram);
+            };
             if each.nullable {
                 positions.push(groups.position(number, NULL_BIT))?;
             }

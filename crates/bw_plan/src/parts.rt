@@ -177,10 +177,7 @@ fn combine(facts: &mut Facts<'_>, any: bool, mut parts: Vec<Part>, only_short: b
     if parts.len() > 1 {
         return Part::All(any, parts);
     }
-    match parts.pop() {
-        Some(part) => part,
-        None => Part::Done,
-    }
+    parts.pop().unwrap_or(Part::Done)
 }
 
 /// Makes the sets of a column one, if there are several.

@@ -3,7 +3,6 @@ ghost use Rattle.bw_plan.specs.Refusal.{IsRefusal};
 
 use bw_model::{Fault, code};
 use std::alloc::{AllocError, AllocFailed};
-use std::num::TryFromIntError;
 
 /// Why there is no proposal.
 #[derive(Clone, Copy)]
@@ -23,12 +22,6 @@ impl From<AllocError> for Refusal {
 impl<T: Drop> From<AllocFailed<T>> for Refusal {
     fn from(_error: AllocFailed<T>) -> Self {
         Refusal::NoMemory
-    }
-}
-
-impl From<TryFromIntError> for Refusal {
-    fn from(_error: TryFromIntError) -> Self {
-        Refusal::NoProgram
     }
 }
 
