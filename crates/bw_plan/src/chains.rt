@@ -1,7 +1,7 @@
 //! Chains: nodes that compare the codes of columns, each computed once.
-use crate::facts::{Cited, Facts};
+use crate::comparison::ColumnComparison;
+use crate::facts::{Cited, Facts, NO_FACT};
 use crate::ledger::{Entry, Key};
-use crate::refusal::Refusal;
 use bw_diagram::ChainKind;
 use bw_program::ColumnIndex;
 
@@ -72,27 +72,18 @@ fn outcome(kind: ChainKind, x: bool, y: bool, lower: u32) -> u32 {
 }
 
 impl Facts<'_> {
-    /// Returns the chain that compares the codes of two columns, the shorter one with zeros above
-    /// its top bit.
-    ///
-    /// Errors: `NoProgram` past 65,534 nodes or 65,536 chains.
-    pub(crate) fn columns(
-        &mut self,
-        kind: ChainKind,
-        left: ColumnIndex,
-        right: ColumnIndex,
-    ) -> Result<Cited, Refusal> {
-        let len = self.width(left).max(self.width(right));
-        self.chain(Link {
-            right: Some(right),
-            ..Link::bound(kind, left, 0, len, 0)
-        })
+    /// Returns the comparison of the codes of two columns, the shorter one with zeros above its top
+    /// bit.
+    pub(crate) fn column_link(&self, compared: ColumnComparison) -> Link {
+        let len = self.width(compared.left).max(self.width(compared.right));
+        Link {
+            right: Some(compared.right),
+            ..Link::bound(compared.kind, compared.left, 0, len, 0)
+        }
     }
 
     /// Returns the chain of a comparison, and adds it and those of fewer bits if they are missing.
-    ///
-    /// Errors: `NoProgram` past 65,534 nodes or 65,536 chains.
-    pub(crate) fn chain(&mut self, whole: Link) -> Result<Cited, Refusal> {
+    pub(crate) fn chain(&mut self, whole: Link) -> Cited {
         let mut last: Option<Cited> = None;
         for len in 0..=whole.len.min(63) {
             let link = whole.with_len(len);
@@ -101,45 +92,44 @@ impl Facts<'_> {
                     number,
                     node: found.node,
                 },
-                None => self.add_chain(link, last)?,
+                None => self.add_chain(link, last),
             });
         }
-        last.ok_or(Refusal::NoProgram)
+        self.expect(last, NO_FACT)
     }
 
     /// Adds a chain, from the one with one bit less.
-    fn add_chain(&mut self, link: Link, lower: Option<Cited>) -> Result<Cited, Refusal> {
-        let node = match lower {
-            Some(lower) => self.node_above(link, lower.node)?,
-            None => u32::from(link.kind == ChainKind::Equal),
+    fn add_chain(&mut self, link: Link, lower: Option<Cited>) -> Cited {
+        let (node, prev) = match lower {
+            Some(lower) => (self.node_above(link, lower.node), Some(lower.number)),
+            None => (u32::from(link.kind == ChainKind::Equal), None),
         };
-        let prev = lower.map(|lower| lower.number);
-        let number = self.chains.push(Link { node, prev, ..link })?;
-        Ok(Cited { number, node })
+        let pushed = self.chains.push(Link { node, prev, ..link });
+        self.fact_of(pushed, node)
     }
 
     /// Returns the node of a comparison, from that of the bits below the top bit, `lower`. The left
     /// column may have no variable there.
-    fn node_above(&mut self, link: Link, lower: u32) -> Result<u32, Refusal> {
+    fn node_above(&mut self, link: Link, lower: u32) -> u32 {
         let place = link.len.saturating_sub(1);
-        let low = self.node_right(link, place, false, lower)?;
+        let low = self.node_right(link, place, false, lower);
         let Some(left) = self.variable(link.left, link.start.saturating_add(place)) else {
-            return Ok(low);
+            return low;
         };
-        let high = self.node_right(link, place, true, lower)?;
+        let high = self.node_right(link, place, true, lower);
         self.choice(left, low, high)
     }
 
     /// Returns the same node if the left column's bit is `x`. The right column may have no variable
     /// there.
-    fn node_right(&mut self, link: Link, place: u32, x: bool, lower: u32) -> Result<u32, Refusal> {
+    fn node_right(&mut self, link: Link, place: u32, x: bool, lower: u32) -> u32 {
         let Some(right) = link.right else {
             let top = link.bound >> place.min(63) & 1 == 1;
-            return Ok(outcome(link.kind, x, top, lower));
+            return outcome(link.kind, x, top, lower);
         };
         let low = outcome(link.kind, x, false, lower);
         let Some(right) = self.variable(right, place) else {
-            return Ok(low);
+            return low;
         };
         self.choice(right, low, outcome(link.kind, x, true, lower))
     }

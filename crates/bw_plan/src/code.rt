@@ -65,14 +65,15 @@ pub(crate) struct Code<'a> {
     pub(crate) order: VariableOrder,
     /// The digits of a byte of the column whose codes are compared, and those of its top byte, if
     /// they are kept in registers.
-    pub(crate) digits: Option<Digits>,
-    pub(crate) top_digit: Option<Digits>,
+    pub(crate) digits: [Option<Digits>; 2],
     /// Whether skips that save only a few instructions are omitted.
     pub(crate) has_few_skips: bool,
     pub(crate) registers: [RegisterState; 64],
     pub(crate) skips: Vec<Skip>,
     /// The skips from this one on meet before the next instruction.
     pub(crate) meeting: usize,
+    /// How many instructions are skips.
+    pub(crate) skip_count: usize,
     /// Whether there are to be skips.
     pub(crate) with_skips: bool,
     /// How many instructions compare a byte.
@@ -94,12 +95,12 @@ impl<'a> Code<'a> {
             instrs: Vec::new(alloc),
             edges: Vec::new(alloc),
             order: VariableOrder::Whole,
-            digits: None,
-            top_digit: None,
+            digits: [None; 2],
             has_few_skips: false,
             registers: [UNUSED; 64],
             skips: Vec::new(alloc),
             meeting: usize::MAX,
+            skip_count: 0,
             with_skips: true,
             looks: 0,
             skips_parts: true,
@@ -107,14 +108,17 @@ impl<'a> Code<'a> {
     }
 
     /// Appends the lines of a condition, and returns its TRUE node.
+    ///
+    /// Errors: `NoProgram` past a limit, or for a condition without certificates.
     pub(crate) fn begin(&mut self, cond: &Cond) -> Result<u32, Refusal> {
         if self.facts.ranks.bits > MANY_BITS {
             self.facts.products.limit = MAX_LINE_PRODUCTS;
         }
-        let node = self.steps(cond)?.yes;
+        let node = self.steps(cond).yes;
         self.facts.products.limit = MAX_PRODUCTS;
         self.begun = (self.facts.extent(), self.lines.len());
         self.skips_parts = self.facts.products.len() < MAX_ROWS_TO_SKIP_PARTS;
+        self.facts.check_refusal()?;
         Ok(node)
     }
 
@@ -127,29 +131,35 @@ impl<'a> Code<'a> {
         self.instrs.clear();
         self.edges.clear();
         self.order = VariableOrder::Whole;
-        self.digits = None;
-        self.top_digit = None;
+        self.digits = [None; 2];
         self.has_few_skips = false;
         self.registers = [UNUSED; 64];
         self.skips.clear();
         self.meeting = usize::MAX;
+        self.skip_count = 0;
         self.with_skips = false;
         self.looks = 0;
     }
 
     /// Returns the product row of a connective of two nodes.
-    pub(crate) fn row(&mut self, op: Connective, a: u32, b: u32) -> Result<Cited, Refusal> {
+    pub(crate) fn row(&mut self, op: Connective, a: u32, b: u32) -> Cited {
         self.facts.row(self.order, op, a, b)
     }
 
     /// Appends an instruction and its line.
-    pub(crate) fn put(&mut self, instr: Instr, entry: InstructionEntry) -> Result<(), Refusal> {
+    pub(crate) fn put(&mut self, instr: Instr, entry: InstructionEntry) {
         if self.instrs.len() >= MAX_INSTRUCTIONS {
-            return Err(Refusal::NoProgram);
+            return self.facts.refuse(Refusal::NoProgram);
         }
-        self.instrs.push(instr)?;
-        self.lines.push(PlannedLine::Instruction(entry))?;
-        Ok(())
+        let pushed = self.instrs.push(instr).is_ok();
+        self.facts.expect_memory(pushed);
+        self.put_line(PlannedLine::Instruction(entry));
+    }
+
+    /// Appends a line.
+    pub(crate) fn put_line(&mut self, line: PlannedLine) {
+        let pushed = self.lines.push(line).is_ok();
+        self.facts.expect_memory(pushed);
     }
 
     /// Returns what is known of a register.
@@ -158,9 +168,10 @@ impl<'a> Code<'a> {
         known.unwrap_or(UNUSED)
     }
 
-    /// Returns the node of a register.
-    pub(crate) fn node(&self, register: Register) -> Result<u32, Refusal> {
-        self.state(register).node.ok_or(Refusal::NoProgram)
+    /// Returns the node of a register, which must have one.
+    pub(crate) fn node(&mut self, register: Register) -> u32 {
+        let node = self.state(register).node;
+        self.facts.expect(node, 0)
     }
 
     /// Records what is known of a register.
@@ -181,39 +192,38 @@ impl<'a> Code<'a> {
     }
 
     /// Returns a register that isn't needed, preferably one without a node.
-    fn claim(&mut self) -> Result<Register, Refusal> {
-        self.meet()?;
+    fn claim(&mut self) -> Register {
+        self.meet();
         let mut found = None;
-        for (number, register) in self.registers.iter().enumerate() {
-            if !register.needed && register.node.is_none() {
-                found = Some(number);
-                break;
+        for register in 0..64u8 {
+            let known = self.state(register);
+            if !known.needed && known.node.is_none() {
+                return register;
             }
-            if !register.needed && found.is_none() {
-                found = Some(number);
+            if !known.needed && found.is_none() {
+                found = Some(register);
             }
         }
-        let number = found.ok_or(Refusal::NoProgram)?;
-        u8::try_from(number).map_err(|_| Refusal::NoProgram)
+        self.facts.expect(found, 0)
     }
 
     /// Reserves a free register that already has this node's plane, if there is one.
-    fn reserve_plane(&mut self, node: u32) -> Result<Option<Register>, Refusal> {
-        self.meet()?;
+    fn reserve_plane(&mut self, node: u32) -> Option<Register> {
+        self.meet();
         for (number, register) in self.registers.iter_mut().enumerate() {
             if !register.needed && register.is_plane && register.node == Some(node) {
                 register.needed = true;
-                return Ok(u8::try_from(number).ok());
+                return u8::try_from(number).ok();
             }
         }
-        Ok(None)
+        None
     }
 
     /// Returns a register for the plane of a node, and whether it already has it.
-    fn claim_plane(&mut self, node: u32) -> Result<(Register, bool), Refusal> {
-        match self.reserve_plane(node)? {
-            Some(register) => Ok((register, true)),
-            None => Ok((self.claim()?, false)),
+    fn claim_plane(&mut self, node: u32) -> (Register, bool) {
+        match self.reserve_plane(node) {
+            Some(register) => (register, true),
+            None => (self.claim(), false),
         }
     }
 
@@ -224,10 +234,11 @@ impl<'a> Code<'a> {
 
     /// Returns how many registers aren't needed.
     pub(crate) fn free_registers(&self) -> usize {
-        self.registers
-            .iter()
-            .filter(|register| !register.needed)
-            .count()
+        let mut free = 0usize;
+        for register in &self.registers {
+            free = free.saturating_add(usize::from(!register.needed));
+        }
+        free
     }
 
     /// Releases a register. If it contains a plane, that may be used again.
@@ -243,55 +254,48 @@ impl<'a> Code<'a> {
     }
 
     /// Returns a register with the same bit in every lane.
-    pub(crate) fn fill(&mut self, bit: bool) -> Result<Register, Refusal> {
-        let register = self.claim()?;
-        self.put(Instr::Fill(register, bit), InstructionEntry::Fill)?;
+    pub(crate) fn fill(&mut self, bit: bool) -> Register {
+        let register = self.claim();
+        self.put(Instr::Fill(register, bit), InstructionEntry::Fill);
         self.hold(register, u32::from(bit), false);
-        Ok(register)
+        register
     }
 
     /// Returns a register with the plane of a column's bit.
-    pub(crate) fn bit(&mut self, column: ColumnIndex, bit: u32) -> Result<Register, Refusal> {
-        let node = self.facts.bit(column, bit)?;
-        let place = u8::try_from(bit).map_err(|_| Refusal::NoProgram)?;
-        let (register, is_loaded) = self.claim_plane(node)?;
+    pub(crate) fn bit(&mut self, column: ColumnIndex, bit: u32) -> Register {
+        let node = self.facts.bit(column, bit);
+        let (register, is_loaded) = self.claim_plane(node);
         if !is_loaded {
             let entry = InstructionEntry::Load(u64::from(node));
-            self.put(Instr::Load(register, column, place), entry)?;
+            self.put(Instr::Load(register, column, bit.min(63) as u8), entry);
             self.hold(register, node, true);
         }
-        Ok(register)
+        register
     }
 
     /// Returns a register with a column's null plane, if it has one.
-    pub(crate) fn nulls(&mut self, column: ColumnIndex) -> Result<Option<Register>, Refusal> {
-        let Some(node) = self.facts.nulls(column)? else {
-            return Ok(None);
-        };
-        let (register, is_loaded) = self.claim_plane(node)?;
+    pub(crate) fn nulls(&mut self, column: ColumnIndex) -> Option<Register> {
+        let node = self.facts.nulls(column)?;
+        let (register, is_loaded) = self.claim_plane(node);
         if !is_loaded {
             let entry = InstructionEntry::Load(u64::from(node));
-            self.put(Instr::Nulls(register, column), entry)?;
+            self.put(Instr::Nulls(register, column), entry);
             self.hold(register, node, true);
         }
-        Ok(Some(register))
+        Some(register)
     }
 
     /// Returns a register that is 1 where a column has a value, if it is nullable.
-    pub(crate) fn values(&mut self, column: ColumnIndex) -> Result<Option<Register>, Refusal> {
-        let Some(nulls) = self.facts.nulls(column)? else {
-            return Ok(None);
-        };
-        let values = self.row(Connective::Diff, 1, nulls)?;
-        if let Some(register) = self.reserve_plane(values.node)? {
-            return Ok(Some(register));
+    pub(crate) fn values(&mut self, column: ColumnIndex) -> Option<Register> {
+        let nulls = self.facts.nulls(column)?;
+        let values = self.row(Connective::Diff, 1, nulls);
+        if let Some(register) = self.reserve_plane(values.node) {
+            return Some(register);
         }
-        let Some(register) = self.nulls(column)? else {
-            return Ok(None);
-        };
-        self.oppose(register, register)?;
+        let register = self.nulls(column)?;
+        self.oppose(register, register);
         self.hold(register, values.node, true);
-        Ok(Some(register))
+        Some(register)
     }
 
     /// Returns a register that is 1 where a byte of a column is less than (equal to) a number.
@@ -301,48 +305,41 @@ impl<'a> Code<'a> {
         column: ColumnIndex,
         slice: SliceIndex,
         byte: u8,
-    ) -> Result<Register, Refusal> {
+    ) -> Register {
         let start = u32::from(slice) * 8;
         let len = self.facts.width(column).saturating_sub(start).min(8);
         let link = Link::bound(kind, column, start, len, u64::from(byte));
-        let cited = self.facts.chain(link)?;
-        let (register, is_loaded) = self.claim_plane(cited.node)?;
+        let cited = self.facts.chain(link);
+        let (register, is_loaded) = self.claim_plane(cited.node);
         if is_loaded {
-            return Ok(register);
+            return register;
         }
         self.looks = self.looks.saturating_add(1);
         if !self.with_skips && self.looks > MAX_LOOKS {
-            return Err(Refusal::NoProgram);
+            self.facts.refuse(Refusal::NoProgram);
         }
         let instr = match kind {
             ChainKind::Less => Instr::ByteLt(register, column, slice, byte),
             ChainKind::Equal => Instr::ByteEq(register, column, slice, byte),
         };
-        let chain = Some(u64::from(cited.number));
-        self.put(instr, InstructionEntry::Byte(chain))?;
+        self.put(instr, InstructionEntry::Byte(Some(cited.reference())));
         self.hold(register, cited.node, true);
-        Ok(register)
+        register
     }
 
     /// Sets a register to a connective of two.
-    pub(crate) fn join(
-        &mut self,
-        op: Connective,
-        to: Register,
-        left: Register,
-        right: Register,
-    ) -> Result<(), Refusal> {
-        self.meet()?;
-        let row = self.row(op, self.node(left)?, self.node(right)?)?;
+    pub(crate) fn join(&mut self, op: Connective, to: Register, left: Register, right: Register) {
+        self.meet();
+        let (a, b) = (self.node(left), self.node(right));
+        let row = self.row(op, a, b);
         let instr = match op {
             Connective::And => Instr::And(to, left, right),
             Connective::Or => Instr::Or(to, left, right),
             Connective::Xor => Instr::Xor(to, left, right),
-            Connective::Diff => return Err(Refusal::NoProgram),
+            Connective::Diff => return self.facts.refuse(Refusal::NoProgram),
         };
-        self.put(instr, InstructionEntry::Op(u64::from(row.number)))?;
+        self.put(instr, InstructionEntry::Op(row.reference()));
         self.hold(to, row.node, false);
-        Ok(())
     }
 
     /// Returns a new register with a connective of two.
@@ -351,38 +348,31 @@ impl<'a> Code<'a> {
         op: Connective,
         left: Register,
         right: Register,
-    ) -> Result<Register, Refusal> {
-        let register = self.claim()?;
-        self.join(op, register, left, right)?;
-        Ok(register)
+    ) -> Register {
+        let register = self.claim();
+        self.join(op, register, left, right);
+        register
     }
 
     /// Sets a register to a connective of itself and another, which is released.
-    pub(crate) fn join_into(
-        &mut self,
-        op: Connective,
-        to: Register,
-        right: Register,
-    ) -> Result<(), Refusal> {
-        self.join(op, to, to, right)?;
+    pub(crate) fn join_into(&mut self, op: Connective, to: Register, right: Register) {
+        self.join(op, to, to, right);
         self.release(right);
-        Ok(())
     }
 
     /// Sets a register to the opposite of one.
-    pub(crate) fn oppose(&mut self, to: Register, from: Register) -> Result<(), Refusal> {
-        self.meet()?;
-        let row = self.row(Connective::Diff, 1, self.node(from)?)?;
-        let entry = InstructionEntry::Op(u64::from(row.number));
-        self.put(Instr::Not(to, from), entry)?;
+    pub(crate) fn oppose(&mut self, to: Register, from: Register) {
+        self.meet();
+        let node = self.node(from);
+        let row = self.row(Connective::Diff, 1, node);
+        self.put(Instr::Not(to, from), InstructionEntry::Op(row.reference()));
         self.hold(to, row.node, false);
-        Ok(())
     }
 
     /// Returns a new register with the opposite of one.
-    pub(crate) fn opposite(&mut self, from: Register) -> Result<Register, Refusal> {
-        let register = self.claim()?;
-        self.oppose(register, from)?;
-        Ok(register)
+    pub(crate) fn opposite(&mut self, from: Register) -> Register {
+        let register = self.claim();
+        self.oppose(register, from);
+        register
     }
 }

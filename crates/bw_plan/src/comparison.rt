@@ -63,29 +63,23 @@ pub(crate) enum Comparison {
     Columns(ColumnComparison),
 }
 
-/// Returns what a comparison of operands means for codes.
-///
-/// Errors: `NoProgram` for columns that the schema lacks, and for two columns of unequal minimums.
-pub(crate) fn compare(
-    facts: &Facts<'_>,
-    op: Op,
-    x: Operand,
-    y: Operand,
-) -> Result<Comparison, Refusal> {
+/// Returns what a comparison of operands means for codes. Refuses columns that the schema lacks, and
+/// two columns of unequal minimums.
+pub(crate) fn compare(facts: &mut Facts<'_>, op: Op, x: Operand, y: Operand) -> Comparison {
     match (x, y) {
         (Operand::Col(column), Operand::Lit(n)) => with_literal(facts, op, column, n),
         (Operand::Lit(n), Operand::Col(column)) => {
             with_literal(facts, op.swap_operands(), column, n)
         }
         (Operand::Col(left), Operand::Col(right)) => with_column(facts, op, left, right),
-        (Operand::Lit(m), Operand::Lit(n)) => Ok(Comparison::Fixed(Truth::of(op.holds(m, n)))),
-        _ => Ok(Comparison::Fixed(Truth::Unknown)),
+        (Operand::Lit(m), Operand::Lit(n)) => Comparison::Fixed(Truth::of(op.holds(m, n))),
+        _ => Comparison::Fixed(Truth::Unknown),
     }
 }
 
 /// Returns the comparison of a column with a literal.
-fn with_literal(facts: &Facts<'_>, op: Op, column: usize, n: i64) -> Result<Comparison, Refusal> {
-    let (column, lo) = facts.column(column)?;
+fn with_literal(facts: &mut Facts<'_>, op: Op, column: usize, n: i64) -> Comparison {
+    let (column, lo) = facts.column(column);
     let distance = i128::from(n) - i128::from(lo);
     let (kind, limit, negated) = match op {
         Op::Lt => (ChainKind::Less, distance, false),
@@ -95,30 +89,30 @@ fn with_literal(facts: &Facts<'_>, op: Op, column: usize, n: i64) -> Result<Comp
         Op::Eq => (ChainKind::Equal, distance, false),
         Op::Ne => (ChainKind::Equal, distance, true),
     };
-    Ok(Comparison::Literal(LiteralComparison {
+    Comparison::Literal(LiteralComparison {
         column,
         kind,
         limit,
         negated,
-    }))
+    })
 }
 
 /// Returns the comparison of two columns of the same minimum.
-fn with_column(facts: &Facts<'_>, op: Op, c: usize, d: usize) -> Result<Comparison, Refusal> {
-    let ((c, lo), (d, other)) = (facts.column(c)?, facts.column(d)?);
+fn with_column(facts: &mut Facts<'_>, op: Op, c: usize, d: usize) -> Comparison {
+    let ((c, lo), (d, other)) = (facts.column(c), facts.column(d));
     if lo != other {
-        return Err(Refusal::NoProgram);
+        facts.refuse(Refusal::NoProgram);
     }
     let (kind, left, right) = match op {
         Op::Lt | Op::Ge => (ChainKind::Less, c, d),
         Op::Gt | Op::Le => (ChainKind::Less, d, c),
         Op::Eq | Op::Ne => (ChainKind::Equal, c, d),
     };
-    Ok(Comparison::Columns(ColumnComparison {
+    Comparison::Columns(ColumnComparison {
         kind,
         left,
         right,
         negated: matches!(op, Op::Ge | Op::Le | Op::Ne),
         columns: [c, d],
-    }))
+    })
 }

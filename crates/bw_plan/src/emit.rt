@@ -17,8 +17,8 @@ use bw_cert_text::{
 use bw_diagram::{ChainColumns, Reason};
 use bw_model::{Schema, code};
 use bw_program::{ColumnIndex, Instr, Program, Register};
-use bw_text::{Opcode, Piece, push_line};
 use std::alloc::{AllocError, Global};
+use std::str;
 
 /// Returns the program of instructions and a result register, by its text.
 pub(crate) fn program(
@@ -29,13 +29,12 @@ pub(crate) fn program(
 ) -> Result<Program, Refusal>
     ensures { IfOk result (λ program. IsTrue (fits schema.now.columns.items program)) }
 {
-    let mut text = Vec::new(alloc);
+    let mut text = String::new(alloc);
     for instr in instrs {
-        put_instr(alloc, schema, *instr, &mut text)?;
+        put_instr(schema, *instr, &mut text)?;
     }
-    let result = [word(Opcode::Result), Piece::Register(answer)];
-    push_line(alloc, &result, &mut text)?;
-    match Program::parse(alloc, schema, &text) {
+    writeln!(text, "RESULT r{answer}")?;
+    match Program::parse(alloc, schema, text.as_bytes()) {
         Ok(program) => Ok(program),
         Err(fault) if fault.code == code::OUT_OF_MEMORY => Err(Refusal::NoMemory),
         Err(_) => Err(Refusal::NoProgram),
@@ -43,74 +42,30 @@ pub(crate) fn program(
 }
 
 /// Appends the line of an instruction.
-fn put_instr(
-    alloc: Global,
-    schema: &Schema,
-    instr: Instr,
-    text: &mut Vec<u8>,
-) -> Result<(), AllocError> {
-    use Piece::Register;
-    let (opcode, r) = opcode_of(instr);
+fn put_instr(schema: &Schema, instr: Instr, text: &mut String) -> Result<(), AllocError> {
     match instr {
-        Instr::Load(_, col, bit) => {
-            let pieces = [word(opcode), Register(r), name_of(schema, col), number(bit)];
-            push_line(alloc, &pieces, text)
+        Instr::Load(r, col, bit) => writeln!(text, "LOAD r{r} {} {bit}", name_of(schema, col)),
+        Instr::Nulls(r, col) => writeln!(text, "NULLS r{r} {}", name_of(schema, col)),
+        Instr::Fill(r, bit) => writeln!(text, "FILL r{r} {}", u8::from(bit)),
+        Instr::And(r, x, y) => writeln!(text, "AND r{r} r{x} r{y}"),
+        Instr::Or(r, x, y) => writeln!(text, "OR r{r} r{x} r{y}"),
+        Instr::Xor(r, x, y) => writeln!(text, "XOR r{r} r{x} r{y}"),
+        Instr::Not(r, x) => writeln!(text, "NOT r{r} r{x}"),
+        Instr::ByteLt(r, col, slice, k) => {
+            writeln!(text, "BYTELT r{r} {} {slice} {k}", name_of(schema, col))
         }
-        Instr::Nulls(_, col) => {
-            let pieces = [word(opcode), Register(r), name_of(schema, col)];
-            push_line(alloc, &pieces, text)
+        Instr::ByteEq(r, col, slice, k) => {
+            writeln!(text, "BYTEEQ r{r} {} {slice} {k}", name_of(schema, col))
         }
-        Instr::Fill(_, bit) => {
-            let pieces = [word(opcode), Register(r), number(u8::from(bit))];
-            push_line(alloc, &pieces, text)
-        }
-        Instr::And(_, x, y) | Instr::Or(_, x, y) | Instr::Xor(_, x, y) => {
-            let pieces = [word(opcode), Register(r), Register(x), Register(y)];
-            push_line(alloc, &pieces, text)
-        }
-        Instr::Not(_, x) => { push_line(alloc, &[word(opcode), Register(r), Register(x)], text) }
-        Instr::ByteLt(_, col, slice, k) | Instr::ByteEq(_, col, slice, k) => {
-            let (col, slice, k) = (name_of(schema, col), number(slice), number(k));
-            push_line(alloc, &[word(opcode), Register(r), col, slice, k], text)
-        }
-        Instr::Skip(_, target) => {
-            let target = Piece::Number(target as u64);
-            push_line(alloc, &[word(opcode), Register(r), target], text)
-        }
+        Instr::Skip(x, target) => writeln!(text, "SKIP r{x} {target}"),
     }
 }
 
-/// Returns an instruction's opcode and its first register.
-fn opcode_of(instr: Instr) -> (Opcode, Register) {
-    match instr {
-        Instr::Load(r, ..) => (Opcode::Load, r),
-        Instr::Nulls(r, _) => (Opcode::Nulls, r),
-        Instr::Fill(r, _) => (Opcode::Fill, r),
-        Instr::And(r, ..) => (Opcode::And, r),
-        Instr::Or(r, ..) => (Opcode::Or, r),
-        Instr::Xor(r, ..) => (Opcode::Xor, r),
-        Instr::Not(r, _) => (Opcode::Not, r),
-        Instr::ByteLt(r, ..) => (Opcode::ByteLt, r),
-        Instr::ByteEq(r, ..) => (Opcode::ByteEq, r),
-        Instr::Skip(x, _) => (Opcode::Skip, x),
-    }
-}
-
-/// Returns a number as a piece of a line.
-fn number(number: u8) -> Piece<'static> {
-    Piece::Number(u64::from(number))
-}
-
-/// Returns an opcode as the first piece of a line.
-fn word(opcode: Opcode) -> Piece<'static> {
-    Piece::Word(opcode.spelling())
-}
-
-/// Returns a column's name as a piece of a line, or nothing if the schema has no such column.
-fn name_of(schema: &Schema, column: ColumnIndex) -> Piece<'_> {
+/// Returns a column's name, or nothing if the schema has no such column.
+fn name_of(schema: &Schema, column: ColumnIndex) -> &str {
     match schema.columns.get(column as usize) {
-        Some(column) => Piece::Word(column.name.as_bytes()),
-        None => Piece::Word(b""),
+        Some(column) => str::from_utf8(column.name.as_bytes()).unwrap_or(""),
+        None => "",
     }
 }
 

@@ -24,6 +24,16 @@ pub(crate) struct Cited {
     pub(crate) node: u32,
 }
 
+/// What stands for a fact that was refused.
+pub(crate) const NO_FACT: Cited = Cited { number: 0, node: 0 };
+
+impl Cited {
+    /// Returns its number as lines have it.
+    pub(crate) fn reference(self) -> u64 {
+        u64::from(self.number)
+    }
+}
+
 /// How many nodes, chains and product rows there are.
 #[derive(Clone, Copy)]
 pub(crate) struct Extent {
@@ -45,6 +55,8 @@ pub(crate) struct Facts<'a> {
     pub(crate) products: Ledger<Row>,
     pub(crate) pending: Vec<Pending>,
     pub(crate) ranks: Ranks,
+    /// Why there is no proposal, once that is known. What is computed after that isn't used.
+    pub(crate) refusal: Option<Refusal>,
 }
 
 impl<'a> Facts<'a> {
@@ -59,7 +71,49 @@ impl<'a> Facts<'a> {
             products: Ledger::new(alloc, MAX_PRODUCTS),
             pending: Vec::new(alloc),
             ranks: Ranks::new(alloc, schema, cond)?,
+            refusal: None,
         })
+    }
+
+    /// Records why there is no proposal, unless that is known.
+    pub(crate) fn refuse(&mut self, refusal: Refusal) {
+        if self.refusal.is_none() {
+            self.refusal = Some(refusal);
+        }
+    }
+
+    /// Refuses if memory was refused.
+    pub(crate) fn expect_memory(&mut self, was_given: bool) {
+        if !was_given {
+            self.refuse(Refusal::NoMemory);
+        }
+    }
+
+    /// Returns what was found. If nothing was, it refuses, and returns what stands for it.
+    pub(crate) fn expect<T: Copy>(&mut self, found: Option<T>, otherwise: T) -> T {
+        if found.is_none() {
+            self.refuse(Refusal::NoProgram);
+        }
+        found.unwrap_or(otherwise)
+    }
+
+    /// Returns what was refused first, if anything was.
+    pub(crate) fn check_refusal(&self) -> Result<(), Refusal> {
+        match self.refusal {
+            Some(refusal) => Err(refusal),
+            None => Ok(()),
+        }
+    }
+
+    /// Returns the chain or product row of this number and node, if it could be added.
+    pub(crate) fn fact_of(&mut self, number: Result<u32, Refusal>, node: u32) -> Cited {
+        match number {
+            Ok(number) => Cited { number, node },
+            Err(refusal) => {
+                self.refuse(refusal);
+                NO_FACT
+            }
+        }
     }
 
     /// Returns how many there are so far.
@@ -71,11 +125,12 @@ impl<'a> Facts<'a> {
         }
     }
 
-    /// Removes what was added since there were so many.
+    /// Removes what was added since there were so many, and what was refused since.
     pub(crate) fn return_to(&mut self, extent: Extent) {
         self.products.truncate(extent.products);
         self.chains.truncate(extent.chains);
         self.nodes.truncate(extent.nodes);
+        self.refusal = None;
     }
 
     /// Returns the node of a number, if it isn't a terminal.
@@ -85,44 +140,39 @@ impl<'a> Facts<'a> {
     }
 
     /// Returns the number of a node that tests a variable, which is added if it is missing.
-    ///
-    /// Errors: `NoProgram` past 65,534 nodes.
-    fn test(&mut self, v: u32, low: u32, high: u32) -> Result<u32, Refusal> {
-        let (index, _) = self.nodes.insert_full((v, low, high))?;
-        if index >= MAX_NODES {
-            return Err(Refusal::NoProgram);
+    fn test(&mut self, v: u32, low: u32, high: u32) -> u32 {
+        match self.nodes.insert_full((v, low, high)) {
+            Ok((index, _)) if index < MAX_NODES => return index as u32 + 2,
+            Ok(_) => self.refuse(Refusal::NoProgram),
+            Err(_) => self.refuse(Refusal::NoMemory),
         }
-        Ok(index as u32 + 2)
+        0
     }
 
     /// Returns the node that tests a variable and has these children. If they are the same node, it
     /// is that node, unless that tests the same variable.
-    pub(crate) fn choice(&mut self, v: u32, low: u32, high: u32) -> Result<u32, Refusal> {
-        if low == high && self.node(low).map(|node| node.v) != Some(v) {
-            return Ok(low);
+    pub(crate) fn choice(&mut self, v: u32, low: u32, high: u32) -> u32 {
+        if low == high && !matches!(self.node(low), Some(node) if node.v == v) {
+            return low;
         }
         self.test(v, low, high)
     }
 
     /// Returns the node that is 1 if a column is null, if it has a null variable.
-    ///
-    /// Errors: `NoProgram` past 65,534 nodes.
-    pub(crate) fn nulls(&mut self, column: ColumnIndex) -> Result<Option<u32>, Refusal> {
+    pub(crate) fn nulls(&mut self, column: ColumnIndex) -> Option<u32> {
         let column = column as usize;
         if column >= self.schema.columns.len() {
-            return Ok(None);
+            return None;
         }
-        match self.schema.var_null(column) {
-            Some(variable) => Ok(Some(self.test(variable, 0, 1)?)),
-            None => Ok(None),
-        }
+        let variable = self.schema.var_null(column)?;
+        Some(self.test(variable, 0, 1))
     }
 
-    /// Returns the node that is 1 where a bit of a column's code is 1.
-    ///
-    /// Errors: `NoProgram` if the column lacks the bit, or past 65,534 nodes.
-    pub(crate) fn bit(&mut self, column: ColumnIndex, bit: u32) -> Result<u32, Refusal> {
-        let variable = self.variable(column, bit).ok_or(Refusal::NoProgram)?;
+    /// Returns the node that is 1 where a bit of a column's code is 1. Refuses if the column lacks
+    /// the bit.
+    pub(crate) fn bit(&mut self, column: ColumnIndex, bit: u32) -> u32 {
+        let variable = self.variable(column, bit);
+        let variable = self.expect(variable, 0);
         self.test(variable, 0, 1)
     }
 
@@ -145,13 +195,13 @@ impl<'a> Facts<'a> {
         }
     }
 
-    /// Returns a column's number as instructions store it, and its minimum.
-    ///
-    /// Errors: `NoProgram` if the schema lacks the column.
-    pub(crate) fn column(&self, column: usize) -> Result<(ColumnIndex, i64), Refusal> {
-        match (u8::try_from(column), self.schema.columns.get(column)) {
-            (Ok(number), Some(column)) => Ok((number, column.lo)),
-            _ => Err(Refusal::NoProgram),
-        }
+    /// Returns a column's number as instructions store it, and its minimum. Refuses if the schema
+    /// lacks the column.
+    pub(crate) fn column(&mut self, column: usize) -> (ColumnIndex, i64) {
+        let found = match (u8::try_from(column), self.schema.columns.get(column)) {
+            (Ok(number), Some(column)) => Some((number, column.lo)),
+            _ => None,
+        };
+        self.expect(found, (0, 0))
     }
 }

@@ -42,11 +42,9 @@ impl Growth {
         }
     }
 
-    /// Records that one more part is combined.
-    ///
-    /// Errors: `NoProgram` if the limit of nodes or of product rows would be passed, if each
-    /// remaining part took as many as the last half of the parts so far.
-    pub(crate) fn join(&mut self, facts: &Facts<'_>) -> Result<(), Refusal> {
+    /// Records that one more part is combined. Refuses if the limit of nodes or of product rows
+    /// would be passed, if each remaining part took as many as the last half of the parts so far.
+    pub(crate) fn join(&mut self, facts: &mut Facts<'_>) {
         self.joined = self.joined.saturating_add(1);
         let now = facts.extent();
         let limit = facts.products.limit as usize;
@@ -55,7 +53,7 @@ impl Growth {
             let nodes = self.forecast(early.nodes, now.nodes);
             let rows = self.forecast(early.products, now.products);
             if nodes > MAX_NODES || rows > limit {
-                return Err(Refusal::NoProgram);
+                facts.refuse(Refusal::NoProgram);
             }
         }
         if self.joined.is_power_of_two() {
@@ -65,7 +63,6 @@ impl Growth {
                 extent: now,
             };
         }
-        Ok(())
     }
 
     /// Returns how many there will be once all parts are combined, if there were `early` of them

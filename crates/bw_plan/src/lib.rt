@@ -17,6 +17,9 @@
 //! top bits from the top down, with skips, and the others, of many or wide columns, from the lowest
 //! one up, which takes fewer nodes.
 //!
+//! What can't be had, past a limit or for lack of memory, is refused: `Facts` records the first
+//! refusal, what is computed after it isn't used, and the planner asks for it at the end.
+//!
 //! Read `planner.rt` first, then `facts.rt` and `steps.rt`, and then `truths.rt`.
 #![tactic(auto)]
 

@@ -66,41 +66,41 @@ impl Ranks {
 
     /// Returns how early a variable is tested.
     pub(crate) fn rank(&self, order: VariableOrder, variable: u32) -> u32 {
-        let Some(standing) = self.positions.get(variable as usize) else {
+        let Some(position) = self.positions.get(variable as usize) else {
             return u32::MAX;
         };
         match order {
-            VariableOrder::Whole => standing.rank,
+            VariableOrder::Whole => position.rank,
             VariableOrder::Places(right) => {
-                let second = u32::from(standing.column == right);
-                NULL_BIT.saturating_sub(standing.bit).saturating_mul(2) + second
+                let second = u32::from(position.column == right);
+                NULL_BIT.saturating_sub(position.bit).saturating_mul(2) + second
             }
         }
     }
 }
 
-/// For each column, the place of the first column that it is compared with, directly or through
-/// others, and how far to the right it is among them.
-#[derive(Drop)]
-struct Groups {
-    group: [u8; 64],
-    level: [u8; 64],
+/// A column's group, by the place of its first column, and how far to the right the column is in it.
+#[derive(Clone, Copy, PartialEq, Eq)]
+struct Group {
+    first: u8,
+    level: u8,
 }
+
+/// For each column, the group of those that it is compared with, directly or through others.
+#[derive(Drop)]
+struct Groups([Group; 64]);
 
 impl Groups {
     /// Returns the groups of columns that are compared, left with right.
     fn of(sequence: &Sequence, compared: &[(ColumnIndex, ColumnIndex)]) -> Self {
-        let mut groups = Groups {
-            group: [0; 64],
-            level: [0; 64],
-        };
-        for (column, group) in groups.group.iter_mut().enumerate() {
-            *group = sequence.place((column % 64) as u8);
+        let mut groups = Groups([Group { first: 0, level: 0 }; 64]);
+        for (column, group) in groups.0.iter_mut().enumerate() {
+            group.first = sequence.place((column % 64) as u8);
         }
         for _ in 0..64 {
             let mut changed = false;
             for (left, right) in compared {
-                changed |= groups.bring_together(*left as usize, *right as usize);
+                changed |= groups.bring_together(*left, *right);
             }
             if !changed {
                 break;
@@ -109,32 +109,27 @@ impl Groups {
         groups
     }
 
+    /// Returns the group of a column.
+    fn group(&self, column: ColumnIndex) -> Group {
+        self.0[usize::from(column % 64)]
+    }
+
     /// Puts two columns into one group, the right one further to the right. Returns whether
     /// anything changed.
-    fn bring_together(&mut self, left: usize, right: usize) -> bool {
-        if left >= 64 || right >= 64 {
-            return false;
-        }
-        let first = self.group[left].min(self.group[right]);
-        let level = self.level[left]
-            .saturating_add(1)
-            .min(63)
-            .max(self.level[right]);
-        let changed = self.group[left] != first
-            || self.group[right] != first
-            || self.level[right] != level;
-        self.group[left] = first;
-        self.group[right] = first;
-        self.level[right] = level;
-        changed
+    fn bring_together(&mut self, left: ColumnIndex, right: ColumnIndex) -> bool {
+        let before = (self.group(left), self.group(right));
+        let first = before.0.first.min(before.1.first);
+        let level = before.0.level.saturating_add(1).min(63).max(before.1.level);
+        self.0[usize::from(left % 64)].first = first;
+        self.0[usize::from(right % 64)] = Group { first, level };
+        before != (self.group(left), self.group(right))
     }
 
     /// Returns the place of the variable of a column's bit.
     fn position(&self, column: ColumnIndex, bit: u32) -> Position {
-        let group = self.group.get(column as usize).copied().unwrap_or(column);
-        let level = self.level.get(column as usize).copied().unwrap_or(0);
-        let place = NULL_BIT.saturating_sub(bit);
-        let rank = ((u32::from(group) * 65 + place.min(64)) * 64 + u32::from(level)) * 256;
+        let Group { first, level } = self.group(column);
+        let place = NULL_BIT.saturating_sub(bit).min(64);
+        let rank = ((u32::from(first) * 65 + place) * 64 + u32::from(level)) * 256;
         Position {
             column,
             bit,

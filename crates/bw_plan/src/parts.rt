@@ -32,13 +32,11 @@ pub(crate) enum Part {
     Done,
 }
 
-/// Returns a condition as instructions compute it.
-///
-/// Errors: `NoProgram` for those of [`compare`].
+/// Returns a condition as instructions compute it. Refuses what [`compare`] does.
 #[cycle(part)]
-pub(crate) fn part_of(facts: &mut Facts<'_>, cond: &Cond) -> Result<Part, Refusal> {
+pub(crate) fn part_of(facts: &mut Facts<'_>, cond: &Cond) -> Part {
     match cond {
-        Cond::Always => Ok(Part::Fixed(Truth::Yes)),
+        Cond::Always => Part::Fixed(Truth::Yes),
         Cond::Cmp(op, x, y) => comparison(facts, *op, *x, *y),
         Cond::Between(x, y, z) => range(facts, *x, *y, *z),
         Cond::Among(x, items) => list(facts, *x, items),
@@ -46,12 +44,15 @@ pub(crate) fn part_of(facts: &mut Facts<'_>, cond: &Cond) -> Result<Part, Refusa
         Cond::And(parts) => all_of(facts, false, parts),
         Cond::Or(parts) => all_of(facts, true, parts),
         Cond::Not(part) => {
-            let part = part_of(facts, part)?;
+            let part = part_of(facts, part);
             negate(facts, part)
         }
         Cond::Test(part, truth) => {
-            let part = part_of(facts, part)?;
-            Ok(Part::Test(Box::new(facts.alloc, part)?, *truth))
+            let part = part_of(facts, part);
+            match Box::new(facts.alloc, part) {
+                Ok(part) => Part::Test(part, *truth),
+                Err(_) => no_memory(facts),
+            }
         }
     }
 }
@@ -59,51 +60,54 @@ pub(crate) fn part_of(facts: &mut Facts<'_>, cond: &Cond) -> Result<Part, Refusa
 /// Returns the OR of some conditions, or else their AND. A comparison is left out if it is the same
 /// as the one before.
 #[cycle(part)]
-fn all_of(facts: &mut Facts<'_>, any: bool, conds: &[Cond]) -> Result<Part, Refusal> {
+fn all_of(facts: &mut Facts<'_>, any: bool, conds: &[Cond]) -> Part {
     let mut parts = Vec::new(facts.alloc);
-    for (number, cond) in conds.iter().enumerate() {
-        if !repeats(conds, number) {
-            parts.push(part_of(facts, cond)?)?;
+    let mut before = None;
+    for cond in conds {
+        if !is_same_comparison(before, cond) {
+            let part = part_of(facts, cond);
+            push(facts, &mut parts, part);
         }
+        before = Some(cond);
     }
     combine(facts, any, parts, true)
 }
 
-/// Returns whether a condition is the same comparison as the one before it.
-fn repeats(conds: &[Cond], number: usize) -> bool {
-    let before = number.checked_sub(1).and_then(|before| conds.get(before));
-    match (before, conds.get(number)) {
-        (Some(Cond::Cmp(op, x, y)), Some(Cond::Cmp(other, z, w))) => {
-            op == other && x == z && y == w
-        }
+/// Returns whether a condition is the same comparison as the one before it, if there is one.
+fn is_same_comparison(before: Option<&Cond>, cond: &Cond) -> bool {
+    match (before, cond) {
+        (Some(Cond::Cmp(op, x, y)), Cond::Cmp(other, z, w)) => op == other && x == z && y == w,
         _ => false,
     }
 }
 
 /// Returns a comparison.
-fn comparison(facts: &Facts<'_>, op: Op, x: Operand, y: Operand) -> Result<Part, Refusal> {
-    Ok(match compare(facts, op, x, y)? {
+fn comparison(facts: &mut Facts<'_>, op: Op, x: Operand, y: Operand) -> Part {
+    match compare(facts, op, x, y) {
         Comparison::Fixed(truth) => Part::Fixed(truth),
-        Comparison::Literal(compared) => Part::Codes(Set::of(facts, compared)?),
+        Comparison::Literal(compared) => Part::Codes(Set::of(facts, compared)),
         Comparison::Columns(compared) => Part::Columns(compared),
-    })
+    }
 }
 
 /// Returns `BETWEEN`.
-fn range(facts: &Facts<'_>, x: Operand, y: Operand, z: Operand) -> Result<Part, Refusal> {
+fn range(facts: &mut Facts<'_>, x: Operand, y: Operand, z: Operand) -> Part {
     let mut parts = Vec::new(facts.alloc);
-    parts.push(comparison(facts, Op::Ge, x, y)?)?;
-    parts.push(comparison(facts, Op::Le, x, z)?)?;
+    for (op, bound) in [(Op::Ge, y), (Op::Le, z)] {
+        let part = comparison(facts, op, x, bound);
+        push(facts, &mut parts, part);
+    }
     combine(facts, false, parts, true)
 }
 
 /// Returns `IN`: first the set of the literals, however long it is, and then the other items.
-fn list(facts: &Facts<'_>, x: Operand, items: &[Operand]) -> Result<Part, Refusal> {
+fn list(facts: &mut Facts<'_>, x: Operand, items: &[Operand]) -> Part {
     let mut parts = Vec::new(facts.alloc);
     for are_literals in [true, false] {
         for item in items {
             if matches!(item, Operand::Lit(_)) == are_literals {
-                parts.push(comparison(facts, Op::Eq, x, *item)?)?;
+                let part = comparison(facts, Op::Eq, x, *item);
+                push(facts, &mut parts, part);
             }
         }
     }
@@ -111,90 +115,97 @@ fn list(facts: &Facts<'_>, x: Operand, items: &[Operand]) -> Result<Part, Refusa
 }
 
 /// Returns whether the literals of `IN` are a long set.
-pub(crate) fn is_long_list(
-    facts: &Facts<'_>,
-    x: Operand,
-    items: &[Operand],
-) -> Result<bool, Refusal> {
-    let list = list(facts, x, items)?;
+pub(crate) fn is_long_list(facts: &mut Facts<'_>, x: Operand, items: &[Operand]) -> bool {
+    let list = list(facts, x, items);
     let first = match &list {
         Part::All(_, parts) => parts.first(),
         part => Some(part),
     };
-    Ok(matches!(first, Some(Part::Codes(set)) if set.is_long(facts)))
+    matches!(first, Some(Part::Codes(set)) if set.is_long(facts))
 }
 
 /// Returns `IS NULL`.
-fn null_test(facts: &mut Facts<'_>, x: Operand) -> Result<Part, Refusal> {
+fn null_test(facts: &mut Facts<'_>, x: Operand) -> Part {
     let column = match x {
-        Operand::Col(column) => facts.column(column)?.0,
-        Operand::Lit(_) => return Ok(Part::Fixed(Truth::No)),
-        Operand::Null => return Ok(Part::Fixed(Truth::Yes)),
+        Operand::Col(column) => facts.column(column).0,
+        Operand::Lit(_) => return Part::Fixed(Truth::No),
+        Operand::Null => return Part::Fixed(Truth::Yes),
     };
-    Ok(match facts.nulls(column)? {
+    match facts.nulls(column) {
         Some(_) => Part::Null(column),
         None => Part::Fixed(Truth::No),
-    })
+    }
 }
 
 /// Returns the opposite of a part.
-fn negate(facts: &Facts<'_>, part: Part) -> Result<Part, Refusal> {
+fn negate(facts: &mut Facts<'_>, part: Part) -> Part {
     match part {
         Part::Codes(mut set) => {
             set.inverted = !set.inverted;
-            Ok(Part::Codes(set))
+            Part::Codes(set)
         }
-        Part::Fixed(truth) => Ok(Part::Fixed(match truth {
-            Truth::Yes => Truth::No,
-            Truth::Unknown => Truth::Unknown,
-            Truth::No => Truth::Yes,
-        })),
-        part => Ok(Part::Not(Box::new(facts.alloc, part)?)),
+        Part::Fixed(Truth::Yes) => Part::Fixed(Truth::No),
+        Part::Fixed(Truth::No) => Part::Fixed(Truth::Yes),
+        Part::Fixed(Truth::Unknown) => part,
+        part => match Box::new(facts.alloc, part) {
+            Ok(part) => Part::Not(part),
+            Err(_) => no_memory(facts),
+        },
     }
+}
+
+/// Appends a part.
+fn push(facts: &mut Facts<'_>, parts: &mut Vec<Part>, part: Part) {
+    let pushed = parts.push(part).is_ok();
+    facts.expect_memory(pushed);
+}
+
+/// Returns what stands for a part for which memory was refused.
+fn no_memory(facts: &mut Facts<'_>) -> Part {
+    facts.refuse(Refusal::NoMemory);
+    Part::Done
 }
 
 /// Returns the OR of some parts, or else their AND. All sets of one column become one where the
 /// first of them was. If `only_short`, that isn't done if it takes more instructions, or if the set
 /// is long: it takes more product rows than the sets one after another.
-fn combine(
-    facts: &Facts<'_>,
-    any: bool,
-    mut parts: Vec<Part>,
-    only_short: bool,
-) -> Result<Part, Refusal> {
+fn combine(facts: &mut Facts<'_>, any: bool, mut parts: Vec<Part>, only_short: bool) -> Part {
     for column in 0..64 {
-        merge(facts, any, &mut parts, column, only_short)?;
+        merge(facts, any, &mut parts, column, only_short);
     }
     parts.retain(|part| !matches!(part, Part::Done));
     if parts.len() > 1 {
-        return Ok(Part::All(any, parts));
+        return Part::All(any, parts);
     }
-    parts.pop().ok_or(Refusal::NoProgram)
+    parts.pop().unwrap_or(Part::Done)
 }
 
 /// Makes the sets of a column one, if there are several.
 fn merge(
-    facts: &Facts<'_>,
+    facts: &mut Facts<'_>,
     any: bool,
     parts: &mut [Part],
     column: ColumnIndex,
     only_short: bool,
-) -> Result<(), Refusal> {
+) {
     let mut union = Union::new(facts.alloc);
     for part in parts.iter() {
         match part {
-            Part::Codes(set) if set.column == column => union.add(set, !any)?,
+            Part::Codes(set) if set.column == column => {
+                let added = union.add(set, !any).is_ok();
+                facts.expect_memory(added);
+            }
             _ => {}
         }
     }
     if !union.has_several() || only_short && union.is_slower(facts.width(column)) {
-        return Ok(());
+        return;
     }
-    let set = union.set(facts.alloc, column, !any)?;
-    if !(only_short && set.is_long(facts)) {
-        replace(parts, set);
+    match union.set(facts.alloc, column, !any) {
+        Ok(set) if only_short && set.is_long(facts) => {}
+        Ok(set) => replace(parts, set),
+        Err(refusal) => facts.refuse(refusal),
     }
-    Ok(())
 }
 
 /// Puts a set in place of the first set of its column, and nothing in place of the others.
@@ -274,7 +285,7 @@ fn registers_of(parts: &[Part]) -> Registers {
 
 /// Returns the part to begin with: the first one, or, if the parts take many registers in their
 /// order, the one that takes the most.
-pub(crate) fn leading(parts: &[Part]) -> usize {
+pub(crate) fn first_part(parts: &[Part]) -> usize {
     let taken = registers_of(parts);
     if taken.in_order <= ROOMY {
         0

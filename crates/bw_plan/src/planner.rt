@@ -98,7 +98,8 @@ fn program_of(
     ensures { IfOk result (λ made. IsTrue (fits schema.now.columns.items made.0)) }
 {
     let node = code.begin(cond)?;
-    let part = part_of(&mut code.facts, order)?;
+    let part = part_of(&mut code.facts, order);
+    code.facts.check_refusal()?;
     match emit_program(schema, &part, node, code) {
         Err(Refusal::NoProgram) => {
             code.begin_again();
@@ -118,9 +119,19 @@ fn emit_program(
 ) -> Result<(Program, u32), Refusal>
     ensures { IfOk result (λ made. IsTrue (fits schema.now.columns.items made.0)) }
 {
-    let answer = emit_condition(code, part)?;
-    let made = code.node(answer)?;
-    let row = code.row(Connective::Xor, made, node)?;
+    let wanted = TruthPair {
+        yes: true,
+        no: false,
+    };
+    let answer = code.truths(part, wanted).yes;
+    let answer = code.facts.expect(answer, 0);
+    code.meet();
+    if code.skip_count == 0 {
+        end_with_skip(code, answer);
+    }
+    let made = code.node(answer);
+    let row = code.row(Connective::Xor, made, node);
+    code.facts.check_refusal()?;
     if row.node != 0 {
         return Err(Refusal::NoProgram);
     }
@@ -128,20 +139,10 @@ fn emit_program(
     Ok((program, row.number))
 }
 
-/// Appends the instructions of a condition, and returns the result register.
-fn emit_condition(code: &mut Code<'_>, part: &Part) -> Result<Register, Refusal> {
-    let wanted = TruthPair {
-        yes: true,
-        no: false,
-    };
-    let made = code.truths(part, wanted)?;
-    let answer = made.yes.ok_or(Refusal::NoProgram)?;
-    code.meet()?;
-    if !code.has_skips_from(0) {
-        let first = code.waiting()?;
-        code.skip(answer)?;
-        code.meet_from(first);
-        code.meet()?;
-    }
-    Ok(answer)
+/// Ends a program without a skip with one, so that counts show empty segments.
+fn end_with_skip(code: &mut Code<'_>, answer: Register) {
+    let first = code.open_skips();
+    code.skip(answer);
+    code.meet_from(first);
+    code.meet();
 }

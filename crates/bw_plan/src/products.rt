@@ -1,8 +1,7 @@
 //! Product rows: connectives of nodes, each computed once.
-use crate::facts::{Cited, Facts};
+use crate::facts::{Cited, Facts, NO_FACT};
 use crate::ledger::{Entry, Key};
 use crate::order::VariableOrder;
-use crate::refusal::Refusal;
 use bw_diagram::Connective;
 
 /// The planner's limit of product rows. A certificate may have more, but computing them takes
@@ -95,62 +94,61 @@ pub(crate) struct Pending {
 impl Facts<'_> {
     /// Returns the product row of a connective of nodes `a` and `b`, whose variables are tested in
     /// this order, and adds it and those it follows from if they are missing.
-    ///
-    /// Errors: `NoProgram` past 65,534 nodes or the limit of rows.
-    pub(crate) fn row(
-        &mut self,
-        order: VariableOrder,
-        op: Connective,
-        a: u32,
-        b: u32,
-    ) -> Result<Cited, Refusal> {
+    pub(crate) fn row(&mut self, order: VariableOrder, op: Connective, a: u32, b: u32) -> Cited {
         let mut asked = Question { order, op, a, b };
-        let mut found = self.known_row(asked)?;
+        let mut found = self.known_row(asked);
         self.pending.clear();
         for _ in 0..MAX_STEPS {
+            if self.refusal.is_some() {
+                return NO_FACT;
+            }
             let Some(row) = found else {
-                let variable = self.first_variable(asked)?;
-                self.pending.push(Pending {
+                let variable = self.first_variable(asked);
+                self.suspend(Pending {
                     question: asked,
                     variable,
                     low: None,
-                })?;
+                });
                 asked = self.cofactor(asked, variable, false);
-                found = self.known_row(asked)?;
+                found = self.known_row(asked);
                 continue;
             };
             let Some(pending) = self.pending.pop() else {
-                return Ok(row);
+                return row;
             };
             found = match pending.low {
                 None => {
                     let low = Some(row);
-                    self.pending.push(Pending { low, ..pending })?;
+                    self.suspend(Pending { low, ..pending });
                     asked = self.cofactor(pending.question, pending.variable, true);
-                    self.known_row(asked)?
+                    self.known_row(asked)
                 }
-                Some(low) => Some(self.split_row(pending, low, row)?),
+                Some(low) => Some(self.split_row(pending, low, row)),
             };
         }
-        Err(Refusal::NoProgram)
+        self.expect(None, NO_FACT)
+    }
+
+    /// Lets a row wait for another one.
+    fn suspend(&mut self, pending: Pending) {
+        let pushed = self.pending.push(pending).is_ok();
+        self.expect_memory(pushed);
     }
 
     /// Returns the row of a question, if it is known or a shortcut.
-    fn known_row(&mut self, asked: Question) -> Result<Option<Cited>, Refusal> {
+    fn known_row(&mut self, asked: Question) -> Option<Cited> {
         if let Some((number, row)) = self.products.find(asked.key()) {
             let node = row.node;
-            return Ok(Some(Cited { number, node }));
+            return Some(Cited { number, node });
         }
-        match asked.shortcut() {
-            Some(node) => Ok(Some(self.add_row(asked, node, None)?)),
-            None => Ok(None),
-        }
+        let node = asked.shortcut()?;
+        Some(self.add_row(asked, node, None))
     }
 
     /// Returns a row that waited for two others, which were found.
-    fn split_row(&mut self, pending: Pending, low: Cited, high: Cited) -> Result<Cited, Refusal> {
+    fn split_row(&mut self, pending: Pending, low: Cited, high: Cited) -> Cited {
         let variable = pending.variable;
-        let node = self.choice(variable, low.node, high.node)?;
+        let node = self.choice(variable, low.node, high.node);
         let reason = Cofactors {
             variable,
             low: low.number,
@@ -160,30 +158,25 @@ impl Facts<'_> {
     }
 
     /// Adds a row.
-    fn add_row(
-        &mut self,
-        question: Question,
-        node: u32,
-        reason: Option<Cofactors>,
-    ) -> Result<Cited, Refusal> {
-        let number = self.products.push(Row {
+    fn add_row(&mut self, question: Question, node: u32, reason: Option<Cofactors>) -> Cited {
+        let pushed = self.products.push(Row {
             question,
             node,
             reason,
-        })?;
-        Ok(Cited { number, node })
+        });
+        self.fact_of(pushed, node)
     }
 
     /// Returns the first variable that one of two nodes tests.
-    fn first_variable(&self, asked: Question) -> Result<u32, Refusal> {
+    fn first_variable(&mut self, asked: Question) -> u32 {
         match (self.node(asked.a), self.node(asked.b)) {
             (Some(a), Some(b)) => {
                 let first = self.ranks.rank(asked.order, a.v);
                 let second = self.ranks.rank(asked.order, b.v);
-                Ok(if first <= second { a.v } else { b.v })
+                if first <= second { a.v } else { b.v }
             }
-            (Some(node), None) | (None, Some(node)) => Ok(node.v),
-            (None, None) => Err(Refusal::NoProgram),
+            (Some(node), None) | (None, Some(node)) => node.v,
+            (None, None) => self.expect(None, 0),
         }
     }
 

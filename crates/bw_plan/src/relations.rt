@@ -1,7 +1,6 @@
 //! Instructions that compare the codes of two columns with one another, bit by bit.
 use crate::code::Code;
 use crate::comparison::ColumnComparison;
-use crate::refusal::Refusal;
 use bw_diagram::{ChainKind, Connective};
 use bw_program::Register;
 
@@ -19,19 +18,19 @@ impl Code<'_> {
     /// Returns a register that is 1 if the code of a column is less than (equal to) that of
     /// another. Their top bits are compared from the top down, with skips to the end of the
     /// comparison if no row has them equal so far, and the bits below from the lowest one up.
-    pub(crate) fn relation(&mut self, relation: ColumnComparison) -> Result<Register, Refusal> {
+    pub(crate) fn relation(&mut self, relation: ColumnComparison) -> Register {
         let left = self.facts.width(relation.left);
         let bits = left.max(self.facts.width(relation.right));
         let low = bits.saturating_sub(self.skipped_bits());
         let mut less = None;
         if relation.kind == ChainKind::Less && low < bits {
-            less = Some(self.fill(false)?);
+            less = Some(self.fill(false));
         }
         let mut same = None;
         for bit in (low..bits).rev() {
-            let now = self.next_below(relation, bit, less, same)?;
+            let now = self.next_below(relation, bit, less, same);
             if bit > 0 {
-                self.skip(now)?;
+                self.skip(now);
             }
             same = Some(now);
         }
@@ -49,21 +48,21 @@ impl Code<'_> {
         low: u32,
         less: Option<Register>,
         same: Register,
-    ) -> Result<Register, Refusal> {
+    ) -> Register {
         if low > 0 {
-            let rest = self.lows(relation, low)?;
+            let rest = self.lows(relation, low);
             let Some(less) = less else {
-                self.join_into(Connective::And, same, rest)?;
-                return Ok(same);
+                self.join_into(Connective::And, same, rest);
+                return same;
             };
-            self.join_into(Connective::And, rest, same)?;
-            self.join_into(Connective::Or, less, rest)?;
+            self.join_into(Connective::And, rest, same);
+            self.join_into(Connective::Or, less, rest);
         }
         let Some(less) = less else {
-            return Ok(same);
+            return same;
         };
         self.release(same);
-        Ok(less)
+        less
     }
 
     /// Adds the next bit below to a comparison from the top down. Updates whether the code is less
@@ -74,72 +73,70 @@ impl Code<'_> {
         bit: u32,
         less: Option<Register>,
         same: Option<Register>,
-    ) -> Result<Register, Refusal> {
-        let Bits { differs, below } = self.bits(relation, bit)?;
+    ) -> Register {
+        let Bits { differs, below } = self.bits(relation, bit);
         if let (Some(less), Some(below)) = (less, below) {
             let below = if below == differs {
-                self.copy(differs)?
+                self.copy(differs)
             } else {
-                self.join(Connective::And, below, below, differs)?;
+                self.join(Connective::And, below, below, differs);
                 below
             };
             if let Some(same) = same {
-                self.join(Connective::And, below, below, same)?;
+                self.join(Connective::And, below, below, same);
             }
-            self.join_into(Connective::Or, less, below)?;
+            self.join_into(Connective::Or, less, below);
         }
-        self.oppose(differs, differs)?;
+        self.oppose(differs, differs);
         let Some(same) = same else {
-            return Ok(differs);
+            return differs;
         };
-        self.join_into(Connective::And, same, differs)?;
-        Ok(same)
+        self.join_into(Connective::And, same, differs);
+        same
     }
 
     /// Returns a register that is 1 if this many low bits of a column are a number less than (equal
     /// to) that of another.
-    fn lows(&mut self, relation: ColumnComparison, bits: u32) -> Result<Register, Refusal> {
-        let made = self.fill(relation.kind == ChainKind::Equal)?;
+    fn lows(&mut self, relation: ColumnComparison, bits: u32) -> Register {
+        let made = self.fill(relation.kind == ChainKind::Equal);
         for bit in 0..bits {
-            let Bits { differs, below } = self.bits(relation, bit)?;
+            let Bits { differs, below } = self.bits(relation, bit);
             match below {
                 Some(below) if below != differs => {
-                    self.join(Connective::Xor, below, below, made)?;
-                    self.join(Connective::And, below, below, differs)?;
-                    self.join_into(Connective::Xor, made, below)?;
+                    self.join(Connective::Xor, below, below, made);
+                    self.join(Connective::And, below, below, differs);
+                    self.join_into(Connective::Xor, made, below);
                     self.release(differs);
                 }
-                Some(_) => self.join_into(Connective::Or, made, differs)?,
+                Some(_) => self.join_into(Connective::Or, made, differs),
                 None => {
-                    self.oppose(differs, differs)?;
-                    self.join_into(Connective::And, made, differs)?;
+                    self.oppose(differs, differs);
+                    self.join_into(Connective::And, made, differs);
                 }
             }
         }
-        Ok(made)
+        made
     }
 
     /// Returns the registers of one bit of two columns, of which at least one has it.
-    fn bits(&mut self, relation: ColumnComparison, bit: u32) -> Result<Bits, Refusal> {
+    fn bits(&mut self, relation: ColumnComparison, bit: u32) -> Bits {
         let (mut left, mut right) = (None, None);
         if bit < self.facts.width(relation.right) {
-            right = Some(self.bit(relation.right, bit)?);
+            right = Some(self.bit(relation.right, bit));
         }
         if bit < self.facts.width(relation.left) {
-            left = Some(self.bit(relation.left, bit)?);
+            left = Some(self.bit(relation.left, bit));
         }
         let is_less = relation.kind == ChainKind::Less;
-        let below = if is_less { right } else { None };
-        match (left, right) {
-            (Some(differs), Some(right)) => {
-                self.join(Connective::Xor, differs, differs, right)?;
-                if !is_less {
-                    self.release(right);
-                }
-                Ok(Bits { differs, below })
+        if let (Some(left), Some(right)) = (left, right) {
+            self.join(Connective::Xor, left, left, right);
+            if !is_less {
+                self.release(right);
             }
-            (Some(differs), None) | (None, Some(differs)) => Ok(Bits { differs, below }),
-            (None, None) => Err(Refusal::NoProgram),
+        }
+        Bits {
+            differs: self.facts.expect(left.or(right), 0),
+            below: if is_less { right } else { None },
         }
     }
 }

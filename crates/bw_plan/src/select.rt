@@ -1,7 +1,6 @@
 //! Instructions that compare a column's codes with numbers, from the most significant byte down.
 use crate::code::Code;
 use crate::digits::Upper;
-use crate::refusal::Refusal;
 use crate::sets::{
     bounds_below, byte_of, first_group, groups_from, is_rare, is_soon_done, most_instructions,
 };
@@ -11,47 +10,35 @@ use bw_program::{ColumnIndex, Register, SliceIndex};
 impl Code<'_> {
     /// Returns a register that is 1 where a column's code has an odd number of bounds above it. The
     /// bounds are sorted and different.
-    pub(crate) fn codes(
-        &mut self,
-        column: ColumnIndex,
-        bounds: &[u64],
-    ) -> Result<Register, Refusal> {
-        let top = self.facts.width(column).saturating_sub(1) / 8;
-        let Ok(top) = u8::try_from(top) else {
-            return Err(Refusal::NoProgram);
-        };
+    pub(crate) fn codes(&mut self, column: ColumnIndex, bounds: &[u64]) -> Register {
+        let top = (self.facts.width(column).saturating_sub(1) / 8).min(7) as u8;
         match bounds {
             [] => self.fill(false),
             [code, next] if top > 0 && code.checked_add(1) == Some(*next) => {
                 self.code(column, top, *code)
             }
             _ => {
-                self.split_bytes(column, bounds)?;
+                self.split_bytes(column, bounds);
                 self.has_few_skips = most_instructions(bounds, top, self.split_slice())
                     > self.room();
-                let made = self.within(column, top, bounds, None, None)?;
+                let made = self.within(column, top, bounds, None, None);
                 self.forget_digits();
-                Ok(made)
+                made
             }
         }
     }
 
     /// Returns a register that is 1 where a column has this code.
-    fn code(
-        &mut self,
-        column: ColumnIndex,
-        top: SliceIndex,
-        code: u64,
-    ) -> Result<Register, Refusal> {
-        let first = self.waiting()?;
-        let same = self.byte(ChainKind::Equal, column, top, byte_of(code, top))?;
+    fn code(&mut self, column: ColumnIndex, top: SliceIndex, code: u64) -> Register {
+        let first = self.open_skips();
+        let same = self.byte(ChainKind::Equal, column, top, byte_of(code, top));
         for slice in (0..top).rev() {
-            self.skip(same)?;
-            let next = self.byte(ChainKind::Equal, column, slice, byte_of(code, slice))?;
-            self.join_into(Connective::And, same, next)?;
+            self.skip(same);
+            let next = self.byte(ChainKind::Equal, column, slice, byte_of(code, slice));
+            self.join_into(Connective::And, same, next);
         }
         self.meet_from(first);
-        Ok(same)
+        same
     }
 
     /// Returns a register, `out` if there is one, with the lanes toggled that are 1 in `mask` and
@@ -65,22 +52,22 @@ impl Code<'_> {
         bounds: &[u64],
         mask: Option<Register>,
         out: Option<Register>,
-    ) -> Result<Register, Refusal> {
-        let here = self.bytes(column, slice, bounds)?;
+    ) -> Register {
+        let here = self.bytes(column, slice, bounds);
         let masked = if out.is_some() { mask } else { None };
-        let mut out = self.toggle_lanes(here, masked, out)?;
+        let mut out = self.toggle_lanes(here, masked, out);
         if slice > 0 {
             let mut rest = bounds;
             let mut before = None;
             for _ in 0..bounds.len() {
                 let (group, others) = first_group(rest, slice);
-                out = self.below(column, slice, group, mask, out, &mut before)?;
+                out = self.below(column, slice, group, mask, out, &mut before);
                 rest = others;
             }
-            self.let_go(before);
+            self.release_upper(before);
         }
         match out {
-            Some(register) => Ok(register),
+            Some(register) => register,
             None => self.fill(false),
         }
     }
@@ -96,56 +83,48 @@ impl Code<'_> {
         mask: Option<Register>,
         out: Option<Register>,
         before: &mut Option<Upper>,
-    ) -> Result<Option<Register>, Refusal> {
+    ) -> Option<Register> {
         let inner = bounds_below(group, slice);
-        let Some(byte) = inner.first().map(|bound| byte_of(*bound, slice)) else {
-            return Ok(out);
+        let (Some(bound), Some(next)) = (inner.first(), slice.checked_sub(1)) else {
+            return out;
         };
-        if slice == 0 {
-            return Ok(out);
-        }
-        let first = self.waiting()?;
-        let same = self.same_byte(column, slice, byte, mask, before)?;
+        let first = self.open_skips();
+        let same = self.same_byte(column, slice, byte_of(*bound, slice), mask, before);
         if !(self.has_few_skips && is_soon_done(inner, slice)) {
-            self.skip(same)?;
+            self.skip(same);
         }
-        self.narrow(column, slice - 1, inner, same)?;
-        let found = self.within(column, slice - 1, inner, Some(same), out)?;
+        self.narrow(column, next, inner, same);
+        let found = self.within(column, next, inner, Some(same), out);
         let out = match out {
             Some(_) => {
                 self.release(same);
                 found
             }
             None => {
-                self.join_into(Connective::And, same, found)?;
+                self.join_into(Connective::And, same, found);
                 same
             }
         };
         self.meet_from(first);
-        Ok(Some(out))
+        Some(out)
     }
 
     /// Removes the lanes from a register whose byte is above that of the last bound, and skips if
     /// none is left. This saves time in most segments whose rows are in no order, if few codes
     /// remain and more than two comparisons of the byte follow.
-    fn narrow(
-        &mut self,
-        column: ColumnIndex,
-        slice: SliceIndex,
-        bounds: &[u64],
-        same: Register,
-    ) -> Result<(), Refusal> {
-        let Some(last) = bounds.last().map(|bound| byte_of(*bound, slice)) else {
-            return Ok(());
+    fn narrow(&mut self, column: ColumnIndex, slice: SliceIndex, bounds: &[u64], same: Register) {
+        let Some(last) = bounds.last() else {
+            return;
         };
+        let last = byte_of(*last, slice);
         let width = self.facts.width(column);
         let few = is_rare(last, slice, width) && !is_rare(u8::MAX, slice, width);
         let looks = groups_from(bounds, u32::from(slice) * 8);
         if slice == 0 || looks < 2 || !few || self.split_slice() == Some(slice) {
-            return Ok(());
+            return;
         }
-        let below = self.byte(ChainKind::Less, column, slice, last.saturating_add(1))?;
-        self.join_into(Connective::And, same, below)?;
+        let below = self.byte(ChainKind::Less, column, slice, last.saturating_add(1));
+        self.join_into(Connective::And, same, below);
         self.skip(same)
     }
 
@@ -155,7 +134,7 @@ impl Code<'_> {
         column: ColumnIndex,
         slice: SliceIndex,
         bounds: &[u64],
-    ) -> Result<Option<Register>, Refusal> {
+    ) -> Option<Register> {
         let mut made = None;
         let mut before: Option<Register> = None;
         let mut upper = None;
@@ -163,21 +142,22 @@ impl Code<'_> {
         for _ in 0..bounds.len() {
             let (group, others) = first_group(rest, slice);
             rest = others;
-            let Some(byte) = group.first().map(|bound| byte_of(*bound, slice)) else {
-                continue;
+            let Some(bound) = group.first() else {
+                break;
             };
+            let byte = byte_of(*bound, slice);
             if group.len() % 2 == 0 || byte == 0 {
                 continue;
             }
             before = match before {
                 Some(last) if last.checked_add(1) == Some(byte) => {
-                    let next = self.same_byte(column, slice, last, None, &mut upper)?;
-                    made = self.toggle_lanes(Some(next), None, made)?;
+                    let next = self.same_byte(column, slice, last, None, &mut upper);
+                    made = self.toggle_lanes(Some(next), None, made);
                     None
                 }
                 Some(last) => {
-                    let next = self.byte(ChainKind::Less, column, slice, last)?;
-                    made = self.toggle_lanes(Some(next), None, made)?;
+                    let next = self.byte(ChainKind::Less, column, slice, last);
+                    made = self.toggle_lanes(Some(next), None, made);
                     Some(byte)
                 }
                 None => Some(byte),
@@ -185,10 +165,10 @@ impl Code<'_> {
         }
         match before {
             Some(last) => {
-                let next = self.byte(ChainKind::Less, column, slice, last)?;
+                let next = self.byte(ChainKind::Less, column, slice, last);
                 self.toggle_lanes(Some(next), None, made)
             }
-            None => Ok(made),
+            None => made,
         }
     }
 
@@ -199,17 +179,17 @@ impl Code<'_> {
         next: Option<Register>,
         mask: Option<Register>,
         out: Option<Register>,
-    ) -> Result<Option<Register>, Refusal> {
+    ) -> Option<Register> {
         let Some(next) = next else {
-            return Ok(out);
+            return out;
         };
         if let Some(mask) = mask {
-            self.join(Connective::And, next, next, mask)?;
+            self.join(Connective::And, next, next, mask);
         }
         let Some(out) = out else {
-            return Ok(Some(next));
+            return Some(next);
         };
-        self.join_into(Connective::Xor, out, next)?;
-        Ok(Some(out))
+        self.join_into(Connective::Xor, out, next);
+        Some(out)
     }
 }

@@ -20,7 +20,7 @@ pub(crate) struct Set {
 
 impl Set {
     /// Returns the codes of which a comparison with a literal is true.
-    pub(crate) fn of(facts: &Facts<'_>, compared: LiteralComparison) -> Result<Self, Refusal> {
+    pub(crate) fn of(facts: &mut Facts<'_>, compared: LiteralComparison) -> Self {
         let limits = match compared.kind {
             ChainKind::Less => [0, compared.limit],
             ChainKind::Equal => [compared.limit, compared.limit.saturating_add(1)],
@@ -34,10 +34,11 @@ impl Set {
             if limit >= 1 << facts.width(set.column).min(63) {
                 set.inverted = !set.inverted;
             } else if limit > 0 {
-                set.bounds.push(limit as u64)?;
+                let pushed = set.bounds.push(limit as u64).is_ok();
+                facts.expect_memory(pushed);
             }
         }
-        Ok(set)
+        set
     }
 
     /// Returns whether it is one code, or all but one.

@@ -1,5 +1,5 @@
 //! Skips: where they begin, where they meet, and what is proved of registers there.
-use crate::code::{Code, RegisterState};
+use crate::code::{Code, RegisterState, UNUSED};
 use crate::line::{KeepLine, PlannedLine};
 use crate::refusal::Refusal;
 use bw_cert_text::{EdgeProducts, InstructionEntry};
@@ -36,34 +36,30 @@ impl Code<'_> {
         most
     }
 
-    /// Returns whether any instruction from a number on is a skip.
-    pub(crate) fn has_skips_from(&self, number: usize) -> bool {
-        let rest = self.instrs.get(number..).unwrap_or(&[]);
-        rest.iter().any(|instr| matches!(instr, Instr::Skip(..)))
-    }
-
     /// Appends a skip, taken if a register is zero in every lane.
-    pub(crate) fn skip(&mut self, register: Register) -> Result<(), Refusal> {
+    pub(crate) fn skip(&mut self, register: Register) {
         if !self.with_skips {
-            return Ok(());
+            return;
         }
-        self.meet()?;
-        let tested = self.node(register)?;
+        self.meet();
+        let tested = self.node(register);
         let (number, line) = (self.instrs.len(), self.lines.len());
-        self.put(Instr::Skip(register, 0), InstructionEntry::Skip)?;
-        self.skips.push(Skip {
+        self.put(Instr::Skip(register, 0), InstructionEntry::Skip);
+        self.skip_count = self.skip_count.saturating_add(1);
+        let skip = Skip {
             number,
             line,
             tested,
             registers: self.registers,
-        })?;
-        Ok(())
+        };
+        let pushed = self.skips.push(skip).is_ok();
+        self.facts.expect_memory(pushed);
     }
 
     /// Returns how many skips are still to meet, besides those that meet here.
-    pub(crate) fn waiting(&mut self) -> Result<usize, Refusal> {
-        self.meet()?;
-        Ok(self.skips.len())
+    pub(crate) fn open_skips(&mut self) -> usize {
+        self.meet();
+        self.skips.len()
     }
 
     /// Requests that the skips from this one on meet before the next instruction.
@@ -73,55 +69,60 @@ impl Code<'_> {
 
     /// Lets skips meet here, if requested. A skip is removed if it can't be proved that every
     /// needed register has the same value by it as from above.
-    pub(crate) fn meet(&mut self) -> Result<(), Refusal> {
+    pub(crate) fn meet(&mut self) {
         let first = self.meeting;
         self.meeting = usize::MAX;
+        if self.facts.refusal.is_some() {
+            return;
+        }
         for at in (first..self.skips.len()).rev() {
-            if !self.can_meet(at)? {
+            if !self.can_meet(at) {
                 self.take_back(at);
             }
         }
         if first >= self.skips.len() {
-            return Ok(());
+            return;
         }
         let target = self.instrs.len();
-        for at in first..self.skips.len() {
-            self.aim(at, target);
+        for skip in self.skips.iter().skip(first) {
+            if let Some(Instr::Skip(_, place)) = self.instrs.get_mut(skip.number) {
+                *place = target;
+            }
         }
-        self.lines.push(PlannedLine::Join(target as u64))?;
+        self.put_line(PlannedLine::Join(target as u64));
         for register in 0..64u8 {
-            self.keep(register, first)?;
+            self.keep(register, first);
         }
         self.skips.truncate(first);
-        Ok(())
     }
 
     /// Returns whether every needed register can be proved to have the same value by a skip as from
     /// above.
-    fn can_meet(&mut self, at: usize) -> Result<bool, Refusal> {
+    fn can_meet(&mut self, at: usize) -> bool {
         for register in 0..64u8 {
             let known = self.state(register);
-            let Some(node) = known.node.filter(|_| known.needed) else {
+            let (Some(node), true) = (known.node, known.needed) else {
                 continue;
             };
             let is_same = self.node_at(register, at) == Some(node);
-            if !is_same && self.edge(register, node, at)?.is_none() {
-                return Ok(false);
+            if !is_same && self.edge(register, node, at).is_none() {
+                return false;
             }
         }
-        Ok(true)
+        true
     }
 
     /// Removes a skip, its instruction and its line. All after them move up by one.
     fn take_back(&mut self, at: usize) {
-        let Some((number, line)) = self.skips.get(at).map(|skip| (skip.number, skip.line)) else {
+        if at >= self.skips.len() {
             return;
-        };
-        if at < self.skips.len() && number < self.instrs.len() && line < self.lines.len() {
-            self.skips.remove(at);
+        }
+        let Skip { number, line, .. } = self.skips.remove(at);
+        if number < self.instrs.len() && line < self.lines.len() {
             self.instrs.remove(number);
             self.lines.remove(line);
         }
+        self.skip_count = self.skip_count.saturating_sub(1);
         for skip in self.skips.iter_mut() {
             if skip.number > number {
                 skip.number -= 1;
@@ -144,49 +145,36 @@ impl Code<'_> {
         }
     }
 
-    /// Sets the target of a skip.
-    fn aim(&mut self, at: usize, target: usize) {
-        let Some(skip) = self.skips.get(at) else {
-            return;
-        };
-        if let Some(Instr::Skip(_, place)) = self.instrs.get_mut(skip.number) {
-            *place = target;
-        }
-    }
-
     /// Keeps a register where skips meet, if it is needed or has the same node by each skip.
-    fn keep(&mut self, register: Register, first: usize) -> Result<(), Refusal> {
+    fn keep(&mut self, register: Register, first: usize) {
         let known = self.state(register);
         let Some(node) = known.node else {
-            return Ok(());
+            return;
         };
         if register >= 64 {
-            return Ok(());
+            return;
         }
         if !known.needed && !self.is_everywhere(register, node, first) {
-            self.set_state(
-                register,
-                RegisterState {
-                    node: None,
-                    ..known
-                },
-            );
-            return Ok(());
+            self.set_state(register, UNUSED);
+            return;
         }
-        let through = self.row(Connective::Xor, node, node)?;
+        let through = self.row(Connective::Xor, node, node);
         let begin = self.edges.len();
         for at in first..self.skips.len() {
-            let edge = self.edge(register, node, at)?;
-            self.edges.push(edge.ok_or(Refusal::NoProgram)?)?;
+            let Some(edge) = self.edge(register, node, at) else {
+                return self.facts.refuse(Refusal::NoProgram);
+            };
+            let pushed = self.edges.push(edge).is_ok();
+            self.facts.expect_memory(pushed);
         }
-        self.lines.push(PlannedLine::Keep(KeepLine {
+        let keep = KeepLine {
             register,
             node: u64::from(node),
-            through: u64::from(through.number),
+            through: through.reference(),
             first: begin,
             end: self.edges.len(),
-        }))?;
-        Ok(())
+        };
+        self.put_line(PlannedLine::Keep(keep));
     }
 
     /// Returns whether a register has this node by each skip.
@@ -207,23 +195,16 @@ impl Code<'_> {
 
     /// Returns the product rows that prove that a register has the value of `node` by a skip, if it
     /// has: its node there and `node` differ nowhere where the skip's node is 0.
-    fn edge(
-        &mut self,
-        register: Register,
-        node: u32,
-        at: usize,
-    ) -> Result<Option<EdgeProducts>, Refusal> {
-        let tested = self.skips.get(at).map(|skip| skip.tested);
-        let (Some(tested), Some(held)) = (tested, self.node_at(register, at)) else {
-            return Ok(None);
+    fn edge(&mut self, register: Register, node: u32, at: usize) -> Option<EdgeProducts> {
+        let (Some(skip), Some(held)) = (self.skips.get(at), self.node_at(register, at)) else {
+            return None;
         };
-        let differs = self.row(Connective::Xor, held, node)?;
-        let within = self.row(Connective::Diff, differs.node, tested)?;
-        Ok(
-            (within.node == 0).then_some(EdgeProducts {
-                differs: u64::from(differs.number),
-                within: u64::from(within.number),
-            }),
-        )
+        let tested = skip.tested;
+        let differs = self.row(Connective::Xor, held, node);
+        let within = self.row(Connective::Diff, differs.node, tested);
+        (within.node == 0).then_some(EdgeProducts {
+            differs: differs.reference(),
+            within: within.reference(),
+        })
     }
 }

@@ -29,16 +29,18 @@ type TruthNodes = TruthPair<u32>;
 impl Code<'_> {
     /// Returns the nodes of a condition, and appends the lines of its steps, operands first.
     ///
-    /// Errors: `NoProgram` for AND, OR and IN of nothing, for those of [`compare`], and past a
-    /// limit of the facts.
+    /// Refuses AND, OR and IN of nothing, and what [`compare`] does.
     #[cycle(steps)]
-    pub(crate) fn steps(&mut self, cond: &Cond) -> Result<TruthNodes, Refusal> {
+    pub(crate) fn steps(&mut self, cond: &Cond) -> TruthNodes {
+        if self.facts.refusal.is_some() {
+            return TruthPair { yes: 0, no: 0 };
+        }
         match cond {
             Cond::Always => self.put_fixed(Truth::Yes),
             Cond::Cmp(op, x, y) => self.put_comparison(*op, *x, *y),
             Cond::Between(x, y, z) => {
-                let lower = self.put_comparison(Op::Ge, *x, *y)?;
-                let upper = self.put_comparison(Op::Le, *x, *z)?;
+                let lower = self.put_comparison(Op::Ge, *x, *y);
+                let upper = self.put_comparison(Op::Le, *x, *z);
                 self.put_connective(false, lower, upper)
             }
             Cond::Among(x, items) => self.put_list(*x, items),
@@ -46,12 +48,12 @@ impl Code<'_> {
             Cond::And(parts) => self.put_parts(false, parts),
             Cond::Or(parts) => self.put_parts(true, parts),
             Cond::Not(part) => {
-                let made = self.steps(part)?;
-                self.put_step(ConditionEntry::Not)?;
-                Ok(made.opposite_if(true))
+                let made = self.steps(part);
+                self.put_step(ConditionEntry::Not);
+                made.opposite_if(true)
             }
             Cond::Test(part, truth) => {
-                let made = self.steps(part)?;
+                let made = self.steps(part);
                 self.put_truth_test(*truth, made)
             }
         }
@@ -59,118 +61,117 @@ impl Code<'_> {
 
     /// Returns the nodes of the OR of all parts, or else of their AND.
     #[cycle(steps)]
-    fn put_parts(&mut self, any: bool, parts: &[Cond]) -> Result<TruthNodes, Refusal> {
-        let (first, others) = parts.split_first().ok_or(Refusal::NoProgram)?;
-        let mut made = self.steps(first)?;
+    fn put_parts(&mut self, any: bool, parts: &[Cond]) -> TruthNodes {
+        let Some((first, others)) = parts.split_first() else {
+            return self.refuse_nodes();
+        };
+        let mut made = self.steps(first);
         let mut growth = Growth::of(others.len(), &self.facts);
         for part in others {
-            let next = self.steps(part)?;
-            made = self.put_connective(any, made, next)?;
-            growth.join(&self.facts)?;
+            let next = self.steps(part);
+            made = self.put_connective(any, made, next);
+            growth.join(&mut self.facts);
         }
-        Ok(made)
+        made
     }
 
     /// Returns the nodes of the OR of the equations of a list with one operand.
-    fn put_list(&mut self, x: Operand, items: &[Operand]) -> Result<TruthNodes, Refusal> {
-        let (first, others) = items.split_first().ok_or(Refusal::NoProgram)?;
+    fn put_list(&mut self, x: Operand, items: &[Operand]) -> TruthNodes {
+        let Some((first, others)) = items.split_first() else {
+            return self.refuse_nodes();
+        };
         if items.len() > MAX_LIST {
-            return Err(Refusal::NoProgram);
+            return self.refuse_nodes();
         }
         let mut most = usize::MAX;
-        if is_long_list(&self.facts, x, items)? {
-            most = self
-                .facts
-                .products
-                .len()
-                .saturating_add(MAX_LONG_LIST_PRODUCTS);
+        if is_long_list(&mut self.facts, x, items) {
+            let products = self.facts.products.len();
+            most = products.saturating_add(MAX_LONG_LIST_PRODUCTS);
         }
-        let mut made = self.put_comparison(Op::Eq, x, *first)?;
+        let mut made = self.put_comparison(Op::Eq, x, *first);
         for item in others {
-            let next = self.put_comparison(Op::Eq, x, *item)?;
-            made = self.put_connective(true, made, next)?;
+            let next = self.put_comparison(Op::Eq, x, *item);
+            made = self.put_connective(true, made, next);
             if self.facts.products.len() > most {
-                return Err(Refusal::NoProgram);
+                return self.refuse_nodes();
             }
         }
-        Ok(made)
+        made
+    }
+
+    /// Returns the nodes of a condition that has no program.
+    fn refuse_nodes(&mut self) -> TruthNodes {
+        self.facts.refuse(Refusal::NoProgram);
+        TruthPair { yes: 0, no: 0 }
     }
 
     /// Appends the line of a step.
-    fn put_step(&mut self, entry: ConditionEntry) -> Result<(), Refusal> {
-        self.lines.push(PlannedLine::Condition(entry))?;
-        Ok(())
+    fn put_step(&mut self, entry: ConditionEntry) {
+        self.put_line(PlannedLine::Condition(entry));
     }
 
     /// Returns the nodes of a step with one truth on every row.
-    fn put_fixed(&mut self, truth: Truth) -> Result<TruthNodes, Refusal> {
-        self.put_step(ConditionEntry::Fixed)?;
+    fn put_fixed(&mut self, truth: Truth) -> TruthNodes {
+        self.put_step(ConditionEntry::Fixed);
         let TruthPair { yes, no } = of_truth(truth);
-        Ok(TruthPair {
+        TruthPair {
             yes: u32::from(yes),
             no: u32::from(no),
-        })
+        }
     }
 
     /// Returns the nodes of two parts, combined by OR, or else by AND.
-    fn put_connective(
-        &mut self,
-        any: bool,
-        a: TruthNodes,
-        b: TruthNodes,
-    ) -> Result<TruthNodes, Refusal> {
+    fn put_connective(&mut self, any: bool, a: TruthNodes, b: TruthNodes) -> TruthNodes {
         let (yes, no) = if any {
             (Connective::Or, Connective::And)
         } else {
             (Connective::And, Connective::Or)
         };
-        let yes = self.row(yes, a.yes, b.yes)?;
-        let no = self.row(no, a.no, b.no)?;
-        let (i, j) = (u64::from(yes.number), u64::from(no.number));
+        let yes = self.row(yes, a.yes, b.yes);
+        let no = self.row(no, a.no, b.no);
         self.put_step(if any {
-            ConditionEntry::Or(i, j)
+            ConditionEntry::Or(yes.reference(), no.reference())
         } else {
-            ConditionEntry::And(i, j)
-        })?;
-        Ok(nodes(yes, no))
+            ConditionEntry::And(yes.reference(), no.reference())
+        });
+        nodes(yes, no)
     }
 
     /// Returns the nodes of `IS TRUE`, `IS FALSE` or `IS UNKNOWN`.
-    fn put_truth_test(&mut self, truth: Truth, made: TruthNodes) -> Result<TruthNodes, Refusal> {
+    fn put_truth_test(&mut self, truth: Truth, made: TruthNodes) -> TruthNodes {
         let yes = match truth {
             Truth::Yes => made.yes,
             Truth::No => made.no,
             Truth::Unknown => {
-                let known = self.row(Connective::Or, made.yes, made.no)?;
-                let other = self.row(Connective::Diff, 1, known.node)?;
-                let (i, j) = (u64::from(known.number), u64::from(other.number));
-                self.put_step(ConditionEntry::IsUnknown(i, j))?;
-                return Ok(nodes(other, known));
+                let known = self.row(Connective::Or, made.yes, made.no);
+                let other = self.row(Connective::Diff, 1, known.node);
+                self.put_step(ConditionEntry::IsUnknown(known.reference(), other.reference()));
+                return nodes(other, known);
             }
         };
-        let no = self.row(Connective::Diff, 1, yes)?;
-        self.put_step(ConditionEntry::Is(u64::from(no.number)))?;
-        Ok(TruthPair { yes, no: no.node })
+        let no = self.row(Connective::Diff, 1, yes);
+        self.put_step(ConditionEntry::Is(no.reference()));
+        TruthPair { yes, no: no.node }
     }
 
     /// Returns the nodes of `IS NULL`.
-    fn put_null_test(&mut self, x: Operand) -> Result<TruthNodes, Refusal> {
+    fn put_null_test(&mut self, x: Operand) -> TruthNodes {
         let column = match x {
-            Operand::Col(column) => self.facts.column(column)?.0,
+            Operand::Col(column) => self.facts.column(column).0,
             Operand::Lit(_) => return self.put_fixed(Truth::No),
             Operand::Null => return self.put_fixed(Truth::Yes),
         };
-        let Some(yes) = self.facts.nulls(column)? else {
+        let Some(yes) = self.facts.nulls(column) else {
             return self.put_fixed(Truth::No);
         };
-        let no = self.row(Connective::Diff, 1, yes)?;
-        self.put_step(ConditionEntry::NullTest(u64::from(no.number)))?;
-        Ok(TruthPair { yes, no: no.node })
+        let no = self.row(Connective::Diff, 1, yes);
+        self.put_step(ConditionEntry::NullTest(no.reference()));
+        TruthPair { yes, no: no.node }
     }
 
     /// Returns the nodes of a comparison.
-    fn put_comparison(&mut self, op: Op, x: Operand, y: Operand) -> Result<TruthNodes, Refusal> {
-        match compare(&self.facts, op, x, y)? {
+    fn put_comparison(&mut self, op: Op, x: Operand, y: Operand) -> TruthNodes {
+        match compare(&mut self.facts, op, x, y) {
             Comparison::Fixed(truth) => self.put_fixed(truth),
             Comparison::Literal(compared) => self.put_literal_comparison(compared),
             Comparison::Columns(compared) => self.put_column_comparison(compared),
@@ -179,68 +180,65 @@ impl Code<'_> {
 
     /// Returns the row and the node that is 1 if a column has a value: none, and 1, if it always
     /// has.
-    fn values_row(&mut self, column: ColumnIndex) -> Result<(Option<u64>, u32), Refusal> {
-        let Some(nulls) = self.facts.nulls(column)? else {
-            return Ok((None, 1));
+    fn values_row(&mut self, column: ColumnIndex) -> (Option<u64>, u32) {
+        let Some(nulls) = self.facts.nulls(column) else {
+            return (None, 1);
         };
-        let values = self.row(Connective::Diff, 1, nulls)?;
-        Ok((Some(u64::from(values.number)), values.node))
+        let values = self.row(Connective::Diff, 1, nulls);
+        (Some(values.reference()), values.node)
+    }
+
+    /// Returns the number of a comparison's chain and its node: none, and a terminal, if that is
+    /// its outcome for all codes.
+    fn chain_of(&mut self, link: Link, terminal: Option<u32>) -> (Option<u64>, u32) {
+        match terminal {
+            Some(terminal) => (None, terminal),
+            None => {
+                let cited = self.facts.chain(link);
+                (Some(cited.reference()), cited.node)
+            }
+        }
     }
 
     /// Returns the nodes of a comparison of a column with a number.
-    fn put_literal_comparison(
-        &mut self,
-        compared: LiteralComparison,
-    ) -> Result<TruthNodes, Refusal> {
-        let (value, m) = self.values_row(compared.column)?;
+    fn put_literal_comparison(&mut self, compared: LiteralComparison) -> TruthNodes {
+        let (value, m) = self.values_row(compared.column);
         let len = self.facts.width(compared.column);
-        let (chain, e) = match compared.terminal(len) {
-            Some(terminal) => (None, terminal),
-            None => {
-                let limit = u64::try_from(compared.limit).map_err(|_| Refusal::NoProgram)?;
-                let link = Link::bound(compared.kind, compared.column, 0, len, limit);
-                let cited = self.facts.chain(link)?;
-                (Some(u64::from(cited.number)), cited.node)
-            }
-        };
-        let yes = self.row(Connective::And, m, e)?;
-        let no = self.row(Connective::Diff, m, e)?;
+        let limit = u64::try_from(compared.limit).unwrap_or(0);
+        let link = Link::bound(compared.kind, compared.column, 0, len, limit);
+        let (chain, e) = self.chain_of(link, compared.terminal(len));
+        let yes = self.row(Connective::And, m, e);
+        let no = self.row(Connective::Diff, m, e);
         self.put_step(ConditionEntry::Compare {
             chain,
             value,
-            yes: u64::from(yes.number),
-            no: u64::from(no.number),
-        })?;
-        Ok(nodes(yes, no).opposite_if(compared.negated))
+            yes: yes.reference(),
+            no: no.reference(),
+        });
+        nodes(yes, no).opposite_if(compared.negated)
     }
 
     /// Returns the nodes of a comparison of two columns.
-    fn put_column_comparison(&mut self, compared: ColumnComparison) -> Result<TruthNodes, Refusal> {
+    fn put_column_comparison(&mut self, compared: ColumnComparison) -> TruthNodes {
         let [c, d] = compared.columns;
-        let (left, first) = self.values_row(c)?;
-        let (right, second) = self.values_row(d)?;
+        let (left, first) = self.values_row(c);
+        let (right, second) = self.values_row(d);
         self.order = compared.order();
-        let both = self.row(Connective::And, first, second)?;
-        let (chain, e) = match compared.terminal() {
-            Some(terminal) => (None, terminal),
-            None => {
-                let (left, right) = (compared.left, compared.right);
-                let cited = self.facts.columns(compared.kind, left, right)?;
-                (Some(u64::from(cited.number)), cited.node)
-            }
-        };
-        let yes = self.row(Connective::And, both.node, e)?;
-        let no = self.row(Connective::Diff, both.node, e)?;
+        let both = self.row(Connective::And, first, second);
+        let link = self.facts.column_link(compared);
+        let (chain, e) = self.chain_of(link, compared.terminal());
+        let yes = self.row(Connective::And, both.node, e);
+        let no = self.row(Connective::Diff, both.node, e);
         self.order = VariableOrder::Whole;
         self.put_step(ConditionEntry::CompareColumns {
             chain,
             left,
             right,
-            both: u64::from(both.number),
-            yes: u64::from(yes.number),
-            no: u64::from(no.number),
-        })?;
-        Ok(nodes(yes, no).opposite_if(compared.negated))
+            both: both.reference(),
+            yes: yes.reference(),
+            no: no.reference(),
+        });
+        nodes(yes, no).opposite_if(compared.negated)
     }
 }
 

@@ -3,8 +3,7 @@ use crate::code::Code;
 use crate::comparison::ColumnComparison;
 use crate::growth::Growth;
 use crate::order::VariableOrder;
-use crate::parts::{Part, leading};
-use crate::refusal::Refusal;
+use crate::parts::{Part, first_part};
 use crate::sets::Set;
 use crate::truth_pair::{TruthPair, of_truth};
 use bw_diagram::Connective;
@@ -29,107 +28,94 @@ const SKIPPED_PARTS: usize = 16;
 impl Code<'_> {
     /// Returns the registers of a part of the condition.
     #[cycle(truths)]
-    pub(crate) fn truths(
-        &mut self,
-        part: &Part,
-        wanted: WantedTruths,
-    ) -> Result<TruthRegisters, Refusal> {
+    pub(crate) fn truths(&mut self, part: &Part, wanted: WantedTruths) -> TruthRegisters {
+        if self.facts.refusal.is_some() {
+            return NONE;
+        }
         match part {
             Part::Fixed(truth) => self.constant(*truth, wanted),
             Part::Codes(set) => self.in_set(set, wanted),
             Part::Columns(compared) => self.emit_column_comparison(*compared, wanted),
             Part::Null(column) => self.emit_null_test(*column, wanted),
             Part::All(any, parts) => self.emit_parts(*any, parts, wanted),
-            Part::Not(part) => Ok(
-                self.truths(part, wanted.opposite_if(true))?
-                    .opposite_if(true),
-            ),
+            Part::Not(part) => {
+                let made = self.truths(part, wanted.opposite_if(true));
+                made.opposite_if(true)
+            }
             Part::Test(part, truth) => {
                 let needed = TruthPair {
                     yes: *truth != Truth::No,
                     no: *truth != Truth::Yes,
                 };
-                let made = self.truths(part, needed)?;
+                let made = self.truths(part, needed);
                 self.emit_truth_test(*truth, made, wanted)
             }
-            Part::Done => Err(Refusal::NoProgram),
+            Part::Done => NONE,
         }
     }
 
     /// Returns the registers of the OR of all parts, or else of their AND: first of the part that
     /// takes many registers, if there is one.
     #[cycle(truths)]
-    fn emit_parts(
-        &mut self,
-        any: bool,
-        parts: &[Part],
-        wanted: WantedTruths,
-    ) -> Result<TruthRegisters, Refusal> {
-        let first = self.waiting()?;
-        let leading = leading(parts);
-        let Some(part) = parts.get(leading) else {
-            return Err(Refusal::NoProgram);
+    fn emit_parts(&mut self, any: bool, parts: &[Part], wanted: WantedTruths) -> TruthRegisters {
+        let first = self.open_skips();
+        let start = first_part(parts);
+        let Some(part) = parts.get(start) else {
+            return NONE;
         };
-        let made = self.truths(part, wanted)?;
+        let made = self.truths(part, wanted);
         let mut growth = Growth::of(parts.len().saturating_sub(1), &self.facts);
         for (number, part) in parts.iter().enumerate() {
-            if number == leading {
+            if number == start {
                 continue;
             }
             if number < SKIPPED_PARTS && self.skips_parts && !part.is_quick() {
-                self.skip_if_settled(any, made)?;
+                self.skip_if_settled(any, made);
             }
-            let next = self.truths(part, wanted)?;
-            self.join_parts(any, made, next)?;
-            growth.join(&self.facts)?;
+            let next = self.truths(part, wanted);
+            self.join_parts(any, made, next);
+            growth.join(&mut self.facts);
         }
         self.meet_from(first);
-        Ok(made)
+        made
     }
 
     /// Skips to the end of the parts if the others can change nothing.
-    fn skip_if_settled(&mut self, any: bool, made: TruthRegisters) -> Result<(), Refusal> {
+    fn skip_if_settled(&mut self, any: bool, made: TruthRegisters) {
         let made = made.opposite_if(any);
         match (made.yes, made.no) {
             (_, Some(excluded)) => {
-                let left = self.opposite(excluded)?;
-                self.skip(left)?;
+                let left = self.opposite(excluded);
+                self.skip(left);
                 self.release(left);
-                Ok(())
             }
             (Some(selected), None) => self.skip(selected),
-            (None, None) => Ok(()),
+            (None, None) => (),
         }
     }
 
     /// Combines the registers of one part with those of another, which are released.
-    fn join_parts(
-        &mut self,
-        any: bool,
-        made: TruthRegisters,
-        next: TruthRegisters,
-    ) -> Result<(), Refusal> {
+    fn join_parts(&mut self, any: bool, made: TruthRegisters, next: TruthRegisters) {
         let (made, next) = (made.opposite_if(any), next.opposite_if(any));
         if let (Some(to), Some(y)) = (made.yes, next.yes) {
-            self.join_into(Connective::And, to, y)?;
+            self.join_into(Connective::And, to, y);
         }
         if let (Some(to), Some(y)) = (made.no, next.no) {
-            self.join_into(Connective::Or, to, y)?;
+            self.join_into(Connective::Or, to, y);
         }
-        Ok(())
     }
 
     /// Returns the registers of one truth on every row.
-    fn constant(&mut self, truth: Truth, wanted: WantedTruths) -> Result<TruthRegisters, Refusal> {
+    fn constant(&mut self, truth: Truth, wanted: WantedTruths) -> TruthRegisters {
         let bits = of_truth(truth);
         let mut made = NONE;
         if wanted.yes {
-            made.yes = Some(self.fill(bits.yes)?);
+            made.yes = Some(self.fill(bits.yes));
         }
         if wanted.no {
-            made.no = Some(self.fill(bits.no)?);
+            made.no = Some(self.fill(bits.no));
         }
-        Ok(made)
+        made
     }
 
     /// Returns the registers of `IS TRUE`, `IS FALSE` or `IS UNKNOWN`.
@@ -138,41 +124,38 @@ impl Code<'_> {
         truth: Truth,
         made: TruthRegisters,
         wanted: WantedTruths,
-    ) -> Result<TruthRegisters, Refusal> {
+    ) -> TruthRegisters {
         let (held, negated) = match (truth, made.yes, made.no) {
             (Truth::Yes, Some(held), _) | (Truth::No, _, Some(held)) => (held, false),
             (Truth::Unknown, Some(held), Some(other)) => {
-                self.join_into(Connective::Or, held, other)?;
+                self.join_into(Connective::Or, held, other);
                 (held, true)
             }
-            _ => return Err(Refusal::NoProgram),
+            _ => return NONE,
         };
         self.sides(held, &[], false, negated, wanted)
     }
 
     /// Returns the registers of `IS NULL`, of a column that may be null.
-    fn emit_null_test(
-        &mut self,
-        column: ColumnIndex,
-        wanted: WantedTruths,
-    ) -> Result<TruthRegisters, Refusal> {
+    fn emit_null_test(&mut self, column: ColumnIndex, wanted: WantedTruths) -> TruthRegisters {
         if !wanted.yes {
-            let no = self.values(column)?;
-            return Ok(TruthPair { yes: None, no });
+            let no = self.values(column);
+            return TruthPair { yes: None, no };
         }
-        let nulls = self.nulls(column)?.ok_or(Refusal::NoProgram)?;
+        let nulls = self.nulls(column);
+        let nulls = self.facts.expect(nulls, 0);
         self.sides(nulls, &[], false, false, wanted)
     }
 
     /// Returns the registers of whether a column's code is in a set.
-    fn in_set(&mut self, set: &Set, wanted: WantedTruths) -> Result<TruthRegisters, Refusal> {
-        let first = self.waiting()?;
-        let start = self.instrs.len();
-        let inside = self.codes(set.column, &set.bounds)?;
-        let early = self.has_skips_from(start);
-        let made = self.sides(inside, &[set.column], early, set.inverted, wanted)?;
+    fn in_set(&mut self, set: &Set, wanted: WantedTruths) -> TruthRegisters {
+        let first = self.open_skips();
+        let skips = self.skip_count;
+        let inside = self.codes(set.column, &set.bounds);
+        let early = self.skip_count > skips;
+        let made = self.sides(inside, &[set.column], early, set.inverted, wanted);
         self.meet_from(first);
-        Ok(made)
+        made
     }
 
     /// Returns the registers of a comparison of two columns. Its skips meet right after its own
@@ -181,23 +164,23 @@ impl Code<'_> {
         &mut self,
         compared: ColumnComparison,
         wanted: WantedTruths,
-    ) -> Result<TruthRegisters, Refusal> {
-        let first = self.waiting()?;
+    ) -> TruthRegisters {
+        let first = self.open_skips();
         self.order = compared.order();
         let held = match compared.terminal() {
-            Some(terminal) => self.fill(terminal == 1)?,
-            None => self.relation(compared)?,
+            Some(terminal) => self.fill(terminal == 1),
+            None => self.relation(compared),
         };
         self.meet_from(first);
-        self.meet()?;
+        self.meet();
         let [c, d] = compared.columns;
         let both = [c, d];
         let count = if c == d { 1 } else { 2 };
-        let made = self.sides(held, &both[..count], true, compared.negated, wanted)?;
+        let made = self.sides(held, &both[..count], true, compared.negated, wanted);
         self.meet_from(first);
-        self.meet()?;
+        self.meet();
         self.order = VariableOrder::Whole;
-        Ok(made)
+        made
     }
 
     /// Returns the registers that are 1 where all of some columns have values and a register is 1,
@@ -210,39 +193,39 @@ impl Code<'_> {
         early: bool,
         negated: bool,
         wanted: WantedTruths,
-    ) -> Result<TruthRegisters, Refusal> {
+    ) -> TruthRegisters {
         let wanted = wanted.opposite_if(negated);
         let mut made = NONE;
         if wanted.no {
-            let outside = if wanted.yes { self.copy(held)? } else { held };
+            let outside = if wanted.yes { self.copy(held) } else { held };
             for column in columns {
-                if let Some(nulls) = self.nulls(*column)? {
-                    self.join_into(Connective::Or, outside, nulls)?;
+                if let Some(nulls) = self.nulls(*column) {
+                    self.join_into(Connective::Or, outside, nulls);
                 }
             }
-            self.oppose(outside, outside)?;
+            self.oppose(outside, outside);
             made.no = Some(outside);
         }
         if wanted.yes {
             for column in columns {
-                if early && !wanted.no && self.facts.nulls(*column)?.is_some() {
-                    self.skip(held)?;
+                if early && !wanted.no && self.facts.nulls(*column).is_some() {
+                    self.skip(held);
                 }
-                if let Some(values) = self.values(*column)? {
-                    self.join_into(Connective::And, held, values)?;
+                if let Some(values) = self.values(*column) {
+                    self.join_into(Connective::And, held, values);
                 }
             }
             made.yes = Some(held);
         } else if !wanted.no {
             self.release(held);
         }
-        Ok(made.opposite_if(negated))
+        made.opposite_if(negated)
     }
 
     /// Returns a register with the same lanes as another.
-    pub(crate) fn copy(&mut self, register: Register) -> Result<Register, Refusal> {
-        let copy = self.fill(false)?;
-        self.join(Connective::Or, copy, copy, register)?;
-        Ok(copy)
+    pub(crate) fn copy(&mut self, register: Register) -> Register {
+        let copy = self.fill(false);
+        self.join(Connective::Or, copy, copy, register);
+        copy
     }
 }
