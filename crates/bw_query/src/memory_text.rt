@@ -55,11 +55,7 @@ pub(crate) fn memory_text(
 
 /// Consumes the rows of all segments, and returns what was scanned. The layout is looked up once.
 #[tactic(auto, unfolding(bw_file::specs::Blocks::form_of))]
-fn take_rows(
-    table: &MemoryTable,
-    scan: &Scan,
-    answer: &mut Answer<'_>,
-) -> Result<Scanned, Fault>
+fn take_rows(table: &MemoryTable, scan: &Scan, answer: &mut Answer<'_>) -> Result<Scanned, Fault>
     requires none { answer.old.rows ≡ 0 }
     requires width { answer.old.width ≡ length (schema_of table.now).columns.items }
     requires scan { IsFor (schema_of table.now).columns.items (query_in answer.old).cond scan.now }
