@@ -67,7 +67,7 @@ pub fn decode(alloc: Global, bytes: &[u8]) -> Result<Table, Fault>
     let mut reader = TableReader::begin(alloc, &mut source)?;
     let mut rows = Vec::new(alloc);
     while let Some(segment) = reader.next_segment(&mut source)? {
-        push_rows(alloc, segment, &mut rows)?;
+        push_rows(alloc, &segment, &mut rows)?;
     }
     Ok(Table {
         layout: reader.layout(),
@@ -77,14 +77,13 @@ pub fn decode(alloc: Global, bytes: &[u8]) -> Result<Table, Fault>
 }
 
 /// Adds the rows of a segment.
-fn push_rows(alloc: Global, segment: AnySegment, rows: &mut Vec<Row>) -> Result<(), Fault>
+fn push_rows(alloc: Global, segment: &AnySegment, rows: &mut Vec<Row>) -> Result<(), Fault>
     ensures rows { OnOk result (map values_of rows.new.items ≡ map values_of rows.old.items
-        ++ (any_meaning segment).rows) }
+        ++ (any_meaning segment.now).rows) }
     ensures only_oom { IsOkUnless result no_memory }
 {
-    let given = &segment;
-    for i in 0..given.rows_in() as usize {
-        rows.push(row_of(alloc, given, i)?)?;
+    for i in 0..segment.rows_in() as usize {
+        rows.push(row_of(alloc, segment, i)?)?;
     }
     Ok(())
 }

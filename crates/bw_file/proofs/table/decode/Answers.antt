@@ -15,6 +15,26 @@ returns-in_err-segment-clause-fault c =
     let came = c.loop-rows.invariant.came in
     rw (err_passed_on _ c.from_residual-in_err-segment.ensures.1) (fault_seen c.args.bytes.now _ _ _ _ refl ((refusal_of c.in_err-segment.ensures c.loop-rows.invariant.goes_on).answers _ came.0 came.1))
 
+pub loop-rows-smaller-in_ok-push_rows : goal.loop-rows-smaller-in_ok-push_rows
+loop-rows-smaller-in_ok-push_rows c =
+    let gave = segment_of (rw c.in-Some.is at c.in_ok-segment.ensures) in
+    let some = (any_is_group c.in-Some.segment).nonempty in
+    omega (arith, gave.row_count, some, gave.same.rows, c.next_segment.new.self.within)
+
+pub loop-rows-preserved-in_ok-push_rows : goal.loop-rows-preserved-in_ok-push_rows
+loop-rows-preserved-in_ok-push_rows c =
+    let gave = segment_of (rw c.in-Some.is at c.in_ok-segment.ensures) in
+    let came = c.loop-rows.invariant.came in
+    let rows = (any_meaning c.in-Some.segment).rows in
+    record {
+      goes_on = gave.goes_on;
+      came = (
+        came.0 ++ rows ∷ [],
+        gave.after _ came.0 came.1,
+        c.in_ok-push_rows.ensures.rows ∙ ap (λ (front : List (List Value)). front ++ rows) came.2 ∙ sym (together_more came.0 rows),
+      );
+    }
+
 pub loop-rows-smaller : goal.loop-rows-smaller
 loop-rows-smaller c =
     let gave = segment_of (rw c.in-Some.is at c.in_ok-segment.ensures) in
