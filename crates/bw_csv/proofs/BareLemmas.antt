@@ -17,9 +17,9 @@ use Rattle.bw_csv.specs.Bare.{within_64_bits}
 use Rattle.bw_csv.specs.Rows.{is_minus, is_null_text, row_of_record, rows_from, text_value}
 use Rattle.bw_csv.specs.Rows.{without_sign, value_of_field, values_of_fields, with_row, within_bounds}
 use Rattle.bw_csv.specs.Rows.{without_blanks}
-pub use Rattle.bw_csv.proofs.DigitsAlone.{both}
+use Rattle.bw_csv.proofs.DigitsAlone.{both}
 use Rattle.bw_csv.proofs.FieldLemmas.{after, after-cons}
-pub use Rattle.bw_csv.proofs.FieldLemmas.{bound, passed}
+use Rattle.bw_csv.proofs.FieldLemmas.{bound, passed}
 use Rattle.bw_csv.proofs.RowLemmas.{record_passed, row_made}
 
 -- the rows of a record and of those after it
