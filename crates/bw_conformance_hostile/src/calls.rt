@@ -2,7 +2,7 @@
 //! conditions.
 ghost use Rattle.std.specs.Prelude.{◌<◌, ◌-◌, ◌^◌};
 
-use crate::devices::{Calls, Pieces, Taker};
+use crate::devices::{Pieces, Taker};
 use bw_file::{FromRead, Layout, ToWrite};
 use bw_model::Fault;
 use bw_shell::{By, answer, check_text, direct, dump, infer, info, load, plan_text};
@@ -70,18 +70,9 @@ impl Call<'_> {
         requires { sink.old.calls.failures < 2 ^ 64 - 1 }
     {
         let [schema_fails, csv_fails, file_fails] = reads.fail_at;
-        let mut schema = Pieces {
-            left: SCHEMA.as_bytes(),
-            calls: Calls::new(reads.piece, schema_fails),
-        };
-        let mut csv = Pieces {
-            left: CSV.as_bytes(),
-            calls: Calls::new(reads.piece, csv_fails),
-        };
-        let mut table = Pieces {
-            left: file,
-            calls: Calls::new(reads.piece, file_fails),
-        };
+        let mut schema = Pieces::new(SCHEMA.as_bytes(), reads.piece, schema_fails);
+        let mut csv = Pieces::new(CSV.as_bytes(), reads.piece, csv_fails);
+        let mut table = Pieces::new(file, reads.piece, file_fails);
         let mut by = None;
         match self {
             Call::Direct(sql) => direct(alloc, &mut schema, &mut csv, sql.as_bytes(), sink)?,

@@ -14,7 +14,7 @@ pub struct Calls {
 }
 
 impl Calls {
-    pub fn new(piece: usize, fail_at: u64) -> Self
+    fn new(piece: usize, fail_at: u64) -> Self
         ensures { result.failures ≡ 0 }
     {
         Calls {
@@ -31,6 +31,17 @@ impl Calls {
 pub struct Pieces<'a> {
     pub left: &'a [u8],
     pub calls: Calls,
+}
+
+impl<'a> Pieces<'a> {
+    pub fn new(left: &'a [u8], piece: usize, fail_at: u64) -> Self
+        ensures { result.calls.failures ≡ 0 }
+    {
+        Pieces {
+            left,
+            calls: Calls::new(piece, fail_at),
+        }
+    }
 }
 
 impl Source for Pieces<'_> {
@@ -148,6 +159,24 @@ impl Source for Repeated<'_> {
 pub struct Taker {
     pub taken: Vec<u8>,
     pub calls: Calls,
+}
+
+impl Taker {
+    pub fn new(taken: Vec<u8>, piece: usize, fail_at: u64) -> Self
+        ensures { result.calls.failures ≡ 0 }
+    {
+        Taker {
+            taken,
+            calls: Calls::new(piece, fail_at),
+        }
+    }
+
+    /// Consumes all that it is given, and never fails.
+    pub fn open(taken: Vec<u8>) -> Self
+        ensures { result.calls.failures ≡ 0 }
+    {
+        Taker::new(taken, usize::MAX, 0)
+    }
 }
 
 impl Sink for Taker {

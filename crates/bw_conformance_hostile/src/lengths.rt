@@ -1,6 +1,6 @@
 //! Texts that are as long or as deep as they may be, or longer.
 use crate::calls::{Call, LAYOUTS, Reads, SCHEMA, table_file};
-use crate::devices::{Calls, Taker};
+use crate::devices::Taker;
 use bw_file::{FromRead, Layout, ToWrite};
 use bw_model::{Fault, code};
 use bw_shell::{answer, check_text, direct, load, plan_text};
@@ -52,10 +52,7 @@ fn long_statements_are_refused_alike(rt: HostRuntime) -> Result<(), Fail> {
         let sql = repeat_text(rt.alloc(), start, part, count, "")?;
         let sql = sql.as_str();
         for call in [Call::Direct(sql), Call::Answer(sql, None), Call::Plan(sql)] {
-            let mut sink = Taker {
-                taken: Vec::new(rt.alloc()),
-                calls: Calls::new(usize::MAX, 0),
-            };
+            let mut sink = Taker::open(Vec::new(rt.alloc()));
             let told = call.make(rt.alloc(), Reads::WHOLE, &file, &mut sink);
             assert_eq!(rt; told, Err(Fault::at_byte(code, at)), "{start}{part}");
             assert_eq!(rt; sink.calls.made, 0, "{start}{part}");

@@ -3,7 +3,7 @@
 use crate::calls::{
     COUNT, COUNTED, Call, DUMP, INFO, LAYOUTS, Reads, SCHEMA, plan_file, table_file,
 };
-use crate::devices::{Calls, Taker};
+use crate::devices::Taker;
 use bw_model::{Fault, code};
 use std::alloc::Global;
 use std::process::Abort;
@@ -56,10 +56,7 @@ fn check_with_all_memory_taken(
     let mut outcome = Err(Fault::new(code::OUT_OF_MEMORY));
     for step in 1..LEFT / STEP {
         let plug: Result<Vec<u8>, _> = Vec::with_capacity(rt.alloc(), LEFT - step * STEP);
-        let mut sink = Taker {
-            taken: output,
-            calls: Calls::new(usize::MAX, 0),
-        };
+        let mut sink = Taker::open(output);
         outcome = call.make(rt.alloc(), Reads::WHOLE, file, &mut sink);
         output = sink.taken;
         drop(plug);
