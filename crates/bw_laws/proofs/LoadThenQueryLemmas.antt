@@ -1,21 +1,18 @@
 -- The table file that a load writes is of one table: that of the rows of the CSV text.
-use Rattle.std.proofs.Common.{◌≡◌, ℕ, ◌≤◌, List, length, Option, Result, Ok, Err, inl, refl, ap}
-use Rattle.std.specs.Prelude.{IfOk, IsTrue}
+use Rattle.std.proofs.Common.{◌≡◌, ℕ, List, Option, Result, Ok, Err, inl, refl, ap}
 use Rattle.std.specs.Io.KnownBytes.{Appends}
-use Rattle.std.specs.List.{list_all}
 use Rattle.bw_model.specs.declared.fault.Fault.{Fault}
 use Rattle.bw_model.specs.declared.query.Query.{Query}
 use Rattle.bw_model.specs.declared.schema.Schema.{Schema}
-use Rattle.bw_model.specs.Column.{admits_values, names_of}
+use Rattle.bw_model.specs.Column.{names_of}
 use Rattle.bw_model.specs.Fault.{◌>>=◌}
-use Rattle.bw_model.specs.Limits.{most_rows}
 use Rattle.bw_model.specs.Row.{Value}
 use Rattle.bw_model.specs.Schema.{IsSchema}
 use Rattle.bw_model.specs.SchemaText.{schema_shape}
 use Rattle.bw_answer.specs.Answer.{csv_text, meaning}
 use Rattle.csv.specs.Reading.{default_config, records, strip_bom}
 use Rattle.bw_csv.specs.Rows.{rows_of}
-use Rattle.bw_csv.proofs.RowLemmas.{text_admitted, text_few}
+use Rattle.bw_csv.proofs.RowLemmas.{text_good}
 use Rattle.bw_file.specs.declared.layout.Layout.{Layout}
 use Rattle.bw_file.specs.FileBytes.{IsFileBytes, file_bytes}
 use Rattle.bw_file.specs.TableReading.{Found, found_as}
@@ -42,10 +39,8 @@ loaded layout schema csv bytes made = loaded_by layout schema csv bytes (rows_of
 -- that file has the bytes of the table of these rows
 pub loaded_text : (layout : Layout) (schema : Schema) (csv bytes : List ℕ) → IsSchema (schema_shape schema) → (of : Loaded layout schema csv bytes) → IsFileBytes bytes layout schema of.rows
 loaded_text layout schema csv bytes under of =
-    let columns = schema.columns.items in
-    let admitted : IfOk (rows_of columns csv) (λ rows. IsTrue (list_all (admits_values columns) rows)) = text_admitted columns (records default_config (strip_bom csv)) in
-    let few : IfOk (rows_of columns csv) (λ rows. length rows ≤ most_rows) = text_few columns (records default_config (strip_bom csv)) in
-    rw of.text (record { under = under; admitted = record { within_limit = rw of.spelled at few; admitted = rw of.spelled at admitted }; text = inl refl })
+    let good = text_good schema.columns.items (records default_config (strip_bom csv)) of.rows of.spelled in
+    rw of.text (record { under = under; admitted = record { within_limit = good.0; admitted = good.1 }; text = inl refl })
 
 -- what is answered over that file is answered over the CSV text
 pub answers : (asks : Query → Type 0) (layout other : Layout) (schema under : Schema) (csv bytes : List ℕ) (old new : Option (List ℕ)) (query : Query) (of : Loaded layout schema csv bytes) (rows : Rows)
