@@ -1,53 +1,9 @@
--- Each total counts the rows, and the text stays.
-use Rattle.std.proofs.Common.{◌≡◌, ◌∙◌, ◌+◌, ◌≤◌, List, ◌++◌, true, length, length-append, map}
-use Rattle.std.proofs.Common.{subst, sym, ap, arith}
-use Rattle.std.specs.List.{list_all}
-use Rattle.std.proofs.lemmas.List.{with_items_is}
-use Rattle.bw_model.specs.Selection.{matching_rows}
-use Rattle.bw_rowwise.specs.Accumulator.{Tally, count_rows, tally_of}
-use Rattle.bw_answer.specs.Aggregates.{aggregates_of}
-use Rattle.bw_answer.specs.Answer.{is_count_all}
-use Rattle.bw_answer.specs.Totals.{is_of}
-use Rattle.bw_answer.proofs.AggregateLemmas.{all_asked}
-use Rattle.bw_answer.proofs.AnswerLemmas.{text_over_same}
-use Rattle.bw_answer.proofs.CountLemmas.{all_counted, counts_list_nothing, every_kept}
-use Rattle.bw_answer.proofs.CountLemmas.{is_of-counted}
+-- All rows match.
+use Rattle.std.proofs.Common.{◌∙◌, ap, length}
+use Rattle.bw_answer.specs.Progress.{query_in}
+use Rattle.bw_answer.proofs.CountLemmas.{every_kept}
 use Rattle.bw_answer.proofs.answer.Answer.take_count.Goals as goal
 
-pub invariant_of-self-clause-capacity : goal.invariant_of-self-clause-capacity
-invariant_of-self-clause-capacity c =
-    let self = c.args.self.now in
-    let after = c.add_count.new.totals in
-    let size : length after ≡ self.totals.len = c.add_count.auto.totals ∙ c.deref_mut.ensures.len in
-    let old : list_all (is_of self.width self.rows) c.deref_mut.result.now ≡ true = rw c.deref_mut.ensures.value self.capacity in
-    let more : list_all (is_of self.width (self.rows + c.args.count)) after ≡ true =
-    rw c.add_count.ensures (is_of-counted self.width self.rows c.args.count c.deref_mut.result.now old) in
-    subst (λ (tallies : List Tally). list_all (is_of self.width (self.rows + c.args.count)) tallies ≡ true) (sym (with_items_is self.totals after size)) more
-
 pub returns-clause-covers : goal.returns-clause-covers
-returns-clause-covers c = λ start before rows long led. record {
-  same = led.same;
-  covers = λ names query first over.
-      let self = c.args.self.now in
-      let after = c.add_count.new.totals in
-      let size : length after ≡ self.totals.len = c.add_count.auto.totals ∙ c.deref_mut.ensures.len in
-      let so_far = led.covers names query first over in
-      let items = query.items.items in
-      let all : list_all is_count_all items ≡ true = rw so_far.0 at c.requires.counts.alone in
-      let some : 1 ≤ length items = rw so_far.0 at self.nonempty in
-      let none = counts_list_nothing items some all in
-      let old = first ++ before in
-      let new = first ++ (before ++ rows) in
-      let every = rw so_far.0 at c.requires.counts.every in
-      let long_new : length (matching_rows query.cond new) ≡ length (matching_rows query.cond old) + c.args.count =
-      rw (every_kept query.cond new every, every_kept query.cond old every) (omega (arith, length-append first (before ++ rows), length-append first before, length-append before rows, long)) in
-      let totals : after ≡ map (λ item. tally_of item (matching_rows query.cond new)) (aggregates_of items) =
-      c.add_count.ensures ∙ ap (map (λ (tally : Tally). count_rows tally c.args.count)) (c.deref_mut.ensures.value ∙ so_far.1.totalled none)
-      ∙ all_counted (aggregates_of items) (matching_rows query.cond old) (matching_rows query.cond new) c.args.count long_new (all_asked is_count_all items all) in (
-        so_far.0,
-        record {
-          written = so_far.1.written ∙ text_over_same names query old new none;
-          totalled = λ _. with_items_is self.totals after size ∙ totals;
-        },
-      );
-}
+returns-clause-covers c = λ start before rows long led.
+    c.take_matches.ensures.covers start before rows long (ap length (every_kept (query_in c.args.self.now).cond rows c.requires.counts.every) ∙ long) led
