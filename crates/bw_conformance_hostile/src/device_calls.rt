@@ -80,7 +80,7 @@ fn check_reads(
         if source < 3 {
             fail_at[source] = fail;
         }
-        let mut sink = Taker::open(Vec::new(rt.alloc()));
+        let mut sink = Taker::without_failures(Vec::new(rt.alloc()));
         let outcome = call.make(rt.alloc(), Reads { piece: 1, fail_at }, file, &mut sink);
         if fail == whole {
             assert_eq!(rt; outcome, Ok(call.served_by()), "source {source}");
@@ -118,7 +118,7 @@ fn each_read_may_fail(rt: HostRuntime) -> Result<(), Fail> {
 fn facts_need_the_header_alone(rt: HostRuntime) -> Result<(), Fail> {
     let file = table_file(rt.alloc(), Layout::Planes)?;
     for fail in 1..=HEADER_LEN + 1 {
-        let mut sink = Taker::open(Vec::new(rt.alloc()));
+        let mut sink = Taker::without_failures(Vec::new(rt.alloc()));
         let reads = Reads {
             piece: 1,
             fail_at: [0, 0, fail],
@@ -142,7 +142,7 @@ fn facts_need_the_header_alone(rt: HostRuntime) -> Result<(), Fail> {
 fn a_statement_comes_before_the_segments(rt: HostRuntime) -> Result<(), Fail> {
     let file = table_file(rt.alloc(), Layout::Planes)?;
     for fail in 1..=100 {
-        let mut sink = Taker::open(Vec::new(rt.alloc()));
+        let mut sink = Taker::without_failures(Vec::new(rt.alloc()));
         let reads = Reads {
             piece: 1,
             fail_at: [0, 0, fail],

@@ -172,7 +172,7 @@ impl Taker {
     }
 
     /// Consumes all that it is given, and never fails.
-    pub fn open(taken: Vec<u8>) -> Self
+    pub fn without_failures(taken: Vec<u8>) -> Self
         ensures { result.calls.failures ≡ 0 }
     {
         Taker::new(taken, usize::MAX, 0)

@@ -52,7 +52,7 @@ fn long_statements_are_refused_alike(rt: HostRuntime) -> Result<(), Fail> {
         let sql = repeat_text(rt.alloc(), start, part, count, "")?;
         let sql = sql.as_str();
         for call in [Call::Direct(sql), Call::Answer(sql, None), Call::Plan(sql)] {
-            let mut sink = Taker::open(Vec::new(rt.alloc()));
+            let mut sink = Taker::without_failures(Vec::new(rt.alloc()));
             let told = call.make(rt.alloc(), Reads::WHOLE, &file, &mut sink);
             assert_eq!(rt; told, Err(Fault::at_byte(code, at)), "{start}{part}");
             assert_eq!(rt; sink.calls.made, 0, "{start}{part}");

@@ -56,7 +56,7 @@ fn check_with_all_memory_taken(
     let mut outcome = Err(Fault::new(code::OUT_OF_MEMORY));
     for step in 1..LEFT / STEP {
         let plug: Result<Vec<u8>, _> = Vec::with_capacity(rt.alloc(), LEFT - step * STEP);
-        let mut sink = Taker::open(output);
+        let mut sink = Taker::without_failures(output);
         outcome = call.make(rt.alloc(), Reads::WHOLE, file, &mut sink);
         output = sink.taken;
         drop(plug);

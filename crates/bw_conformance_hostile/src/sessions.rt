@@ -132,7 +132,7 @@ fn growths_of_a_session_are_refused(rt: HostRuntime) -> Result<(), Fail> {
     let mut outcome = Err(memory);
     for step in 1..LEFT / (8 * STEP) {
         let plug: Result<Vec<u8>, _> = Vec::with_capacity(rt.alloc(), LEFT - step * 8 * STEP);
-        let mut sink = Taker::open(output);
+        let mut sink = Taker::without_failures(output);
         outcome = run_text(
             rt.alloc(),
             &file,
@@ -191,7 +191,7 @@ fn each_read_of_a_session_may_fail(rt: HostRuntime) -> Result<(), Fail> {
     let file = table_file(rt.alloc(), LAYOUTS[1])?;
     for fail_at in 1..=STATEMENTS.len() as u64 {
         let mut input = Pieces::new(STATEMENTS.as_bytes(), 1, fail_at);
-        let mut sink = Taker::open(Vec::new(rt.alloc()));
+        let mut sink = Taker::without_failures(Vec::new(rt.alloc()));
         let mut counter = Counter::new();
         let outcome = run_session(
             rt.alloc(),
@@ -222,7 +222,7 @@ fn an_unending_statement_is_too_long(rt: HostRuntime) -> Result<(), Fail> {
             left: 1 << 24,
             then: b";SELECT MAX(a) FROM t WHERE a < 8",
         };
-        let mut sink = Taker::open(Vec::new(rt.alloc()));
+        let mut sink = Taker::without_failures(Vec::new(rt.alloc()));
         let mut counter = Counter::new();
         let outcome = run_session(
             rt.alloc(),
@@ -264,7 +264,7 @@ fn a_nul_is_no_end_of_a_statement(rt: HostRuntime) -> Result<(), Fail> {
                 "a\n8\n\n\n",
             ),
         ] {
-            let mut sink = Taker::open(Vec::new(rt.alloc()));
+            let mut sink = Taker::without_failures(Vec::new(rt.alloc()));
             let outcome = run_text(rt.alloc(), &file, &program, text.as_bytes(), 3, &mut sink);
             let nul = Fault::at_byte(code::CHARACTER, place);
             assert_eq!(rt; outcome, Ok(Some(nul)), "{text:?}");
@@ -286,7 +286,7 @@ fn a_session_keeps_the_table_that_it_read(rt: HostRuntime) -> Result<(), Fail> {
             *byte = 255;
         }
         let mut input = Pieces::new(STATEMENTS.as_bytes(), usize::MAX, 0);
-        let mut sink = Taker::open(Vec::new(rt.alloc()));
+        let mut sink = Taker::without_failures(Vec::new(rt.alloc()));
         let mut counter = Counter::new();
         let outcome = run_over(
             rt.alloc(),
