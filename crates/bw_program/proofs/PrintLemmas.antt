@@ -1,17 +1,12 @@
 -- Canonical texts, one line at a time.
-use Rattle.std.proofs.Common.{◌≡◌, refl, ℕ, zero, suc, ◌+◌, ◌≤◌, List, [], ◌∷◌, ◌++◌, length, drop}
+use Rattle.std.proofs.Common.{◌≡◌, refl, ℕ, ◌+◌, ◌≤◌, List, [], ◌++◌, length, drop}
 use Rattle.std.proofs.Common.{Some, slice_get, add-one}
 use Rattle.std.proofs.lemmas.List.{drop_all}
 use Rattle.bw_model.specs.declared.column.Column.{Column}
 use Rattle.bw_program.specs.declared.instr.Instr.{Instr}
 use Rattle.bw_program.specs.PrintText.{instr_words, result_words, lines_text}
+use Rattle.bw_program.proofs.ProgramLemmas.{drop-found}
 use Rattle.bw_text.specs.Printing.{line_text}
-
--- the item at a position, in front of those after it
-drop-found : (instrs : List Instr) (i : ℕ) (instr : Instr) → slice_get instrs i ≡ Some instr → drop i instrs ≡ instr ∷ drop (suc i) instrs
-drop-found [] i instr found = absurd (cc)
-drop-found (x ∷ instrs) zero instr found = cc
-drop-found (x ∷ instrs) (suc i) instr found = drop-found instrs i instr found
 
 -- one more line is written
 pub lines_text-next : (columns : List Column) (instrs : List Instr) (i result : ℕ) (instr : Instr) → slice_get instrs i ≡ Some instr →
