@@ -19,7 +19,7 @@ loop-number-init g c =
     record {
       placed = c.in_ok-segment.ensures.placed;
       covers = rw none (goes_nowhere c.args.answer.now);
-      scanned = rw none (record { segments = refl; loads = refl; skips = refl });
+      scanned = rw (none, c.nothing_scanned-scanned.ensures) (record { segments = refl; loads = refl; skips = refl });
       few_loads = omega arith;
       few_skips = omega arith;
       rows = omega (arith, c.requires.none);
@@ -72,19 +72,6 @@ loop-number-preserved g c =
       asked = taken.covers.same ∙ so_far.asked;
       counts = λ is. subst CountsRows (sym taken.covers.same) (so_far.counts is);
     }
-
--- a table without a segment has no rows
-pub returns-then-segments-eq0-clause-covers : goal.returns-then-segments-eq0-clause-covers
-returns-then-segments-eq0-clause-covers g c =
-    let table = c.args.table.now in
-    let none = sym c.segments.ensures ∙ c.if-segments-eq0.true in
-    rw (none, no_groups table.layout (schema_of table).columns.items table.rows table.columns.items) (goes_nowhere c.args.answer.now)
-
-pub returns-then-segments-eq0-clause-counts : goal.returns-then-segments-eq0-clause-counts
-returns-then-segments-eq0-clause-counts g c =
-    let table = c.args.table.now in
-    let none = sym c.segments.ensures ∙ c.if-segments-eq0.true in
-    rw (none, no_groups table.layout (schema_of table).columns.items table.rows table.columns.items) (record { segments = refl; loads = refl; skips = refl })
 
 pub overflow_add-scanned : goal.overflow_add-scanned
 overflow_add-scanned g c =

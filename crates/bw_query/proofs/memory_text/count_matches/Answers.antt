@@ -1,0 +1,63 @@
+-- Each segment's matching rows are counted after those of the segments before it.
+use Rattle.std.proofs.Common.{◌≡◌, ◌∙◌, ◌+◌, ◌<◌, [], length, refl, sym, ap, subst, arith}
+use Rattle.bw_model.specs.Selection.{matching_rows}
+use Rattle.bw_memory.specs.StoredSegments.{stored_groups}
+use Rattle.bw_memory.specs.MemoryTable.{rows_of, schema_of, meaning_numbered}
+use Rattle.bw_memory.proofs.StoredSegmentLemmas.{groups_more, length-groups, room_for, rows_before}
+use Rattle.bw_memory.proofs.ReadLemmas.{no_groups}
+use Rattle.bw_cert.proofs.CountLemmas.{matches_among}
+use Rattle.bw_query.specs.Scan.{loads_in, skips_in}
+use Rattle.bw_query.specs.declared.scan.Scan.TheVariants.{Program}
+use Rattle.bw_segment.specs.Meaning.{Meaning}
+use Rattle.bw_query.proofs.TableLemmas.{goes_nowhere, matches_alike, more_matches, one_more}
+use Rattle.bw_query.proofs.memory_text.count_matches.Goals as goal
+
+pub loop-number-init : goal.loop-number-init
+loop-number-init g c =
+    let table = c.args.table.now in
+    let none = no_groups table.layout (schema_of table).columns.items table.rows table.columns.items in
+    record {
+      placed = c.requires.placed;
+      scanned = rw (none, c.nothing_scanned-scanned.ensures) (record { segments = refl; loads = refl; skips = refl });
+      few_loads = omega (arith, ap (λ s. s.loads) c.nothing_scanned-scanned.ensures);
+      few_skips = omega (arith, ap (λ s. s.skips) c.nothing_scanned-scanned.ensures);
+      matches = rw none refl;
+      few_matches = omega arith;
+    }
+
+pub loop-number-preserved : goal.loop-number-preserved
+loop-number-preserved g c =
+    let table = c.args.table.now in
+    let columns = (schema_of table).columns.items in
+    let scan = Program c.args.certified.now in
+    let condition = c.args.certified.now.condition in
+    let number = c.loop-number.number in
+    let so_far = c.loop-number.invariant in
+    let run = c.count_matches.ensures in
+    let means = c.other_segment-segment.ensures.means in
+    let found = subst (λ (m : Meaning). c.found ≡ length (matching_rows condition m.rows)) means run.matches in
+    let loads = subst (λ (m : Meaning). c.more.loads ≡ loads_in m.columns scan m.rows) means run.loads in
+    let skips = subst (λ (m : Meaning). c.more.skips ≡ skips_in m.columns scan m.rows) means run.skips in
+    let rows = (meaning_numbered table number).rows in
+    let groups = stored_groups table.layout columns table.rows number table.columns.items in
+    let more = groups_more table.layout columns table.rows number table.columns.items in
+    let before = length-groups table.layout columns table.rows number table.columns.items in
+    record {
+      placed = c.other_segment-segment.ensures.placed;
+      scanned = rw more (record {
+        segments = omega (arith, so_far.scanned.segments, c.plus-scanned.ensures.segments, before, length-groups table.layout columns table.rows (number + 1) table.columns.items, ap length more);
+        loads = c.plus-scanned.ensures.loads ∙ one_more (loads_in columns scan) groups rows _ _ so_far.scanned.loads loads;
+        skips = c.plus-scanned.ensures.skips ∙ one_more (skips_in columns scan) groups rows _ _ so_far.scanned.skips skips;
+      });
+      few_loads = omega (arith, so_far.few_loads, c.plus-scanned.ensures.loads, run.most);
+      few_skips = omega (arith, so_far.few_skips, c.plus-scanned.ensures.skips, run.most);
+      matches = rw more (more_matches condition groups rows _ _ so_far.matches found);
+      few_matches = omega (arith, found, matches_among condition rows, rows_before table.layout columns table.rows number c.loop-number.matches table.columns.items so_far.few_matches);
+    }
+
+pub returns-clause-covers : goal.returns-clause-covers
+returns-clause-covers g c =
+    let table = c.args.table.now in
+    let rows = rows_of table in
+    let alike = matches_alike c.args.certified.now.condition c.args.answer.now.query.now.cond rows c.same_meaning.ensures.truth in
+    c.take_matches.ensures.covers c.args.answer.now [] rows (sym c.rows.ensures) (sym alike ∙ sym c.loop-number.invariant.matches) (goes_nowhere c.args.answer.now)
