@@ -130,8 +130,8 @@ fn count_matches<'a, L: CodeLayout>(
     let mut segment = segment;
     let mut matches = 0;
     let mut scanned = nothing_scanned();
-    for number in 0..table.segments() {
-        segment = table.other_segment(segment, number);
+    for place in 0..table.segments() {
+        segment = table.other_segment(segment, place);
         let (found, more) = certified.count_matches(&segment);
         matches += found;
         scanned = scanned.plus(more);

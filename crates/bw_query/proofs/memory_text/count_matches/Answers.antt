@@ -12,8 +12,8 @@ use Rattle.bw_segment.specs.Meaning.{Meaning}
 use Rattle.bw_query.proofs.TableLemmas.{goes_nowhere, matches_alike, more_matches, one_more}
 use Rattle.bw_query.proofs.memory_text.count_matches.Goals as goal
 
-pub loop-number-init : goal.loop-number-init
-loop-number-init g c =
+pub loop-place-init : goal.loop-place-init
+loop-place-init g c =
     let table = c.args.table.now in
     let none = no_groups table.layout (schema_of table).columns.items table.rows table.columns.items in
     record {
@@ -25,14 +25,14 @@ loop-number-init g c =
       few_matches = omega arith;
     }
 
-pub loop-number-preserved : goal.loop-number-preserved
-loop-number-preserved g c =
+pub loop-place-preserved : goal.loop-place-preserved
+loop-place-preserved g c =
     let table = c.args.table.now in
     let columns = (schema_of table).columns.items in
     let scan = Program c.args.certified.now in
     let condition = c.args.certified.now.condition in
-    let number = c.loop-number.number in
-    let so_far = c.loop-number.invariant in
+    let number = c.loop-place.place in
+    let so_far = c.loop-place.invariant in
     let run = c.count_matches.ensures in
     let means = c.other_segment-segment.ensures.means in
     let found = subst (λ (m : Meaning). c.found ≡ length (matching_rows condition m.rows)) means run.matches in
@@ -52,7 +52,7 @@ loop-number-preserved g c =
       few_loads = omega (arith, so_far.few_loads, c.plus-scanned.ensures.loads, run.most);
       few_skips = omega (arith, so_far.few_skips, c.plus-scanned.ensures.skips, run.most);
       matches = rw more (more_matches condition groups rows _ _ so_far.matches found);
-      few_matches = omega (arith, found, matches_among condition rows, rows_before table.layout columns table.rows number c.loop-number.matches table.columns.items so_far.few_matches);
+      few_matches = omega (arith, found, matches_among condition rows, rows_before table.layout columns table.rows number c.loop-place.matches table.columns.items so_far.few_matches);
     }
 
 pub returns-clause-covers : goal.returns-clause-covers
@@ -60,4 +60,4 @@ returns-clause-covers g c =
     let table = c.args.table.now in
     let rows = rows_of table in
     let alike = matches_alike c.args.certified.now.condition c.args.answer.now.query.now.cond rows c.same_meaning.ensures.truth in
-    c.take_matches.ensures.covers c.args.answer.now [] rows (sym c.rows.ensures) (sym alike ∙ sym c.loop-number.invariant.matches) (goes_nowhere c.args.answer.now)
+    c.take_matches.ensures.covers c.args.answer.now [] rows (sym c.rows.ensures) (sym alike ∙ sym c.loop-place.invariant.matches) (goes_nowhere c.args.answer.now)
