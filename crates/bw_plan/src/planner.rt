@@ -135,6 +135,7 @@ fn emit_program(
     if row.node != 0 {
         return Err(Refusal::NoProgram);
     }
+    let answer = code.renumber_registers(answer)?;
     let program = emit::program(code.alloc, schema, &code.instrs, answer)?;
     Ok((program, row.number))
 }
