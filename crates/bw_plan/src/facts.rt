@@ -193,10 +193,8 @@ impl<'a> Facts<'a> {
     /// Returns a column's number as instructions store it, and its minimum. Refuses if the schema
     /// lacks the column.
     pub(crate) fn column(&mut self, column: usize) -> (ColumnIndex, i64) {
-        let found = match (u8::try_from(column), self.schema.columns.get(column)) {
-            (Ok(number), Some(column)) => Some((number, column.lo)),
-            _ => None,
-        };
+        let found = self.schema.columns.get(column);
+        let found = found.map(|found| ((column % 256) as u8, found.lo));
         self.expect(found, (0, 0))
     }
 }

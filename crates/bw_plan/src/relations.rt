@@ -12,10 +12,8 @@ impl Code<'_> {
         let left = self.facts.width(relation.left);
         let bits = left.max(self.facts.width(relation.right));
         let low = bits.saturating_sub(self.skipped_bits());
-        let mut less = None;
-        if relation.kind == ChainKind::Less && low < bits {
-            less = Some(self.fill(false));
-        }
+        let is_less = relation.kind == ChainKind::Less && low < bits;
+        let less = is_less.then(|| self.fill(false));
         let mut same = None;
         for bit in (low..bits).rev() {
             let now = self.next_below(relation, bit, less, same);
@@ -102,13 +100,9 @@ impl Code<'_> {
     /// first if only the right column has the bit. There is none if only the left one has it, or
     /// if only equality is wanted.
     fn bits(&mut self, relation: ColumnComparison, bit: u32) -> (Register, Option<Register>) {
-        let (mut left, mut right) = (None, None);
-        if bit < self.facts.width(relation.right) {
-            right = Some(self.bit(relation.right, bit));
-        }
-        if bit < self.facts.width(relation.left) {
-            left = Some(self.bit(relation.left, bit));
-        }
+        let (left, right) = (relation.left, relation.right);
+        let right = (bit < self.facts.width(right)).then(|| self.bit(right, bit));
+        let left = (bit < self.facts.width(left)).then(|| self.bit(left, bit));
         let is_less = relation.kind == ChainKind::Less;
         if let (Some(left), Some(right)) = (left, right) {
             self.join(Connective::Xor, left, left, right);

@@ -101,10 +101,9 @@ impl Pairs<'_> {
 
     /// Appends the columns of a comparison, and adds their pair.
     fn add(&mut self, to: &mut Sequence, op: Op, x: Operand, y: Operand) -> Result<(), Refusal> {
-        match (
-            to.push_operand(self.schema, x),
-            to.push_operand(self.schema, y),
-        ) {
+        let x = to.push_operand(self.schema, x);
+        let y = to.push_operand(self.schema, y);
+        match (x, y) {
             (Some(x), Some(y)) if x == y => {}
             (Some(x), Some(y)) if matches!(op, Op::Gt | Op::Le) => self.pairs.push((y, x))?,
             (Some(x), Some(y)) => self.pairs.push((x, y))?,
