@@ -1,17 +1,16 @@
 //! What a certificate states: nodes, chains and product rows, and the nodes of single variables.
 use crate::chains::Link;
-use crate::ledger::Ledger;
+use crate::ledger::{Entry, Key, Ledger};
 use crate::order::Ranks;
-use crate::products::{MAX_PRODUCTS, Pending, Row};
+use crate::products::{MAX_PRODUCTS, Question, Row};
 use crate::refusal::Refusal;
 use bw_diagram::Node;
 use bw_model::{Cond, Schema};
 use bw_program::ColumnIndex;
-use indexmap::IndexSet;
 use std::alloc::Global;
 
 /// The most nodes of a certificate, besides the two terminals.
-pub(crate) const MAX_NODES: usize = 65_534;
+pub(crate) const MAX_NODES: u32 = 65_534;
 
 /// The most chains of a certificate.
 const MAX_CHAINS: u32 = 65_536;
@@ -35,12 +34,7 @@ impl Cited {
 }
 
 /// How many nodes, chains and product rows there are.
-#[derive(Clone, Copy)]
-pub(crate) struct Extent {
-    pub(crate) nodes: usize,
-    chains: usize,
-    pub(crate) products: usize,
-}
+pub(crate) type Extent = (usize, usize, usize);
 
 /// The nodes, chains and product rows of a certificate, under a schema. Each occurs once, after
 /// those it follows from, and is added when it is first requested.
@@ -48,15 +42,22 @@ pub(crate) struct Extent {
 pub(crate) struct Facts<'a> {
     pub(crate) alloc: Global,
     schema: &'a Schema,
-    /// The nodes from number 2 on: the variable that each tests, and its children for 0 and for 1.
-    /// Numbers 0 and 1 are the terminals.
-    pub(crate) nodes: IndexSet<(u32, u32, u32)>,
+    /// The nodes from number 2 on. Numbers 0 and 1 are the terminals.
+    pub(crate) nodes: Ledger<Node>,
     pub(crate) chains: Ledger<Link>,
     pub(crate) products: Ledger<Row>,
-    pub(crate) pending: Vec<Pending>,
+    /// The products that wait for the next one.
+    pub(crate) pending: Vec<Question>,
     pub(crate) ranks: Ranks,
     /// Why there is no proposal, once that is known. What is computed after that isn't used.
     pub(crate) refusal: Option<Refusal>,
+}
+
+impl Entry for Node {
+    fn key(self) -> Key {
+        let children = u64::from(self.low) << 32 | u64::from(self.high);
+        (children, u64::from(self.v))
+    }
 }
 
 impl<'a> Facts<'a> {
@@ -66,9 +67,9 @@ impl<'a> Facts<'a> {
         Ok(Facts {
             alloc,
             schema,
-            nodes: IndexSet::new(alloc),
-            chains: Ledger::new(alloc, MAX_CHAINS),
-            products: Ledger::new(alloc, MAX_PRODUCTS),
+            nodes: Ledger::new(alloc, MAX_NODES)?,
+            chains: Ledger::new(alloc, MAX_CHAINS)?,
+            products: Ledger::new(alloc, MAX_PRODUCTS)?,
             pending: Vec::new(alloc),
             ranks: Ranks::new(alloc, schema, cond)?,
             refusal: None,
@@ -99,10 +100,7 @@ impl<'a> Facts<'a> {
 
     /// Returns what was refused first, if anything was.
     pub(crate) fn check_refusal(&self) -> Result<(), Refusal> {
-        match self.refusal {
-            Some(refusal) => Err(refusal),
-            None => Ok(()),
-        }
+        self.refusal.map_or(Ok(()), |refusal| Err(refusal))
     }
 
     /// Returns the chain or product row of this number and node, if it could be added.
@@ -118,35 +116,32 @@ impl<'a> Facts<'a> {
 
     /// Returns how many there are so far.
     pub(crate) fn extent(&self) -> Extent {
-        Extent {
-            nodes: self.nodes.len(),
-            chains: self.chains.len(),
-            products: self.products.len(),
-        }
+        let (nodes, chains, products) = (&self.nodes, &self.chains, &self.products);
+        (nodes.len(), chains.len(), products.len())
     }
 
     /// Removes what was added since there were so many, and what was refused since.
     pub(crate) fn return_to(&mut self, extent: Extent) {
-        self.products.truncate(extent.products);
-        self.chains.truncate(extent.chains);
-        self.nodes.truncate(extent.nodes);
+        self.nodes.truncate(extent.0);
+        self.chains.truncate(extent.1);
+        self.products.truncate(extent.2);
         self.refusal = None;
     }
 
     /// Returns the node of a number, if it isn't a terminal.
     pub(crate) fn node(&self, number: u32) -> Option<Node> {
-        let (v, low, high) = *self.nodes.get_index((number as usize).checked_sub(2)?)?;
-        Some(Node { v, low, high })
+        let slot = self.nodes.slots.get((number as usize).checked_sub(2)?)?;
+        Some(slot.entry)
     }
 
     /// Returns the number of a node that tests a variable, which is added if it is missing.
     fn test(&mut self, v: u32, low: u32, high: u32) -> u32 {
-        match self.nodes.insert_full((v, low, high)) {
-            Ok((index, _)) if index < MAX_NODES => return index as u32 + 2,
-            Ok(_) => self.refuse(Refusal::NoProgram),
-            Err(_) => self.refuse(Refusal::NoMemory),
-        }
-        0
+        let node = Node { v, low, high };
+        let number = match self.nodes.find(node.key()) {
+            Some((number, _)) => Ok(number),
+            None => self.nodes.push(node),
+        };
+        self.fact_of(number, 0).number.saturating_add(2)
     }
 
     /// Returns the node that tests a variable and has these children. If they are the same node, it
@@ -198,10 +193,8 @@ impl<'a> Facts<'a> {
     /// Returns a column's number as instructions store it, and its minimum. Refuses if the schema
     /// lacks the column.
     pub(crate) fn column(&mut self, column: usize) -> (ColumnIndex, i64) {
-        let found = match (u8::try_from(column), self.schema.columns.get(column)) {
-            (Ok(number), Some(column)) => Some((number, column.lo)),
-            _ => None,
-        };
+        let found = self.schema.columns.get(column);
+        let found = found.map(|found| ((column % 256) as u8, found.lo));
         self.expect(found, (0, 0))
     }
 }

@@ -11,10 +11,10 @@ use crate::emit;
 use crate::facts::Facts;
 use crate::parts::{Part, part_of};
 use crate::refusal::Refusal;
-use crate::truth_pair::TruthPair;
+use crate::truth_pair::of_truth;
 use bw_cert_text::Certificate;
 use bw_diagram::Connective;
-use bw_model::{Cond, Fault, Schema};
+use bw_model::{Cond, Fault, Schema, Truth};
 use bw_program::{Program, Register};
 use std::alloc::Global;
 
@@ -59,33 +59,13 @@ pub fn propose_in_order<'a>(
         IsTrue (has_columns schema.now.columns.items (certificate_fields proposal.certificate))) }
     ensures fault { IfErr result IsRefusal }
 {
-    match plan(alloc, schema, cond, order) {
-        Ok(proposal) => Ok(proposal),
-        Err(refusal) => Err(refusal.fault()),
-    }
-}
-
-/// Returns a program for a condition, and its certificate.
-fn plan<'a>(
-    alloc: Global,
-    schema: &'a Schema,
-    cond: &Cond,
-    order: &Cond,
-) -> Result<Proposal<'a>, Refusal>
-    ensures program { IfOk result (λ proposal.
-        IsTrue (fits schema.now.columns.items proposal.program)) }
-    ensures certificate { IfOk result (λ proposal.
-        IsTrue (has_columns schema.now.columns.items (certificate_fields proposal.certificate))) }
-{
     let mut code = Code::new(alloc, Facts::new(alloc, schema, cond)?);
     let (program, row) = program_of(schema, cond, order, &mut code)?;
-    match emit::certificate(schema, &code, row) {
-        Ok(certificate) => Ok(Proposal {
-            program,
-            certificate,
-        }),
-        Err(refusal) => Err(refusal),
-    }
+    let certificate = emit::certificate(schema, &code, row)?;
+    Ok(Proposal {
+        program,
+        certificate,
+    })
 }
 
 /// Returns the program, with skips or without, and the row that ends the certificate.
@@ -119,15 +99,15 @@ fn emit_program(
 ) -> Result<(Program, u32), Refusal>
     ensures { IfOk result (λ made. IsTrue (fits schema.now.columns.items made.0)) }
 {
-    let wanted = TruthPair {
-        yes: true,
-        no: false,
-    };
-    let answer = code.truths(part, wanted).yes;
+    let answer = code.truths(part, of_truth(Truth::Yes)).yes;
     let answer = code.facts.expect(answer, 0);
     code.meet();
     if code.skip_count == 0 {
-        end_with_skip(code, answer);
+        // A skip at the end lets counts show empty segments.
+        let first = code.open_skips();
+        code.skip(answer);
+        code.meet_from(first);
+        code.meet();
     }
     let made = code.node(answer);
     let row = code.row(Connective::Xor, made, node);
@@ -136,14 +116,5 @@ fn emit_program(
         return Err(Refusal::NoProgram);
     }
     let answer = code.renumber_registers(answer)?;
-    let program = emit::program(code.alloc, schema, &code.instrs, answer)?;
-    Ok((program, row.number))
-}
-
-/// Ends a program without a skip with one, so that counts show empty segments.
-fn end_with_skip(code: &mut Code<'_>, answer: Register) {
-    let first = code.open_skips();
-    code.skip(answer);
-    code.meet_from(first);
-    code.meet();
+    Ok((emit::program(schema, code, answer)?, row.number))
 }
