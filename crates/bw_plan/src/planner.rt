@@ -59,8 +59,8 @@ pub fn propose_in_order<'a>(
         IsTrue (has_columns schema.now.columns.items (certificate_fields proposal.certificate))) }
     ensures fault { IfErr result IsRefusal }
 {
-    let mut code = Code::new(alloc, Facts::new(alloc, schema, cond)?);
-    let (program, row) = program_of(schema, cond, order, &mut code)?;
+    let code = Code::new(alloc, Facts::new(alloc, schema, cond)?);
+    let (program, code, row) = program_of(schema, cond, order, code)?;
     let certificate = emit::certificate(schema, &code, row)?;
     Ok(Proposal {
         program,
@@ -68,24 +68,26 @@ pub fn propose_in_order<'a>(
     })
 }
 
-/// Returns the program, with skips or without, and the row that ends the certificate.
-fn program_of(
+/// Returns the program, with skips or without, its code, and the row that ends the certificate.
+fn program_of<'a>(
     schema: &Schema,
     cond: &Cond,
     order: &Cond,
-    code: &mut Code<'_>,
-) -> Result<(Program, u32), Refusal>
+    mut code: Code<'a>,
+) -> Result<(Program, Code<'a>, u32), Refusal>
     ensures { IfOk result (λ made. IsTrue (fits schema.now.columns.items made.0)) }
 {
     let node = code.begin(cond)?;
-    let part = part_of(&mut code.facts, order);
+    let part = part_of(&mut code.facts, order, false)?;
     code.facts.check_refusal()?;
-    match emit_program(schema, &part, node, code) {
+    match emit_program(schema, &part, node, &mut code) {
+        Ok((program, row)) => Ok((program, code, row)),
         Err(Refusal::NoProgram) => {
-            code.begin_again();
-            emit_program(schema, &part, node, code)
+            let mut code = code.without_skips();
+            let (program, row) = emit_program(schema, &part, node, &mut code)?;
+            Ok((program, code, row))
         }
-        made => made,
+        Err(refusal) => Err(refusal),
     }
 }
 

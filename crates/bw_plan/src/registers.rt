@@ -2,7 +2,7 @@
 ghost use Rattle.std.specs.Prelude.{◌<◌};
 
 use crate::code::Code;
-use crate::line::{KeepLine, PlannedLine};
+use crate::line::PlannedLine;
 use crate::refusal::Refusal;
 use bw_program::{Instr, Register};
 
@@ -11,7 +11,7 @@ type RegisterSet = u64;
 
 /// The new numbers of registers.
 #[derive(Drop)]
-struct Numbers([Register; 64]);
+pub(crate) struct Numbers(pub(crate) [Register; 64]);
 
 impl Code<'_> {
     /// Gives registers that are never needed together the same number, and removes the lines KEEP
@@ -23,22 +23,24 @@ impl Code<'_> {
         let mut instrs = self.instrs.iter_mut().zip(needed.iter().rev().skip(1));
         let mut now = 0;
         for line in &self.lines {
-            match *line {
+            let mut line = *line;
+            let mut place = lines.len();
+            match &mut line {
                 PlannedLine::Instruction(_) => {
                     if let Some((instr, after)) = instrs.next() {
                         numbers.begin_value(*instr, now, *after);
                         *instr = numbers.in_instr(*instr);
                         now = *after;
                     }
-                    lines.push(*line)?;
                 }
+                PlannedLine::Keep(keep) if now & only(keep.register) == 0 => continue,
                 PlannedLine::Keep(keep) => {
-                    if now & only(keep.register) != 0 {
-                        put_keep(&mut lines, numbers.in_keep(keep))?;
-                    }
+                    keep.register = numbers.of(keep.register);
+                    place = place_of(&lines, keep.register);
                 }
-                _ => lines.push(*line)?,
+                _ => {}
             }
+            lines.insert(place.min(lines.len()), line)?;
         }
         self.lines = lines;
         Ok(numbers.of(answer))
@@ -75,17 +77,6 @@ impl Numbers {
         self.0[usize::from(register % 64)] % 64
     }
 
-    /// Returns a line KEEP with the new number of its register.
-    fn in_keep(&self, keep: KeepLine) -> KeepLine {
-        KeepLine {
-            register: self.of(keep.register),
-            node: keep.node,
-            through: keep.through,
-            first: keep.first,
-            end: keep.end,
-        }
-    }
-
     /// Gives the register that an instruction writes a new number, if its value before isn't
     /// needed: the least one that no register has which is needed after the instruction.
     fn begin_value(&mut self, instr: Instr, before: RegisterSet, after: RegisterSet) {
@@ -104,7 +95,7 @@ impl Numbers {
     }
 
     /// Returns an instruction with the new numbers of its registers.
-    fn in_instr(&self, instr: Instr) -> Instr {
+    pub(crate) fn in_instr(&self, instr: Instr) -> Instr {
         match instr {
             Instr::Load(r, column, bit) => Instr::Load(self.of(r), column, bit),
             Instr::Nulls(r, column) => Instr::Nulls(self.of(r), column),
@@ -138,17 +129,12 @@ fn registers_of(instr: Instr) -> (RegisterSet, RegisterSet) {
     }
 }
 
-/// Appends a line KEEP, before those of higher registers.
-fn put_keep(lines: &mut Vec<PlannedLine>, keep: KeepLine) -> Result<(), Refusal> {
-    let mut place = lines.len();
-    for line in lines.iter().rev() {
-        match line {
-            PlannedLine::Keep(before) if before.register > keep.register => {
-                place = place.saturating_sub(1);
-            }
-            _ => break,
-        }
-    }
-    lines.insert(place.min(lines.len()), PlannedLine::Keep(keep))?;
-    Ok(())
+/// Returns the place of a register's line KEEP: before those of higher registers at the end.
+fn place_of(lines: &[PlannedLine], register: Register) -> usize {
+    let is_before =
+        |line: &PlannedLine| !matches!(line, PlannedLine::Keep(keep) if keep.register > register);
+    lines
+        .iter()
+        .rposition(is_before)
+        .map_or(0, |last| last.saturating_add(1))
 }
