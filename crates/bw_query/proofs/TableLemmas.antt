@@ -6,8 +6,9 @@ use Rattle.std.proofs.lemmas.List.{append-nil}
 use Rattle.std.proofs.lemmas.List.Elements.{filter-append}
 use Rattle.std.proofs.lemmas.List.Sums.{sum_by-append}
 use Rattle.bw_model.specs.declared.cond.Cond.{Cond}
-use Rattle.bw_model.specs.declared.truth.Truth.TheVariants.{Yes}
-use Rattle.bw_model.specs.Cond.{is_match, is_truth, truth_of}
+use Rattle.bw_model.specs.declared.cond.Truth.TheVariants.{Yes}
+use Rattle.bw_model.specs.Cond.{is_match, truth_of}
+use Rattle.bw_model.specs.Truth.{is_truth}
 use Rattle.bw_model.specs.Groups.{together}
 use Rattle.bw_model.specs.Row.{Value}
 use Rattle.bw_model.specs.Selection.{matching_rows}

@@ -16,7 +16,7 @@ ghost use Rattle.bw_query.specs.Scan.{IsFor};
 ghost use Rattle.bw_query.specs.TableText.{IsScanOf};
 
 use crate::scan::Scan;
-use crate::served::{Scanned, nothing_scanned};
+use crate::served::{NOTHING_SCANNED, Scanned};
 use crate::table_text::{TableText, empty_answer, take_segment};
 use bw_answer::Answer;
 use bw_cert::Certified;
@@ -68,7 +68,7 @@ fn take_rows(table: &MemoryTable, scan: &Scan, answer: &mut Answer<'_>) -> Resul
     ensures only_oom { IfErr result (λ fault. fault ≡ no_memory) }
 {
     if table.segments() == 0 {
-        return Ok(nothing_scanned());
+        return Ok(NOTHING_SCANNED);
     }
     match table.layout() {
         Layout::Planes => take_segments::<Planes>(table, scan, answer),
@@ -99,7 +99,7 @@ fn take_segments<L: CodeLayout>(
         }
     }
     let counts = answer.counts_rows();
-    let mut scanned = nothing_scanned();
+    let mut scanned = NOTHING_SCANNED;
     for number in 0..table.segments() {
         segment = table.other_segment(segment, number);
         let more = take_segment(&segment, scan, counts, answer)?;
@@ -129,12 +129,12 @@ fn count_matches<'a, L: CodeLayout>(
     certified.condition().same_meaning(&answer.query().cond);
     let mut segment = segment;
     let mut matches = 0;
-    let mut scanned = nothing_scanned();
+    let mut scanned = NOTHING_SCANNED;
     for place in 0..table.segments() {
         segment = table.other_segment(segment, place);
-        let (found, more) = certified.count_matches(&segment);
-        matches += found;
-        scanned = scanned.plus(more);
+        let found = certified.count_matches(&segment);
+        matches += found.0;
+        scanned = scanned.plus(found.1);
     }
     answer.take_matches(table.rows(), matches);
     scanned

@@ -15,16 +15,12 @@ pub(crate) struct Scanned {
     pub(crate) skips: u64,
 }
 
-/// Returns what was scanned before the first segment.
-pub(crate) fn nothing_scanned() -> Scanned
-    ensures { result ≡ record { segments = 0; loads = 0; skips = 0; } }
-{
-    Scanned {
-        segments: 0,
-        loads: 0,
-        skips: 0,
-    }
-}
+/// What was scanned before the first segment.
+pub(crate) const NOTHING_SCANNED: Scanned = Scanned {
+    segments: 0,
+    loads: 0,
+    skips: 0,
+};
 
 impl Scanned {
     /// Returns what was scanned with one more segment.

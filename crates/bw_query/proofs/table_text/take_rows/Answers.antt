@@ -89,12 +89,12 @@ loop-segment-preserved g c =
       read = λ start read. gave.after start so_far.groups (so_far.read start read);
       covers = goes_on _ _ _ so_far.groups rows so_far.covers taken.covers;
       scanned = record {
-        segments = omega (arith, so_far.scanned.segments, more);
-        loads = one_more (loads_in (schema_in c.args.reader.now).columns.items c.args.scan.now) so_far.groups rows _ _ so_far.scanned.loads (taken.loads ∙ loads);
-        skips = one_more (skips_in (schema_in c.args.reader.now).columns.items c.args.scan.now) so_far.groups rows _ _ so_far.scanned.skips (taken.skips ∙ skips);
+        segments = omega (arith, so_far.scanned.segments, c.plus-scanned.ensures.segments, more);
+        loads = c.plus-scanned.ensures.loads ∙ one_more (loads_in (schema_in c.args.reader.now).columns.items c.args.scan.now) so_far.groups rows _ _ so_far.scanned.loads (taken.loads ∙ loads);
+        skips = c.plus-scanned.ensures.skips ∙ one_more (skips_in (schema_in c.args.reader.now).columns.items c.args.scan.now) so_far.groups rows _ _ so_far.scanned.skips (taken.skips ∙ skips);
       };
-      few_loads = omega (arith, so_far.few_loads, more, taken.bounded);
-      few_skips = omega (arith, so_far.few_skips, more, taken.bounded);
+      few_loads = omega (arith, so_far.few_loads, c.plus-scanned.ensures.loads, more, taken.bounded);
+      few_skips = omega (arith, so_far.few_skips, c.plus-scanned.ensures.skips, more, taken.bounded);
       same = same_table _ _ _ so_far.same gave.same;
       reading = gave.goes_on;
       failures = omega (arith, gave.failures, so_far.failures);
