@@ -11,10 +11,10 @@ use crate::emit;
 use crate::facts::Facts;
 use crate::parts::{Part, part_of};
 use crate::refusal::Refusal;
-use crate::truth_pair::of_truth;
+use crate::truth_pair::TruthPair;
 use bw_cert_text::Certificate;
 use bw_diagram::Connective;
-use bw_model::{Cond, Fault, Schema, Truth};
+use bw_model::{Cond, Fault, Schema};
 use bw_program::{Program, Register};
 use std::alloc::Global;
 
@@ -101,7 +101,11 @@ fn emit_program(
 ) -> Result<(Program, u32), Refusal>
     ensures { IfOk result (λ made. IsTrue (fits schema.now.columns.items made.0)) }
 {
-    let answer = code.truths(part, of_truth(Truth::Yes)).yes;
+    let wanted = TruthPair {
+        yes: true,
+        no: false,
+    };
+    let answer = code.truths(part, wanted).yes;
     let answer = code.facts.expect(answer, 0);
     code.meet();
     if code.skip_count == 0 {
