@@ -49,11 +49,9 @@ pub(crate) fn certificate<'a>(
     let rows = product_lines(facts, line)?;
     let line = line.saturating_add(rows.len() as u64);
     let body = body_lines(code, line)?;
-    let end = EndLine {
-        line: line.saturating_add(body.len() as u64),
-        row: u64::from(row),
-    };
-    Ok(Certificate::new(nodes, chains, rows, body, end))
+    let line = line.saturating_add(body.len() as u64);
+    let row = u64::from(row);
+    Ok(Certificate::new(nodes, chains, rows, body, EndLine { line, row }))
 }
 
 /// Returns the lines of nodes. The first line has the number `first`.
@@ -111,10 +109,8 @@ fn body_lines(code: &Code<'_>, first: u64) -> Result<Body, Refusal> {
     let mut lines = Body::new(code.alloc);
     for entry in &code.lines {
         let line = first.saturating_add(lines.len() as u64);
-        lines.push(&BodyLine {
-            line,
-            entry: entry.entry(&code.edges),
-        })?;
+        let entry = entry.entry(&code.edges);
+        lines.push(&BodyLine { line, entry })?;
     }
     Ok(lines)
 }

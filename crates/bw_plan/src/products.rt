@@ -40,13 +40,11 @@ impl Question {
             Connective::And if a == 1 => Some(b),
             Connective::And if b == 1 || a == b => Some(a),
             Connective::Or if a == 1 || b == 1 => Some(1),
-            Connective::Or if a == 0 => Some(b),
-            Connective::Or if b == 0 || a == b => Some(a),
-            Connective::Xor if a == 0 => Some(b),
-            Connective::Xor if b == 0 => Some(a),
-            Connective::Xor if a == b => Some(0),
-            Connective::Diff if a == 0 || b == 1 || a == b => Some(0),
-            Connective::Diff if b == 0 => Some(a),
+            Connective::Or if a == b => Some(a),
+            Connective::Diff if a == 0 || b == 1 => Some(0),
+            Connective::Xor | Connective::Diff if a == b => Some(0),
+            Connective::Or | Connective::Xor if a == 0 => Some(b),
+            Connective::Or | Connective::Xor | Connective::Diff if b == 0 => Some(a),
             _ => None,
         }
     }

@@ -11,13 +11,6 @@ pub(crate) struct Sequence {
     weight: u64,
 }
 
-/// No columns.
-const NONE: Sequence = Sequence {
-    columns: [0; 64],
-    count: 0,
-    weight: 0,
-};
-
 impl Sequence {
     /// Returns the columns.
     pub(crate) fn columns(&self) -> &[ColumnIndex] {
@@ -26,10 +19,8 @@ impl Sequence {
 
     /// Appends a column, if it is missing.
     fn push(&mut self, column: ColumnIndex) {
-        if self.columns().contains(&column) {
-            return;
-        }
-        if let Some(slot) = self.columns.get_mut(self.count) {
+        let is_new = !self.columns().contains(&column);
+        if let (true, Some(slot)) = (is_new, self.columns.get_mut(self.count)) {
             *slot = column;
             self.count += 1;
         }
@@ -75,7 +66,11 @@ impl Pairs<'_> {
     /// Returns the columns of a condition, and adds its pairs.
     #[cycle(sequence)]
     pub(crate) fn sequence_of(&mut self, cond: &Cond) -> Result<Sequence, Refusal> {
-        let mut made = NONE;
+        let mut made = Sequence {
+            columns: [0; 64],
+            count: 0,
+            weight: 0,
+        };
         match cond {
             Cond::Always => {}
             Cond::Cmp(op, x, y) => self.add(&mut made, *op, *x, *y)?,
