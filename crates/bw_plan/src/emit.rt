@@ -57,13 +57,13 @@ pub(crate) fn certificate<'a>(
 /// Returns the lines of nodes. The first line has the number `first`.
 fn node_lines(facts: &Facts<'_>, first: u64) -> Result<Vec<NodeLine>, Refusal> {
     let mut lines = Vec::with_capacity(facts.alloc, facts.nodes.len())?;
-    for (number, slot) in facts.nodes.slots.iter().enumerate() {
+    for (number, (v, low, high)) in facts.nodes.iter().enumerate() {
         lines.push(NodeLine {
             line: first.saturating_add(number as u64),
             n: (number as u64).saturating_add(2),
-            v: u64::from(slot.entry.v),
-            low: u64::from(slot.entry.low),
-            high: u64::from(slot.entry.high),
+            v: u64::from(*v),
+            low: u64::from(*low),
+            high: u64::from(*high),
         })?;
     }
     Ok(lines)

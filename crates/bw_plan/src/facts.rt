@@ -1,16 +1,17 @@
 //! What a certificate states: nodes, chains and product rows, and the nodes of single variables.
 use crate::chains::Link;
-use crate::ledger::{Entry, Key, Ledger};
+use crate::ledger::Ledger;
 use crate::order::Ranks;
 use crate::products::{MAX_PRODUCTS, Question, Row};
 use crate::refusal::Refusal;
 use bw_diagram::Node;
 use bw_model::{Cond, Schema};
 use bw_program::ColumnIndex;
+use indexmap::IndexSet;
 use std::alloc::Global;
 
 /// The most nodes of a certificate, besides the two terminals.
-pub(crate) const MAX_NODES: u32 = 65_534;
+pub(crate) const MAX_NODES: usize = 65_534;
 
 /// The most chains of a certificate.
 const MAX_CHAINS: u32 = 65_536;
@@ -34,7 +35,12 @@ impl Cited {
 }
 
 /// How many nodes, chains and product rows there are.
-pub(crate) type Extent = (usize, usize, usize);
+#[derive(Clone, Copy)]
+pub(crate) struct Extent {
+    pub(crate) nodes: usize,
+    chains: usize,
+    pub(crate) products: usize,
+}
 
 /// The nodes, chains and product rows of a certificate, under a schema. Each occurs once, after
 /// those it follows from, and is added when it is first requested.
@@ -42,8 +48,9 @@ pub(crate) type Extent = (usize, usize, usize);
 pub(crate) struct Facts<'a> {
     pub(crate) alloc: Global,
     schema: &'a Schema,
-    /// The nodes from number 2 on. Numbers 0 and 1 are the terminals.
-    pub(crate) nodes: Ledger<Node>,
+    /// The nodes from number 2 on: the variable that each tests, and its children for 0 and for 1.
+    /// Numbers 0 and 1 are the terminals.
+    pub(crate) nodes: IndexSet<(u32, u32, u32)>,
     pub(crate) chains: Ledger<Link>,
     pub(crate) products: Ledger<Row>,
     /// The products that wait for the next one.
@@ -53,13 +60,6 @@ pub(crate) struct Facts<'a> {
     pub(crate) refusal: Option<Refusal>,
 }
 
-impl Entry for Node {
-    fn key(self) -> Key {
-        let children = u64::from(self.low) << 32 | u64::from(self.high);
-        (children, u64::from(self.v))
-    }
-}
-
 impl<'a> Facts<'a> {
     /// Returns no facts, for a condition whose columns give the order of variables. A schema has at
     /// most 64 columns, so their numbers fit a byte, and the only error is `NoMemory`.
@@ -67,9 +67,9 @@ impl<'a> Facts<'a> {
         Ok(Facts {
             alloc,
             schema,
-            nodes: Ledger::new(alloc, MAX_NODES)?,
-            chains: Ledger::new(alloc, MAX_CHAINS)?,
-            products: Ledger::new(alloc, MAX_PRODUCTS)?,
+            nodes: IndexSet::new(alloc),
+            chains: Ledger::new(alloc, MAX_CHAINS),
+            products: Ledger::new(alloc, MAX_PRODUCTS),
             pending: Vec::new(alloc),
             ranks: Ranks::new(alloc, schema, cond)?,
             refusal: None,
@@ -116,32 +116,35 @@ impl<'a> Facts<'a> {
 
     /// Returns how many there are so far.
     pub(crate) fn extent(&self) -> Extent {
-        let (nodes, chains, products) = (&self.nodes, &self.chains, &self.products);
-        (nodes.len(), chains.len(), products.len())
+        Extent {
+            nodes: self.nodes.len(),
+            chains: self.chains.len(),
+            products: self.products.len(),
+        }
     }
 
     /// Removes what was added since there were so many, and what was refused since.
     pub(crate) fn return_to(&mut self, extent: Extent) {
-        self.nodes.truncate(extent.0);
-        self.chains.truncate(extent.1);
-        self.products.truncate(extent.2);
+        self.nodes.truncate(extent.nodes);
+        self.chains.truncate(extent.chains);
+        self.products.truncate(extent.products);
         self.refusal = None;
     }
 
     /// Returns the node of a number, if it isn't a terminal.
     pub(crate) fn node(&self, number: u32) -> Option<Node> {
-        let slot = self.nodes.slots.get((number as usize).checked_sub(2)?)?;
-        Some(slot.entry)
+        let (v, low, high) = *self.nodes.get_index((number as usize).checked_sub(2)?)?;
+        Some(Node { v, low, high })
     }
 
     /// Returns the number of a node that tests a variable, which is added if it is missing.
     fn test(&mut self, v: u32, low: u32, high: u32) -> u32 {
-        let node = Node { v, low, high };
-        let number = match self.nodes.find(node.key()) {
-            Some((number, _)) => Ok(number),
-            None => self.nodes.push(node),
-        };
-        self.fact_of(number, 0).number.saturating_add(2)
+        match self.nodes.insert_full((v, low, high)) {
+            Ok((index, _)) if index < MAX_NODES => return index as u32 + 2,
+            Ok(_) => self.refuse(Refusal::NoProgram),
+            Err(_) => self.refuse(Refusal::NoMemory),
+        }
+        0
     }
 
     /// Returns the node that tests a variable and has these children. If they are the same node, it

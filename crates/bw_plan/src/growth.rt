@@ -38,9 +38,10 @@ impl Growth {
     pub(crate) fn join(&mut self, facts: &mut Facts<'_>) {
         self.joined = self.joined.saturating_add(1);
         let (now, early) = (facts.extent(), self.early.1);
-        let limit = facts.products.limit;
-        if now.2.saturating_sub(self.start) >= limit as usize / FIRST_ROWS
-            && (self.passes(MAX_NODES, early.0, now.0) || self.passes(limit, early.2, now.2))
+        let limit = facts.products.limit as usize;
+        if now.products.saturating_sub(self.start) >= limit / FIRST_ROWS
+            && (self.passes(MAX_NODES, early.nodes, now.nodes)
+                || self.passes(limit, early.products, now.products))
         {
             facts.refuse(Refusal::NoProgram);
         }
@@ -52,10 +53,10 @@ impl Growth {
 
     /// Returns whether there will be more than a limit once all parts are combined, if there were
     /// `early` of them and are `now`.
-    fn passes(&self, limit: u32, early: usize, now: usize) -> bool {
+    fn passes(&self, limit: usize, early: usize, now: usize) -> bool {
         let parts = self.joined.saturating_sub(self.early.0).max(1);
         let each = now.saturating_sub(early) / parts;
         let left = self.parts.saturating_sub(self.joined);
-        now.saturating_add(left.saturating_mul(each)) > limit as usize
+        now.saturating_add(left.saturating_mul(each)) > limit
     }
 }

@@ -24,23 +24,24 @@ pub(crate) struct Slot<T: Entry> {
 #[derive(Drop)]
 pub(crate) struct Ledger<T: Entry> {
     pub(crate) slots: Vec<Slot<T>>,
-    /// For each hash the number of the last entry that has it, from 1 on, or 0.
+    /// For each hash the number of the last entry that has it, from 1 on, or 0; a power of two of
+    /// them.
     last: Vec<u32>,
     /// How many entries there may be.
     pub(crate) limit: u32,
 }
 
-/// The number of hashes, a power of two. At its limit, a ledger has two or three entries for each.
-const HASHES: usize = 1 << 15;
+/// The number of hashes at first.
+const FEWEST_HASHES: usize = 256;
 
 impl<T: Entry> Ledger<T> {
     /// Returns no entries, with a limit of their number.
-    pub(crate) fn new(alloc: Global, limit: u32) -> Result<Self, Refusal> {
-        Ok(Ledger {
+    pub(crate) fn new(alloc: Global, limit: u32) -> Self {
+        Ledger {
             slots: Vec::new(alloc),
-            last: vec![in alloc; 0; HASHES]?,
+            last: Vec::new(alloc),
             limit,
-        })
+        }
     }
 
     /// Returns how many there are.
@@ -50,7 +51,7 @@ impl<T: Entry> Ledger<T> {
 
     /// Returns the entry with a key, and its number.
     pub(crate) fn find(&self, wanted: Key) -> Option<(u32, T)> {
-        let mut next = *self.last.get(place(wanted))?;
+        let mut next = *self.last.get(place(wanted, self.last.len()))?;
         for _ in 0..self.slots.len() {
             let number = next.checked_sub(1)?;
             let slot = self.slots.get(number as usize)?;
@@ -71,8 +72,12 @@ impl<T: Entry> Ledger<T> {
         if number >= self.limit {
             return Err(Refusal::NoProgram);
         }
+        if self.slots.len() >= self.last.len() {
+            self.spread()?;
+        }
+        let at = place(entry.key(), self.last.len());
         let mut before = 0;
-        if let Some(last) = self.last.get_mut(place(entry.key())) {
+        if let Some(last) = self.last.get_mut(at) {
             before = *last;
             *last = number + 1;
         }
@@ -86,17 +91,34 @@ impl<T: Entry> Ledger<T> {
             let Some(slot) = self.slots.pop() else {
                 break;
             };
-            if let Some(last) = self.last.get_mut(place(slot.entry.key())) {
+            let at = place(slot.entry.key(), self.last.len());
+            if let Some(last) = self.last.get_mut(at) {
                 *last = slot.before;
             }
         }
     }
+
+    /// Spreads the entries over four times as many hashes.
+    fn spread(&mut self) -> Result<(), Refusal> {
+        let count = self.last.len().saturating_mul(4).max(FEWEST_HASHES);
+        self.last.clear();
+        self.last.resize(count, 0)?;
+        let mut after = 0u32;
+        for slot in self.slots.iter_mut() {
+            after = after.saturating_add(1);
+            if let Some(last) = self.last.get_mut(place(slot.entry.key(), count)) {
+                slot.before = *last;
+                *last = after;
+            }
+        }
+        Ok(())
+    }
 }
 
-/// Returns the place of a key's hash: bits of products with odd numbers (Knuth, The Art of Computer
-/// Programming, 6.4).
-fn place(key: Key) -> usize {
+/// Returns the place of a key's hash among a power of two of them: bits of products with odd
+/// numbers (Knuth, The Art of Computer Programming, 6.4).
+fn place(key: Key, count: usize) -> usize {
     let mixed = key.0.wrapping_mul(0x9E37_79B9_7F4A_7C15) ^ key.1;
     let hash = mixed.wrapping_mul(0xD6E8_FEB8_6659_FD93) >> 40;
-    hash as usize % HASHES
+    hash as usize & count.saturating_sub(1)
 }
