@@ -3,6 +3,7 @@ use Rattle.std.proofs.Common.{◌≡◌, ◌≢◌, ◌∙◌, ℕ, ◌<◌, Boo
 use Rattle.std.proofs.Common.{sym, ap, ◌&&◌, length, length-append, nat_le, not, arith, codes}
 use Rattle.std.specs.List.{list_all, list_any}
 use Rattle.std.proofs.lemmas.List.Folds.{list_any-append}
+use Rattle.std.proofs.lemmas.Bool.{not-true}
 use Rattle.csv.specs.Writing.{needs_byte}
 use Rattle.bw_text.specs.Keyword.{is_reserved}
 use Rattle.bw_model.specs.Name.{is_name}
@@ -11,7 +12,6 @@ use Rattle.bw_answer.specs.Answer.{call_of}
 use Rattle.bw_answer.specs.Field.{answer_writer, needs_no_quotes}
 use Rattle.bw_answer.proofs.PlainFields.{quiet, no_more, plain_by}
 use Rattle.bw_model.proofs.BitsLemmas.{both}
-use Rattle.bw_model.proofs.SchemaLemmas.{negated}
 
 -- what passes a test that no byte passes which asks for quotes
 quiet_by : (passes : ℕ → Bool) → passes 44 ≡ false → passes 34 ≡ false → passes 13 ≡ false → passes 10 ≡ false → (c : ℕ) → passes c ≡ true → needs_byte answer_writer c ≡ false
@@ -56,7 +56,7 @@ quiet_both xs ys p q = rw (list_any-append (needs_byte answer_writer) xs ys, p, 
 plain_parts : (text : List ℕ) → needs_no_quotes text ≡ true → (0 < length text) × (list_any (needs_byte answer_writer) text ≡ false)
 unfolding needs_no_quotes
 plain_parts [] e = absurd (cc e)
-plain_parts (c ∷ cs) e = (omega arith, negated _ e)
+plain_parts (c ∷ cs) e = (omega arith, not-true _ e)
 
 pub plain_call : (function name : List ℕ) → needs_no_quotes function ≡ true → is_name name ≡ true → needs_no_quotes (call_of function name) ≡ true
 plain_call function name plain e =

@@ -2,11 +2,12 @@
 -- rejected with.
 use Rattle.std.proofs.Common.{◌≡◌, ◌∙◌, refl, sym, ap, ap₂, subst, ◌⊎◌, inl, inr, ℕ, suc, ◌<◌, Bool}
 use Rattle.std.proofs.Common.{true, false, not, ◌&&◌, List, [], ◌∷◌, ◌++◌, map, length, Option}
-use Rattle.std.proofs.Common.{Some, None, Result, Ok, Err, arith}
+use Rattle.std.proofs.Common.{Some, None, Result, Ok, Err, IfErr, arith}
 use Rattle.std.proofs.Math.Bool.{and-true}
 use Rattle.bw_model.proofs.BitsLemmas.{both}
 use Rattle.bw_model.specs.declared.fault.Fault.{Fault}
 use Rattle.bw_model.specs.Fault.{at_line, ◌>>=◌, refused_if}
+use Rattle.bw_model.proofs.FaultLemmas.{not_refused, bind_ok, then_so, refused_so, fault_so}
 use Rattle.bw_diagram.specs.declared.chain.ChainKind.{ChainKind}
 use Rattle.bw_diagram.specs.declared.chain.ChainKind.TheVariants.{Less, Equal}
 use Rattle.bw_diagram.specs.declared.product.Connective.{Connective}
@@ -22,20 +23,19 @@ use Rattle.bw_cert_text.specs.declared.lines.Entry.TheVariants as line_of
 use Rattle.bw_cert_text.specs.declared.lines.InstructionEntry.{InstructionEntry}
 use Rattle.bw_cert_text.specs.declared.lines.Keep.{Keep}
 use Rattle.bw_cert_rules.specs.declared.edge.Edge.{Edge}
-use Rattle.bw_cert_rules.specs.Accepted.{KeepLine, keep_line, are_kept}
+use Rattle.bw_cert_rules.specs.Accepted.{KeepLine, keep_line, are_kept, NoKeep}
 use Rattle.bw_cert_rules.specs.Instruction.{check_instruction_line, set_register, is_fill, is_skip_line}
 use Rattle.bw_cert_rules.specs.Instruction.{loaded_node, operation_row, byte_chain, byte_node}
-use Rattle.bw_cert_rules.specs.Instruction.{terminal, plane_on, read_on, joined_on, opposite_on}
+use Rattle.bw_cert_rules.specs.Instruction.{plane_on, read_on, joined_on, opposite_on}
 use Rattle.bw_cert_rules.specs.Instruction.{byte_on}
 use Rattle.bw_cert_rules.specs.Join.{is_valid_keep}
 use Rattle.bw_cert_rules.specs.Known.{KnownNodes, node_of, nothing_known, with_node}
 use Rattle.bw_cert_rules.specs.Walk.{WalkState, keep_in, by_keep, keeps_taken, join_taken, is_join}
 use Rattle.bw_cert_rules.specs.Walk.{instruction_on, instruction_taken, apply_join}
 use Rattle.bw_cert_rules.proofs.JoinLemmas.{keep_step}
-use Rattle.bw_cert_rules.specs.Accepted.{NoKeep}
 use Rattle.bw_cert_rules.proofs.WrittenLemmas.{taken_of}
 use Rattle.bw_cert.specs.FirstFault.{WrongLine, WrongKeep, WrongJoin}
-use Rattle.bw_cert_rules.proofs.HoldLemmas.{bind_ok, not_refused, ok_same}
+use Rattle.bw_cert_rules.proofs.HoldLemmas.{ok_same}
 
 pub err_same : (A : Type 0) (x y : Fault) → ◌≡◌ {A = Result A Fault} (Err x) (Err y) → x ≡ y
 err_same A x y is = cc
@@ -166,67 +166,56 @@ module _ (facts : Facts) (end place : ℕ) (through : KnownNodes) where
       let check_instruction_line = bind_ok (join_taken end place lines) (after_join (edge ∷ edges)) taken is in
       keeps_stop facts through (edge ∷ edges) 0 nothing_known check_instruction_line.0 taken check_instruction_line.2
 
--- if there is an error, it is on this line
-record OnLine (A : Type 0) (line : ℕ) (r : Result A Fault) : Type 0 where
-  told : (fault : Fault) → r ≡ Err fault → fault ≡ at_line fault.code line
+-- an error on this line
+abbrev IsOn : ℕ → Fault → Type 0
+IsOn line fault = fault ≡ at_line fault.code line
 
-err_stands : (A : Type 0) (code line : ℕ) → OnLine A line (Err (at_line code line))
-err_stands A code line = record { told = λ fault is. let same = err_same A (at_line code line) fault is in sym same ∙ ap (λ (fault : Fault). at_line fault.code line) same }
+-- the errors of an instruction's line are on it
+module _ (facts : Facts) (known : KnownNodes) (line : ℕ) where
+  found_stands : {A : Type 0} (code : ℕ) (o : Option A) → IfErr (found_on code line o) (IsOn line)
+  found_stands code None = refl
+  found_stands code (Some x) = tt
 
-ok_stands : (A : Type 0) (line : ℕ) (x : A) → OnLine A line (Ok x)
-ok_stands A line x = record { told = λ fault is. cc }
+  put_stands : (register : ℕ) (given : Result ℕ Fault) → IfErr given (IsOn line) → IfErr (set_register known register given) (IsOn line)
+  put_stands register given here = then_so (IsOn line) given _ here (λ node. tt)
 
-found_stands : (A : Type 0) (code line : ℕ) (o : Option A) → OnLine A line (found_on code line o)
-found_stands A code line None = err_stands A code line
-found_stands A code line (Some x) = ok_stands A line x
+  plane_stands : (there : Bool) (variable : ℕ) (given : InstructionEntry) → IfErr (plane_on facts line there variable given) (IsOn line)
+  plane_stands there variable given =
+      then_so (IsOn line) (found_on 607 line (loaded_node given)) _ (found_stands 607 (loaded_node given))
+      (λ node. refused_so (IsOn line) (not there) (at_line 607 line) _ refl (found_stands 607 (variable_node facts variable node)))
 
-refused_stands : (A : Type 0) (b : Bool) (code line : ℕ) (r : Result A Fault) → OnLine A line r → OnLine A line (refused_if b (at_line code line) r)
-refused_stands A true code line r rest = err_stands A code line
-refused_stands A false code line r rest = rest
+  joined_stands : (op : Connective) (x y : ℕ) (given : InstructionEntry) → IfErr (joined_on facts known line op x y given) (IsOn line)
+  joined_stands op x y given =
+      then_so (IsOn line) (found_on 607 line (operation_row given)) _ (found_stands 607 (operation_row given))
+      (λ row. then_so (IsOn line) (read_on known line x) _ (found_stands 609 (node_of known x))
+      (λ a. then_so (IsOn line) (read_on known line y) _ (found_stands 609 (node_of known y)) (λ b. found_stands 607 (product_node facts op a b row))))
 
-then_stands : (A B : Type 0) (line : ℕ) (r : Result A Fault) (f : A → Result B Fault) → OnLine A line r → ((x : A) → OnLine B line (f x)) → OnLine B line (r >>= f)
-then_stands A B line (Ok x) f here each = each x
-then_stands A B line (Err first) f here each = record { told = λ fault is. here.told fault (ap (λ (fault : Fault). Err fault) (err_same B first fault is)) }
+  opposite_stands : (x : ℕ) (given : InstructionEntry) → IfErr (opposite_on facts known line x given) (IsOn line)
+  opposite_stands x given =
+      then_so (IsOn line) (found_on 607 line (operation_row given)) _ (found_stands 607 (operation_row given))
+      (λ row. then_so (IsOn line) (read_on known line x) _ (found_stands 609 (node_of known x)) (λ a. found_stands 607 (product_node facts connective.Diff 1 a row)))
 
-put_stands : (known : KnownNodes) (line register : ℕ) (given : Result ℕ Fault) → OnLine ℕ line given → OnLine KnownNodes line (set_register known register given)
-put_stands known line register given here = then_stands ℕ KnownNodes line given _ here (λ node. ok_stands KnownNodes line (with_node known register node))
+  byte_stands : (kind : ChainKind) (there : Bool) (column slice k : ℕ) (given : InstructionEntry) → IfErr (byte_on facts line kind there column slice k given) (IsOn line)
+  byte_stands kind there column slice k given =
+      then_so (IsOn line) (found_on 607 line (byte_chain given)) _ (found_stands 607 (byte_chain given))
+      (λ chain. refused_so (IsOn line) (not there) (at_line 607 line) _ refl (found_stands 607 (byte_node facts kind column slice k chain)))
 
-plane_stands : (facts : Facts) (line : ℕ) (there : Bool) (variable : ℕ) (given : InstructionEntry) → OnLine ℕ line (plane_on facts line there variable given)
-plane_stands facts line there variable given =
-    then_stands ℕ ℕ line (found_on 607 line (loaded_node given)) _ (found_stands ℕ 607 line (loaded_node given))
-    (λ node. refused_stands ℕ (not there) 607 line _ (found_stands ℕ 607 line (variable_node facts variable node)))
-
-joined_stands : (facts : Facts) (known : KnownNodes) (line : ℕ) (op : Connective) (x y : ℕ) (given : InstructionEntry) → OnLine ℕ line (joined_on facts known line op x y given)
-joined_stands facts known line op x y given =
-    then_stands ℕ ℕ line (found_on 607 line (operation_row given)) _ (found_stands ℕ 607 line (operation_row given))
-    (λ row. then_stands ℕ ℕ line (read_on known line x) _ (found_stands ℕ 609 line (node_of known x))
-    (λ a. then_stands ℕ ℕ line (read_on known line y) _ (found_stands ℕ 609 line (node_of known y)) (λ b. found_stands ℕ 607 line (product_node facts op a b row))))
-
-opposite_stands : (facts : Facts) (known : KnownNodes) (line x : ℕ) (given : InstructionEntry) → OnLine ℕ line (opposite_on facts known line x given)
-opposite_stands facts known line x given =
-    then_stands ℕ ℕ line (found_on 607 line (operation_row given)) _ (found_stands ℕ 607 line (operation_row given))
-    (λ row. then_stands ℕ ℕ line (read_on known line x) _ (found_stands ℕ 609 line (node_of known x)) (λ a. found_stands ℕ 607 line (product_node facts connective.Diff 1 a row)))
-
-byte_stands : (facts : Facts) (line : ℕ) (kind : ChainKind) (there : Bool) (column slice k : ℕ) (given : InstructionEntry) → OnLine ℕ line (byte_on facts line kind there column slice k given)
-byte_stands facts line kind there column slice k given =
-    then_stands (Option ℕ) ℕ line (found_on 607 line (byte_chain given)) _ (found_stands (Option ℕ) 607 line (byte_chain given))
-    (λ chain. refused_stands ℕ (not there) 607 line _ (found_stands ℕ 607 line (byte_node facts kind column slice k chain)))
-
-after_stands : (facts : Facts) (known : KnownNodes) (line : ℕ) (i : Instr) (given : InstructionEntry) → OnLine KnownNodes line (check_instruction_line facts known line i given)
-unfolding check_instruction_line
-after_stands facts known line (does.Load r column bit) given = put_stands known line r _ (plane_stands facts line _ _ given)
-after_stands facts known line (does.Nulls r column) given = put_stands known line r _ (plane_stands facts line _ _ given)
-after_stands facts known line (does.Fill r bit) given = refused_stands KnownNodes (not (is_fill given)) 607 line _ (ok_stands KnownNodes line (with_node known r (terminal bit)))
-after_stands facts known line (does.And r x y) given = put_stands known line r _ (joined_stands facts known line connective.And x y given)
-after_stands facts known line (does.Or r x y) given = put_stands known line r _ (joined_stands facts known line connective.Or x y given)
-after_stands facts known line (does.Xor r x y) given = put_stands known line r _ (joined_stands facts known line connective.Xor x y given)
-after_stands facts known line (does.Not r x) given = put_stands known line r _ (opposite_stands facts known line x given)
-after_stands facts known line (does.ByteLt r column slice k) given = put_stands known line r _ (byte_stands facts line Less _ column slice k given)
-after_stands facts known line (does.ByteEq r column slice k) given = put_stands known line r _ (byte_stands facts line Equal _ column slice k given)
-after_stands facts known line (does.Skip x target) given =
-    refused_stands KnownNodes (not (is_skip_line given)) 607 line _ (then_stands ℕ KnownNodes line (read_on known line x) _ (found_stands ℕ 609 line (node_of known x)) (λ node. ok_stands KnownNodes line known))
+  after_stands : (i : Instr) (given : InstructionEntry) → IfErr (check_instruction_line facts known line i given) (IsOn line)
+  unfolding check_instruction_line
+  after_stands (does.Load r column bit) given = put_stands r _ (plane_stands _ _ given)
+  after_stands (does.Nulls r column) given = put_stands r _ (plane_stands _ _ given)
+  after_stands (does.Fill r bit) given = refused_so (IsOn line) (not (is_fill given)) (at_line 607 line) _ refl tt
+  after_stands (does.And r x y) given = put_stands r _ (joined_stands connective.And x y given)
+  after_stands (does.Or r x y) given = put_stands r _ (joined_stands connective.Or x y given)
+  after_stands (does.Xor r x y) given = put_stands r _ (joined_stands connective.Xor x y given)
+  after_stands (does.Not r x) given = put_stands r _ (opposite_stands x given)
+  after_stands (does.ByteLt r column slice k) given = put_stands r _ (byte_stands Less _ column slice k given)
+  after_stands (does.ByteEq r column slice k) given = put_stands r _ (byte_stands Equal _ column slice k given)
+  after_stands (does.Skip x target) given =
+      refused_so (IsOn line) (not (is_skip_line given)) (at_line 607 line) _ refl (then_so (IsOn line) (read_on known line x) _ (found_stands 609 (node_of known x)) (λ node. tt))
 
 -- a line that is rejected in place of an instruction's is so on that line
 pub line_stands : (facts : Facts) (known : KnownNodes) (instr : Instr) (line : BodyLine) (entry : Entry) (fault : Fault) → instruction_on facts known instr line entry ≡ Err fault → fault ≡ at_line fault.code line.line
-line_stands facts known instr line (line_of.Instruction given) fault is = (after_stands facts known line.line instr given).told fault is
-line_stands facts known instr line _ fault is = (err_stands KnownNodes 607 line.line).told fault is
+line_stands facts known instr line (line_of.Instruction given) fault is =
+    fault_so (IsOn line.line) (check_instruction_line facts known line.line instr given) fault (after_stands facts known line.line instr given) is
+line_stands facts known instr line _ fault is = fault_so {A = KnownNodes} (IsOn line.line) (Err (at_line 607 line.line)) fault refl is

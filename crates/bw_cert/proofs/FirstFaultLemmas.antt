@@ -1,8 +1,7 @@
 -- Lines that are rejected have a first error, and are rejected with it.
 use Rattle.std.proofs.Common.{◌≡◌, ◌∙◌, refl, sym, ap, ap₂, subst, ◌⊎◌, inl, inr, ℕ, suc, ◌+◌, ◌<◌}
-use Rattle.std.proofs.Common.{true, List, [], ◌∷◌, ◌++◌, append_assoc, map}
-use Rattle.std.proofs.Common.{length, length-append, Option, Some, Result, Ok}
-use Rattle.std.proofs.Common.{Err, slice_get, arith}
+use Rattle.std.proofs.Common.{true, List, [], ◌∷◌, ◌++◌, append_assoc, map, length, length-append}
+use Rattle.std.proofs.Common.{Option, Some, Result, Ok, Err, slice_get, arith}
 use Rattle.std.proofs.lemmas.Option.{same_Some}
 use Rattle.bw_model.specs.declared.fault.Fault.{Fault}
 use Rattle.bw_model.specs.Fault.{at_line, ◌>>=◌}
@@ -11,9 +10,8 @@ use Rattle.bw_program.specs.declared.instr.Instr.{Instr}
 use Rattle.bw_cert_text.specs.declared.lines.BodyLine.{BodyLine}
 use Rattle.bw_cert_text.specs.declared.lines.Entry.TheVariants as line_of
 use Rattle.bw_cert_rules.specs.declared.edge.Edge.{Edge}
-use Rattle.bw_cert_rules.specs.Accepted.{JoinLines, Part, keep_line, lines_of}
-use Rattle.bw_cert_rules.specs.Accepted.{known_before, edges_before}
-use Rattle.bw_cert_rules.specs.Accepted.{is_valid_join}
+use Rattle.bw_cert_rules.specs.Accepted.{JoinLines, Part, keep_line, lines_of, known_before}
+use Rattle.bw_cert_rules.specs.Accepted.{edges_before, is_valid_join, NoKeep, KeepsAreAll}
 use Rattle.bw_cert_rules.specs.Instruction.{check_instruction_line}
 use Rattle.bw_cert_rules.specs.Join.{edge_of, with_edge, edges_into}
 use Rattle.bw_cert_rules.specs.Known.{KnownNodes, nothing_known}
@@ -22,7 +20,6 @@ use Rattle.bw_cert_rules.specs.Walk.{check_lines_from, check_lines}
 use Rattle.bw_cert_rules.proofs.AcceptLemmas.{Line, Joined, line_read, join_read, Come}
 use Rattle.bw_cert_rules.proofs.AcceptLemmas.{nothing_there, come_first, come_further}
 use Rattle.bw_cert_rules.proofs.WrittenLemmas.{taken_of, walk_over}
-use Rattle.bw_cert_rules.specs.Accepted.{NoKeep, KeepsAreAll}
 use Rattle.bw_cert.specs.FirstFault.{WrongLine, WrongJoin, WrongPlace}
 use Rattle.bw_cert.specs.FirstFault.{known_after, edges_after, FirstFault, StandsOn}
 use Rattle.bw_cert_rules.proofs.PartsLemmas.{with_one, stands_last}

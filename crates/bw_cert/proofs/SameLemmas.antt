@@ -1,9 +1,9 @@
 -- A certificate is checked by what its lines say, wherever their parts lie in memory.
-use Rattle.std.proofs.Common.{◌≡◌, ◌∙◌, refl, sym, ap, ℕ, List, [], ◌∷◌, map, Option, Result, Ok}
-use Rattle.std.proofs.Common.{Err}
+use Rattle.std.proofs.Common.{◌≡◌, ◌∙◌, refl, sym, ap, ℕ, List, [], ◌∷◌, map, Option, Result, Err}
 use Rattle.bw_model.specs.declared.column.Column.{Column}
 use Rattle.bw_model.specs.declared.fault.Fault.{Fault}
 use Rattle.bw_model.specs.Fault.{at_line, ◌>>=◌}
+use Rattle.bw_model.proofs.FaultLemmas.{then_same}
 use Rattle.bw_diagram.specs.declared.chain.Chain.{Chain}
 use Rattle.bw_diagram.specs.declared.chain.ChainColumns.{ChainColumns}
 use Rattle.bw_diagram.specs.declared.chain.ChainColumns.TheVariants as words
@@ -15,21 +15,11 @@ use Rattle.bw_cert_text.specs.CertificateFields.{CertificateFields, ChainFields,
 use Rattle.bw_cert_text.specs.CertificateFields.{BodyFields, One, Two, chain_fields, column_fields}
 use Rattle.bw_cert_text.specs.CertificateFields.{body_fields, certificate_fields}
 use Rattle.bw_cert_text.specs.CertificateShape.{CertificateShape}
-use Rattle.bw_cert_rules.specs.declared.nodes.TruthPair.{TruthPair}
-use Rattle.bw_cert_rules.specs.Pair as pairs
 use Rattle.bw_cert_rules.specs.Known.{KnownNodes}
-use Rattle.bw_cert_rules.specs.Walk.{WalkState}
-use Rattle.bw_cert_rules.specs.Walk as walk
+use Rattle.bw_cert_rules.proofs.TreeLemmas.{SayTheSame}
 use Rattle.bw_cert.specs.StatedFacts.{on_line, with_lines, with_node_line, with_chain_line}
 use Rattle.bw_cert.specs.StatedFacts.{with_product_line, facts_stated}
 use Rattle.bw_cert.specs.Valid.{last_on}
-
-abbrev pub SayTheSame : List BodyLine → List BodyLine → Type 0
-SayTheSame lines others = map body_fields lines ≡ map body_fields others
-
-pub bind-same : {A B : Type 0} (r : Result A Fault) (f g : A → Result B Fault) → ((x : A) → f x ≡ g x) → (r >>= f) ≡ (r >>= g)
-bind-same (Ok x) f g each = each x
-bind-same (Err fault) f g each = refl
 
 -- a CHAIN line is checked by its fields
 abbrev chain_said : List Column → ColumnFields → Option Chain
@@ -48,7 +38,7 @@ unfolding with_lines
 with_lines-chain_fields facts [] = refl
 with_lines-chain_fields facts (line ∷ lines) =
     ap (λ (named : Option Chain). on_line line.line (with_chain facts line.n named) >>= λ more. with_lines with_chain_line more lines) (chain-said facts.columns line.columns)
-    ∙ bind-same (with_chain_said facts (chain_fields line)) (λ more. with_lines with_chain_line more lines) (λ more. with_lines with_chain_said more (map chain_fields lines)) (λ more. with_lines-chain_fields more lines)
+    ∙ then_same (with_chain_said facts (chain_fields line)) (λ more. with_lines with_chain_line more lines) (λ more. with_lines with_chain_said more (map chain_fields lines)) (λ more. with_lines-chain_fields more lines)
 
 abbrev stated_said : List Column → CertificateFields → Result Facts Fault
 stated_said columns said =
@@ -58,33 +48,11 @@ stated_said columns said =
 
 stated-said : (columns : List Column) (certificate : CertificateShape) → facts_stated columns certificate ≡ stated_said columns (certificate_fields certificate)
 stated-said columns certificate =
-    bind-same (with_lines with_node_line (no_facts columns) certificate.nodes) _ _
+    then_same (with_lines with_node_line (no_facts columns) certificate.nodes) _ _
     (λ facts. ap (λ r. r >>= λ facts. with_lines with_product_line facts certificate.products) (with_lines-chain_fields facts certificate.chains))
 
 pub facts_stated-same : (columns : List Column) (certificate other : CertificateShape) → certificate_fields certificate ≡ certificate_fields other → facts_stated columns certificate ≡ facts_stated columns other
 facts_stated-same columns certificate other same = stated-said columns certificate ∙ ap (stated_said columns) same ∙ sym (stated-said columns other)
-
--- what follows a condition's lines, and a program's
-pub after_pair : (read other : pairs.Reading) (f g : TruthPair × List BodyLine → Result Facts Fault) → pairs.line_fields read ≡ pairs.line_fields other →
-    ((pair : TruthPair) (lines others : List BodyLine) → SayTheSame lines others → f (pair, lines) ≡ g (pair, others)) → (read >>= f) ≡ (other >>= g)
-after_pair (Ok a) (Ok b) f g same each =
-    let both : (a.0, map body_fields a.1) ≡ (b.0, map body_fields b.1) = cc in
-    let pair : a.0 ≡ b.0 = ap (λ (said : TruthPair × List BodyFields). said.0) both in
-    let rests : SayTheSame a.1 b.1 = ap (λ (said : TruthPair × List BodyFields). said.1) both in
-    each a.0 a.1 b.1 rests ∙ ap (λ pair. g (pair, b.1)) pair
-after_pair (Err fault) (Err other) f g same each = cc
-after_pair _ _ f g same each = cc
-
-pub after_walk : (read other : Result WalkState Fault) (f g : WalkState → Result Facts Fault) → walk.line_fields read ≡ walk.line_fields other →
-    ((known : KnownNodes) (lines others : List BodyLine) → SayTheSame lines others → f (record { known = known; rest = lines }) ≡ g (record { known = known; rest = others })) →
-    (read >>= f) ≡ (other >>= g)
-after_walk (Ok a) (Ok b) f g same each =
-    let both : (a.known, map body_fields a.rest) ≡ (b.known, map body_fields b.rest) = cc in
-    let known : a.known ≡ b.known = ap (λ (said : KnownNodes × List BodyFields). said.0) both in
-    let rests : SayTheSame a.rest b.rest = ap (λ (said : KnownNodes × List BodyFields). said.1) both in
-    each a.known a.rest b.rest rests ∙ ap (λ known. g (record { known = known; rest = b.rest })) known
-after_walk (Err fault) (Err other) f g same each = cc
-after_walk _ _ f g same each = cc
 
 pub end-same : (facts : Facts) (end : ℕ) (known : KnownNodes) (lines others : List BodyLine) (result first row : ℕ) → SayTheSame lines others →
     last_on facts end lines known result first row ≡ last_on facts end others known result first row

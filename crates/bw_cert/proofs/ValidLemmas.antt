@@ -1,11 +1,11 @@
 -- Sections one after another, and what a valid certificate's lines state.
-use Rattle.std.proofs.Common.{◌≡◌, ◌∙◌, refl, sym, ap, ap₂, subst, ℕ, suc, Bool, true}
-use Rattle.std.proofs.Common.{not, ◌&&◌, List, [], ◌∷◌, Option, Some, Result, Ok}
-use Rattle.std.proofs.Common.{Err, slice_get}
+use Rattle.std.proofs.Common.{◌≡◌, ◌∙◌, refl, sym, ap, ap₂, subst, ℕ, suc, Bool, true, not, ◌&&◌}
+use Rattle.std.proofs.Common.{List, [], ◌∷◌, Option, Some, Result, Ok, Err, slice_get}
 use Rattle.std.specs.List.{list_all}
 use Rattle.bw_model.specs.declared.column.Column.{Column}
 use Rattle.bw_model.specs.declared.fault.Fault.{Fault}
 use Rattle.bw_model.specs.Fault.{at_line, ◌>>=◌, refused_if}
+use Rattle.bw_model.proofs.FaultLemmas.{not_refused, bind_ok}
 use Rattle.bw_diagram.specs.declared.product.Connective.TheVariants.{Xor}
 use Rattle.std.proofs.lemmas.Bool.{not-false}
 use Rattle.bw_diagram.specs.References.{product_node}
@@ -29,7 +29,7 @@ use Rattle.bw_cert_rules.specs.Walk.{WalkState}
 use Rattle.bw_cert.specs.StatedFacts.{on_line, with_lines, with_node_line, with_chain_line}
 use Rattle.bw_cert.specs.StatedFacts.{with_product_line, facts_stated}
 use Rattle.bw_cert.specs.Valid.{last_on, end_on}
-use Rattle.bw_cert_rules.proofs.HoldLemmas.{bind_ok, ok_same, not_refused, found_ok}
+use Rattle.bw_cert_rules.proofs.HoldLemmas.{ok_same, found_ok}
 
 on_line_ok : (line : ℕ) (r : Result Facts Fault) (facts : Facts) → on_line line r ≡ Ok facts → r ≡ Ok facts
 on_line_ok line (Ok x) facts is = is

@@ -1,11 +1,11 @@
 -- Lines that are checked to be right are those of parts that obey.
-use Rattle.std.proofs.Common.{◌≡◌, ◌∙◌, refl, sym, ap, ap₂, subst, ℕ, suc, ◌+◌}
-use Rattle.std.proofs.Common.{true, not, ◌&&◌, List, [], ◌∷◌, ◌++◌}
-use Rattle.std.proofs.Common.{append-nil, append_assoc, map, length, length-append, Option}
-use Rattle.std.proofs.Common.{Some, None, Result, Ok, Err, slice_get, arith}
+use Rattle.std.proofs.Common.{◌≡◌, ◌∙◌, refl, sym, ap, ap₂, subst, ℕ, suc, ◌+◌, true, not, ◌&&◌}
+use Rattle.std.proofs.Common.{List, [], ◌∷◌, ◌++◌, append-nil, append_assoc, map, length}
+use Rattle.std.proofs.Common.{length-append, Option, Some, None, Result, Ok, Err, slice_get, arith}
 use Rattle.std.proofs.lemmas.Bool.{eqb-true, false≢true, not-false}
 use Rattle.bw_model.specs.declared.fault.Fault.{Fault}
 use Rattle.bw_model.specs.Fault.{at_line, refused_if}
+use Rattle.bw_model.proofs.FaultLemmas.{not_refused, bind_ok}
 use Rattle.bw_diagram.specs.Facts.{Facts}
 use Rattle.bw_program.specs.declared.instr.Instr.{Instr}
 use Rattle.bw_cert_text.specs.declared.lines.BodyLine.{BodyLine}
@@ -15,8 +15,7 @@ use Rattle.bw_cert_text.specs.declared.lines.InstructionEntry.{InstructionEntry}
 use Rattle.bw_cert_text.specs.declared.lines.Keep.{Keep}
 use Rattle.bw_cert_rules.specs.declared.edge.Edge.{Edge}
 use Rattle.bw_cert_rules.specs.Accepted.{KeepLine, JoinLines, Part, keep_line, join_lines, lines_of}
-use Rattle.bw_cert_rules.specs.Accepted.{known_before, edges_before}
-use Rattle.bw_cert_rules.specs.Accepted.{known_after_join, kept_by}
+use Rattle.bw_cert_rules.specs.Accepted.{known_before, edges_before, known_after_join, kept_by}
 use Rattle.bw_cert_rules.specs.Accepted.{are_kept, is_valid_join, AreValidParts, Accepts}
 use Rattle.bw_cert_rules.specs.Instruction.{check_instruction_line}
 use Rattle.bw_cert_rules.specs.Join.{edge_of, with_edge, edges_into, is_valid_keep}
@@ -24,7 +23,7 @@ use Rattle.bw_cert_rules.specs.Known.{KnownNodes, nothing_known, with_node}
 use Rattle.bw_cert_rules.specs.Walk.{WalkState, keep_in, by_keep, keeps_taken, join_taken, is_join}
 use Rattle.bw_cert_rules.specs.Walk.{instruction_on, instruction_taken, apply_join}
 use Rattle.bw_cert_rules.specs.Walk.{check_lines_from, check_lines}
-use Rattle.bw_cert_rules.proofs.HoldLemmas.{bind_ok, not_refused, ok_same}
+use Rattle.bw_cert_rules.proofs.HoldLemmas.{ok_same}
 use Rattle.bw_cert_rules.proofs.PartsLemmas.{with_one, edges_here, known_here, obeys_more, lines_more}
 
 -- what can't be returned

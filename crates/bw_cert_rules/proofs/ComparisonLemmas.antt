@@ -2,10 +2,7 @@
 use Rattle.std.proofs.Common.{◌≡◌, ◌∙◌, refl, sym, ap, ap₂, subst, ℕ, zero, suc, ℤ, pos, ◌+◌, ◌-◌}
 use Rattle.std.proofs.Common.{◌^◌, ◌+ℤ◌, ◌-ℤ◌, ◌<◌, Bool, true, false, not, cond, ◌&&◌, ◌||◌, List}
 use Rattle.std.proofs.Common.{[], ◌∷◌, length, max, Option, Some, None, arith, int_le, int_lt}
-use Rattle.std.proofs.Common.{unsigned_abs}
-use Rattle.std.specs.Ordering.{int_eq}
-use Rattle.std.proofs.Math.Dec.{eqb}
-use Rattle.std.proofs.lemmas.Bool.{eqb-true, ltb-true, le-ltb, eq-eqb}
+use Rattle.std.proofs.Common.{unsigned_abs, int_eq, eqb, eqb-true, ltb-true, le-ltb, eq-eqb}
 use Rattle.bw_model.specs.declared.column.Column.{Column}
 use Rattle.bw_model.specs.declared.cond.Op.{Op}
 use Rattle.bw_model.specs.declared.cond.Op.TheVariants.{Eq, Ne, Lt, Gt, Le, Ge}
@@ -21,6 +18,7 @@ use Rattle.bw_model.specs.Truth.{truth_from, is_truth, holds, compare_values, sw
 use Rattle.bw_model.specs.Variable.{Assignment, first_variable, is_nullable, binary_number, row_of}
 use Rattle.bw_model.specs.Variable.{null_variable, bit_variable}
 use Rattle.bw_model.proofs.PlaceLemmas.{value_in-row_of}
+use Rattle.bw_model.proofs.VariableLemmas.{binary_number-lt}
 use Rattle.bw_diagram.specs.declared.chain.ChainKind.{ChainKind}
 use Rattle.bw_diagram.specs.declared.chain.ChainKind.TheVariants.{Less, Equal}
 use Rattle.bw_diagram.specs.declared.node.Node.{Node}
@@ -39,7 +37,6 @@ use Rattle.bw_cert_rules.specs.Rows.{if_both, exchange_nodes, value_node}
 use Rattle.bw_cert_rules.specs.Comparison.{lo_at, constant_pair, fixed_pair, pair_if_known}
 use Rattle.bw_cert_rules.specs.Comparison.{exchange_if, bound_of, terminal_of, terminal_or_cited}
 use Rattle.bw_cert_rules.specs.Comparison.{bound_node, with_literal, order_of, order_node}
-use Rattle.bw_cert_rules.proofs.HoldLemmas.{spelled_small}
 use Rattle.bw_cert_rules.specs.Comparison.{both_node, with_column, comparison}
 use Rattle.bw_cert_rules.specs.Meaning.{Tells}
 use Rattle.bw_cert_rules.proofs.NumberLemmas.{compares_to, turned_bit, lt_low, lt_high, eq_low}
@@ -82,7 +79,7 @@ abbrev pub code_spelled : List Column → ℕ → Assignment → ℕ
 code_spelled columns col assignment = number_spelled columns col 0 (width_at columns col) assignment
 
 code_spelled-lt : (columns : List Column) (col : ℕ) (assignment : Assignment) → code_spelled columns col assignment < 2 ^ width_at columns col
-code_spelled-lt columns col assignment = spelled_small assignment (first_variable columns (suc col) - (0 + width_at columns col)) (width_at columns col)
+code_spelled-lt columns col assignment = binary_number-lt assignment (first_variable columns (suc col) - (0 + width_at columns col)) (width_at columns col)
 
 value_at-lo : (columns : List Column) (col code : ℕ) → col < length columns → value_at columns col code ≡ lo_at columns col +ℤ pos code
 value_at-lo [] col code lt = absurd (omega arith)
@@ -189,8 +186,6 @@ module _ (facts : Facts) (have_values : HaveStatedValues facts) where
 
       by_turn : (negated : Bool) (made : Option TruthPair) → if_both (product_node facts And m e p) (product_node facts Diff m e q) ≡ made → exchange_if negated made ≡ Some pair →
           Tells facts.nodes (λ assignment. split_truth negated (there assignment) (bit assignment)) pair
-      by_turn true None made is = cc
-      by_turn false None made is = cc
       by_turn false (Some found) made is =
           subst (Tells facts.nodes (λ assignment. split_truth false (there assignment) (bit assignment))) (cc)
           (tells_by facts.nodes _ found
@@ -201,6 +196,7 @@ module _ (facts : Facts) (have_values : HaveStatedValues facts) where
           (tells_by facts.nodes _ (exchange_nodes found)
           (denotes_so facts.nodes _ _ found.no (λ assignment. says_yes true (there assignment) (bit assignment)) (f_denotes found made))
           (denotes_so facts.nodes _ _ found.yes (λ assignment. says_no true (there assignment) (bit assignment)) (t_denotes found made)))
+      by_turn _ _ made is = cc
   split-tells negated _ _ p q pair there bit m_denotes e_denotes is = by_turn negated is
     where
       by_turn : (negated : Bool) → exchange_if negated None ≡ Some pair → Tells facts.nodes (λ assignment. split_truth negated (there assignment) (bit assignment)) pair

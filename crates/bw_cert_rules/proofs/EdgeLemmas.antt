@@ -1,10 +1,7 @@
 -- Edges by their targets, and one more.
 use Rattle.std.proofs.Common.{◌≡◌, ◌∙◌, refl, sym, ap, ℕ, zero, suc, ◌+◌, ◌<◌, Bool, true, false}
 use Rattle.std.proofs.Common.{cond, List, [], ◌∷◌, ◌++◌, length, append-nil, get_or, replicate}
-use Rattle.std.proofs.Common.{arith}
-use Rattle.std.proofs.Math.Dec.{eqb}
-use Rattle.std.proofs.Math.ListN.{set, length-set}
-use Rattle.std.proofs.Math.Seq.{get_or-set_same, get_or-set_other}
+use Rattle.std.proofs.Common.{arith, eqb, set, length-set, get_or-set_same, get_or-set_other}
 use Rattle.std.proofs.lemmas.Bool.{eqb-true, eqb-false}
 use Rattle.bw_cert_rules.specs.declared.edge.Edge.{Edge}
 use Rattle.bw_cert_rules.specs.Join.{edges_into}

@@ -1,13 +1,9 @@
 -- Known nodes and what registers hold.
-use Rattle.std.proofs.Common.{◌≡◌, ◌≢◌, ◌∙◌, refl, ap, ap₂, ◌⊎◌, inl, inr, ℕ, zero, suc, ◌+◌, ◌^◌}
-use Rattle.std.proofs.Common.{◌<◌, Bool, true, false, cond, List, [], ◌∷◌, map, replicate, get_or}
-use Rattle.std.proofs.Common.{Option, Some, None, Result, Ok, Err, arith}
-use Rattle.std.proofs.Math.Dec.{eqb}
-use Rattle.std.proofs.Math.Nat.{pow-succ'}
-use Rattle.std.proofs.lemmas.Bool.{eqb-true, eq-eqb}
+use Rattle.std.proofs.Common.{◌≡◌, ◌≢◌, ◌∙◌, refl, ap, ap₂, ◌⊎◌, inl, inr, ℕ, zero, suc, Bool, true}
+use Rattle.std.proofs.Common.{false, cond, List, [], ◌∷◌, map, replicate, get_or, Option, Some}
+use Rattle.std.proofs.Common.{None, Result, Ok, arith, eqb, eqb-true, eq-eqb}
 use Rattle.bw_model.specs.declared.fault.Fault.{Fault}
-use Rattle.bw_model.specs.Fault.{◌>>=◌, refused_if}
-use Rattle.bw_model.specs.Variable.{Assignment, binary_number}
+use Rattle.bw_model.specs.Variable.{Assignment}
 use Rattle.bw_diagram.specs.Facts.{Facts}
 use Rattle.bw_diagram.specs.Node.{node_value}
 use Rattle.bw_program.specs.Machine.{with_register}
@@ -16,17 +12,8 @@ use Rattle.bw_program.specs.ProgramText.{found_on}
 use Rattle.bw_cert_rules.specs.Known.{KnownNodes, node_of, nothing_known, with_node}
 use Rattle.bw_cert_rules.specs.Sound.{Hold}
 
--- what answered Ok along a chain answered Ok at each step
-pub bind_ok : {A B : Type 0} (r : Result A Fault) (f : A → Result B Fault) (y : B) → (r >>= f) ≡ Ok y → (x : A) × (r ≡ Ok x) × (f x ≡ Ok y)
-bind_ok (Ok x) f y is = (x, refl, is)
-bind_ok (Err fault) f y is = cc
-
 pub ok_same : {A : Type 0} {x y : A} → ◌≡◌ {A = Result A Fault} (Ok x) (Ok y) → x ≡ y
 ok_same is = cc
-
-pub not_refused : {A : Type 0} (b : Bool) (fault : Fault) (r : Result A Fault) (x : A) → refused_if b fault r ≡ Ok x → (b ≡ false) × (r ≡ Ok x)
-not_refused true fault r x is = cc
-not_refused false fault r x is = (refl, is)
 
 pub found_ok : {A : Type 0} (code line : ℕ) (o : Option A) (x : A) → found_on code line o ≡ Ok x → o ≡ Some x
 found_ok code line None x is = cc
@@ -87,12 +74,3 @@ holds_kept facts lanes known registers r node holds denoted register n is = at (
     at : ((register ≡ r) × (node ≡ n)) ⊎ ((register ≢ r) × (node_of known register ≡ Some n)) → registers register ≡ value n
     at (inl (same, node_is)) = ap registers same ∙ denoted ∙ ap value node_is
     at (inr (differs, there)) = holds register n there
-
--- this many bits spell a number below this many powers of two
-pub spelled_small : (bits : Assignment) (first count : ℕ) → binary_number bits first count < 2 ^ count
-spelled_small bits first zero = omega arith
-spelled_small bits first (suc count) = at (bits first) (spelled_small bits (suc first) count)
-  where
-    at : (bit : Bool) → binary_number bits (suc first) count < 2 ^ count → cond bit (2 ^ count) 0 + binary_number bits (suc first) count < 2 ^ suc count
-    at true small = omega (arith, small, pow-succ' 2 count)
-    at false small = omega (arith, small, pow-succ' 2 count)

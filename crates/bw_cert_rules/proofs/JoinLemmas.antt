@@ -16,10 +16,6 @@ use Rattle.bw_cert_rules.specs.Known.{KnownNodes, with_node}
 use Rattle.bw_cert_rules.specs.Walk.{WalkState, keep_in, by_keep, keeps_taken}
 
 -- a list that ends, or doesn't
-pub empty_is : {A : Type 0} (xs : List A) → length xs ≡ 0 → xs ≡ []
-empty_is [] is = refl
-empty_is (x ∷ xs) is = cc
-
 pub skips_without_pair : (facts : Facts) (keep : Keep) (skips edges : List Edge) (edge : Edge) (pairs : List EdgeProducts) → skips ≡ edge ∷ edges → pairs ≡ [] → keeps_by_skips facts keep skips pairs ≡ false
 unfolding keeps_by_skips
 skips_without_pair facts keep skips edges edge pairs some none = ap₂ (keeps_by_skips facts keep) some none

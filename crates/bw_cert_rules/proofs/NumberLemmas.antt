@@ -1,7 +1,6 @@
 -- A comparison with a literal, as one of a code with a bound.
 use Rattle.std.proofs.Common.{◌≡◌, refl, ap, ℕ, ℤ, pos, ◌+ℤ◌, ◌-ℤ◌, ◌<◌, Bool, true, false, not}
-use Rattle.std.proofs.Common.{cond, arith, int_le, int_lt, unsigned_abs, ◌==◌, nat_lt}
-use Rattle.std.specs.Ordering.{int_eq}
+use Rattle.std.proofs.Common.{cond, arith, int_le, int_lt, unsigned_abs, ◌==◌, nat_lt, int_eq}
 use Rattle.std.proofs.lemmas.Int.{ints}
 use Rattle.bw_model.specs.declared.cond.Op.{Op}
 use Rattle.bw_model.specs.declared.cond.Op.TheVariants.{Eq, Ne, Lt, Gt, Le, Ge}

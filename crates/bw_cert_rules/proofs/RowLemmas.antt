@@ -1,8 +1,7 @@
 -- The nodes that a condition's line takes from the rows that it cites are worth what the rows
 -- claim.
 use Rattle.std.proofs.Common.{◌≡◌, ◌∙◌, refl, ap, subst, ℕ, Bool, true, false, not, cond, ◌&&◌}
-use Rattle.std.proofs.Common.{List, Option, Some, None, slice_get, arith}
-use Rattle.std.specs.Option.{option_map}
+use Rattle.std.proofs.Common.{List, Option, Some, None, slice_get, arith, option_map}
 use Rattle.std.proofs.lemmas.Option.{option_and_then_some}
 use Rattle.bw_model.specs.declared.column.Column.{Column}
 use Rattle.bw_model.specs.Variable.{Assignment, is_nullable, first_variable, null_variable}

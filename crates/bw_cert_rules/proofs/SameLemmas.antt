@@ -14,9 +14,8 @@ use Rattle.bw_cert_text.specs.declared.lines.EdgeProducts.{EdgeProducts}
 use Rattle.bw_cert_text.specs.declared.lines.Entry.{Entry}
 use Rattle.bw_cert_text.specs.declared.lines.Entry.TheVariants as entry
 use Rattle.bw_cert_text.specs.declared.lines.Keep.{Keep}
-use Rattle.bw_cert_text.specs.CertificateFields.{BodyFields, EntryFields, KeepFields}
-use Rattle.bw_cert_text.specs.CertificateFields.{Instruction, Join, Kept, body_fields, entry_fields}
-use Rattle.bw_cert_text.specs.CertificateFields.{keep_fields}
+use Rattle.bw_cert_text.specs.CertificateFields.{BodyFields, EntryFields, KeepFields, Instruction}
+use Rattle.bw_cert_text.specs.CertificateFields.{Join, Kept, body_fields, entry_fields, keep_fields}
 use Rattle.bw_cert_rules.specs.declared.edge.Edge.{Edge}
 use Rattle.bw_cert_rules.specs.Instruction.{check_instruction_line}
 use Rattle.bw_cert_rules.specs.Join.{edge_of, with_edge, edges_into, is_zero, keeps_by_skip}
@@ -25,15 +24,12 @@ use Rattle.bw_cert_rules.specs.Known.{KnownNodes, node_of, with_node, nothing_kn
 use Rattle.bw_cert_rules.specs.Walk.{WalkState, line_fields, instruction_on, instruction_taken}
 use Rattle.bw_cert_rules.specs.Walk.{is_join, keep_in, by_keep, keeps_taken, apply_join}
 use Rattle.bw_cert_rules.specs.Walk.{check_lines_from}
-
--- lines that say the same
-abbrev pub SayTheSame : List BodyLine → List BodyLine → Type 0
-SayTheSame lines others = map body_fields lines ≡ map body_fields others
+use Rattle.bw_cert_rules.proofs.TreeLemmas.{SayTheSame}
 
 abbrev Told : Type 0
 Told = Result (KnownNodes × List BodyFields) Fault
 
-abbrev taken_of : KnownNodes → List BodyLine → WalkState
+abbrev pub taken_of : KnownNodes → List BodyLine → WalkState
 taken_of known rest = record { known = known; rest = rest }
 
 -- what a line says of an instruction, of a join and of a register
@@ -94,16 +90,15 @@ bind-same : {A : Type 0} (read : Result A Fault) (f g : A → Result WalkState F
 bind-same (Ok x) f g each = each x
 bind-same (Err fault) f g each = refl
 
-bind-fields : (read other : Result WalkState Fault) (f g : WalkState → Result WalkState Fault) → line_fields read ≡ line_fields other →
-    ((known : KnownNodes) (lines others : List BodyLine) → SayTheSame lines others → line_fields (f (taken_of known lines)) ≡ line_fields (g (taken_of known others))) →
-    line_fields (read >>= f) ≡ line_fields (other >>= g)
-bind-fields (Ok a) (Ok b) f g same each =
+pub after_walk : {A B : Type 0} (see : Result A Fault → B) (read other : Result WalkState Fault) (f g : WalkState → Result A Fault) → line_fields read ≡ line_fields other →
+    ((known : KnownNodes) (lines others : List BodyLine) → SayTheSame lines others → see (f (taken_of known lines)) ≡ see (g (taken_of known others))) → see (read >>= f) ≡ see (other >>= g)
+after_walk see (Ok a) (Ok b) f g same each =
     let both : (a.known, map body_fields a.rest) ≡ (b.known, map body_fields b.rest) = cc in
     let known : a.known ≡ b.known = ap (λ (said : KnownNodes × List BodyFields). said.0) both in
     let rests : SayTheSame a.rest b.rest = ap (λ (said : KnownNodes × List BodyFields). said.1) both in
-    each a.known a.rest b.rest rests ∙ ap (λ known. line_fields (g (taken_of known b.rest))) known
-bind-fields (Err fault) (Err other) f g same each = same
-bind-fields _ _ f g same each = cc
+    each a.known a.rest b.rest rests ∙ ap (λ known. see (g (taken_of known b.rest))) known
+after_walk see (Err fault) (Err other) f g same each = let alike : fault ≡ other = cc same in ap (λ (fault : Fault). see (Err fault)) alike
+after_walk see _ _ f g same each = cc same
 
 refused-same : (b : Bool) (fault : Fault) (read other : Result WalkState Fault) → line_fields read ≡ line_fields other → line_fields (refused_if b fault read) ≡ line_fields (refused_if b fault other)
 refused-same true fault read other same = refl
@@ -173,7 +168,7 @@ module _ (facts : Facts) (end : ℕ) where
   check_lines_from-same place edges [] known lines others same = ap (λ (fields : List BodyFields). Ok (known, fields)) same
   check_lines_from-same place edges (instr ∷ instrs) known lines others same =
       let further = with_edge edges (edge_of known instr) in
-      bind-fields (instruction_taken facts end known instr lines) (instruction_taken facts end known instr others) _ _ (instruction-same known instr lines others same)
-      (λ through lines others same. bind-fields (apply_join facts end (suc place) (edges_into (suc place) further) (taken_of through lines)) (apply_join facts end (suc place) (edges_into (suc place) further) (taken_of through others)) _ _
+      after_walk line_fields (instruction_taken facts end known instr lines) (instruction_taken facts end known instr others) _ _ (instruction-same known instr lines others same)
+      (λ through lines others same. after_walk line_fields (apply_join facts end (suc place) (edges_into (suc place) further) (taken_of through lines)) (apply_join facts end (suc place) (edges_into (suc place) further) (taken_of through others)) _ _
       (apply_join-same (suc place) (edges_into (suc place) further) through lines others same)
       (λ apply_join lines others same. check_lines_from-same (suc place) further instrs apply_join lines others same))

@@ -1,13 +1,9 @@
 -- What is known at each place holds in every run that reaches it, whichever skips the run takes.
 use Rattle.std.proofs.Common.{◌≡◌, ◌∙◌, refl, sym, ap, ap₂, subst, ◌⊎◌, inl, inr, ℕ, zero, suc, ◌+◌}
 use Rattle.std.proofs.Common.{◌<◌, ◌≤◌, Bool, true, false, not, cond, IsTrue, List, [], ◌∷◌, ◌++◌}
-use Rattle.std.proofs.Common.{length, Option, Some, None, slice_get, add-zero, arith}
-use Rattle.std.proofs.Math.Dec.{eqb}
-use Rattle.std.proofs.lemmas.Bool.{false≢true, eqb-true, eqb-false, eq-eqb, ltb-true, leb-true}
-use Rattle.std.specs.Option.{option_and_then}
+use Rattle.std.proofs.Common.{length, Option, Some, None, slice_get, arith, eqb, option_and_then}
+use Rattle.std.proofs.lemmas.Bool.{false≢true, eqb-true, eqb-false, eq-eqb}
 use Rattle.bw_model.proofs.BitsLemmas.{both}
-use Rattle.std.proofs.lemmas.Option.{slice_get_within}
-use Rattle.bw_model.specs.declared.column.Column.{Column}
 use Rattle.bw_model.specs.Variable.{Assignment}
 use Rattle.bw_diagram.specs.declared.product.Connective.TheVariants as connective
 use Rattle.bw_diagram.specs.Facts.{Facts}
@@ -18,7 +14,8 @@ use Rattle.bw_program.specs.declared.instr.Instr.{Instr}
 use Rattle.bw_program.specs.declared.instr.Instr.TheVariants.{Skip}
 use Rattle.bw_program.specs.Machine.{State, step, step_of, state_after, steps_from, after_skip}
 use Rattle.bw_program.specs.Machine.{is_zero_in_all, end_state}
-use Rattle.bw_program.specs.Program.{ProgramShape, is_sound, are_sound, is_program}
+use Rattle.bw_program.specs.Program.{ProgramShape, is_program}
+use Rattle.bw_program.proofs.EndLemmas.{skips_forward, ends}
 use Rattle.bw_cert_text.specs.declared.lines.EdgeProducts.{EdgeProducts}
 use Rattle.bw_cert_text.specs.declared.lines.Keep.{Keep}
 use Rattle.bw_cert_rules.specs.declared.edge.Edge.{Edge}
@@ -73,8 +70,7 @@ same_where_zero facts (lane ∷ lanes) g h z q differs within denoted xor diff z
   where
     at : (zv qv : Bool) → node_value facts.nodes lane z ≡ zv → apply_connective connective.Diff zv qv ≡ false → not qv ≡ true → node_value facts.nodes lane g ≡ node_value facts.nodes lane h
     at false qv zv_is none q_is = xor_zero _ _ (sym ((denoted.row connective.Xor g h differs z xor).1 lane) ∙ zv_is)
-    at true true zv_is none q_is = cc
-    at true false zv_is none q_is = cc
+    at _ _ zv_is none q_is = cc
 
 -- by a skip that is taken, a kept register holds the values of its node
 kept_by_skip : (facts : Facts) (lanes : List Assignment) (registers : ℕ → List Bool) (keep : Keep) (edge : Edge) (rows : EdgeProducts) → HaveStatedValues facts → Hold facts lanes edge.known registers →
@@ -270,66 +266,13 @@ holds_after facts lanes program parts (suc steps) denoted valid_parts forward =
     at None there holds = holds
     at (Some instr) there holds = stepped facts lanes program.instrs parts last instr denoted valid_parts forward there holds
 
--- an instruction of a program is sound
-sound_at : (end number : ℕ) (instrs : List Instr) (k : ℕ) (instr : Instr) → are_sound end number instrs ≡ true → slice_get instrs k ≡ Some instr → is_sound end (number + k) instr ≡ true
-unfolding are_sound
-sound_at end number [] k instr sound there = cc
-sound_at end number (i ∷ instrs) zero instr sound there =
-    let same : i ≡ instr = cc in
-    subst (λ n. is_sound end n instr ≡ true) (sym (add-zero number)) (subst (λ i. is_sound end number i ≡ true) same (both _ _ sound).0)
-sound_at end number (i ∷ instrs) (suc k) instr sound there =
-    subst (λ n. is_sound end n instr ≡ true) (omega arith) (sound_at end (suc number) instrs k instr (both _ _ sound).1 there)
-
 -- a program's skips go forward, and not past the end
 pub forward : (program : ProgramShape) → IsTrue (is_program program) → Forward program.instrs
-forward program sound k x target there =
-    let is : is_sound (length program.instrs) k (Skip x target) ≡ true =
-    subst (λ n. is_sound (length program.instrs) n (Skip x target) ≡ true) (omega arith) (sound_at (length program.instrs) 0 program.instrs k (Skip x target) (both _ _ sound).1 there) in
-    let ends = both _ _ is in
-    let starts = both _ _ ends.0 in
-    (ltb-true k target starts.1, leb-true target (length program.instrs) ends.1)
-
--- a step continues, and not past the end
-goes_on : (columns : List Column) (lanes : List Assignment) (instrs : List Instr) (state : State) (instr : Instr) → Forward instrs → slice_get instrs state.place ≡ Some instr →
-    (state.place < (step columns lanes instr state).place) × ((step columns lanes instr state).place ≤ length instrs)
-goes_on columns lanes instrs state (Skip x target) forward there = at (is_zero_in_all (state.registers x))
-  where
-    at : (taken : Bool) → (state.place < (after_skip state taken target).place) × ((after_skip state taken target).place ≤ length instrs)
-    at true = forward state.place x target there
-    at false = (omega arith, omega (arith, slice_get_within instrs state.place _ there))
-goes_on columns lanes instrs state _ forward there = (omega arith, omega (arith, slice_get_within instrs state.place _ there))
-
--- after this many steps a run has come so far, or to the end
-come_far : (columns : List Column) (lanes : List Assignment) (program : ProgramShape) (steps : ℕ) → Forward program.instrs → let state : State = state_after columns lanes program steps in
-    (state.place ≤ length program.instrs) × ((steps ≤ state.place) ⊎ (state.place ≡ length program.instrs))
-unfolding steps_from
-come_far columns lanes program zero forward = (omega arith, inl (omega arith))
-come_far columns lanes program (suc steps) forward = at (slice_get program.instrs last.place) refl (come_far columns lanes program steps forward)
-  where
-    last : State
-    last = state_after columns lanes program steps
-
-    Far : ℕ → State → Type 0
-    Far steps state = (state.place ≤ length program.instrs) × ((steps ≤ state.place) ⊎ (state.place ≡ length program.instrs))
-
-    at : (instr : Option Instr) → slice_get program.instrs last.place ≡ instr → Far steps last → Far (suc steps) (step_of columns lanes instr last)
-    at None there (within, far) = (within, inr (ended program.instrs last.place there within))
-      where
-        ended : (xs : List Instr) (k : ℕ) → slice_get xs k ≡ None → k ≤ length xs → k ≡ length xs
-        ended [] k is le = omega (arith, le)
-        ended (x ∷ xs) zero is le = cc
-        ended (x ∷ xs) (suc k) is le = ap suc (ended xs k is (omega (arith, le)))
-    at (Some instr) there (within, inl far) = let on = goes_on columns lanes program.instrs last instr forward there in (on.1, inl (omega (arith, on.0, far)))
-    at (Some instr) there (within, inr end) = absurd (omega (arith, slice_get_within program.instrs last.place instr there, end))
+forward program sound k x target there = skips_forward program k x target sound there
 
 -- at the end, what is known there holds
-pub holds_at_end : (facts : Facts) (lanes : List Assignment) (program : ProgramShape) (parts : List Part) → HaveStatedValues facts → AreValidParts facts program.instrs parts → Forward program.instrs →
+pub holds_at_end : (facts : Facts) (lanes : List Assignment) (program : ProgramShape) (parts : List Part) → HaveStatedValues facts → AreValidParts facts program.instrs parts → IsTrue (is_program program) →
     Hold facts lanes (known_before facts program.instrs parts (length program.instrs)) (end_state facts.columns lanes program).registers
-holds_at_end facts lanes program parts denoted valid_parts forward =
-    subst (λ p. Hold facts lanes (known_before facts program.instrs parts p) (end_state facts.columns lanes program).registers) (there (come_far facts.columns lanes program (length program.instrs) forward))
-    (holds_after facts lanes program parts (length program.instrs) denoted valid_parts forward)
-  where
-    there : ((end_state facts.columns lanes program).place ≤ length program.instrs) × ((length program.instrs ≤ (end_state facts.columns lanes program).place) ⊎ ((end_state facts.columns lanes program).place ≡ length program.instrs)) →
-        (end_state facts.columns lanes program).place ≡ length program.instrs
-    there (within, inl far) = omega (arith, within, far)
-    there (within, inr end) = end
+holds_at_end facts lanes program parts denoted valid_parts sound =
+    subst (λ p. Hold facts lanes (known_before facts program.instrs parts p) (end_state facts.columns lanes program).registers) (ends facts.columns lanes program sound)
+    (holds_after facts lanes program parts (length program.instrs) denoted valid_parts (forward program sound))

@@ -1,13 +1,14 @@
 -- What is known after an instruction holds after its step.
 use Rattle.std.proofs.Common.{◌≡◌, ◌∙◌, refl, sym, ap, ap₂, subst, ℕ, suc, ◌+◌, ◌-◌, ◌*◌, ◌^◌, ◌<◌}
 use Rattle.std.proofs.Common.{Bool, true, false, not, ◌&&◌, ◌||◌, cond, List, map, Option, Some}
-use Rattle.std.proofs.Common.{Result, None, Ok, nat_le, arith}
-use Rattle.std.proofs.lemmas.Bool.{lt-ltb, leb-true, ne_eqb}
+use Rattle.std.proofs.Common.{Result, None, Ok, nat_le, arith, lt-ltb, leb-true, ne_eqb}
 use Rattle.std.proofs.lemmas.Simd.{zip2-map, map-map}
 use Rattle.std.specs.Simd.Lanes.{zip2}
 use Rattle.bw_model.specs.declared.fault.Fault.{Fault}
 use Rattle.bw_model.specs.StoredCodes.{byte_spelled, bits_in_slice}
 use Rattle.bw_model.specs.Variable.{Assignment, first_variable, bit_variable}
+use Rattle.bw_model.proofs.VariableLemmas.{binary_number-lt}
+use Rattle.bw_model.proofs.FaultLemmas.{not_refused, bind_ok}
 use Rattle.bw_diagram.specs.declared.chain.ChainKind.{ChainKind}
 use Rattle.bw_diagram.specs.declared.chain.ChainKind.TheVariants.{Less, Equal}
 use Rattle.bw_diagram.specs.declared.product.Connective.{Connective}
@@ -29,8 +30,7 @@ use Rattle.bw_cert_rules.specs.Instruction.{joined_on, opposite_on, past_node, b
 use Rattle.bw_cert_rules.specs.Instruction.{check_instruction_line, set_register}
 use Rattle.bw_cert_rules.specs.Known.{KnownNodes}
 use Rattle.bw_cert_rules.specs.Sound.{Hold}
-use Rattle.bw_cert_rules.proofs.HoldLemmas.{bind_ok, not_refused, found_ok, map_same, holds_written}
-use Rattle.bw_cert_rules.proofs.HoldLemmas.{ok_same, spelled_small}
+use Rattle.bw_cert_rules.proofs.HoldLemmas.{found_ok, map_same, holds_written, ok_same}
 use Rattle.std.proofs.lemmas.Option.{none-some, same_Some}
 
 -- a node's values in some lanes
@@ -105,7 +105,7 @@ byte_denotes facts lanes line kind there column slice k node given denoted is =
     at None true past is assignment =
         let node_is : past_node kind ≡ node = same_Some _ _ (ap (λ b. cond b (Some (past_node kind)) None) (sym past) ∙ is) in
         let small : byte assignment < k =
-        omega (arith, leb-true (2 ^ bits_in_slice facts.columns column slice) k past, spelled_small assignment (first_variable facts.columns (suc column) - (8 * slice + bits_in_slice facts.columns column slice)) (bits_in_slice facts.columns column slice)) in
+        omega (arith, leb-true (2 ^ bits_in_slice facts.columns column slice) k past, binary_number-lt assignment (first_variable facts.columns (suc column) - (8 * slice + bits_in_slice facts.columns column slice)) (bits_in_slice facts.columns column slice)) in
         past_denotes facts assignment kind (byte assignment) k denoted small ∙ ap (node_value facts.nodes assignment) node_is
     at None false past is assignment = absurd (none-some _ (ap (λ b. cond b (Some (past_node kind)) None) (sym past) ∙ is))
     at (Some chain) true past is assignment = absurd (none-some _ (ap (λ b. cond b None (comparison_node facts kind column (8 * slice) (bits_in_slice facts.columns column slice) k chain)) (sym past) ∙ is))

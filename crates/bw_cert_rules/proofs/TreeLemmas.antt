@@ -1,8 +1,7 @@
 -- A condition's lines are read by its tree, and by what the lines say, wherever their parts lie in
 -- memory.
 use Rattle.std.proofs.Common.{◌≡◌, ◌∙◌, refl, sym, ap, ap₂, ℕ, List, [], ◌∷◌, map, Option, Some}
-use Rattle.std.proofs.Common.{None, Ok, Err}
-use Rattle.std.specs.Option.{option_and_then}
+use Rattle.std.proofs.Common.{None, Result, Ok, Err, option_and_then}
 use Rattle.bw_model.specs.declared.column.Column.{Column}
 use Rattle.bw_model.specs.declared.cond.Truth.TheVariants.{Yes}
 use Rattle.bw_model.specs.declared.cond.Op.TheVariants.{Eq, Le, Ge}
@@ -11,6 +10,7 @@ use Rattle.bw_model.specs.declared.cond.Cond.{Cond, Cond-F, fold-Cond}
 use Rattle.bw_model.specs.declared.cond.Cond.TheFolds.{map-Cond}
 use Rattle.bw_model.specs.CondTree.{CondTree, CondTrees, none, more, trees_of, tree_step, tree_of}
 use Rattle.bw_model.specs.CondTree as tree
+use Rattle.bw_model.specs.declared.fault.Fault.{Fault}
 use Rattle.bw_model.specs.Fault.{at_line, ◌>>=◌}
 use Rattle.bw_model.proofs.SameLemmas.{Known, bare, of_tree}
 use Rattle.bw_diagram.specs.Facts.{Facts}
@@ -74,31 +74,30 @@ by_line-steady end rule lines others same =
     expect_line-steady end (option_and_then rule (next_entry lines)) lines others same
     ∙ ap (λ entry. line_fields (expect_line end (option_and_then rule entry) others)) (next-same lines others same)
 
--- one reader after another
-bind-steady : (read other : Reading) (f g : TruthPair × List BodyLine → Reading) → line_fields read ≡ line_fields other →
-    ((pair : TruthPair) (lines others : List BodyLine) → SayTheSame lines others → line_fields (f (pair, lines)) ≡ line_fields (g (pair, others))) →
-    line_fields (read >>= f) ≡ line_fields (other >>= g)
-bind-steady (Ok a) (Ok b) f g same each =
+-- one reader after another, whatever of the result is seen
+pub after_pair : {A B : Type 0} (see : Result A Fault → B) (read other : Reading) (f g : TruthPair × List BodyLine → Result A Fault) →
+    line_fields read ≡ line_fields other → ((pair : TruthPair) (lines others : List BodyLine) → SayTheSame lines others → see (f (pair, lines)) ≡ see (g (pair, others))) → see (read >>= f) ≡ see (other >>= g)
+after_pair see (Ok a) (Ok b) f g same each =
     let both : (a.0, map body_fields a.1) ≡ (b.0, map body_fields b.1) = cc in
     let pairs : a.0 ≡ b.0 = ap (λ (said : TruthPair × List BodyFields). said.0) both in
     let rests : SayTheSame a.1 b.1 = ap (λ (said : TruthPair × List BodyFields). said.1) both in
-    each a.0 a.1 b.1 rests ∙ ap (λ pair. line_fields (g (pair, b.1))) pairs
-bind-steady (Err fault) (Err other) f g same each = same
-bind-steady _ _ f g same each = cc
+    each a.0 a.1 b.1 rests ∙ ap (λ pair. see (g (pair, b.1))) pairs
+after_pair see (Err fault) (Err other) f g same each = let alike : fault ≡ other = cc same in ap (λ (fault : Fault). see (Err fault)) alike
+after_pair see _ _ f g same each = cc same
 
 module _ (columns : List Column) (facts : Facts) (end : ℕ) where
   more-steady : (junction : Junction) (parts : List (List BodyLine → Reading)) → AllSteady parts → (pair : TruthPair) (lines others : List BodyLine) → SayTheSame lines others →
       line_fields (more_parts columns facts end junction parts (pair, lines)) ≡ line_fields (more_parts columns facts end junction parts (pair, others))
   more-steady junction [] all pair lines others same = ap (λ (fields : List BodyFields). Ok (pair, fields)) same
   more-steady junction (part ∷ parts) all pair lines others same =
-      bind-steady (one_more columns facts end junction part (pair, lines)) (one_more columns facts end junction part (pair, others)) _ _
-      (bind-steady (part lines) (part others) _ _ (all.0 lines others same) (λ next lines others same. by_line-steady end (joined_pair facts junction pair next) lines others same))
+      after_pair line_fields (one_more columns facts end junction part (pair, lines)) (one_more columns facts end junction part (pair, others)) _ _
+      (after_pair line_fields (part lines) (part others) _ _ (all.0 lines others same) (λ next lines others same. by_line-steady end (joined_pair facts junction pair next) lines others same))
       (λ next lines others same. more-steady junction parts all.1 next lines others same)
 
   joined-steady : (junction : Junction) (parts : List (List BodyLine → Reading)) → AllSteady parts → Steady (joined_parts columns facts end junction parts)
   joined-steady junction [] all lines others same = expect_line-steady end None lines others same
   joined-steady junction (part ∷ parts) all lines others same =
-      bind-steady (part lines) (part others) _ _ (all.0 lines others same) (λ first lines others same. more-steady junction parts all.1 first lines others same)
+      after_pair line_fields (part lines) (part others) _ _ (all.0 lines others same) (λ first lines others same. more-steady junction parts all.1 first lines others same)
 
   equations-steady : (x : Operand) (items : List Operand) → AllSteady (equations columns facts end x items)
   equations-steady x [] = tt
@@ -110,7 +109,7 @@ module _ (columns : List Column) (facts : Facts) (end : ℕ) where
 
   after-steady : (reader : List BodyLine → Reading) (rule : TruthPair → ConditionEntry → Option TruthPair) → Steady reader → Steady (after_part reader rule)
   after-steady reader rule steady lines others same =
-      bind-steady (reader lines) (reader others) _ _ (steady lines others same) (λ pair lines others same. by_line-steady end (rule pair) lines others same)
+      after_pair line_fields (reader lines) (reader others) _ _ (steady lines others same) (λ pair lines others same. by_line-steady end (rule pair) lines others same)
 
   -- what a condition's lines are read as, by its tree
   abbrev mutual

@@ -1,10 +1,8 @@
 -- The pairs of a condition's steps tell its truth, if those of its parts do.
 use Rattle.std.proofs.Common.{◌≡◌, ◌∙◌, refl, sym, ap, subst, ℕ, ℤ, ◌<◌, cond, Bool, true, false}
-use Rattle.std.proofs.Common.{not, ◌&&◌, ◌||◌, List, [], ◌∷◌, map, length, Option, Some, None}
-use Rattle.std.proofs.Common.{Ok}
+use Rattle.std.proofs.Common.{not, ◌&&◌, ◌||◌, List, [], ◌∷◌, map, length, Option, Some, None, Ok}
+use Rattle.std.proofs.Common.{option_and_then, ltb-true}
 use Rattle.std.specs.List.{list_all}
-use Rattle.std.specs.Option.{option_and_then}
-use Rattle.std.proofs.lemmas.Bool.{ltb-true}
 use Rattle.std.proofs.lemmas.Option.{option_and_then_some}
 use Rattle.bw_model.specs.declared.column.Column.{Column}
 use Rattle.bw_model.specs.declared.cond.Operand.{Operand}
@@ -18,6 +16,7 @@ use Rattle.bw_model.specs.Truth.{truth_from, is_truth, is_null, least, greatest,
 use Rattle.bw_model.specs.Truth.{negation}
 use Rattle.bw_model.specs.Variable.{Assignment, first_variable, is_nullable, null_variable, row_of}
 use Rattle.bw_model.proofs.BitsLemmas.{both}
+use Rattle.bw_model.proofs.FaultLemmas.{bind_ok}
 use Rattle.bw_diagram.specs.declared.product.Connective.TheVariants as connective
 use Rattle.bw_diagram.specs.References.{HaveStatedValues, product_node}
 use Rattle.bw_diagram.specs.Facts.{Facts}
@@ -35,7 +34,6 @@ use Rattle.bw_cert_rules.specs.Pair.{is_null_test, joined_pair, negated_pair, wi
 use Rattle.bw_cert_rules.specs.Pair.{unknown_pair, tested_pair, one_more, more_parts, joined_parts}
 use Rattle.bw_cert_rules.proofs.ComparisonLemmas.{tells_by, tells_yes, tells_no, tells_so}
 use Rattle.bw_cert_rules.proofs.ComparisonLemmas.{fixed-tells, value_if, value_in-assigned}
-use Rattle.bw_cert_rules.proofs.HoldLemmas.{bind_ok}
 use Rattle.bw_cert_rules.proofs.RowLemmas.{Denotes, denotes_so, one_denotes, if_both-is}
 use Rattle.bw_cert_rules.proofs.RowLemmas.{product_node-denoted, null_pair-denoted}
 

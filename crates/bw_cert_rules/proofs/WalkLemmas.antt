@@ -1,11 +1,12 @@
 -- The walk over a program's lines, one instruction after another.
-use Rattle.std.proofs.Common.{◌≡◌, ◌∙◌, sym, ap, ℕ, zero, suc, List, [], ◌∷◌, drop, Some, Result, Ok, Err}
+use Rattle.std.proofs.Common.{◌≡◌, ◌∙◌, sym, ap, ℕ, suc, List, [], drop, Some, Result, Ok, Err}
 use Rattle.std.proofs.Common.{slice_get, ◌≤◌, length}
 use Rattle.std.proofs.lemmas.List.{drop_all}
 use Rattle.bw_model.specs.declared.fault.Fault.{Fault}
 use Rattle.bw_model.specs.Fault.{◌>>=◌}
 use Rattle.bw_diagram.specs.Facts.{Facts}
 use Rattle.bw_program.specs.declared.instr.Instr.{Instr}
+use Rattle.bw_program.proofs.ProgramLemmas.{drop-found}
 use Rattle.bw_cert_text.specs.declared.lines.BodyLine.{BodyLine}
 use Rattle.bw_cert_rules.specs.declared.edge.Edge.{Edge}
 use Rattle.bw_cert_rules.specs.Edges.{Holds}
@@ -20,12 +21,6 @@ pub record Walking (facts : Facts) (instrs : List Instr) (end : ℕ) (lines : Li
   pub holds : Holds by_target edges
   pub told : check_lines facts instrs end lines ≡ check_lines_from facts end number edges (drop number instrs) taken
 
--- from an instruction on, it is the first
-pub drop_at : {A : Type 0} (xs : List A) (n : ℕ) (x : A) → slice_get xs n ≡ Some x → drop n xs ≡ x ∷ drop (suc n) xs
-drop_at [] n x is = cc
-drop_at {A = A} (y ∷ ys) zero x is = ap (λ (z : A). z ∷ ys) cc
-drop_at (y ∷ ys) (suc n) x is = drop_at ys n x is
-
 -- past an instruction whose lines are right, to its join, which is right or rejected
 pub walked_on : (facts : Facts) (end number place : ℕ) (edges into : List Edge) (instrs : List Instr) (instr : Instr) (taken through : WalkState) (joined : Result WalkState Fault) → slice_get instrs number ≡ Some instr →
     instruction_taken facts end taken.known instr taken.rest ≡ Ok through → place ≡ suc number → into ≡ edges_into place (with_edge edges (edge_of taken.known instr)) → apply_join facts end place into through ≡ joined →
@@ -35,7 +30,7 @@ walked_on facts end number place edges into instrs instr taken through joined th
     let after : List Edge = with_edge edges (edge_of taken.known instr) in
     let rest : List Instr = drop (suc number) instrs in
     let joins : apply_join facts end (suc number) (edges_into (suc number) after) through ≡ joined = ap (λ n. apply_join facts end n (edges_into n after) through) (sym next) ∙ ap (λ es. apply_join facts end place es through) (sym all) ∙ join in
-    ap (λ is. check_lines_from facts end number edges is taken) (drop_at instrs number instr there)
+    ap (λ is. check_lines_from facts end number edges is taken) (drop-found instrs number instr there)
     ∙ ap (λ t. t >>= λ through. apply_join facts end (suc number) (edges_into (suc number) after) through >>= λ past. check_lines_from facts end (suc number) after rest past) line
     ∙ ap (λ t. t >>= λ past. check_lines_from facts end (suc number) after rest past) joins
     ∙ ap (λ n. joined >>= λ past. check_lines_from facts end n after (drop n instrs) past) (sym next)
@@ -46,7 +41,7 @@ pub walked_refused : (facts : Facts) (end number : ℕ) (edges : List Edge) (ins
 unfolding check_lines_from
 walked_refused facts end number edges instrs instr taken fault there line =
     let after : List Edge = with_edge edges (edge_of taken.known instr) in
-    ap (λ is. check_lines_from facts end number edges is taken) (drop_at instrs number instr there)
+    ap (λ is. check_lines_from facts end number edges is taken) (drop-found instrs number instr there)
     ∙ ap (λ t. t >>= λ through. apply_join facts end (suc number) (edges_into (suc number) after) through >>= λ past. check_lines_from facts end (suc number) after (drop (suc number) instrs) past) line
 
 -- at the end

@@ -1,8 +1,7 @@
 -- The lines of parts that obey are checked to be right.
 use Rattle.std.proofs.Common.{◌≡◌, ◌∙◌, refl, sym, ap, ap₂, ℕ, suc, ◌+◌, true, not, List, [], ◌∷◌}
 use Rattle.std.proofs.Common.{◌++◌, add-zero, drop, map, length, Option, Some, None, Ok, arith}
-use Rattle.std.proofs.Common.{append-nil, append_assoc, length-drop, slice_get, zero}
-use Rattle.std.proofs.lemmas.Bool.{eq-eqb}
+use Rattle.std.proofs.Common.{append-nil, append_assoc, length-drop, slice_get, zero, eq-eqb}
 use Rattle.std.proofs.lemmas.Option.{slice_get_within}
 use Rattle.bw_model.proofs.BitsLemmas.{both}
 use Rattle.bw_model.specs.Fault.{at_line, ◌>>=◌, refused_if}

@@ -1,8 +1,7 @@
 -- The pairs of a line, one pair at a time.
 use Rattle.std.proofs.Common.{◌≡◌, ◌∙◌, refl, sym, ap, ℕ, ◌-◌, ◌≤◌, List, [], ◌∷◌, ◌++◌, map, take}
 use Rattle.std.proofs.Common.{drop, length, get_or, option_map, Option, Some, None, Bor}
-use Rattle.std.proofs.Common.{append_assoc, arith}
-use Rattle.std.proofs.lemmas.List.{append-nil, take_all}
+use Rattle.std.proofs.Common.{append_assoc, arith, append-nil, take_all}
 use Rattle.bw_text.specs.Number.{natural_of}
 use Rattle.bw_cert_text.specs.declared.lines.EdgeProducts.{EdgeProducts}
 use Rattle.bw_cert_text.specs.LineText.{edges_in}

@@ -1,12 +1,9 @@
 -- The canonical text of a certificate spells it, with its lines numbered one after another.
 use Rattle.std.proofs.Common.{◌≡◌, ◌∙◌, refl, sym, ap, subst, ℕ, zero, suc, ◌+◌, ◌^◌, ◌<◌, ◌≤◌}
 use Rattle.std.proofs.Common.{Bool, true, false, not, ◌&&◌, List, [], ◌∷◌, ◌++◌, length, map}
-use Rattle.std.proofs.Common.{Option, Some, None, nat_lt, append_assoc, arith}
-use Rattle.std.specs.Char.{to_ascii_lowercase}
+use Rattle.std.proofs.Common.{Option, Some, None, nat_lt, append_assoc, arith, append-nil}
 use Rattle.std.specs.List.{list_all}
-use Rattle.std.proofs.lemmas.Bool.{ltb-true}
-use Rattle.std.proofs.lemmas.List.{append-nil}
-use Rattle.std.proofs.lemmas.Slice.Eq.{bytes_eq-Decides}
+use Rattle.std.proofs.lemmas.Bool.{ltb-true, not-true, and_from}
 use Rattle.bw_diagram.specs.declared.chain.ChainKind.TheVariants as compared
 use Rattle.bw_diagram.specs.declared.product.Connective.{Connective}
 use Rattle.bw_diagram.specs.declared.product.Connective.TheVariants as op
@@ -16,7 +13,6 @@ use Rattle.bw_model.specs.declared.column.Column as stored
 use Rattle.bw_model.specs.Column.{names_of, column_named}
 use Rattle.bw_text.specs.Lines.{NumberedWords, begins_comment, cut_lines, numbered_words, numbered_from}
 use Rattle.bw_model.specs.Name.{is_name}
-use Rattle.bw_text.specs.Text.{same_text}
 use Rattle.bw_cert_text.specs.declared.lines.NodeLine.{NodeLine}
 use Rattle.bw_cert_text.specs.declared.lines.ProductLine.{ProductLine}
 use Rattle.bw_cert_text.specs.declared.lines.EndLine.{EndLine}
@@ -37,22 +33,16 @@ use Rattle.bw_cert_text.specs.Reprint.{node_at, chain_at, row_at, body_at, numbe
 use Rattle.bw_cert_text.specs.Reprint.{is_small, numbers_fit}
 use Rattle.bw_cert_text.specs.Token.{Token, Key, Number, Perhaps, Column, Register, IsSpelled}
 use Rattle.bw_cert_text.specs.Token.{AreSpelled, none, next, node_tokens, column_tokens}
-use Rattle.bw_cert_text.specs.Token.{chain_tokens, reason_tokens, row_tokens}
-use Rattle.bw_cert_text.specs.Token.{edge_tokens, entry_tokens, end_tokens}
-use Rattle.bw_cert_text.specs.Token.{part_tokens, part_line}
+use Rattle.bw_cert_text.specs.Token.{chain_tokens, reason_tokens, row_tokens, edge_tokens}
+use Rattle.bw_cert_text.specs.Token.{entry_tokens, end_tokens, part_tokens, part_line}
 use Rattle.bw_cert_text.specs.Connective.{connective_spelling}
 use Rattle.bw_model.proofs.BitsLemmas.{both}
 use Rattle.bw_text.proofs.DecimalLemmas.{natural_of-decimal, plain_number}
 use Rattle.bw_text.proofs.RegisterLemmas.{plain_register, register_of-text}
 use Rattle.bw_text.proofs.SpacedWords.{line_said}
 use Rattle.bw_text.specs.Printing.{is_plain_word}
+use Rattle.bw_text.proofs.WordSpelling.{same_as_itself}
 use Rattle.bw_model.proofs.NameLemmas.{named_column_is_there, plain_name}
-use Rattle.bw_model.proofs.SchemaLemmas.{negated}
-use Rattle.std.proofs.lemmas.Bool.{and_from}
-
-same_as_itself : (text : List ℕ) → same_text text text ≡ true
-unfolding same_text
-same_as_itself text = (bytes_eq-Decides (map to_ascii_lowercase text) (map to_ascii_lowercase text)).1 refl
 
 plain_column : (columns : List stored.Column) (word : List ℕ) (c : ℕ) → list_all is_name (names_of columns) ≡ true → c < length columns → is_plain_word (spelling_at columns word (Some c)) ≡ true
 plain_column [] word c names lt = absurd (omega arith)
@@ -106,7 +96,7 @@ tokens_said : (number : ℕ) (ts : List Token) (rest : List ℕ) → begins_line
     numbered_from number (cut_lines (token_line ts ++ rest)) ≡ numbered_words number (map token_text ts) ∷ numbered_from (number + 1) (cut_lines rest)
 tokens_said number (Key key ∷ ts) rest begins h =
     let here = both (is_plain_word key) (list_all is_clear ts) h in
-    line_said number key (map token_text ts) rest here.0 (negated (begins_comment key) begins) (tokens_plain ts here.1)
+    line_said number key (map token_text ts) rest here.0 (not-true (begins_comment key) begins) (tokens_plain ts here.1)
 tokens_said number _ rest begins h = absurd (cc begins)
 
 -- a token whose numbers fit is clear, if its words are plain

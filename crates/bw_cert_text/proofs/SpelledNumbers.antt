@@ -1,6 +1,5 @@
 -- The numbers of what a text spells are below 2^64, and its registers are of the 64.
-use Rattle.std.proofs.Common.{◌≡◌, refl, ℕ, ◌^◌, Bool, true, false, cond, List, Some, None}
-use Rattle.std.proofs.Common.{nat_lt}
+use Rattle.std.proofs.Common.{◌≡◌, refl, ℕ, ◌^◌, Bool, true, false, cond, List, Some, None, nat_lt}
 use Rattle.std.specs.List.{list_all}
 use Rattle.std.proofs.lemmas.Option.{cond_some}
 use Rattle.bw_text.specs.Lines.{NumberedWords, lines_in, from_line}
@@ -11,9 +10,8 @@ use Rattle.bw_cert_text.specs.LineText.{Node, Chain, Row, Body}
 use Rattle.bw_text.proofs.RegisterLemmas.{register_is}
 use Rattle.bw_cert_text.specs.PrintText.{body_tokens}
 use Rattle.bw_cert_text.specs.Reprint.{is_small, numbers_fit}
-use Rattle.bw_cert_text.specs.Token.{Token, Number, Perhaps, Register, IsSpelled}
-use Rattle.bw_cert_text.specs.Token.{AreSpelled, none, next, node_tokens, chain_tokens, row_tokens}
-use Rattle.bw_cert_text.specs.Token.{end_tokens}
+use Rattle.bw_cert_text.specs.Token.{Token, Number, Perhaps, Register, IsSpelled, AreSpelled, none}
+use Rattle.bw_cert_text.specs.Token.{next, node_tokens, chain_tokens, row_tokens, end_tokens}
 
 below_so : (bound m n : ℕ) → cond (nat_lt m bound) (Some m) None ≡ Some n → nat_lt n bound ≡ true
 below_so bound m n e = let is = cond_some (nat_lt m bound) m n e in rw (← is.1) is.0

@@ -1,11 +1,10 @@
 -- Lines that are kept as their kinds, their numbers and their pairs.
 use Rattle.std.proofs.Common.{◌≡◌, ◌∙◌, refl, ap, ℕ, suc, ◌<◌, ◌≤◌, Bool, true, false}
 use Rattle.std.proofs.Common.{if◌then◌else◌, List, [], ◌∷◌, ◌++◌, take, drop, length, get_or}
-use Rattle.std.proofs.Common.{nat_le, arith}
+use Rattle.std.proofs.Common.{nat_le, arith, take_all, length-append}
 use Rattle.std.proofs.Props.{props}
 use Rattle.std.proofs.lemmas.Bool.{le-leb, lt-leb, leb-true}
-use Rattle.std.proofs.lemmas.List.{take_all, drop_all, take-append-le, drop-append-le}
-use Rattle.std.proofs.lemmas.List.{length-append}
+use Rattle.std.proofs.lemmas.List.{drop_all, take-append-le, drop-append-le}
 use Rattle.bw_model.proofs.BitsLemmas.{both}
 use Rattle.bw_cert_text.specs.declared.kind.Kind.{Kind}
 use Rattle.bw_cert_text.specs.declared.kind.Kind.TheVariants as kind

@@ -1,8 +1,6 @@
 -- What is read of a text is spelled by it, and what is spelled is read.
 use Rattle.std.proofs.Common.{◌≡◌, ◌∙◌, refl, sym, ℕ, ◌≤◌, Bool, true, false, List, [], ◌∷◌, Option}
-use Rattle.std.proofs.Common.{Some, None, Result, Ok, Err, nat_lt}
-use Rattle.std.specs.Prelude.{IfOk, IsTrue}
-use Rattle.std.proofs.lemmas.Bool.{ltb-false, le-ltb}
+use Rattle.std.proofs.Common.{Some, None, Result, Ok, Err, nat_lt, IfOk, IsTrue, ltb-false, le-ltb}
 use Rattle.bw_model.specs.declared.fault.Fault.{Fault}
 use Rattle.bw_model.specs.Fault.{MatchesUnlessOom, ◌>>=◌, refused_if}
 use Rattle.bw_text.specs.Lines.{NumberedWords, lines_in, end_in, from_line}

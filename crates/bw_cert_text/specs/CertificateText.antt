@@ -20,34 +20,10 @@ section_of (Body body) = 3
 
 -- a certificate with one more line before those of its section, and one that has only its end
 abbrev pub with_part : Part → CertificateFields → CertificateFields
-with_part (Node node) c = record {
-  nodes = node ∷ c.nodes;
-  chains = c.chains;
-  products = c.products;
-  body = c.body;
-  end = c.end;
-}
-with_part (Chain chain) c = record {
-  nodes = c.nodes;
-  chains = chain ∷ c.chains;
-  products = c.products;
-  body = c.body;
-  end = c.end;
-}
-with_part (Row row) c = record {
-  nodes = c.nodes;
-  chains = c.chains;
-  products = row ∷ c.products;
-  body = c.body;
-  end = c.end;
-}
-with_part (Body body) c = record {
-  nodes = c.nodes;
-  chains = c.chains;
-  products = c.products;
-  body = body ∷ c.body;
-  end = c.end;
-}
+with_part (Node node) c = record c { nodes = node ∷ c.nodes }
+with_part (Chain chain) c = record c { chains = chain ∷ c.chains }
+with_part (Row row) c = record c { products = row ∷ c.products }
+with_part (Body body) c = record c { body = body ∷ c.body }
 
 abbrev pub end_alone : EndLine → CertificateFields
 end_alone end = record { nodes = []; chains = []; products = []; body = []; end = end }

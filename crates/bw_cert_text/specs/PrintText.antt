@@ -59,21 +59,10 @@ respelled_columns columns (Two kind left right len node prev) =
     Two kind (schema_spelling columns left) (schema_spelling columns right) len node prev
 
 abbrev pub respelled_chain : List column.Column → ChainFields → ChainFields
-respelled_chain columns chain = record {
-  line = chain.line;
-  n = chain.n;
-  columns = respelled_columns columns chain.columns;
-}
+respelled_chain columns chain = record chain { columns = respelled_columns columns chain.columns }
 
 abbrev pub respell : List column.Column → CertificateFields → CertificateFields
-respell columns c =
-    record {
-      nodes = c.nodes;
-      chains = map (respelled_chain columns) c.chains;
-      products = c.products;
-      body = c.body;
-      end = c.end;
-    }
+respell columns c = record c { chains = map (respelled_chain columns) c.chains }
 
 -- the canonical text of a certificate under a schema's columns
 abbrev pub print_text : List column.Column → CertificateFields → List ℕ

@@ -15,18 +15,10 @@ abbrev pub node_at : ℕ → NodeLine → NodeLine
 node_at line node = record { line = line; n = node.n; v = node.v; low = node.low; high = node.high }
 
 abbrev pub chain_at : ℕ → ChainFields → ChainFields
-chain_at line chain = record { line = line; n = chain.n; columns = chain.columns }
+chain_at line chain = record chain { line = line }
 
 abbrev pub row_at : ℕ → ProductLine → ProductLine
-row_at line row = record {
-  line = line;
-  n = row.n;
-  op = row.op;
-  a = row.a;
-  b = row.b;
-  c = row.c;
-  reason = row.reason;
-}
+row_at line row = record row { line = line }
 
 abbrev pub body_at : ℕ → BodyFields → BodyFields
 body_at line body = record { line = line; entry = body.entry }

@@ -1,25 +1,23 @@
 -- The rows of a text without a schema, one more at a time.
-use Rattle.std.proofs.Common.{◌≡◌, ◌∙◌, ℕ, ℤ, suc, ◌+◌, List, [], ◌∷◌}
-use Rattle.std.proofs.Common.{◌++◌, length, Option, Some, None, Ok, Err}
-use Rattle.std.proofs.Common.{Bool, true, false, refl, sym, ap, subst, All}
-use Rattle.std.specs.Prelude.{◌&&◌, not, int_le, if◌then◌else◌}
+use Rattle.std.proofs.Common.{◌≡◌, ◌∙◌, ℕ, ℤ, suc, ◌+◌, List, [], ◌∷◌, ◌++◌, length, Option, Some}
+use Rattle.std.proofs.Common.{None, Ok, Err, Bool, true, false, refl, sym, ap, subst, All, ◌&&◌}
+use Rattle.std.proofs.Common.{not, int_le, if◌then◌else◌, append-nil}
 use Rattle.std.specs.List.{list_all}
-use Rattle.std.proofs.lemmas.List.{append-nil}
 use Rattle.std.proofs.lemmas.List.Elements.{All-nil, All-cons}
+use Rattle.std.proofs.lemmas.Bool.{and_parts}
 use Rattle.bw_model.specs.declared.column.Column.{Column}
 use Rattle.bw_model.specs.declared.fault.Fault.{Fault}
 use Rattle.bw_model.specs.Fault.{◌>>=◌, at_record}
 use Rattle.bw_model.specs.Column.{admits_value, admits_values}
 use Rattle.bw_text.specs.Number.{are_digits, number_of}
 use Rattle.bw_model.specs.Row.{Value}
+use Rattle.bw_model.proofs.FaultLemmas.{not_refused, bind_ok}
 use Rattle.bw_csv.specs.Bare.{bare_number, bare_row, bare_rows, bare_value, bare_values}
 use Rattle.bw_csv.specs.Bare.{within_64_bits}
 use Rattle.bw_csv.specs.Rows.{is_minus, is_null_text, row_of_record, rows_from, text_value}
 use Rattle.bw_csv.specs.Rows.{without_sign, value_of_field, values_of_fields, with_row, within_bounds}
 use Rattle.bw_csv.specs.Rows.{without_blanks}
-use Rattle.bw_csv.proofs.DigitsAlone.{both}
 use Rattle.bw_csv.proofs.FieldLemmas.{after, after-cons}
-use Rattle.bw_csv.proofs.FieldLemmas.{bound, passed}
 use Rattle.bw_csv.proofs.RowLemmas.{record_passed, row_made}
 
 -- the rows of a record and of those after it
@@ -78,22 +76,21 @@ value_is number column field value e admitted = by (is_null_text text) refl e
         let same : ◌≡◌ {A = Value} None value = cc e in
         let nullable : column.nullable ≡ true = rw (← same) at admitted in rw (null, nullable) e
     by false null e =
-        let p = passed (not (are_digits (without_sign text))) (at_record 204 number) (within_64_bits number (number_of (is_minus text) (without_sign text))) value e in
+        let p = not_refused (not (are_digits (without_sign text))) (at_record 204 number) (within_64_bits number (number_of (is_minus text) (without_sign text))) value e in
         rw (null, p.0) (within_is number column (number_of (is_minus text) (without_sign text)) value p.1 admitted)
 
 values_are : (number : ℕ) (columns : List Column) (fields : List (List ℕ)) (values : List Value) → bare_values number fields ≡ Ok values → admits_values columns values ≡ true
     → values_of_fields number columns fields ≡ Ok values
 unfolding bare_values values_of_fields
 values_are number [] fields [] e admitted = refl
-values_are number [] fields (value ∷ values) e admitted = cc admitted
-values_are number (column ∷ columns) [] [] e admitted = cc admitted
 values_are number (column ∷ columns) [] (value ∷ values) e admitted = cc e
 values_are number (column ∷ columns) (field ∷ fields) values e admitted =
-    let one = bound (bare_value number field) (λ value. bare_values number fields >>= λ rest. Ok (value ∷ rest)) values e in
-    let more = bound (bare_values number fields) (λ rest. Ok (one.0 ∷ rest)) values one.2 in
+    let one = bind_ok (bare_value number field) (λ value. bare_values number fields >>= λ rest. Ok (value ∷ rest)) values e in
+    let more = bind_ok (bare_values number fields) (λ rest. Ok (one.0 ∷ rest)) values one.2 in
     let same : one.0 ∷ more.0 ≡ values = cc more.2 in
-    let all = both (admits_value column one.0) (admits_values columns more.0) (rw (← same) at admitted) in
+    let all = and_parts (admits_value column one.0) (admits_values columns more.0) (rw (← same) at admitted) in
     rw (value_is number column field one.0 one.1 all.0, values_are number columns fields more.0 more.1 all.1) (ap Ok same)
+values_are number _ _ _ e admitted = cc admitted
 
 row_is : (number : ℕ) (columns : List Column) (fields : List (List ℕ)) (row : List Value) → bare_row number (length columns) fields ≡ Ok row → admits_values columns row ≡ true
     → row_of_record number columns fields ≡ Ok row
@@ -108,10 +105,10 @@ pub rows_are : (columns : List Column) (number : ℕ) (records : List (List (Lis
 unfolding bare_rows rows_from
 rows_are columns number [] rows e admitted = e
 rows_are columns number (fields ∷ more) rows e admitted =
-    let one = bound (bare_row number (length columns) fields) (λ row. with_row row (bare_rows (length columns) (number + 1) more)) rows e in
-    let others = bound (bare_rows (length columns) (number + 1) more) (λ rest. Ok (one.0 ∷ rest)) rows one.2 in
+    let one = bind_ok (bare_row number (length columns) fields) (λ row. with_row row (bare_rows (length columns) (number + 1) more)) rows e in
+    let others = bind_ok (bare_rows (length columns) (number + 1) more) (λ rest. Ok (one.0 ∷ rest)) rows one.2 in
     let same : one.0 ∷ others.0 ≡ rows = cc others.2 in
-    let all = both (admits_values columns one.0) (list_all (admits_values columns) others.0) (rw (← same) at admitted) in
+    let all = and_parts (admits_values columns one.0) (list_all (admits_values columns) others.0) (rw (← same) at admitted) in
     rw (row_is number columns fields one.0 one.1 all.0, rows_are columns (number + 1) more others.0 others.1 all.1) (ap Ok same)
 
 -- a row has as many values as its record has fields, and each row as many as are wanted
@@ -119,8 +116,8 @@ values_wide : (number : ℕ) (fields : List (List ℕ)) (values : List Value) �
 unfolding bare_values
 values_wide number [] values e = let same : ◌≡◌ {A = List Value} [] values = cc e in ap length (sym same)
 values_wide number (field ∷ fields) values e =
-    let one = bound (bare_value number field) (λ value. bare_values number fields >>= λ rest. Ok (value ∷ rest)) values e in
-    let more = bound (bare_values number fields) (λ rest. Ok (one.0 ∷ rest)) values one.2 in
+    let one = bind_ok (bare_value number field) (λ value. bare_values number fields >>= λ rest. Ok (value ∷ rest)) values e in
+    let more = bind_ok (bare_values number fields) (λ rest. Ok (one.0 ∷ rest)) values one.2 in
     let same : one.0 ∷ more.0 ≡ values = cc more.2 in
     ap length (sym same) ∙ ap suc (values_wide number fields more.0 more.1)
 
@@ -133,7 +130,7 @@ pub rows_wide : (width number : ℕ) (records : List (List (List ℕ))) (rows : 
 unfolding bare_rows
 rows_wide width number [] rows e = let same : ◌≡◌ {A = List (List Value)} [] rows = cc e in subst (All (λ (row : List Value). length row ≡ width)) same (All-nil (λ (row : List Value). length row ≡ width))
 rows_wide width number (fields ∷ more) rows e =
-    let one = bound (bare_row number width fields) (λ row. with_row row (bare_rows width (number + 1) more)) rows e in
-    let others = bound (bare_rows width (number + 1) more) (λ rest. Ok (one.0 ∷ rest)) rows one.2 in
+    let one = bind_ok (bare_row number width fields) (λ row. with_row row (bare_rows width (number + 1) more)) rows e in
+    let others = bind_ok (bare_rows width (number + 1) more) (λ rest. Ok (one.0 ∷ rest)) rows one.2 in
     let same : one.0 ∷ others.0 ≡ rows = cc others.2 in
     subst (All (λ (row : List Value). length row ≡ width)) same (All-cons (λ (row : List Value). length row ≡ width) one.0 others.0 (row_wide number width fields one.0 one.1) (rows_wide width (number + 1) more others.0 others.1))

@@ -1,14 +1,12 @@
 -- A field of digits, alone or after a minus sign.
-use Rattle.std.proofs.Common.{◌≡◌, ◌∙◌, ℕ, ◌-◌, ◌<◌, List, [], ◌∷◌, ℤ, Option, Some, None}
-use Rattle.std.proofs.Common.{Bool, true, false, length, take, get_or, refl, ap, arith}
-use Rattle.std.proofs.Common.{eqb, suc}
-use Rattle.std.specs.Prelude.{◌&&◌, if◌then◌else◌}
+use Rattle.std.proofs.Common.{◌≡◌, ◌∙◌, ℕ, ◌-◌, ◌<◌, List, [], ◌∷◌, ℤ, Option, Some, None, Bool}
+use Rattle.std.proofs.Common.{true, false, length, take, get_or, refl, ap, arith, eqb, suc}
+use Rattle.std.proofs.Common.{if◌then◌else◌, take_all}
 use Rattle.std.specs.Char.{is_ascii_digit, to_ascii_lowercase}
 use Rattle.std.specs.List.{list_all, suffix_len}
-use Rattle.std.proofs.lemmas.Bool.{cond_both, eqb-true}
+use Rattle.std.proofs.lemmas.Bool.{cond_both, eqb-true, and_parts}
 use Rattle.std.proofs.lemmas.Bool.Decides.{nat_tests}
 use Rattle.std.proofs.Math.Dec.{eqb-suc-zero}
-use Rattle.std.proofs.lemmas.List.{take_all}
 use Rattle.std.proofs.lemmas.List.Sums.{AllPass-from_list_all, suffix_len-take_no}
 use Rattle.bw_model.specs.declared.column.Column.{Column}
 use Rattle.bw_text.specs.Number.{are_digits, number_of}
@@ -16,10 +14,6 @@ use Rattle.bw_text.specs.Text.{same_text}
 use Rattle.bw_csv.specs.Rows.{after_minus, is_blank, is_minus, is_null_text, text_value}
 use Rattle.bw_csv.specs.Rows.{value_of_field, within_bounds, without_blanks, without_end_blanks}
 use Rattle.bw_csv.specs.Rows.{without_front_blanks}
-
-pub both : (a b : Bool) → (a && b) ≡ true → (a ≡ true) × (b ≡ true)
-both true b e = (refl, e)
-both false b e = absurd (cc e)
 
 -- a digit, byte 48 to 57, is no byte below 48, no blank and not the first letter of NULL
 pub other_than : (c d : ℕ) → is_ascii_digit c ≡ true → (d < 48) → eqb c d ≡ false
@@ -35,17 +29,15 @@ no_letter c e = grind (arith, nat_tests)
 front : (c : ℕ) (cs : List ℕ) → is_ascii_digit c ≡ true → without_front_blanks (c ∷ cs) ≡ c ∷ cs
 front c cs e = rw (no_blank c e) refl
 
-ended : (text : List ℕ) → 0 < length text → is_blank (get_or text (length text - 1) 0) ≡ false → without_end_blanks text ≡ text
+pub ended : (text : List ℕ) → 0 < length text → is_blank (get_or text (length text - 1) 0) ≡ false → without_end_blanks text ≡ text
 ended text some last =
     let whole : take (length text) text ≡ text = take_all (length text) text (omega arith) in
     let zeros : suffix_len is_blank text ≡ 0 = rw whole at (suffix_len-take_no is_blank text (length text) 0 some (omega arith) last) in
     rw zeros (take_all (length text - 0) text (omega arith))
 
-last_digit : (text : List ℕ) → 0 < length text → list_all is_ascii_digit text ≡ true → is_blank (get_or text (length text - 1) 0) ≡ false
-last_digit text some all = no_blank (get_or text (length text - 1) 0) (AllPass-from_list_all is_ascii_digit text all (length text - 1) 0 (omega (arith, some)))
-
-after : (text : List ℕ) → 0 < length text → list_all is_ascii_digit text ≡ true → without_end_blanks text ≡ text
-after text some all = ended text some (last_digit text some all)
+-- the last of bytes that are no blanks is none
+pub last_of : (p : ℕ → Bool) → ((c : ℕ) → p c ≡ true → is_blank c ≡ false) → (text : List ℕ) → 0 < length text → list_all p text ≡ true → is_blank (get_or text (length text - 1) 0) ≡ false
+last_of p solid text some all = solid (get_or text (length text - 1) 0) (AllPass-from_list_all p text all (length text - 1) 0 (omega (arith, some)))
 
 -- no digits are NULL
 no_null : (c : ℕ) (cs : List ℕ) → is_ascii_digit c ≡ true → is_null_text (c ∷ cs) ≡ false
@@ -61,8 +53,8 @@ digits_alone : (number : ℕ) (column : Column) (field : List ℕ) → are_digit
 unfolding value_of_field
 digits_alone number column [] e = absurd (cc e)
 digits_alone number column (c ∷ cs) e =
-    let all = both (is_ascii_digit c) (list_all is_ascii_digit cs) e in
-    let whole : without_blanks (c ∷ cs) ≡ c ∷ cs = rw (front c cs all.0) (after (c ∷ cs) (omega arith) e) in
+    let all = and_parts (is_ascii_digit c) (list_all is_ascii_digit cs) e in
+    let whole : without_blanks (c ∷ cs) ≡ c ∷ cs = rw (front c cs all.0) (ended (c ∷ cs) (omega arith) (last_of is_ascii_digit no_blank (c ∷ cs) (omega arith) e)) in
     rw whole (spells_itself number column c cs all.0 e)
 
 -- a minus sign is no blank, and no text that begins with it is NULL
@@ -70,7 +62,7 @@ whole_after : (cs : List ℕ) → are_digits cs ≡ true → without_blanks (45 
 whole_after [] e = absurd (cc e)
 whole_after (c ∷ cs) e =
     let last : length (45 ∷ c ∷ cs) - 1 ≡ suc (length (c ∷ cs) - 1) = omega arith in
-    ended (45 ∷ c ∷ cs) (omega arith) (rw last (last_digit (c ∷ cs) (omega arith) e))
+    ended (45 ∷ c ∷ cs) (omega arith) (rw last (last_of is_ascii_digit no_blank (c ∷ cs) (omega arith) e))
 
 digits_after_minus : (number : ℕ) (column : Column) (cs : List ℕ) → are_digits cs ≡ true
     → value_of_field number column (45 ∷ cs) ≡ within_bounds number column (number_of true cs)

@@ -1,14 +1,13 @@
 -- The fields of a record, and what they spell, one more at a time.
 use Rattle.std.proofs.Common.{◌≡◌, ◌∙◌, ℕ, zero, suc, ◌+◌, ◌<◌, ◌≤◌, List, [], ◌∷◌, ◌++◌, length}
-use Rattle.std.proofs.Common.{drop, get_or, Some, None, Result, Ok, Err, true, false, eqb, refl}
-use Rattle.std.proofs.Common.{sym, ap, arith, append_assoc, Bool}
-use Rattle.std.specs.Prelude.{◌&&◌}
+use Rattle.std.proofs.Common.{drop, get_or, Some, None, Result, Ok, Err, false, eqb, refl, sym, ap}
+use Rattle.std.proofs.Common.{arith, append_assoc, ◌&&◌}
 use Rattle.std.proofs.lemmas.List.{append-nil, drop_all, drop_more}
 use Rattle.std.proofs.Math.Dec.{eqb-suc-suc, eqb-suc-zero}
 use Rattle.csv.specs.Records.{field_at}
 use Rattle.bw_model.specs.declared.column.Column.{Column}
 use Rattle.bw_model.specs.declared.fault.Fault.{Fault}
-use Rattle.bw_model.specs.Fault.{◌>>=◌, at_record, refused_if}
+use Rattle.bw_model.specs.Fault.{◌>>=◌, at_record}
 use Rattle.bw_model.specs.Row.{Value}
 use Rattle.bw_text.specs.Text.{same_text}
 use Rattle.bw_csv.specs.Rows.{is_heading, without_blanks, value_of_field, values_of_fields}
@@ -57,15 +56,6 @@ no_field_left (f ∷ fs) (suc n) h = no_field_left fs n (omega arith) ∙ sym (e
 
 pub is_heading-end : (cs : List Column) (fs : List (List ℕ)) (n : ℕ) → cs ≡ [] → n ≤ length fs → is_heading cs (drop n fs) ≡ eqb (length fs) n
 is_heading-end cs fs n e h = rw e (no_field_left fs n h)
-
--- what was read in two steps was read in each
-pub bound : {A B : Type 0} (first : Result A Fault) (next : A → Result B Fault) (y : B) → (first >>= next) ≡ Ok y → (x : A) × (first ≡ Ok x) × (next x ≡ Ok y)
-bound (Ok x) next y e = (x, refl, e)
-bound (Err fault) next y e = cc e
-
-pub passed : {A : Type 0} (test : Bool) (fault : Fault) (next : Result A Fault) (x : A) → refused_if test fault next ≡ Ok x → (test ≡ false) × (next ≡ Ok x)
-passed true fault next x e = cc e
-passed false fault next x e = (refl, e)
 
 -- results after those so far
 abbrev pub after : {A : Type 0} → List A → Result (List A) Fault → Result (List A) Fault

@@ -1,7 +1,6 @@
 -- Where the first record of a text ends.
 use Rattle.std.proofs.Common.{◌≡◌, ◌∙◌, ℕ, ◌+◌, ◌<◌, ◌≤◌, List, [], ◌∷◌, ◌++◌, length, drop, Some}
-use Rattle.std.proofs.Common.{get_or}
-use Rattle.std.proofs.Common.{None, true, false, refl, sym, eqb, arith}
+use Rattle.std.proofs.Common.{get_or, None, true, false, refl, sym, eqb, arith}
 use Rattle.csv.specs.Machine.{Read, field_after, fields_after, is_end, next_record, step}
 use Rattle.csv.specs.Reading.{default_config, is_bom, strip_bom}
 use Rattle.csv.specs.declared.parser.State.TheVariants as st

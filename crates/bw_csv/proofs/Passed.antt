@@ -1,9 +1,7 @@
 -- The records that were read so far, whichever way records have rows.
 use Rattle.std.proofs.Common.{◌≡◌, ◌∙◌, ℕ, ◌+◌, List, [], ◌∷◌, ◌++◌, length, length-append}
-use Rattle.std.proofs.Common.{append_assoc, Result, Ok, true, refl}
-use Rattle.std.proofs.Common.{ap, sym, arith, eqb}
+use Rattle.std.proofs.Common.{append_assoc, Result, Ok, true, refl, ap, sym, arith, eqb, append-nil}
 use Rattle.std.proofs.lemmas.Bool.{and_parts, eqb-true}
-use Rattle.std.proofs.lemmas.List.{append-nil}
 use Rattle.bw_model.specs.declared.fault.Fault.{Fault}
 use Rattle.bw_model.specs.declared.fault.Place.{Place}
 use Rattle.bw_model.specs.declared.fault.Place.TheVariants.{Rec}

@@ -1,17 +1,16 @@
 -- Fields of digits are plain, and spell numbers that 64 bits hold.
-use Rattle.std.proofs.Common.{◌≡◌, ◌∙◌, ℕ, ℤ, pos, ◌-ℤ◌, ◌^◌, List, [], ◌∷◌, Some}
-use Rattle.std.proofs.Common.{Ok, Bool, true, false, refl, arith, eqb, leb, ltb, SFits, w64, of_z}
-use Rattle.std.proofs.Common.{to_z, Option}
+use Rattle.std.proofs.Common.{◌≡◌, ◌∙◌, ℕ, ℤ, pos, ◌-ℤ◌, ◌^◌, List, [], ◌∷◌, Some, Ok, Bool, true}
+use Rattle.std.proofs.Common.{false, refl, arith, eqb, leb, ltb, SFits, w64, of_z, to_z, Option}
 use Rattle.std.specs.Prelude.{◌&&◌, int_le}
 use Rattle.std.specs.Char.{is_ascii_digit}
 use Rattle.std.specs.List.{list_all}
-use Rattle.std.proofs.lemmas.Bool.{cond_both, eqb-true, leb-true, ltb-true}
+use Rattle.std.proofs.lemmas.Bool.{cond_both, eqb-true, leb-true, ltb-true, and_parts}
 use Rattle.std.proofs.lemmas.Int.{ints, to_z-of_z}
 use Rattle.bw_model.specs.declared.column.Column.{Column}
 use Rattle.bw_text.specs.Number.{are_digits, digits_value, number_of}
 use Rattle.bw_csv.specs.Plain.{is_plain}
 use Rattle.bw_csv.specs.Rows.{after_minus, is_minus, value_of_field}
-use Rattle.bw_csv.proofs.DigitsAlone.{both, other_than, signed_digits}
+use Rattle.bw_csv.proofs.DigitsAlone.{other_than, signed_digits}
 
 -- digits are plain, and so is a minus sign
 digit_plain : (c : ℕ) → is_ascii_digit c ≡ true → is_plain c ≡ true
@@ -19,7 +18,7 @@ digit_plain c e = rw (other_than c 44 e (omega arith), other_than c 13 e (omega 
 
 digits_plain : (cs : List ℕ) → list_all is_ascii_digit cs ≡ true → list_all is_plain cs ≡ true
 digits_plain [] e = refl
-digits_plain (c ∷ cs) e = let is = both (is_ascii_digit c) (list_all is_ascii_digit cs) e in rw (digit_plain c is.0, digits_plain cs is.1) refl
+digits_plain (c ∷ cs) e = let is = and_parts (is_ascii_digit c) (list_all is_ascii_digit cs) e in rw (digit_plain c is.0, digits_plain cs is.1) refl
 
 all_digits : (cs : List ℕ) → are_digits cs ≡ true → list_all is_ascii_digit cs ≡ true
 all_digits [] e = refl

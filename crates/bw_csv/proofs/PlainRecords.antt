@@ -1,11 +1,10 @@
 -- How the csv crate's records are read of a text without quotation marks.
 use Rattle.std.proofs.Common.{◌≡◌, ◌∙◌, ℕ, List, [], ◌∷◌, ◌++◌, Option, Some, None, Bool, true}
 use Rattle.std.proofs.Common.{false, length, drop, get_or, refl, sym, ap, eqb, append_assoc, arith}
-use Rattle.std.specs.Prelude.{◌||◌, not}
+use Rattle.std.proofs.Common.{◌||◌, not, append-nil}
 use Rattle.std.specs.List.{list_all}
-use Rattle.std.proofs.lemmas.Bool.{eqb-true}
+use Rattle.std.proofs.lemmas.Bool.{eqb-true, and_parts}
 use Rattle.std.proofs.lemmas.Bool.Decides.{nat_tests}
-use Rattle.std.proofs.lemmas.List.{append-nil}
 use Rattle.csv.specs.Machine.{Read, next_record, step}
 use Rattle.csv.specs.Reading.{default_config, strip_bom}
 use Rattle.csv.specs.declared.parser.State.{State}
@@ -13,7 +12,6 @@ use Rattle.csv.specs.declared.parser.State.TheVariants as st
 use Rattle.csv.specs.declared.parser.Action.TheVariants as act
 use Rattle.bw_csv.specs.Plain.{ends_field, ends_line, is_field_end, is_line_end, is_plain}
 use Rattle.bw_csv.specs.Records.{records_in}
-use Rattle.bw_csv.proofs.DigitsAlone.{both}
 use Rattle.bw_csv.proofs.RecordLemmas.{records_in-next, records_in-none}
 
 -- a plain byte joins the field
@@ -30,7 +28,7 @@ run : (fields : List (List ℕ)) (field f rest : List ℕ) → list_all is_plain
 unfolding next_record
 run fields field [] rest e = rw (append-nil field) refl
 run fields field (c ∷ f) rest e =
-    let is = both (is_plain c) (list_all is_plain f) e in
+    let is = and_parts (is_plain c) (list_all is_plain f) e in
     rw ((joins c is.0).0) (run fields (field ++ c ∷ []) f rest is.1 ∙ rw (append_assoc field (c ∷ []) f) refl)
 
 -- nor does it matter at the end of a field whether it has a byte
@@ -44,7 +42,7 @@ unfolding next_record
 field-run fields [] [] e end = refl
 field-run fields [] (c ∷ rest) e end = rw (unquoted c end) refl
 field-run fields (c ∷ f) rest e end =
-    let is = both (is_plain c) (list_all is_plain f) e in
+    let is = and_parts (is_plain c) (list_all is_plain f) e in
     rw ((joins c is.0).1) (run fields (c ∷ []) f rest is.1)
 
 pub field-comma : (fields : List (List ℕ)) (f rest : List ℕ) → list_all is_plain f ≡ true

@@ -1,10 +1,8 @@
 -- The values of a record's plain fields, one more at a time.
 use Rattle.std.proofs.Common.{◌≡◌, ◌∙◌, ℕ, ◌+◌, ◌≤◌, List, [], ◌∷◌, ◌++◌, length, take, drop, Ok}
-use Rattle.std.proofs.Common.{true, false, refl, sym, ap, eqb, append_assoc, length-append}
-use Rattle.std.specs.Prelude.{◌≤◌}
-use Rattle.std.proofs.Common.{inl, inr}
+use Rattle.std.proofs.Common.{true, false, refl, sym, ap, eqb, append_assoc, length-append, inl}
+use Rattle.std.proofs.Common.{inr, append-nil, take-append-drop}
 use Rattle.std.proofs.lemmas.Bool.{both_ways, eqb-true, or_cases}
-use Rattle.std.proofs.lemmas.List.{append-nil, take-append-drop}
 use Rattle.csv.specs.Machine.{next_record}
 use Rattle.csv.specs.Reading.{default_config}
 use Rattle.csv.specs.declared.parser.State.TheVariants as st

@@ -1,10 +1,8 @@
 -- Each read gives the first of the records to come, however many turns are left for the others.
 use Rattle.std.proofs.Common.{◌≡◌, ◌∙◌, ℕ, zero, suc, ◌+◌, ◌<◌, List, [], ◌∷◌, ◌++◌, length, Option}
-use Rattle.std.proofs.Common.{Some, None, true, false, refl, sym, ap, arith, add-one, inl}
-use Rattle.std.proofs.Common.{inr}
-use Rattle.std.specs.Prelude.{IsSome, ◌⊎◌}
+use Rattle.std.proofs.Common.{Some, None, true, false, refl, sym, ap, arith, add-one, inl, inr}
+use Rattle.std.proofs.Common.{IsSome, ◌⊎◌, Bor}
 use Rattle.std.proofs.lemmas.Bool.{cond_both}
-use Rattle.std.specs.Borrow.{Bor}
 use Rattle.csv.specs.Machine.{Read, next_record, step, is_end, ends_at_end, fields_after}
 use Rattle.csv.specs.Machine.{field_after}
 use Rattle.csv.specs.Reading.{records_from, records_next, default_config, source_of, ReadRecord}
@@ -58,9 +56,8 @@ turns-next cfg n m s xs (Some p) e same a b =
 
 turns_same : (cfg : Config) (n m : ℕ) (s : State) (xs : List ℕ) → length xs < n → length xs < m → records_from cfg n s xs ≡ records_from cfg m s xs
 unfolding records_from
-turns_same cfg zero m s xs a b = absurd (omega arith)
-turns_same cfg (suc n) zero s xs a b = absurd (omega arith)
 turns_same cfg (suc n) (suc m) s xs a b = turns-next cfg n m s xs (next_record cfg s [] [] xs) refl (turns_same cfg n) a b
+turns_same cfg _ _ s xs a b = absurd (omega arith)
 
 -- as many turns as there are bytes before a read are enough for the bytes after it
 turns-rest : (p : Read) (n : ℕ) → Eats p n → records_from default_config n p.1 p.2 ≡ records_from default_config (length p.2 + 1) p.1 p.2

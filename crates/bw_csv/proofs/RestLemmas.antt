@@ -1,7 +1,6 @@
 -- What is still to be read of a text, as it is read.
 use Rattle.std.proofs.Common.{◌≡◌, ◌∙◌, ℕ, List, ◌∷◌, Bool, Some, Result, Ok, Err, true, false}
-use Rattle.std.proofs.Common.{refl, sym, ap}
-use Rattle.std.specs.Prelude.{IfOk}
+use Rattle.std.proofs.Common.{refl, sym, ap, IfOk}
 use Rattle.bw_model.specs.declared.fault.Fault.{Fault}
 use Rattle.csv.specs.Reading.{strip_bom}
 use Rattle.csv.specs.declared.parser.State.TheVariants as st

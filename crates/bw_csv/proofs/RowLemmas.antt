@@ -1,31 +1,29 @@
 -- The rows of a text, one more at a time.
-use Rattle.std.proofs.Common.{◌≡◌, ◌∙◌, ℕ, ℤ, ◌+◌, ◌^◌, ◌≤◌, arith, ltb, List, []}
-use Rattle.std.proofs.Common.{◌∷◌, ◌++◌, length, Option, Some, None, Result, Ok, Err, true}
-use Rattle.std.proofs.Common.{false, refl, ap, eqb}
-use Rattle.std.specs.Prelude.{◌&&◌, not, int_le}
-use Rattle.std.specs.Prelude.{IfOk, IsOkAnd}
+use Rattle.std.proofs.Common.{◌≡◌, ◌∙◌, ℕ, ℤ, ◌+◌, ◌^◌, ◌≤◌, arith, ltb, List, [], ◌∷◌, ◌++◌}
+use Rattle.std.proofs.Common.{length, Option, Some, None, Result, Ok, Err, true, false, refl, ap}
+use Rattle.std.proofs.Common.{eqb, ◌&&◌, not, int_le, IfOk, IsOkAnd, eq-eqb, eqb-true, le-ltb}
+use Rattle.std.proofs.Common.{ltb-false, append-nil}
 use Rattle.std.specs.List.{list_all}
-use Rattle.std.proofs.lemmas.Bool.{and_from, cond_both, eq-eqb, eqb-true, le-ltb, ltb-false}
-use Rattle.std.proofs.lemmas.Bool.{not-false}
-use Rattle.std.proofs.lemmas.List.{append-nil}
+use Rattle.std.proofs.lemmas.Bool.{and_from, cond_both, not-false}
 use Rattle.bw_model.specs.declared.column.Column.{Column}
 use Rattle.bw_model.specs.declared.fault.Fault.{Fault}
 use Rattle.bw_model.specs.Fault.{◌>>=◌, at_record, refused_if}
 use Rattle.bw_model.specs.Column.{admits_value, admits_values}
 use Rattle.bw_text.specs.Number.{are_digits, number_of}
 use Rattle.bw_model.specs.Row.{Value}
+use Rattle.bw_model.proofs.FaultLemmas.{not_refused, bind_ok}
 use Rattle.bw_csv.specs.Rows.{StopsAfter, is_reader_fault, located_at, is_heading, is_minus}
 use Rattle.bw_csv.specs.Rows.{is_null_text, row_of_record, rows_from, rows_after}
 use Rattle.bw_csv.specs.Rows.{without_sign, value_of_field, values_of_fields, with_row, within_bounds}
 use Rattle.bw_csv.specs.Rows.{without_blanks}
-use Rattle.bw_csv.proofs.FieldLemmas.{after, bound, passed}
+use Rattle.bw_csv.proofs.FieldLemmas.{after}
 use Rattle.bw_csv.proofs.Passed.{Passed, passed-nothing, passed-next, passed-on, passed-stops}
 
 -- a column admits the value of a field
 within_admitted : (number : ℕ) (column : Column) (spelled : Option ℤ) (value : Value) → within_bounds number column spelled ≡ Ok value → admits_value column value ≡ true
 within_admitted number column None value e = cc e
 within_admitted number column (Some n) value e =
-    let p = passed (not (int_le column.lo n && int_le n column.hi)) (at_record 205 number) (Ok (Some n)) value e in
+    let p = not_refused (not (int_le column.lo n && int_le n column.hi)) (at_record 205 number) (Ok (Some n)) value e in
     let same : ◌≡◌ {A = Value} (Some n) value = cc in rw (← same) (not-false _ p.0)
 
 value_admitted : (number : ℕ) (column : Column) (field : List ℕ) (value : Value) → value_of_field number column field ≡ Ok value → admits_value column value ≡ true
@@ -33,10 +31,10 @@ unfolding value_of_field
 value_admitted number column field value =
     let text = without_blanks field in
     cond_both (is_null_text text) _ _ (λ (r : Result Value Fault). r ≡ Ok value → admits_value column value ≡ true)
-    (λ null e. let p = passed (not column.nullable) (at_record 206 number) (Ok None) value e in
+    (λ null e. let p = not_refused (not column.nullable) (at_record 206 number) (Ok None) value e in
     let same : ◌≡◌ {A = Value} None value = cc in rw (← same) (not-false _ p.0))
     (λ some e. within_admitted number column (number_of (is_minus text) (without_sign text)) value
-    (passed (not (are_digits (without_sign text))) (at_record 204 number) _ value e).1)
+    (not_refused (not (are_digits (without_sign text))) (at_record 204 number) _ value e).1)
 
 -- columns admit the values of fields
 values_admitted : (number : ℕ) (columns : List Column) (fields : List (List ℕ)) (values : List Value)
@@ -45,8 +43,8 @@ unfolding values_of_fields
 values_admitted number [] fields values e = let same : ◌≡◌ {A = List Value} [] values = cc in rw (← same) refl
 values_admitted number (column ∷ columns) [] values e = cc e
 values_admitted number (column ∷ columns) (field ∷ fields) values e =
-    let one = bound (value_of_field number column field) (λ value. values_of_fields number columns fields >>= λ rest. Ok (value ∷ rest)) values e in
-    let more = bound (values_of_fields number columns fields) (λ rest. Ok (one.0 ∷ rest)) values one.2 in
+    let one = bind_ok (value_of_field number column field) (λ value. values_of_fields number columns fields >>= λ rest. Ok (value ∷ rest)) values e in
+    let more = bind_ok (values_of_fields number columns fields) (λ rest. Ok (one.0 ∷ rest)) values one.2 in
     let same : ◌≡◌ {A = List Value} (one.0 ∷ more.0) values = cc more.2 in
     rw (← same) (and_from _ _ (value_admitted number column field one.0 one.1) (values_admitted number columns fields more.0 more.1))
 
@@ -55,8 +53,8 @@ pub record_passed : (number width : ℕ) (fields : List (List ℕ)) (values : Re
     → refused_if (not (eqb (length fields) width)) (at_record 203 number) (refused_if (ltb (2 ^ 24) number) (at_record 207 number) values) ≡ Ok row
     → (length fields ≡ width) × (number ≤ 2 ^ 24) × (values ≡ Ok row)
 record_passed number width fields values row e =
-    let one = passed (not (eqb (length fields) width)) (at_record 203 number) (refused_if (ltb (2 ^ 24) number) (at_record 207 number) values) row e in
-    let two = passed (ltb (2 ^ 24) number) (at_record 207 number) values row one.1 in
+    let one = not_refused (not (eqb (length fields) width)) (at_record 203 number) (refused_if (ltb (2 ^ 24) number) (at_record 207 number) values) row e in
+    let two = not_refused (ltb (2 ^ 24) number) (at_record 207 number) values row one.1 in
     (eqb-true _ _ (not-false _ one.0), ltb-false _ _ two.0, two.1)
 
 -- a record's row, if it has the width, the number and the values
@@ -152,8 +150,8 @@ rows_good : (columns : List Column) (records : List (List (List ℕ))) (number :
 unfolding rows_from
 rows_good columns [] number rows h e = let same : ◌≡◌ {A = List (List Value)} [] rows = cc e in rw (← same) (omega (arith, h), refl)
 rows_good columns (fields ∷ more) number rows h e =
-    let one = bound (row_of_record number columns fields) (λ row. with_row row (rows_from columns (number + 1) more)) rows e in
-    let others = bound (rows_from columns (number + 1) more) (λ rest. Ok (one.0 ∷ rest)) rows one.2 in
+    let one = bind_ok (row_of_record number columns fields) (λ row. with_row row (rows_from columns (number + 1) more)) rows e in
+    let others = bind_ok (rows_from columns (number + 1) more) (λ rest. Ok (one.0 ∷ rest)) rows one.2 in
     let same : ◌≡◌ {A = List (List Value)} (one.0 ∷ others.0) rows = cc others.2 in
     let good = rows_good columns more (number + 1) others.0 (omega (arith, row_within number columns fields one.0 one.1)) others.1 in
     rw (← same) (omega (arith, good.0), and_from _ _ (row_admitted number columns fields one.0 one.1) good.1)
@@ -163,7 +161,7 @@ pub text_good : (columns : List Column) (records : List (List (List ℕ))) (rows
 unfolding rows_after
 text_good columns [] rows e = absurd (cc e)
 text_good columns (heading ∷ more) rows e =
-    let good = rows_good columns more 1 rows (omega arith) (passed (not (is_heading columns heading)) (at_record 202 0) (rows_from columns 1 more) rows e).1 in
+    let good = rows_good columns more 1 rows (omega arith) (not_refused (not (is_heading columns heading)) (at_record 202 0) (rows_from columns 1 more) rows e).1 in
     (omega (arith, good.0), good.1)
 
 pub if_ok : {A : Type 0} (r : Result A Fault) (P : A → Type 0) → ((x : A) → r ≡ Ok x → P x) → IfOk r P

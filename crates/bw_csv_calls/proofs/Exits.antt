@@ -1,8 +1,7 @@
 -- Where a call that reads a schema and a CSV and writes a text ends: at the schema, at the CSV, at
 -- what is made of it, or when the text is written.
 use Rattle.std.proofs.Common.{◌≡◌, ℕ, List, true, false, ◌==◌, Option, Result, Ok, Err, refl, subst}
-use Rattle.std.proofs.Common.{ap}
-use Rattle.std.proofs.lemmas.Bool.{eqb-true}
+use Rattle.std.proofs.Common.{ap, eqb-true}
 use Rattle.bw_model.specs.declared.fault.Fault.{Fault}
 use Rattle.bw_model.specs.declared.fault.Place.{Place}
 use Rattle.bw_model.specs.declared.fault.Place.TheVariants.{Nowhere}

@@ -1,15 +1,13 @@
 -- Chains are true: a chain follows from that of the bits below its top bit.
-use Rattle.std.proofs.Common.{◌≡◌, ◌∙◌, refl, sym, ap, ap₂, subst, ℕ, zero, suc, ◌+◌, ◌-◌, ◌*◌, ◌%◌}
-use Rattle.std.proofs.Common.{◌^◌, ◌<◌, ◌≤◌, Bool, true, false, not, cond, min, zero-add, ◌==◌}
-use Rattle.std.proofs.Common.{◌&&◌, ◌||◌, ⊎_elim, List, ◌++◌, length, length-append, ◌≢◌, Option}
-use Rattle.std.proofs.Common.{Some, None, slice_get, arith}
+use Rattle.std.proofs.Common.{◌≡◌, ◌∙◌, refl, sym, ap, ap₂, subst, ℕ, zero, suc, ◌+◌, ◌-◌, ◌%◌, ◌^◌}
+use Rattle.std.proofs.Common.{◌<◌, ◌≤◌, Bool, true, false, not, cond, min, zero-add, ◌&&◌, ◌||◌}
+use Rattle.std.proofs.Common.{⊎_elim, List, ◌++◌, length, length-append, ◌≢◌, Option, Some, None}
+use Rattle.std.proofs.Common.{slice_get, arith, option_and_then, is_none, ltb, leb, eqb, pow_mono}
+use Rattle.std.proofs.Common.{ltb-true, ltb-false, leb-true, lt-ltb, le-ltb, eqb-true, eq-eqb}
+use Rattle.std.proofs.Common.{ne_eqb}
 use Rattle.std.specs.Int.{bit_at}
-use Rattle.std.specs.Option.{option_and_then, is_none}
-use Rattle.std.proofs.Math.Dec.{ltb, leb, eqb}
-use Rattle.std.proofs.Math.Nat.{pow-succ', mod-eq_of_lt, min-le_left}
-use Rattle.std.proofs.Math.Pow.{pow_mono}
-use Rattle.std.proofs.lemmas.Bool.{ltb-true, ltb-false, leb-true, lt-ltb, le-ltb, eqb-true, eq-eqb}
-use Rattle.std.proofs.lemmas.Bool.{eqb-false, ne_eqb, cases_lt}
+use Rattle.std.proofs.Math.Nat.{mod-eq_of_lt, min-le_left}
+use Rattle.std.proofs.lemmas.Bool.{eqb-false, cases_lt}
 use Rattle.std.proofs.lemmas.Nat.{pow_pos, mod-pow-add}
 use Rattle.std.proofs.lemmas.Nat.Bits.{bit_at-lt}
 use Rattle.std.proofs.lemmas.Option.{option_and_then_some}
@@ -17,8 +15,8 @@ use Rattle.bw_model.specs.declared.column.Column.{Column}
 use Rattle.bw_model.specs.Code.{width_at, has_bit}
 use Rattle.bw_model.specs.Variable.{Assignment, first_variable, bit_variable, binary_number}
 use Rattle.bw_model.specs.StoredCodes.{number_spelled}
-use Rattle.bw_model.proofs.BitsLemmas.{both, given}
-use Rattle.bw_model.proofs.VariableLemmas.{width_before_next}
+use Rattle.bw_model.proofs.BitsLemmas.{both, given, bit_denotes}
+use Rattle.bw_model.proofs.VariableLemmas.{width_before_next, binary_number-lt}
 use Rattle.bw_diagram.specs.declared.node.Node.{Node}
 use Rattle.bw_diagram.specs.declared.chain.ChainKind.{ChainKind}
 use Rattle.bw_diagram.specs.declared.chain.ChainKind.TheVariants.{Less, Equal}
@@ -34,17 +32,8 @@ use Rattle.bw_diagram.proofs.ProductLemmas.{either}
 use Rattle.bw_diagram.proofs.NodeLemmas.{node_value-zero, node_value-one, node_value-node_at}
 use Rattle.bw_diagram.proofs.NodeLemmas.{node_value-cofactor, node_value-append}
 
--- this many bits spell a number below that power of 2
-spelled-lt : (assignment : Assignment) (first count : ℕ) → binary_number assignment first count < 2 ^ count
-spelled-lt assignment first zero = omega arith
-spelled-lt assignment first (suc count) = by_bit (assignment first) (spelled-lt assignment (suc first) count)
-  where
-    by_bit : (bit : Bool) → binary_number assignment (suc first) count < 2 ^ count → cond bit (2 ^ count) 0 + binary_number assignment (suc first) count < 2 ^ suc count
-    by_bit true lt = omega (arith, pow-succ' 2 count)
-    by_bit false lt = omega (arith, pow-succ' 2 count)
-
 number_spelled-lt : (columns : List Column) (col start count : ℕ) (assignment : Assignment) → number_spelled columns col start count assignment < 2 ^ count
-number_spelled-lt columns col start count assignment = spelled-lt assignment (first_variable columns (suc col) - (start + count)) count
+number_spelled-lt columns col start count assignment = binary_number-lt assignment (first_variable columns (suc col) - (start + count)) count
 
 padded_number-lt : (columns : List Column) (col len : ℕ) (assignment : Assignment) → padded_number columns col len assignment < 2 ^ len
 padded_number-lt columns col len assignment =
@@ -126,11 +115,6 @@ outcome-compares f z o Equal false true e p c d cp dp is = z ∙ sym (ne_eqb (0 
 outcome-compares f z o Equal true false e p c d cp dp is = z ∙ sym (ne_eqb (p + c) (0 + d) (λ e. omega arith))
 
 -- a number is its top bit and the rest
-bit_denotes : (bit k : ℕ) → bit < 2 → cond (bit == 1) k 0 ≡ bit * k
-bit_denotes zero k lt = omega arith
-bit_denotes (suc zero) k lt = omega arith
-bit_denotes (suc (suc bit)) k lt = absurd (omega arith)
-
 pub top_bit : (n lower : ℕ) → n < 2 ^ suc lower → cond (has_bit n lower) (2 ^ lower) 0 + n % 2 ^ lower ≡ n
 top_bit n lower lt =
     let next : suc lower ≡ 1 + lower = omega arith in
@@ -180,8 +164,7 @@ occurs-bit assignment (Some v) = of_bit (assignment v)
 same_kind-true : (k kind : ChainKind) → same_kind k kind ≡ true → k ≡ kind
 same_kind-true Less Less is = refl
 same_kind-true Equal Equal is = refl
-same_kind-true Less Equal is = cc
-same_kind-true Equal Less is = cc
+same_kind-true _ _ is = cc
 
 -- every chain of a list is true
 abbrev pub AllChains : List Column → List Node → List Chain → Type 0
@@ -254,8 +237,7 @@ one-claim columns nodes chains kind col start len bound node prev lower e ordere
 
 implied : (a b c : Bool) → (not (a && b) || c) ≡ true → a ≡ true → b ≡ true → c ≡ true
 implied true true c is a_is b_is = is
-implied true false c is a_is b_is = cc
-implied false b c is a_is b_is = cc
+implied _ _ c is a_is b_is = cc
 
 -- if both bits can occur, the node leads by them to the outcome
 leads-is : (nodes : List Node) (kind : ChainKind) (left right : Option ℕ) (e node : ℕ) (x y : Bool) → leads nodes kind left right e node x y ≡ true → occurs left x ≡ true → occurs right y ≡ true →

@@ -2,13 +2,13 @@
 use Rattle.std.proofs.Common.{◌≡◌, ◌∙◌, refl, sym, ap₂, subst, ℕ, zero, suc, ◌+◌, ◌<◌, Bool, true}
 use Rattle.std.proofs.Common.{false, not, List, [], ◌∷◌, ◌++◌, length, Option, Some, None}
 use Rattle.std.proofs.Common.{slice_get, ◌⊎◌, inl, inr, ⊎_elim, arith, length-append, Result, Ok}
-use Rattle.std.proofs.Common.{Err}
-use Rattle.std.proofs.Math.Dec.{leb}
-use Rattle.std.proofs.lemmas.Bool.{ltb-true, eqb-true, leb-false}
+use Rattle.std.proofs.Common.{Err, leb}
+use Rattle.std.proofs.lemmas.Bool.{ltb-true, eqb-true, leb-false, not-false}
 use Rattle.bw_model.specs.Variable.{variables_of}
 use Rattle.bw_model.specs.declared.fault.Fault.{Fault}
 use Rattle.bw_model.specs.Fault.{refused_if, nowhere, ◌>>=◌}
 use Rattle.bw_model.proofs.BitsLemmas.{both}
+use Rattle.bw_model.proofs.FaultLemmas.{not_refused}
 use Rattle.bw_diagram.specs.declared.node.Node.{Node}
 use Rattle.bw_diagram.specs.declared.product.Product.{Product}
 use Rattle.bw_diagram.specs.declared.product.Reason.{Reason}
@@ -61,31 +61,22 @@ IsProduct-append nodes more row product = record {
       ∙ sym (ap₂ (apply_connective row.op) (node_value-append nodes more assignment row.a product.a_node) (node_value-append nodes more assignment row.b product.b_node));
 }
 
--- what isn't rejected by a test is what comes next
-passes : {A : Type 0} (test : Bool) (fault : Fault) (next : Result A Fault) (accepted : A) → refused_if test fault next ≡ Ok accepted → (test ≡ false) × (next ≡ Ok accepted)
-passes true fault next accepted is = cc
-passes false fault next accepted is = (refl, is)
-
 -- what isn't rejected by two tests meets both
 refused_if-ok : {A : Type 0} (full broken : Bool) (no_room breach : Fault) (x accepted : A) → refused_if full no_room (refused_if broken breach (Ok x)) ≡ Ok accepted → (full ≡ false) × (broken ≡ false) × (x ≡ accepted)
 refused_if-ok full broken no_room breach x accepted is =
-    let room = passes full no_room (refused_if broken breach (Ok x)) accepted is in
-    let rule = passes broken breach (Ok x) accepted room.1 in
+    let room = not_refused full no_room (refused_if broken breach (Ok x)) accepted is in
+    let rule = not_refused broken breach (Ok x) accepted room.1 in
     let same : x ≡ accepted = cc rule.1 in
     (room.0, rule.0, same)
 
 -- what is accepted has room
 pub accept_node-room : (facts : Facts) (number : ℕ) (node accepted : Node) → accept_node facts number node ≡ Ok accepted → length facts.nodes < most_nodes
 unfolding accept_node
-accept_node-room facts number node accepted is = leb-false most_nodes (length facts.nodes) (passes _ _ _ accepted is).0
+accept_node-room facts number node accepted is = leb-false most_nodes (length facts.nodes) (not_refused _ _ _ accepted is).0
 
 pub accept_chain-room : (facts : Facts) (number : ℕ) (named : Option Chain) (accepted : Chain) → accept_chain facts number named ≡ Ok accepted → length facts.chains < most_chains
 unfolding accept_chain
-accept_chain-room facts number named accepted is = leb-false most_chains (length facts.chains) (passes _ _ _ accepted is).0
-
-not-false : (b : Bool) → not b ≡ false → b ≡ true
-not-false true is = refl
-not-false false is = cc
+accept_chain-room facts number named accepted is = leb-false most_chains (length facts.chains) (not_refused _ _ _ accepted is).0
 
 -- a node that is accepted leaves all true
 pub accept_node-true : (facts : Facts) (number : ℕ) (node accepted : Node) → accept_node facts number node ≡ Ok accepted → AreTrue facts → AreTrue (record facts { nodes = facts.nodes ++ accepted ∷ [] })
@@ -129,7 +120,7 @@ accept_product-true facts number row accepted reason is true_before =
 pub accept_chain-true : (facts : Facts) (number : ℕ) (named : Option Chain) (accepted : Chain) → accept_chain facts number named ≡ Ok accepted → AreTrue facts → AreTrue (record facts { chains = facts.chains ++ accepted ∷ [] })
 unfolding accept_chain
 accept_chain-true facts number named accepted is true_before =
-    if_named named (passes (leb most_chains (length facts.chains)) (nowhere 604) (accept_if_named facts number named) accepted is).1
+    if_named named (not_refused (leb most_chains (length facts.chains)) (nowhere 604) (accept_if_named facts number named) accepted is).1
   where
     if_named : (named : Option Chain) → accept_if_named facts number named ≡ Ok accepted → AreTrue (record facts { chains = facts.chains ++ accepted ∷ [] })
     if_named None is = cc

@@ -2,9 +2,8 @@
 -- nothing.
 use Rattle.std.proofs.Common.{◌≡◌, ◌∙◌, refl, sym, ap, subst, ℕ, zero, suc, ◌+◌, ◌-◌, ◌<◌, Bool}
 use Rattle.std.proofs.Common.{true, false, cond, List, [], ◌∷◌, ◌++◌, length, length-append, get_or}
-use Rattle.std.proofs.Common.{Option, Some, None, slice_get, arith, add-zero}
-use Rattle.std.proofs.Math.Dec.{ltb, eqb}
-use Rattle.std.proofs.lemmas.Bool.{ltb-false, eqb-true}
+use Rattle.std.proofs.Common.{Option, Some, None, slice_get, arith, add-zero, ltb, eqb, ltb-false}
+use Rattle.std.proofs.Common.{eqb-true}
 use Rattle.std.proofs.Math.ListN.{get_or-append}
 use Rattle.std.proofs.Math.Seq.{get_or-append_seam}
 use Rattle.bw_model.specs.Variable.{Assignment}

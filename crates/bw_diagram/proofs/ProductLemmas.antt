@@ -1,8 +1,7 @@
 -- Product rows are true: by their shortcuts, or by the rows of their cofactors.
 use Rattle.std.proofs.Common.{◌≡◌, ◌∙◌, refl, sym, ap, ap₂, ℕ, Bool, true, false, not, ◌&&◌, ◌||◌}
-use Rattle.std.proofs.Common.{◌+◌, List, length, Option, Some, None, slice_get}
-use Rattle.std.proofs.Math.Dec.{eqb}
-use Rattle.std.proofs.lemmas.Bool.{eqb-true, ltb-true}
+use Rattle.std.proofs.Common.{◌+◌, List, length, Option, Some, None, slice_get, eqb, eqb-true}
+use Rattle.std.proofs.Common.{ltb-true}
 use Rattle.bw_model.proofs.BitsLemmas.{both}
 use Rattle.bw_diagram.specs.declared.product.Connective.{Connective}
 use Rattle.bw_diagram.specs.declared.product.Connective.TheVariants.{And, Or, Xor, Diff}
@@ -102,18 +101,7 @@ same_connective-true And And is = refl
 same_connective-true Or Or is = refl
 same_connective-true Xor Xor is = refl
 same_connective-true Diff Diff is = refl
-same_connective-true And Or is = cc
-same_connective-true And Xor is = cc
-same_connective-true And Diff is = cc
-same_connective-true Or And is = cc
-same_connective-true Or Xor is = cc
-same_connective-true Or Diff is = cc
-same_connective-true Xor And is = cc
-same_connective-true Xor Or is = cc
-same_connective-true Xor Diff is = cc
-same_connective-true Diff And is = cc
-same_connective-true Diff Or is = cc
-same_connective-true Diff Xor is = cc
+same_connective-true _ _ is = cc
 
 same_product-true : (row other : Product) → same_product row other ≡ true → row ≡ other
 same_product-true row other is =

@@ -1,12 +1,9 @@
 -- What can be cited is worth what its row or its chain says.
-use Rattle.std.proofs.Common.{◌≡◌, ◌∙◌, refl, sym, ap, subst, ◌⊎◌, inl, inr, ℕ, zero, suc, ◌-◌, ◌<◌}
-use Rattle.std.proofs.Common.{Bool, true, false, cond, ◌&&◌, List, [], ◌∷◌, length, Option, Some}
-use Rattle.std.proofs.Common.{None, slice_get, arith}
-use Rattle.std.specs.Option.{option_and_then}
-use Rattle.std.proofs.Math.Dec.{eqb}
-use Rattle.std.proofs.lemmas.Bool.{eqb-true}
+use Rattle.std.proofs.Common.{◌≡◌, ◌∙◌, refl, sym, ap, subst, ◌⊎◌, inl, inr, ℕ, zero, ◌-◌, Bool}
+use Rattle.std.proofs.Common.{true, false, cond, ◌&&◌, [], Option, Some, None, slice_get, arith}
+use Rattle.std.proofs.Common.{option_and_then, eqb, eqb-true}
 use Rattle.bw_model.proofs.BitsLemmas.{both, given}
-use Rattle.std.proofs.lemmas.Option.{option_and_then_some}
+use Rattle.std.proofs.lemmas.Option.{option_and_then_some, slice_get_within}
 use Rattle.bw_model.specs.StoredCodes.{number_spelled}
 use Rattle.bw_model.specs.Variable.{Assignment}
 use Rattle.bw_diagram.specs.declared.chain.Chain.{Chain}
@@ -31,12 +28,6 @@ use Rattle.bw_diagram.proofs.ProductLemmas.{same_connective-true}
 abbrev Denotes : Facts → (Assignment → Bool) → ℕ → Type 0
 Denotes facts value n = IsNode facts.nodes n × ((assignment : Assignment) → node_value facts.nodes assignment n ≡ value assignment)
 
--- what stands in a list stands within it
-stands : {A : Type 0} (xs : List A) (k : ℕ) (x : A) → slice_get xs k ≡ Some x → k < length xs
-stands [] k x is = cc
-stands (y ∷ ys) zero x is = omega arith
-stands (y ∷ ys) (suc k) x is = omega (arith, stands ys k x is)
-
 variable_denotes : (facts : Facts) (v n : ℕ) → AreTrue facts → is_variable facts v n ≡ true → Denotes facts (λ assignment. assignment v) n
 unfolding is_variable
 variable_denotes facts v n true_facts is = at (node_at facts.nodes n) refl is
@@ -56,7 +47,7 @@ variable_denotes facts v n true_facts is = at (node_at facts.nodes n) refl is
         let low_is = both _ _ high_is.0 in
         let v_is : node.v ≡ v = eqb-true node.v v low_is.0 in
         let place = node_at-some facts.nodes n node there in (
-          omega (arith, place.0, stands facts.nodes (n - 2) node place.1),
+          omega (arith, place.0, slice_get_within facts.nodes (n - 2) node place.1),
           λ assignment. node_value-node_at facts.nodes n node assignment true_facts.ordered there
               ∙ ap (node_value facts.nodes assignment) (chosen (assignment node.v) node)
               ∙ terminal (assignment node.v) node.low node.high assignment (eqb-true node.low 0 low_is.1) (eqb-true node.high 1 high_is.1)

@@ -47,18 +47,7 @@ same_connective And And = true
 same_connective Or Or = true
 same_connective Xor Xor = true
 same_connective Diff Diff = true
-same_connective And Or = false
-same_connective And Xor = false
-same_connective And Diff = false
-same_connective Or And = false
-same_connective Or Xor = false
-same_connective Or Diff = false
-same_connective Xor And = false
-same_connective Xor Or = false
-same_connective Xor Diff = false
-same_connective Diff And = false
-same_connective Diff Or = false
-same_connective Diff Xor = false
+same_connective _ _ = false
 
 abbrev pub same_product : Product → Product → Bool
 same_product row other = same_connective row.op other.op && row.a == other.a && row.b == other.b

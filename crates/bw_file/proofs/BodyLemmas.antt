@@ -1,14 +1,13 @@
 -- Reading segments block by block.
 use Rattle.std.proofs.Common.{◌≡◌, true, false, ℕ, zero, suc, ◌+◌, ◌-◌, ◌*◌, ◌<◌, ◌≤◌, Bool, ◌&&◌}
 use Rattle.std.proofs.Common.{◌||◌, ◌==◌, nat_le, List, [], ◌++◌, length, Option, Some, None, refl}
-use Rattle.std.proofs.Common.{subst, ◌∙◌, arith}
+use Rattle.std.proofs.Common.{subst, ◌∙◌, arith, inl, inr, drop, get_or}
 use Rattle.std.specs.Int.{bit_at}
 use Rattle.std.specs.List.{list_any, range_with_len}
 use Rattle.bw_model.specs.declared.column.Column.{Column}
 use Rattle.bw_model.specs.declared.fault.Fault.{Fault}
 use Rattle.bw_model.specs.Fault.{at_byte}
 use Rattle.bw_file.specs.declared.layout.Layout.{Layout}
-use Rattle.std.proofs.Common.{inl, inr, drop, get_or}
 use Rattle.std.proofs.lemmas.List.{drop_all, drop_more}
 use Rattle.std.proofs.lemmas.Bool.{cases_lt}
 use Rattle.bw_segment.proofs.LayoutLemmas.{block_added}

@@ -1,12 +1,11 @@
 -- What is read after a table file's header is spelled so.
 use Rattle.std.proofs.Common.{◌≡◌, ℕ, zero, suc, min, ◌+◌, ◌-◌, ◌^◌, ◌<◌, ◌≤◌, true, false, List}
-use Rattle.std.proofs.Common.{[], ◌∷◌, ◌++◌, length, take, drop, Option, Some, None, Ok}
-use Rattle.std.proofs.Common.{refl, sym, ap, subst, ◌∙◌, append_assoc, length-append, arith, inl}
-use Rattle.std.proofs.Common.{inr, All, lit<}
+use Rattle.std.proofs.Common.{[], ◌∷◌, ◌++◌, length, take, drop, Option, Some, None, Ok, refl, sym}
+use Rattle.std.proofs.Common.{ap, subst, ◌∙◌, append_assoc, length-append, arith, inl, inr, All}
+use Rattle.std.proofs.Common.{lit<, append-nil, take_at, drop_at, take_all}
 use Rattle.std.specs.List.{flat_map, list_all}
 use Rattle.std.proofs.lemmas.Bool.{cases_lt}
-use Rattle.std.proofs.lemmas.List.{append-nil, get_or_default, nil_from_length, take_at, drop_at}
-use Rattle.std.proofs.lemmas.List.{take_all, drop_all}
+use Rattle.std.proofs.lemmas.List.{get_or_default, nil_from_length, drop_all}
 use Rattle.std.proofs.lemmas.List.Folds.{list_all-append}
 use Rattle.bw_model.specs.declared.column.Column.{Column}
 use Rattle.bw_model.specs.Column.{admits_values}
@@ -14,6 +13,7 @@ use Rattle.bw_model.specs.Fault.{at_byte}
 use Rattle.bw_model.specs.Groups.{group_size, groups_of, together}
 use Rattle.bw_model.specs.Row.{Value}
 use Rattle.bw_model.proofs.GroupLemmas.{groups_of-nothing, groups_of-first}
+use Rattle.bw_model.proofs.FaultLemmas.{not_refused}
 use Rattle.bw_segment.proofs.LayoutLemmas.{block_added}
 use Rattle.bw_segment.proofs.SoundLemmas.{length-rows_spelled, spelled_group, bytes_again}
 use Rattle.bw_file.specs.declared.layout.Layout.{Layout}
@@ -25,9 +25,8 @@ use Rattle.bw_file.specs.TableReading.{end, body}
 use Rattle.bw_file.proofs.ReaderLemmas.{group_sizes-some, group_sizes-none}
 use Rattle.bw_file.proofs.ReadingLemmas.{both_bytes}
 use Rattle.bw_file.proofs.SegmentLemmas.{is_packing}
-use Rattle.bw_file.proofs.SpellingLemmas.{IsBytes, Takes, TakesBoth, bind_ok, not_refused}
-use Rattle.bw_file.proofs.SpellingLemmas.{field_takes, takes_then, both_of}
-use Rattle.bw_file.proofs.SpellingLemmas.{ok_is}
+use Rattle.bw_file.proofs.SpellingLemmas.{IsBytes, Takes, TakesBoth, bind_ok, field_takes}
+use Rattle.bw_file.proofs.SpellingLemmas.{takes_then, both_of, ok_is}
 
 abbrev pair : List ℕ → Tail → List ℕ × Tail
 pair bytes t = (bytes, t)

@@ -1,14 +1,12 @@
 -- The bytes of a table, row by row.
 use Rattle.std.proofs.Common.{◌≡◌, ℕ, zero, suc, ◌+◌, ◌*◌, ◌<◌, ◌≤◌, ◌&&◌, true, not, List, [], ◌∷◌}
 use Rattle.std.proofs.Common.{◌++◌, length, take, drop, nat_le, append_assoc, length-append}
-use Rattle.std.proofs.Common.{length-drop, refl, sym, ap, ap₂, ◌∙◌, arith}
-use Rattle.std.proofs.lemmas.Bool.{leb-true}
+use Rattle.std.proofs.Common.{length-drop, refl, sym, ap, ap₂, ◌∙◌, arith, mul-suc, flat_map}
+use Rattle.std.proofs.lemmas.Bool.{leb-true, and_parts}
 use Rattle.std.proofs.lemmas.List.{append-nil, nil_from_length, take_all, drop_all, take-append-le}
 use Rattle.std.proofs.lemmas.List.{drop-append-le, flat_map_more}
-use Rattle.std.proofs.Math.Nat.{mul-suc}
 use Rattle.std.specs.Int.{w32, to_le_bytes}
 use Rattle.std.proofs.lemmas.List.Folds.{list_all-append}
-use Rattle.std.specs.List.{flat_map}
 use Rattle.bw_model.specs.Column.{admits_values}
 use Rattle.bw_model.specs.Limits.{most_rows}
 use Rattle.bw_model.specs.declared.column.Column.{Column}
@@ -24,12 +22,11 @@ use Rattle.bw_file.specs.FileBytes.{bytes_of_version, file_bytes, version_for}
 use Rattle.bw_model.specs.Name.{is_name}
 use Rattle.bw_text.specs.Keyword.{is_reserved}
 use Rattle.bw_text.specs.Text.{is_word}
-use Rattle.bw_model.proofs.SchemaLemmas.{both}
 
 -- a name has at most 63 bytes
 pub short_name : (text : List ℕ) → is_name text ≡ true → length text ≤ 63
 unfolding is_name
-short_name text e = leb-true (length text) 63 (both (is_word text) (nat_le (length text) 63) (both (is_word text && nat_le (length text) 63) (not (is_reserved text)) e).0).1
+short_name text e = leb-true (length text) 63 (and_parts (is_word text) (nat_le (length text) 63) (and_parts (is_word text && nat_le (length text) 63) (not (is_reserved text)) e).0).1
 
 -- parts that were added one after another
 pub front_added : (b0 b1 b2 b3 b4 b5 magic columns rows : List ℕ) (version layout : ℕ) → b1 ≡ b0 ++ magic → b2 ≡ b1 ++ version ∷ [] → b3 ≡ b2 ++ layout ∷ []

@@ -1,7 +1,6 @@
 pub mod BodyLemmas
 pub mod BodySpelling
 pub mod EncoderLemmas
-pub mod ErrLemmas
 pub mod FaultLemmas
 pub mod FileSpelling
 pub mod HeaderLemmas

@@ -1,8 +1,7 @@
 -- What is answered of a file once memory has run out, or by a later read; and groups that come one
 -- after the other.
 use Rattle.std.proofs.Common.{◌≡◌, ◌∙◌, ℕ, ◌+◌, List, [], ◌∷◌, ◌++◌, true, false, inl, sym, ap}
-use Rattle.std.proofs.Common.{append_assoc, arith}
-use Rattle.std.proofs.lemmas.List.{append-nil}
+use Rattle.std.proofs.Common.{append_assoc, arith, append-nil}
 use Rattle.bw_model.specs.declared.fault.Fault.{Fault}
 use Rattle.bw_model.specs.Fault.{no_memory}
 use Rattle.bw_model.specs.Groups.{together}

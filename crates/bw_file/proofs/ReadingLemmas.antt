@@ -1,14 +1,12 @@
 -- Reading bytes step by step, as calls take them of a source.
-use Rattle.std.proofs.Common.{◌≡◌, ℕ, ◌+◌, ◌-◌, ◌≤◌, ◌<◌, true, false, zero, suc, List, []}
-use Rattle.std.proofs.Common.{◌∷◌, ◌++◌, length, take, lit<, Option, Some, None, Result, Ok, Err}
-use Rattle.std.proofs.Common.{refl, sym, ap, ◌∙◌, append_assoc, length-append, arith, inl, inr}
-use Rattle.std.proofs.Common.{nat_lt, ◌==◌}
-use Rattle.std.specs.Prelude.{IfSome}
-use Rattle.std.proofs.lemmas.Bool.{and_right, true≢false}
+use Rattle.std.proofs.Common.{◌≡◌, ℕ, ◌+◌, ◌-◌, ◌≤◌, ◌<◌, true, false, zero, suc, List, [], ◌∷◌}
+use Rattle.std.proofs.Common.{◌++◌, length, take, lit<, Option, Some, None, Result, Ok, Err, refl}
+use Rattle.std.proofs.Common.{sym, ap, ◌∙◌, append_assoc, length-append, arith, inl, inr, nat_lt}
+use Rattle.std.proofs.Common.{◌==◌, IfSome}
+use Rattle.std.proofs.lemmas.Bool.{and_right, true≢false, cases_lt, lt-ltb, le-ltb}
 use Rattle.std.proofs.lemmas.List.{take_at, drop_at, length-take-le, take-append-le}
 use Rattle.std.proofs.Math.Seq.{take-append-add}
 use borrow.Rule.Slice.PartMut.{put_mid, post_of}
-use Rattle.std.proofs.lemmas.Bool.{cases_lt, lt-ltb, le-ltb}
 use Rattle.std.specs.Io.KnownBytes.{IsAtEnd}
 use Rattle.std.proofs.KnownBytes.{Consumes-trans}
 use Rattle.bw_model.specs.declared.fault.Fault.{Fault}
@@ -52,7 +50,7 @@ pub needs_none : {A : Type 0} (reading : Reading A) (at : ℕ) → NeedsEach rea
 needs_none reading at n lt = absurd (omega (arith, lt))
 
 -- what one thing needs is needed by it and another
-needs_first : {A B : Type 0} (first : Reading A) (next : A → Reading B) (at : ℕ) (bytes : List ℕ) → NeedsEach first at bytes
+pub needs_first : {A B : Type 0} (first : Reading A) (next : A → Reading B) (at : ℕ) (bytes : List ℕ) → NeedsEach first at bytes
     → NeedsEach (first >>= next) at bytes
 needs_first {A = A} first next at bytes p n lt = ap (λ (r : Result (A × Tail) Fault). and_then r next) (p n lt)
 

@@ -1,8 +1,7 @@
 -- The bytes of a segment that a source keeps, and those that are copied.
 use Rattle.std.proofs.Common.{◌≡◌, ◌∙◌, ℕ, ◌+◌, ◌-◌, ◌≤◌, ◌++◌, List, length, take, drop, take-take}
-use Rattle.std.proofs.Common.{drop-drop, take-add, sym, ap, ap₂, arith}
+use Rattle.std.proofs.Common.{drop-drop, take-add, sym, ap, ap₂, arith, slice_range}
 use Rattle.std.proofs.lemmas.List.{drop-take}
-use Rattle.std.specs.Prelude.{slice_range}
 
 module _ (bytes kept : List ℕ) (start size : ℕ) (within : start + size ≤ length bytes) (next : drop start bytes ≡ take (length bytes - start) kept) where
   -- the next ones are the first that the source keeps

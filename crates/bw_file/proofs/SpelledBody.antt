@@ -19,13 +19,15 @@ use Rattle.bw_segment.specs.Meaning.{Meaning, IsGroup}
 use Rattle.bw_segment.proofs.BytesLemmas.{length-block, block_is_fine, rows_of_bytes}
 use Rattle.bw_file.specs.declared.layout.Layout.{Layout}
 use Rattle.bw_file.specs.Blocks.{form_of, block_size, block_fault}
-use Rattle.bw_file.specs.Reading.{Tail, tail, and_then}
+use Rattle.bw_file.specs.Reading.{Tail, tail, Reading, and_then, ◌>>=◌, field, NeedsEach}
 use Rattle.bw_file.specs.TableReading.{sound_at, one_block, blocks, segment, group_sizes, end, body}
 use Rattle.bw_file.proofs.ReaderLemmas.{group_sizes-some, group_sizes-none}
+use Rattle.bw_file.proofs.ReadingLemmas.{needs_first, needs_more, needs_none}
 use Rattle.bw_file.proofs.SegmentLemmas.{is_packing}
 use Rattle.bw_file.proofs.SpelledHeader.{ReadsText, text_then, text_gives, field_reads}
 
-abbrev group_under : List Column → List (List Value) → Meaning
+-- the rows of one group
+abbrev pub group_under : List Column → List (List Value) → Meaning
 group_under columns rows = record { name = []; columns = columns; rows = rows }
 
 -- the blocks of a group's rows
@@ -35,22 +37,29 @@ module _ (layout : Layout) (columns : List Column) (rows : List (List Value)) (g
 
   block_reads : (number : ℕ) → number < length columns → ReadsText (one_block layout columns (length rows) number) (block number) (block number)
   unfolding one_block
-  block_reads number there at rest =
+  block_reads number there =
       let law = is_packing layout in
       let meaning = group_under columns rows in
-      let long = length-block (form_of layout) law meaning group number in
+      let p = field_reads (block_size layout columns number) (block number) (length-block (form_of layout) law meaning group number) in
       let fine : block_fault layout columns number (length rows) (block number) ≡ None = block_is_fine (form_of layout) law meaning group number there in
-      ap (λ (r : Result (List ℕ × Tail) Fault). and_then r (λ bytes. sound_at at layout columns (length rows) number bytes (block_fault layout columns number (length rows) bytes)))
-      (field_reads (block_size layout columns number) (block number) long at rest)
-      ∙ ap (λ (fault : Option ℕ). sound_at at layout columns (length rows) number (block number) fault (tail (at + length (block number)) rest)) fine
+      let sound : ℕ → List ℕ → Reading (List ℕ) = λ (at : ℕ) (bytes : List ℕ). sound_at at layout columns (length rows) number bytes (block_fault layout columns number (length rows) bytes) in
+      record {
+        reads = λ at rest.
+            ap (λ (r : Result (List ℕ × Tail) Fault). and_then r (sound at)) (p.reads at rest)
+            ∙ ap (λ (fault : Option ℕ). sound_at at layout columns (length rows) number (block number) fault (tail (at + length (block number)) rest)) fine;
+        needs = λ at. needs_first (field (block_size layout columns number)) (sound at) at (block number) (p.needs at);
+      }
 
   blocks_read : (more number : ℕ) (before : List ℕ) → number + more ≤ length columns
       → ReadsText (blocks layout columns (length rows) number more before) (flat_map block (range_with_len number more)) (before ++ flat_map block (range_with_len number more))
   unfolding blocks
-  blocks_read zero number before within = λ at rest.
-      let there : at ≡ at + 0 = omega arith in
-      let same : before ≡ before ++ [] = sym (append-nil before) in
-      rw (← there, ← same) refl
+  blocks_read zero number before within = record {
+    reads = λ at rest.
+        let there : at ≡ at + 0 = omega arith in
+        let same : before ≡ before ++ [] = sym (append-nil before) in
+        rw (← there, ← same) refl;
+    needs = λ at. needs_none (blocks layout columns (length rows) number 0 before) at;
+  }
   blocks_read (suc more) number before within =
       let next = blocks_read more (number + 1) (before ++ block number) (omega (arith, within)) in
       subst (ReadsText (blocks layout columns (length rows) number (suc more) before) (flat_map block (range_with_len number (suc more))))
@@ -69,29 +78,41 @@ module _ (layout : Layout) (columns : List Column) (rows : List (List Value)) (g
       (blocks_read (length columns) 0 [] (omega arith)))
 
 -- the sizes of groups, and what is said of each of them
-abbrev HasSize : List (List Value) → Type 0
+abbrev pub HasSize : List (List Value) → Type 0
 HasSize group = (1 ≤ length group) × (length group ≤ group_size)
 
-abbrev Admits : List Column → List (List Value) → Type 0
+abbrev pub Admits : List Column → List (List Value) → Type 0
 Admits columns group = list_all (admits_values columns) group ≡ true
 
+-- the groups are read, and each of their bytes is needed
+record ReadsGroups (layout : Layout) (columns : List Column) (groups before : List (List (List Value))) (at : ℕ) : Type 0 where
+  left : Tail
+  reads : body layout columns (map length groups) before (tail at (flat_map (segment_bytes (form_of layout) columns) groups)) ≡ Ok (before ++ groups, left)
+  needs : NeedsEach (body layout columns (map length groups) before) at (flat_map (segment_bytes (form_of layout) columns) groups)
+
 body_reads : (layout : Layout) (columns : List Column) (groups before : List (List (List Value))) (at : ℕ) → All HasSize groups → All (Admits columns) groups
-    → (t : Tail) × (body layout columns (map length groups) before (tail at (flat_map (segment_bytes (form_of layout) columns) groups)) ≡ Ok (before ++ groups, t))
+    → ReadsGroups layout columns groups before at
 unfolding body end
-body_reads layout columns [] before at sized admitted = (tail at [], rw append-nil refl)
+body_reads layout columns [] before at sized admitted = record { left = tail at []; reads = rw append-nil refl; needs = needs_none (body layout columns [] before) at }
 body_reads layout columns (group ∷ groups) before at sized admitted =
     let size = All-head HasSize group groups sized in
     let is : IsGroup (group_under columns group) = record { nonempty = size.0; within_limit = size.1; admitted = All-head (Admits columns) group groups admitted } in
     let text = segment_bytes (form_of layout) columns group in
     let others = flat_map (segment_bytes (form_of layout) columns) groups in
+    let next : List (List Value) → Reading (List (List (List Value))) = λ (group : List (List Value)). body layout columns (map length groups) (before ++ group ∷ []) in
     let r = body_reads layout columns groups (before ++ group ∷ []) (at + length text) (All-tail HasSize group groups sized) (All-tail (Admits columns) group groups admitted) in
-    let first = segment_reads layout columns group is at others in (
-      r.0,
-      ap (λ (x : Result (List (List Value) × Tail) Fault). and_then x (λ group. body layout columns (map length groups) (before ++ group ∷ []))) first
-          ∙ r.1 ∙ ap (λ (found : List (List (List Value))). Ok (found, r.0)) (append_assoc before (group ∷ []) groups),
-    )
+    let first = segment_reads layout columns group is in
+    let on : (rest : List ℕ) → (segment layout columns (length group) >>= next) (tail at (text ++ rest)) ≡ next group (tail (at + length text) rest) =
+    λ rest. ap (λ (x : Result (List (List Value) × Tail) Fault). and_then x next) (first.reads at rest) in
+    record {
+      left = r.left;
+      reads = on others ∙ r.reads ∙ ap (λ (found : List (List (List Value))). Ok (found, r.left)) (append_assoc before (group ∷ []) groups);
+      needs = needs_more (segment layout columns (length group) >>= next) (next group) at (at + length text) text others refl
+          (needs_first (segment layout columns (length group)) next at text (first.needs at)) on r.needs;
+    }
 
-each_admitted : (columns : List Column) (groups : List (List (List Value))) → list_all (admits_values columns) (together groups) ≡ true → All (Admits columns) groups
+-- rows that columns admit are admitted group by group
+pub each_admitted : (columns : List Column) (groups : List (List (List Value))) → list_all (admits_values columns) (together groups) ≡ true → All (Admits columns) groups
 each_admitted columns [] all = All-nil (Admits columns)
 each_admitted columns (group ∷ groups) all =
     let p = both (list_all (admits_values columns) group) (list_all (admits_values columns) (together groups)) (sym (list_all-append (admits_values columns) group (together groups)) ∙ all) in
@@ -114,9 +135,11 @@ sizes_within (suc most) (row ∷ rows) few =
 pub sizes_of_groups : (rows : List (List Value)) → group_sizes (length rows) ≡ map length (groups_of rows)
 sizes_of_groups rows = sizes_within (length rows) rows (omega arith)
 
--- what follows a header is read as the groups of its rows
+-- what follows a header is read as the groups of its rows, and each byte of it is needed
 pub groups_read : (layout : Layout) (columns : List Column) (rows : List (List Value)) (at : ℕ) → list_all (admits_values columns) rows ≡ true
-    → (t : Tail) × (body layout columns (group_sizes (length rows)) [] (tail at (flat_map (segment_bytes (form_of layout) columns) (groups_of rows))) ≡ Ok (groups_of rows, t))
+    → let text : List ℕ = flat_map (segment_bytes (form_of layout) columns) (groups_of rows) in
+    (t : Tail) × (body layout columns (group_sizes (length rows)) [] (tail at text) ≡ Ok (groups_of rows, t)) × NeedsEach (body layout columns (group_sizes (length rows)) []) at text
 groups_read layout columns rows at admitted =
     let each = each_admitted columns (groups_of rows) (ap (list_all (admits_values columns)) (groups_of-table rows) ∙ admitted) in
-    rw (sizes_of_groups rows) (body_reads layout columns (groups_of rows) [] at (groups_of-sizes rows) each)
+    let r = body_reads layout columns (groups_of rows) [] at (groups_of-sizes rows) each in
+    rw (sizes_of_groups rows) (r.left, r.reads, r.needs)

@@ -3,15 +3,15 @@ use Rattle.std.proofs.Common.{◌≡◌, ℕ, ℤ, suc, ◌+◌, ◌^◌, ◌<�
 use Rattle.std.proofs.Common.{FitsSigned, List, [], ◌∷◌, ◌++◌, length, take, drop, eqb, nat_lt}
 use Rattle.std.proofs.Common.{Result, Ok, refl, sym, ap, ap₂, subst, ◌∙◌, append_assoc}
 use Rattle.std.proofs.Common.{length-append, arith, slice_index, inl, inr, ◌⊎◌}
+use Rattle.std.proofs.Common.{append-nil, take_at, drop_at, take_all}
 use Rattle.std.proofs.Math.Facts.{Fits-lt-pow, Fits-of_z}
 use Rattle.std.specs.Int.{w16, w32, w64, to_le_bytes, cast_unsigned}
 use Rattle.std.specs.List.{flat_map, list_all, list_any}
 use Rattle.std.proofs.lemmas.Bool.{le-ltb, ne_eqb, not-true, or_parts}
-use Rattle.std.proofs.lemmas.Int.{to_z-of_z}
-use Rattle.std.proofs.lemmas.List.{append-nil, take_at, drop_at, take_all}
 use Rattle.std.proofs.lemmas.List.Elements.{All-head, All-tail}
 use Rattle.std.proofs.lemmas.Nat.{from_le_bytes-to_le_bytes_2, from_le_bytes-to_le_bytes_4}
 use Rattle.std.proofs.lemmas.Nat.{from_le_bytes-to_le_bytes_8}
+use Rattle.std.proofs.lemmas.Int.{to_z-of_z}
 use Rattle.bw_model.specs.declared.fault.Fault.{Fault}
 use Rattle.bw_model.specs.Limits.{most_rows, most_columns}
 use Rattle.bw_model.specs.Name.{is_name, are_apart}
@@ -24,16 +24,18 @@ use Rattle.bw_file.specs.declared.layout.Layout.TheVariants.{Planes, Slices}
 use Rattle.bw_file.specs.FileBytes.{magic, layout_byte, flag_byte, front_bytes, name_bytes}
 use Rattle.bw_file.specs.FileBytes.{bound_bytes, column_bytes, are_bounds}
 use Rattle.bw_file.specs.Reading.{Tail, tail, Reading, and_then, ◌>>=◌, give, field, parsed_at}
-use Rattle.bw_file.specs.Reading.{read_field}
+use Rattle.bw_file.specs.Reading.{read_field, NeedsEach}
 use Rattle.bw_file.specs.TableReading.{parse_magic, parse_version, parse_layout, parse_count}
 use Rattle.bw_file.specs.TableReading.{parse_row_count, bound_in, parse_bounds, parse_nullable}
 use Rattle.bw_file.specs.TableReading.{parse_name, name, column, columns, front_of, front}
 use Rattle.bw_file.specs.TableReading.{HeaderShape, header_of, header}
+use Rattle.bw_file.proofs.ReadingLemmas.{field_needs, needs_first, needs_more, needs_none}
 use Rattle.bw_file.proofs.SpellingLemmas.{schema_bytes, fits_version, head_bytes, IsHeader}
 
--- reading gives this of a text, whatever follows it
-abbrev pub ReadsText : {A : Type 0} → Reading A → List ℕ → A → Type 0
-ReadsText reading text x = (at : ℕ) (rest : List ℕ) → reading (tail at (text ++ rest)) ≡ Ok (x, tail (at + length text) rest)
+-- reading gives this of a text, whatever follows it, and needs each of its bytes
+pub record ReadsText {A : Type 0} (reading : Reading A) (text : List ℕ) (x : A) : Type 0 where
+  pub reads : (at : ℕ) (rest : List ℕ) → reading (tail at (text ++ rest)) ≡ Ok (x, tail (at + length text) rest)
+  pub needs : (at : ℕ) → NeedsEach reading at text
 
 abbrev here : {A : Type 0} → A → ℕ → List ℕ → Result (A × Tail) Fault
 here x at rest = Ok (x, tail at rest)
@@ -41,35 +43,60 @@ here x at rest = Ok (x, tail at rest)
 -- one text and then another, which may depend on what the first gave
 pub text_then : {A B : Type 0} (first : Reading A) (next : A → Reading B) (one two : List ℕ) (x : A) (y : B)
     → ReadsText first one x → ReadsText (next x) two y → ReadsText (first >>= next) (one ++ two) y
-text_then {A = A} first next one two x y p q at rest =
-    let there : at + length one + length two ≡ at + length (one ++ two) = omega (arith, length-append one two) in
-    ap (λ (bytes : List ℕ). and_then (first (tail at bytes)) next) (append_assoc one two rest)
-    ∙ ap (λ (r : Result (A × Tail) Fault). and_then r next) (p at (two ++ rest))
-    ∙ q (at + length one) rest ∙ ap (λ (n : ℕ). here y n rest) there
+text_then {A = A} first next one two x y p q = record {
+  reads = λ at rest.
+      let there : at + length one + length two ≡ at + length (one ++ two) = omega (arith, length-append one two) in
+      ap (λ (bytes : List ℕ). and_then (first (tail at bytes)) next) (append_assoc one two rest)
+      ∙ on at (two ++ rest) ∙ q.reads (at + length one) rest ∙ ap (λ (n : ℕ). here y n rest) there;
+  needs = λ at. needs_more (first >>= next) (next x) at (at + length one) one two refl (needs_first first next at one (p.needs at)) (on at) (q.needs (at + length one));
+}
+  where
+    on : (at : ℕ) (rest : List ℕ) → (first >>= next) (tail at (one ++ rest)) ≡ next x (tail (at + length one) rest)
+    on at rest = ap (λ (r : Result (A × Tail) Fault). and_then r next) (p.reads at rest)
 
 -- a text, of which something is made
 pub text_gives : {A B : Type 0} (first : Reading A) (made : A → B) (text : List ℕ) (x : A) → ReadsText first text x → ReadsText (first >>= λ found. give (made found)) text (made x)
-text_gives {A = A} first made text x p at rest = ap (λ (r : Result (A × Tail) Fault). and_then r (λ found. give (made found))) (p at rest)
+text_gives {A = A} first made text x p = record {
+  reads = λ at rest. ap (λ (r : Result (A × Tail) Fault). and_then r (λ found. give (made found))) (p.reads at rest);
+  needs = λ at. needs_first first (λ found. give (made found)) at text (p.needs at);
+}
 
 pub text_as : {A : Type 0} (reading : Reading A) (one two : List ℕ) (x : A) → one ≡ two → ReadsText reading one x → ReadsText reading two x
 text_as reading one two x same p = subst (λ (text : List ℕ). ReadsText reading text x) same p
 
+-- a reading that is another one at each place
+pub text_there : {A : Type 0} (reading : Reading A) (there : ℕ → Reading A) (text : List ℕ) (x : A) → ((at : ℕ) (bytes : List ℕ) → reading (tail at bytes) ≡ there at (tail at bytes))
+    → ((at : ℕ) → ReadsText (there at) text x) → ReadsText reading text x
+text_there reading there text x same p = record {
+  reads = λ at rest. same at (text ++ rest) ∙ (p at).reads at rest;
+  needs = λ at n lt. same at (take n text) ∙ (p at).needs at n lt;
+}
+
 pub field_reads : (size : ℕ) (text : List ℕ) → length text ≡ size → ReadsText (field size) text text
 unfolding field
-field_reads size text whole at rest =
-    let long : nat_lt (length (text ++ rest)) size ≡ false = le-ltb _ _ (omega (arith, length-append text rest)) in
-    rw (long, take_at text rest size whole, drop_at text rest size whole, whole) refl
+field_reads size text whole = record {
+  reads = λ at rest.
+      let long : nat_lt (length (text ++ rest)) size ≡ false = le-ltb _ _ (omega (arith, length-append text rest)) in
+      rw (long, take_at text rest size whole, drop_at text rest size whole, whole) refl;
+  needs = λ at. field_needs size at text (omega (arith, whole));
+}
 
 -- a field whose bytes say something
 said_reads : {A : Type 0} (at size : ℕ) (says : List ℕ → Result A ℕ) (text : List ℕ) (x : A) → length text ≡ size → says text ≡ Ok x
     → ReadsText (field size >>= λ bytes. parsed_at at (says bytes)) text x
-said_reads {A = A} at size says text x whole said now rest =
-    ap (λ (r : Result (List ℕ × Tail) Fault). and_then r (λ bytes. parsed_at at (says bytes))) (field_reads size text whole now rest)
-    ∙ ap (λ (r : Result A ℕ). parsed_at at r (tail (now + length text) rest)) said
+said_reads {A = A} at size says text x whole said =
+    let p = field_reads size text whole in
+    record {
+      reads = λ now rest.
+          ap (λ (r : Result (List ℕ × Tail) Fault). and_then r (λ bytes. parsed_at at (says bytes))) (p.reads now rest)
+          ∙ ap (λ (r : Result A ℕ). parsed_at at r (tail (now + length text) rest)) said;
+      needs = λ now. needs_first (field size) (λ bytes. parsed_at at (says bytes)) now text (p.needs now);
+    }
 
 pub read_field_reads : {A : Type 0} (size : ℕ) (says : List ℕ → Result A ℕ) (text : List ℕ) (x : A) → length text ≡ size → says text ≡ Ok x → ReadsText (read_field size says) text x
 unfolding read_field
-read_field_reads size says text x whole said at rest = said_reads at size says text x whole said at rest
+read_field_reads size says text x whole said =
+    text_there (read_field size says) (λ at. field size >>= λ bytes. parsed_at at (says bytes)) text x (λ at bytes. refl) (λ at. said_reads at size says text x whole said)
 
 -- what the fields of a header say
 magic_read : parse_magic magic ≡ Ok tt
@@ -134,9 +161,10 @@ new_name before text is apart = rw (is, apart) refl
 
 name_reads : (before : List (List ℕ)) (text : List ℕ) → is_name text ≡ true → list_any (λ (other : List ℕ). same_text other text) before ≡ false → ReadsText (name before) (name_bytes text) text
 unfolding name
-name_reads before text is apart at rest =
+name_reads before text is apart =
+    text_there (name before) (λ at. field 1 >>= λ size. field (slice_index size 0) >>= λ bytes. parsed_at at (parse_name before bytes)) (name_bytes text) text (λ at bytes. refl) (λ at.
     text_then (field 1) (λ size. field (slice_index size 0) >>= λ bytes. parsed_at at (parse_name before bytes)) (length text ∷ []) text (length text ∷ []) text
-    (field_reads 1 (length text ∷ []) refl) (said_reads at (length text) (parse_name before) text text refl (new_name before text is apart)) at rest
+    (field_reads 1 (length text ∷ []) refl) (said_reads at (length text) (parse_name before) text text refl (new_name before text is apart)))
 
 column_reads : (version : ℕ) (before : List (List ℕ)) (c : ColumnShape) → IsColumn c → fits_version version c ≡ true
     → list_any (λ (other : List ℕ). same_text other c.name) before ≡ false → ReadsText (column version before) (schema_bytes c) c
@@ -145,10 +173,8 @@ column_reads version before c is room apart =
     let bounds = bound_bytes c.lo ++ bound_bytes c.hi in
     let flag : List ℕ = flag_byte c.nullable ∷ [] in
     text_as (column version before) (name_bytes c.name ++ (bounds ++ flag)) (schema_bytes c) c (sym (append_assoc (name_bytes c.name) bounds flag))
-    (text_then (name before) (λ text. read_field 16 (parse_bounds version) >>= λ bounds. read_field 1 parse_nullable >>= λ nullable. give (shape text bounds.lo bounds.hi nullable))
-    (name_bytes c.name) (bounds ++ flag) c.name c (name_reads before c.name is.name apart)
-    (text_then (read_field 16 (parse_bounds version)) (λ bounds. read_field 1 parse_nullable >>= λ nullable. give (shape c.name bounds.lo bounds.hi nullable))
-    bounds flag (record { lo = c.lo; hi = c.hi }) c
+    (text_then (name before) _ (name_bytes c.name) (bounds ++ flag) c.name c (name_reads before c.name is.name apart)
+    (text_then (read_field 16 (parse_bounds version)) _ bounds flag (record { lo = c.lo; hi = c.hi }) c
     (read_field_reads 16 (parse_bounds version) bounds (record { lo = c.lo; hi = c.hi }) refl (bounds_read version c.lo c.hi is.lo is.hi room))
     (text_gives (read_field 1 parse_nullable) (λ nullable. shape c.name c.lo c.hi nullable) flag c.nullable
     (read_field_reads 1 parse_nullable flag c.nullable refl (nullable_read c.nullable)))))
@@ -176,9 +202,12 @@ names-more (b ∷ before) c more = ap (λ (names : List (List ℕ)). b.name ∷ 
 columns_read : (version : ℕ) (before more : List ColumnShape) → All IsColumn more → list_all (fits_version version) more ≡ true
     → are_apart (shape_names before ++ shape_names more) ≡ true → ReadsText (columns version before (length more)) (flat_map schema_bytes more) (before ++ more)
 unfolding columns
-columns_read version before [] is room apart = λ at rest.
-    let there : at ≡ at + 0 = omega arith in
-    ap₂ (λ (found : List ColumnShape) (n : ℕ). here found n rest) (sym (append-nil before)) there
+columns_read version before [] is room apart = record {
+  reads = λ at rest.
+      let there : at ≡ at + 0 = omega arith in
+      ap₂ (λ (found : List ColumnShape) (n : ℕ). here found n rest) (sym (append-nil before)) there;
+  needs = λ at. needs_none (columns version before 0) at;
+}
 columns_read version before (c ∷ more) is room apart =
     let fits = both (fits_version version c) (list_all (fits_version version) more) room in
     let next : are_apart (shape_names (before ++ c ∷ []) ++ shape_names more) ≡ true = ap are_apart (names-more before c more) ∙ apart in
@@ -197,14 +226,10 @@ front_reads version layout count rows one_or_two some limited few =
     let found = front_of version layout count rows in
     text_as front (magic ++ (two ++ (counted ++ told))) (magic ++ two ++ counted ++ told) found
     (sym (append_assoc magic two (counted ++ told)) ∙ sym (append_assoc (magic ++ two) counted told))
-    (text_then (read_field 8 parse_magic) (λ _. read_field 1 parse_version >>= λ version. read_field 1 parse_layout >>= λ layout. read_field 2 parse_count >>= λ count. read_field 4 parse_row_count >>= λ rows. give (front_of version layout count rows))
-    magic (two ++ (counted ++ told)) tt found (read_field_reads 8 parse_magic magic tt length-magic magic_read)
-    (text_then (read_field 1 parse_version) (λ version. read_field 1 parse_layout >>= λ layout. read_field 2 parse_count >>= λ count. read_field 4 parse_row_count >>= λ rows. give (front_of version layout count rows))
-    (version ∷ []) (layout_byte layout ∷ (counted ++ told)) version found (read_field_reads 1 parse_version (version ∷ []) version refl (version_read version one_or_two))
-    (text_then (read_field 1 parse_layout) (λ layout. read_field 2 parse_count >>= λ count. read_field 4 parse_row_count >>= λ rows. give (front_of version layout count rows))
-    (layout_byte layout ∷ []) (counted ++ told) layout found (read_field_reads 1 parse_layout (layout_byte layout ∷ []) layout refl (layout_read layout))
-    (text_then (read_field 2 parse_count) (λ count. read_field 4 parse_row_count >>= λ rows. give (front_of version layout count rows))
-    counted told count found (read_field_reads 2 parse_count counted count refl (count_read count some limited))
+    (text_then (read_field 8 parse_magic) _ magic (two ++ (counted ++ told)) tt found (read_field_reads 8 parse_magic magic tt length-magic magic_read)
+    (text_then (read_field 1 parse_version) _ (version ∷ []) (layout_byte layout ∷ (counted ++ told)) version found (read_field_reads 1 parse_version (version ∷ []) version refl (version_read version one_or_two))
+    (text_then (read_field 1 parse_layout) _ (layout_byte layout ∷ []) (counted ++ told) layout found (read_field_reads 1 parse_layout (layout_byte layout ∷ []) layout refl (layout_read layout))
+    (text_then (read_field 2 parse_count) _ counted told count found (read_field_reads 2 parse_count counted count refl (count_read count some limited))
     (text_gives (read_field 4 parse_row_count) (λ rows. front_of version layout count rows) told rows (read_field_reads 4 parse_row_count told rows refl (rows_read rows few)))))))
 
 -- a header, and what stands in a schema beside its shape
@@ -224,9 +249,7 @@ header_reads h is =
     let found = front_of h.version h.layout count h.rows in
     let texts = flat_map schema_bytes columns_of in
     text_as header (first ++ (named ++ texts)) (first ++ named ++ texts) h (sym (append_assoc first named texts))
-    (text_then front (λ first. name [] >>= λ text. columns first.version [] first.columns >>= λ found. give (header_of first text found))
-    first (named ++ texts) found h (front_reads h.version h.layout count h.rows is.header.version is.nonempty is.limited is.header.within_limit)
-    (text_then (name []) (λ text. columns h.version [] count >>= λ columns. give (header_of found text columns))
-    named texts h.schema.name h (name_reads [] h.schema.name is.header.schema.name refl)
+    (text_then front _ first (named ++ texts) found h (front_reads h.version h.layout count h.rows is.header.version is.nonempty is.limited is.header.within_limit)
+    (text_then (name []) _ named texts h.schema.name h (name_reads [] h.schema.name is.header.schema.name refl)
     (text_gives (columns h.version [] count) (λ columns. header_of found h.schema.name columns) texts columns_of
     (columns_read h.version [] columns_of is.header.schema.columns is.header.bounds is.apart))))

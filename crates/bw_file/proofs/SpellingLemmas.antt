@@ -1,26 +1,23 @@
 -- What is read of a table file is spelled so.
-use Rattle.std.proofs.Common.{◌≡◌, ℕ, zero, suc, ◌+◌, ◌^◌, ◌<◌, ◌≤◌, Bool, true, false, ◌||◌}
-use Rattle.std.proofs.Common.{All, FitsSigned, cond, eqb, nat_lt, List, [], ◌∷◌, ◌++◌, length}
-use Rattle.std.proofs.Common.{get_or, take, drop, Result, Ok, Err, refl, sym, ap, subst, ◌∙◌}
-use Rattle.std.proofs.Common.{append_assoc, length-drop, arith, slice_index, inl, inr}
-use Rattle.std.proofs.Common.{◌⊎◌}
+use Rattle.std.proofs.Common.{◌≡◌, ℕ, zero, suc, ◌+◌, ◌^◌, ◌<◌, ◌≤◌, Bool, true, false, ◌||◌, All}
+use Rattle.std.proofs.Common.{FitsSigned, cond, eqb, nat_lt, List, [], ◌∷◌, ◌++◌, length, get_or}
+use Rattle.std.proofs.Common.{take, drop, Result, Ok, Err, refl, sym, ap, subst, ◌∙◌, append_assoc}
+use Rattle.std.proofs.Common.{length-drop, arith, slice_index, inl, inr, ◌⊎◌, bytes_eq}
+use Rattle.std.proofs.Common.{take-append-drop, length-take-le, take_all, get_or-drop, append-nil}
 use Rattle.std.specs.Int.{w16, w32, w64, to_le_bytes, from_le_bytes, cast_signed}
 use Rattle.std.specs.List.{flat_map, list_all}
-use Rattle.std.specs.Str.{bytes_eq}
 use Rattle.std.proofs.lemmas.Bool.{cases_Bool, eqb-true, ltb-false, not-false, or_cases, or_parts}
 use borrow.Author.Differences.{fits_in, read_fits}
 use Rattle.std.proofs.lemmas.Int.{of_z-to_z}
 use Rattle.std.proofs.lemmas.List.Elements.{All-nil, All-cons}
-use Rattle.std.proofs.lemmas.List.{take-append-drop, length-take-le, take_all}
-use Rattle.std.proofs.lemmas.List.{get_or-drop, append-nil}
 use Rattle.std.proofs.lemmas.Nat.{le_bytes_2, le_bytes_4, le_bytes_8}
 use Rattle.std.proofs.lemmas.Slice.Eq.{bytes_eq-Decides}
 use Rattle.bw_model.specs.declared.fault.Fault.{Fault}
-use Rattle.bw_model.specs.Fault.{refused_if}
 use Rattle.bw_model.specs.Limits.{most_rows, most_columns}
 use Rattle.bw_model.specs.Name.{is_name}
 use Rattle.bw_model.specs.Schema.{IsColumn, IsSchema}
 use Rattle.bw_model.specs.SchemaText.{ColumnShape, shape, shape_names}
+use Rattle.bw_model.proofs.FaultLemmas.{not_refused}
 use Rattle.bw_file.specs.declared.fields.Bounds.{Bounds}
 use Rattle.bw_file.specs.declared.layout.Layout.{Layout}
 use Rattle.bw_file.specs.declared.layout.Layout.TheVariants.{Planes, Slices}
@@ -55,10 +52,6 @@ pub bind_ok : {A B : Type 0} (r : Result (A × Tail) Fault) (next : A → Readin
     → (x : A × Tail) × (r ≡ Ok x) × (next x.0 x.1 ≡ Ok y)
 bind_ok (Ok x) next y e = (x, refl, e)
 bind_ok (Err fault) next y e = absurd cc
-
-pub not_refused : {A : Type 0} (b : Bool) (fault : Fault) (r : Result A Fault) (x : A) → refused_if b fault r ≡ Ok x → (b ≡ false) × (r ≡ Ok x)
-not_refused true fault r x e = absurd cc
-not_refused false fault r x e = (refl, e)
 
 pub ok_is : {A E : Type 0} (x y : A) → ◌≡◌ {A = Result A E} (Ok x) (Ok y) → x ≡ y
 ok_is x y e = cc

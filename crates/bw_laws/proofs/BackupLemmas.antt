@@ -5,7 +5,7 @@ use Rattle.std.proofs.Common.{true, false, refl, sym, ap, subst, arith, slice_in
 use Rattle.std.specs.Prelude.{slice_index_or}
 use Rattle.std.specs.Io.KnownBytes.{Appends, Consumes}
 use Rattle.std.specs.List.{filter_map, list_all, range_with_len}
-use Rattle.std.proofs.lemmas.Bool.{eq-eqb, le-ltb}
+use Rattle.std.proofs.lemmas.Bool.{eq-eqb, le-ltb, and_parts}
 use Rattle.std.proofs.lemmas.List.{get_or-map, length-map}
 use Rattle.std.proofs.lemmas.List.FromFn.{fill_by_all}
 use Rattle.csv.specs.Reading.{default_config, records, strip_bom}
@@ -23,11 +23,11 @@ use Rattle.bw_model.specs.Selection.{matching_rows}
 use Rattle.bw_model.specs.SchemaText.{IsSchemaText, SchemaShape, schema_shape}
 use Rattle.bw_model.proofs.SameColumns.{columns_same}
 use Rattle.bw_model.proofs.SchemaSpelling.{read_of}
+use Rattle.bw_model.proofs.PlaceLemmas.{length_admitted}
 use Rattle.bw_answer.specs.Answer.{csv_text, field_of, heading_of, lists_rows, meaning, value_text}
 use Rattle.bw_answer.proofs.CountLemmas.{every_kept}
 use Rattle.bw_csv.specs.Input.{IsMadeAfter, IsMadeOf}
 use Rattle.bw_csv.specs.Rows.{row_of_record, rows_from, rows_of, values_of_fields}
-use Rattle.bw_csv.proofs.DigitsAlone.{both}
 use Rattle.bw_csv.proofs.RowLemmas.{rows_after-rows}
 use Rattle.bw_csv_calls.specs.ReadInputs.{IsSchemaFrom}
 use Rattle.bw_csv_calls.specs.Load.{file_of}
@@ -37,8 +37,7 @@ use Rattle.bw_file.specs.declared.layout.Layout.{Layout}
 use Rattle.bw_file.specs.FileBytes.{IsFileBytes, bytes_of_version, file_bytes, file_bytes2}
 use Rattle.bw_file.specs.FileBytes.{front_bytes, header_bytes, magic}
 use Rattle.bw_file.specs.Reading.{Tail, tail}
-use Rattle.bw_file.specs.TableReading.{Found, HeaderShape, IsReadAfter, found_as}
-use Rattle.bw_file.specs.TableReading.{found_in, header}
+use Rattle.bw_file.specs.TableReading.{Found, HeaderShape, IsReadAfter, found_as, found_in, header}
 use Rattle.bw_file.proofs.ReaderLemmas.{head_at}
 use Rattle.bw_file.proofs.SpelledFile.{spelled_is_read}
 use Rattle.bw_query.specs.TableAnswer.{AnswersFile, IsEveryRow, by_dump}
@@ -68,20 +67,15 @@ values_spelled : (number : ℕ) (columns : List Column) (row : List Value) → A
 unfolding values_of_fields
 values_spelled number [] [] are e = refl
 values_spelled number (column ∷ columns) (value ∷ row) are e =
-    let is = both (admits_value column value) (admits_values columns row) e in
+    let is = and_parts (admits_value column value) (admits_values columns row) e in
     rw (value_spelled number column value (first_is column columns are) is.0, values_spelled number columns row (others_are column columns are) is.1) refl
 values_spelled number _ _ are e = absurd (cc e)
-
-pub as_wide : (columns : List Column) (row : List Value) → admits_values columns row ≡ true → length row ≡ length columns
-as_wide [] [] e = refl
-as_wide (column ∷ columns) (value ∷ row) e = ap suc (as_wide columns row (both (admits_value column value) (admits_values columns row) e).1)
-as_wide _ _ e = absurd (cc e)
 
 row_spelled : (number : ℕ) (columns : List Column) (row : List Value) → AreColumns columns → admits_values columns row ≡ true → number ≤ most_rows
     → row_of_record number columns (row_fields row) ≡ Ok row
 unfolding row_of_record
 row_spelled number columns row are e few =
-    let wide : length (row_fields row) ≡ length columns = length-map row value_text ∙ as_wide columns row e in
+    let wide : length (row_fields row) ≡ length columns = length-map row value_text ∙ length_admitted columns row e in
     rw (eq-eqb (length (row_fields row)) (length columns) wide, le-ltb most_rows number few) (values_spelled number columns row are e)
 
 rows_spelled : (columns : List Column) (rows : Rows) (number : ℕ) → AreColumns columns → list_all (admits_values columns) rows ≡ true
@@ -89,14 +83,14 @@ rows_spelled : (columns : List Column) (rows : Rows) (number : ℕ) → AreColum
 unfolding rows_from
 rows_spelled columns [] number are e few = refl
 rows_spelled columns (row ∷ rows) number are e few =
-    let is = both (admits_values columns row) (list_all (admits_values columns) rows) e in
+    let is = and_parts (admits_values columns row) (list_all (admits_values columns) rows) e in
     rw (row_spelled number columns row are is.0 (omega (arith, few)), rows_spelled columns rows (number + 1) are is.1 (omega (arith, few))) refl
 
 -- each field shows itself, in the rows and in the heading
 row_shows : (columns : List Column) (row : List Value) → AreColumns columns → admits_values columns row ≡ true → list_all shows (row_fields row) ≡ true
 row_shows [] [] are e = refl
 row_shows (column ∷ columns) (value ∷ row) are e =
-    let is = both (admits_value column value) (admits_values columns row) e in
+    let is = and_parts (admits_value column value) (admits_values columns row) e in
     rw (value_shows column value (first_is column columns are) is.0, row_shows columns row (others_are column columns are) is.1) refl
 row_shows _ _ are e = absurd (cc e)
 
@@ -113,15 +107,15 @@ rows_are_records : (columns : List Column) (rows : Rows) → 1 ≤ length column
     → list_all is_record (rows_fields rows) ≡ true
 rows_are_records columns [] some are e = refl
 rows_are_records columns (row ∷ rows) some are e =
-    let is = both (admits_values columns row) (list_all (admits_values columns) rows) e in
-    let long : 1 ≤ length (row_fields row) = omega (arith, length-map row value_text, as_wide columns row is.0) in
+    let is = and_parts (admits_values columns row) (list_all (admits_values columns) rows) e in
+    let long : 1 ≤ length (row_fields row) = omega (arith, length-map row value_text, length_admitted columns row is.0) in
     rw (shown_record (row_fields row) long (row_shows columns row are is.0), rows_are_records columns rows some are is.1) refl
 
 -- no byte order mark begins with a name
 named_unmarked : (name : List ℕ) (fields : List (List ℕ)) (more : List (List (List ℕ))) → is_solid name ≡ true
     → strip_bom (csv_text ((name ∷ fields) ∷ more)) ≡ csv_text ((name ∷ fields) ∷ more)
 named_unmarked [] fields more e = absurd (cc e)
-named_unmarked (c ∷ cs) fields more e = unmarked c cs fields more (word_unmarked c (both (goes_on_in_word c) (list_all goes_on_in_word cs) e).0)
+named_unmarked (c ∷ cs) fields more e = unmarked c cs fields more (word_unmarked c (and_parts (goes_on_in_word c) (list_all goes_on_in_word cs) e).0)
 
 names_unmarked : (columns : List Column) (more : List (List (List ℕ))) → 1 ≤ length columns → AreColumns columns
     → strip_bom (csv_text (names_of columns ∷ more)) ≡ csv_text (names_of columns ∷ more)
@@ -162,8 +156,8 @@ every_field : (columns : List Column) (rows : Rows) → list_all (admits_values 
     → map (λ (row : List Value). filter_map (field_of row) (map Plain (range_with_len 0 (length columns)))) rows ≡ rows_fields rows
 every_field columns [] e = refl
 every_field columns (row ∷ rows) e =
-    let is = both (admits_values columns row) (list_all (admits_values columns) rows) e in
-    rw (all_fields row (length columns) (as_wide columns row is.0), every_field columns rows is.1) refl
+    let is = and_parts (admits_values columns row) (list_all (admits_values columns) rows) e in
+    rw (all_fields row (length columns) (length_admitted columns row is.0), every_field columns rows is.1) refl
 
 plain_lists : (n : ℕ) → 1 ≤ n → lists_rows (map Plain (range_with_len 0 n)) ≡ true
 plain_lists zero some = absurd (omega (arith, some))

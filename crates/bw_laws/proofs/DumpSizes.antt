@@ -5,6 +5,7 @@ use Rattle.std.proofs.Common.{length-append, append_assoc, map, Some, None, true
 use Rattle.std.specs.Prelude.{⊤}
 use Rattle.std.specs.List.{join_with_byte, list_all}
 use Rattle.std.proofs.lemmas.List.{length-map}
+use Rattle.std.proofs.lemmas.Bool.{and_parts}
 use Rattle.bw_model.specs.declared.column.Column.{Column}
 use Rattle.bw_model.specs.declared.schema.Schema.{Schema}
 use Rattle.bw_model.specs.Column.{admits_value, admits_values, names_of}
@@ -12,14 +13,13 @@ use Rattle.bw_model.specs.Limits.{longest_csv, most_rows}
 use Rattle.bw_model.specs.Row.{Value}
 use Rattle.bw_model.specs.Schema.{IsColumn}
 use Rattle.bw_model.specs.SchemaText.{column_shape}
+use Rattle.bw_model.proofs.PlaceLemmas.{length_admitted}
 use Rattle.bw_answer.specs.Answer.{csv_text, record_text, value_text}
-use Rattle.bw_csv.proofs.DigitsAlone.{both}
 use Rattle.bw_file.specs.declared.layout.Layout.{Layout}
 use Rattle.bw_file.specs.FileBytes.{IsFileBytes}
 use Rattle.bw_schemas.proofs.PrintedBounds.{bound_length}
 use Rattle.bw_laws.specs.Backup.{table_text}
 use Rattle.bw_file.proofs.EncoderLemmas.{short_name}
-use Rattle.bw_laws.proofs.BackupLemmas.{as_wide}
 use Rattle.bw_laws.proofs.SpelledValues.{AreColumns, first_is, fits_in, others_are}
 
 -- each field has at most this many bytes
@@ -45,7 +45,7 @@ value_short column (Some n) is e = bound_length n (fits_in column n is e)
 row_short : (columns : List Column) (row : List Value) → AreColumns columns → admits_values columns row ≡ true → AreShort 20 (map value_text row)
 row_short [] [] are e = tt
 row_short (column ∷ columns) (value ∷ row) are e =
-    let is = both (admits_value column value) (admits_values columns row) e in
+    let is = and_parts (admits_value column value) (admits_values columns row) e in
     (value_short column value (first_is column columns are) is.0, row_short columns row (others_are column columns are) is.1)
 row_short _ _ are e = absurd (cc e)
 
@@ -58,8 +58,8 @@ rows_short : (columns : List Column) (rows : List (List Value)) → 1 ≤ length
 unfolding csv_text
 rows_short columns [] some are e = omega arith
 rows_short columns (row ∷ rows) some are e =
-    let is = both (admits_values columns row) (list_all (admits_values columns) rows) e in
-    let wide : length (map value_text row) ≡ length columns = length-map row value_text ∙ as_wide columns row is.0 in
+    let is = and_parts (admits_values columns row) (list_all (admits_values columns) rows) e in
+    let wide : length (map value_text row) ≡ length columns = length-map row value_text ∙ length_admitted columns row is.0 in
     let first : length (record_text (map value_text row)) ≤ length columns * 21 = rw wide at (fields_short 20 (map value_text row) (omega (arith, wide, some)) (row_short columns row are is.0)) in
     omega (arith, length-append (record_text (map value_text row)) (csv_text (map (map value_text) rows)), first, rows_short columns rows some are is.1)
 

@@ -20,10 +20,11 @@ use Rattle.bw_model.specs.SchemaText.{ColumnShape, SchemaShape, shape_names, is_
 use Rattle.bw_model.specs.Total.{combine_totals, total}
 use Rattle.bw_model.proofs.SchemaLemmas.{are_apart-push}
 use Rattle.bw_model.proofs.TotalLemmas.{total_append}
+use Rattle.bw_model.proofs.FaultLemmas.{not_refused, bind_ok}
+use Rattle.bw_model.proofs.SchemaSpelling.{not_empty}
 use Rattle.bw_csv.specs.Bare.{bare_number, bare_row, bare_rows, bare_value, bare_values, records_of}
 use Rattle.bw_csv.specs.Bare.{within_64_bits}
 use Rattle.bw_csv.specs.Rows.{is_minus, is_null_text, without_sign, with_row, without_blanks}
-use Rattle.bw_csv.proofs.FieldLemmas.{bound, passed}
 use Rattle.bw_schemas.specs.Heading.{heading_names, names_from, some_names}
 use Rattle.bw_schemas.specs.InferredSchema.{column_over, columns_over, infer_schema, inferred_after}
 use Rattle.bw_schemas.specs.InferredSchema.{or_zero, check_bounds, ranged_column, schema_over}
@@ -49,7 +50,7 @@ text_fits : (number : ℕ) (text : List ℕ) (null : Bool) (value : Value) → (
 text_fits number text true value e = let same : ◌≡◌ {A = Value} None value = cc e in subst Fits same tt
 text_fits number text false value e =
     let spelled = number_of (is_minus text) (without_sign text) in
-    let number_read = passed (not (are_digits (without_sign text))) (at_record 204 number) (within_64_bits number spelled) value e in
+    let number_read = not_refused (not (are_digits (without_sign text))) (at_record 204 number) (within_64_bits number spelled) value e in
     within_fits number spelled value (number_fits (is_minus text) (without_sign text)) number_read.1
 
 value_fits : (number : ℕ) (field : List ℕ) (value : Value) → bare_value number field ≡ Ok value → Fits value
@@ -60,8 +61,8 @@ values_fit : (number : ℕ) (fields : List (List ℕ)) (values : List Value) →
 unfolding bare_values
 values_fit number [] values e = let same : ◌≡◌ {A = List Value} [] values = cc e in subst RowFits same (All-nil Fits)
 values_fit number (field ∷ fields) values e =
-    let one = bound (bare_value number field) (λ value. bare_values number fields >>= λ rest. Ok (value ∷ rest)) values e in
-    let more = bound (bare_values number fields) (λ rest. Ok (one.0 ∷ rest)) values one.2 in
+    let one = bind_ok (bare_value number field) (λ value. bare_values number fields >>= λ rest. Ok (value ∷ rest)) values e in
+    let more = bind_ok (bare_values number fields) (λ rest. Ok (one.0 ∷ rest)) values one.2 in
     let same : one.0 ∷ more.0 ≡ values = cc more.2 in
     subst RowFits same (All-cons Fits one.0 more.0 (value_fits number field one.0 one.1) (values_fit number fields more.0 more.1))
 
@@ -69,16 +70,16 @@ row_fits : (number width : ℕ) (fields : List (List ℕ)) (row : List Value) �
 unfolding bare_row
 row_fits number width fields row e =
     let late = refused_if (nat_lt (2 ^ 24) number) (at_record 207 number) (bare_values number fields) in
-    let one = passed (not (length fields == width)) (at_record 203 number) late row e in
-    let two = passed (nat_lt (2 ^ 24) number) (at_record 207 number) (bare_values number fields) row one.1 in
+    let one = not_refused (not (length fields == width)) (at_record 203 number) late row e in
+    let two = not_refused (nat_lt (2 ^ 24) number) (at_record 207 number) (bare_values number fields) row one.1 in
     values_fit number fields row two.1
 
 rows_fit : (width number : ℕ) (records : List (List (List ℕ))) (rows : List (List Value)) → bare_rows width number records ≡ Ok rows → All RowFits rows
 unfolding bare_rows
 rows_fit width number [] rows e = let same : ◌≡◌ {A = List (List Value)} [] rows = cc e in subst (All RowFits) same (All-nil RowFits)
 rows_fit width number (fields ∷ more) rows e =
-    let one = bound (bare_row number width fields) (λ row. with_row row (bare_rows width (number + 1) more)) rows e in
-    let others = bound (bare_rows width (number + 1) more) (λ rest. Ok (one.0 ∷ rest)) rows one.2 in
+    let one = bind_ok (bare_row number width fields) (λ row. with_row row (bare_rows width (number + 1) more)) rows e in
+    let others = bind_ok (bare_rows width (number + 1) more) (λ rest. Ok (one.0 ∷ rest)) rows one.2 in
     let same : one.0 ∷ others.0 ≡ rows = cc others.2 in
     subst (All RowFits) same (All-cons RowFits one.0 others.0 (row_fits number width fields one.0 one.1) (rows_fit width (number + 1) more others.0 others.1))
 
@@ -136,9 +137,9 @@ names_after before [] all good e = let same : before ≡ all = cc e in subst Are
 names_after before (name ∷ names) all good e =
     let rest = names_from (before ++ name ∷ []) names in
     let twice = refused_if (list_any (λ other. same_text other name) before) (at_record 104 0) rest in
-    let room = passed (nat_le 64 (length before)) (at_record 105 0) (refused_if (not (is_name name)) (at_record 102 0) twice) all e in
-    let named = passed (not (is_name name)) (at_record 102 0) twice all room.1 in
-    let new = passed (list_any (λ other. same_text other name) before) (at_record 104 0) rest all named.1 in
+    let room = not_refused (nat_le 64 (length before)) (at_record 105 0) (refused_if (not (is_name name)) (at_record 102 0) twice) all e in
+    let named = not_refused (not (is_name name)) (at_record 102 0) twice all room.1 in
+    let new = not_refused (list_any (λ other. same_text other name) before) (at_record 104 0) rest all named.1 in
     let fewer : length before < 64 = leb-false _ _ room.0 in
     names_after (before ++ name ∷ []) names all (record {
       within_limit = omega (arith, length-append before (name ∷ []));
@@ -146,17 +147,13 @@ names_after before (name ∷ names) all good e =
       apart = are_apart-push before name good.apart new.0;
     }) new.1
 
-some_are : (names : List (List ℕ)) → is_empty names ≡ false → 1 ≤ length names
-some_are [] e = absurd (cc e)
-some_are (name ∷ names) e = omega arith
-
 heading_sound : (fields names : List (List ℕ)) → heading_names fields ≡ Ok names → AreNames names × (1 ≤ length names)
 unfolding heading_names
 heading_sound fields names e =
-    let one = bound (names_from [] (map without_blanks fields)) some_names names e in
-    let two = passed (is_empty one.0) (at_record 105 0) (Ok one.0) names one.2 in
+    let one = bind_ok (names_from [] (map without_blanks fields)) some_names names e in
+    let two = not_refused (is_empty one.0) (at_record 105 0) (Ok one.0) names one.2 in
     let same : one.0 ≡ names = cc two.1 in
-    subst (λ (names : List (List ℕ)). AreNames names × (1 ≤ length names)) same (names_after [] (map without_blanks fields) one.0 no_names one.1, some_are one.0 two.0)
+    subst (λ (names : List (List ℕ)). AreNames names × (1 ≤ length names)) same (names_after [] (map without_blanks fields) one.0 no_names one.1, not_empty one.0 two.0)
 
 -- columns over rows that aren't rejected
 abbrev Columns : List (List ℕ) → List ColumnShape → Type 0
@@ -166,7 +163,7 @@ column_sound : (rows : List (List Value)) (i : ℕ) (name : List ℕ) (column : 
     → IsSound column × (column.name ≡ name)
 column_sound rows i name column fits named e =
     let over = column_over rows i name in
-    let one = passed (not (is_range over.lo over.hi)) (at_record 103 0) (Ok over) column e in
+    let one = not_refused (not (is_range over.lo over.hi)) (at_record 103 0) (Ok over) column e in
     let same : over ≡ column = cc one.1 in
     let is : IsSound over = record {
       is = record { name = named; lo = bound_fits (total (Min i) rows) (least_fits rows i fits); hi = bound_fits (total (Max i) rows) (greatest_fits rows i fits) };
@@ -180,8 +177,8 @@ unfolding check_bounds columns_over
 columns_sound rows i [] found fits are e = let same : ◌≡◌ {A = List ColumnShape} [] found = cc e in subst (Columns []) same (All-nil IsSound, refl)
 columns_sound rows i (name ∷ names) found fits are e =
     let others = check_bounds (columns_over rows (suc i) names) in
-    let one = bound (ranged_column (column_over rows i name)) (λ first. others >>= λ rest. Ok (first ∷ rest)) found e in
-    let more = bound others (λ rest. Ok (one.0 ∷ rest)) found one.2 in
+    let one = bind_ok (ranged_column (column_over rows i name)) (λ first. others >>= λ rest. Ok (first ∷ rest)) found e in
+    let more = bind_ok others (λ rest. Ok (one.0 ∷ rest)) found one.2 in
     let same : one.0 ∷ more.0 ≡ found = cc more.2 in
     let first = column_sound rows i name one.0 fits (All-head IsName name names are) one.1 in
     let rest = columns_sound rows (suc i) names more.0 fits (All-tail IsName name names are) more.1 in
@@ -191,11 +188,11 @@ inferred_sound : (table : List ℕ) (records : List (List (List ℕ))) (schema :
 unfolding inferred_after
 inferred_sound table [] schema named e = absurd (cc e)
 inferred_sound table (heading ∷ more) schema named e =
-    let one = bound (heading_names heading) (λ names. bare_rows (length names) 1 more >>= λ rows. schema_over table names rows) schema e in
+    let one = bind_ok (heading_names heading) (λ names. bare_rows (length names) 1 more >>= λ rows. schema_over table names rows) schema e in
     let names = one.0 in
-    let two = bound (bare_rows (length names) 1 more) (λ rows. schema_over table names rows) schema one.2 in
+    let two = bind_ok (bare_rows (length names) 1 more) (λ rows. schema_over table names rows) schema one.2 in
     let rows = two.0 in
-    let three = bound (check_bounds (columns_over rows 0 names)) (λ found. Ok (table_of table found)) schema two.2 in
+    let three = bind_ok (check_bounds (columns_over rows 0 names)) (λ found. Ok (table_of table found)) schema two.2 in
     let same : table_of table three.0 ≡ schema = cc three.2 in
     let good = heading_sound heading names one.1 in
     let columns = columns_sound rows 0 names three.0 (rows_fit (length names) 1 more rows two.1) good.0.are three.1 in

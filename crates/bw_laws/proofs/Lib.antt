@@ -1,7 +1,6 @@
 pub mod ArrivedLemmas
 pub mod AsDirectLemmas
 pub mod BackupLemmas
-pub mod CutFileLemmas
 pub mod DumpSizes
 pub mod InMemoryLemmas
 pub mod InferredTextLemmas

@@ -1,6 +1,5 @@
 -- A schema text, a CSV text and a statement have one answer.
-use Rattle.std.proofs.Common.{◌≡◌, ◌∙◌, ℕ, not, ◌||◌, ◌==◌, List, Result, Ok, Err, refl, sym, ap}
-use Rattle.std.proofs.Common.{subst}
+use Rattle.std.proofs.Common.{◌≡◌, ◌∙◌, ℕ, not, ◌||◌, ◌==◌, List, Result, Ok, Err, sym, ap, subst}
 use Rattle.bw_model.specs.declared.column.Column.{Column}
 use Rattle.bw_model.specs.declared.fault.Fault.{Fault}
 use Rattle.bw_model.specs.declared.query.Query.{Query}
@@ -8,6 +7,7 @@ use Rattle.bw_model.specs.declared.schema.Schema.{Schema}
 use Rattle.bw_model.specs.Column.{names_of}
 use Rattle.bw_model.specs.Fault.{◌>>=◌}
 use Rattle.bw_model.specs.SchemaText.{SchemaShape, schema_shape}
+use Rattle.bw_model.proofs.FaultLemmas.{then_same}
 use Rattle.bw_io.specs.Source.{Arrival, NotReached, Whole}
 use Rattle.bw_sql.specs.declared.reader.Refusal.{Refusal}
 use Rattle.bw_sql.specs.declared.reader.Refusal.TheVariants.{Syntax, Literal}
@@ -87,13 +87,9 @@ one_schema (Whole text) (Err fault) (Err other) a b =
 one_schema _ reading second a b = ap shape_in (a ∙ sym b)
 
 -- what follows from an answer, if it is the same of each
-then_alike : {A B : Type 0} (first : Result A Fault) (f g : A → Result B Fault) → ((x : A) → f x ≡ g x) → (first >>= f) ≡ (first >>= g)
-then_alike (Ok x) f g alike = alike x
-then_alike (Err fault) f g alike = refl
-
 answer_of_alike : (columns : List Column) (query other : Query) (text : List ℕ) → query_shape query ≡ query_shape other → answer_of columns query text ≡ answer_of columns other text
 answer_of_alike columns query other text same =
-    then_alike (rows_of columns text) (λ rows. Ok (csv_text (meaning (names_of columns) query rows))) (λ rows. Ok (csv_text (meaning (names_of columns) other rows)))
+    then_same (rows_of columns text) (λ rows. Ok (csv_text (meaning (names_of columns) query rows))) (λ rows. Ok (csv_text (meaning (names_of columns) other rows)))
     (λ rows. ap (λ (records : List (List (List ℕ))). Ok (csv_text records)) (one_meaning (names_of columns) query other rows same))
 
 answers_alike : (s t : Schema) (query other : Query) (text : List ℕ) → s.columns.items ≡ t.columns.items → query_shape query ≡ query_shape other

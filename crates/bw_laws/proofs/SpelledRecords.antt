@@ -1,15 +1,14 @@
 -- The records of a text of records whose fields show themselves are these records.
 use Rattle.std.proofs.Common.{◌≡◌, ◌∙◌, ℕ, List, [], ◌∷◌, ◌++◌, Some, Bool, true, false, not, refl}
-use Rattle.std.proofs.Common.{ap, eqb, append_assoc}
-use Rattle.std.specs.Prelude.{◌||◌}
+use Rattle.std.proofs.Common.{ap, eqb, append_assoc, ◌||◌}
 use Rattle.std.specs.List.{join_with_byte, list_all}
+use Rattle.std.proofs.lemmas.Bool.{and_parts}
 use Rattle.csv.specs.Machine.{next_record}
 use Rattle.csv.specs.Reading.{default_config, strip_bom}
 use Rattle.csv.specs.declared.parser.State.TheVariants as st
 use Rattle.bw_answer.specs.Answer.{csv_text, record_text}
 use Rattle.bw_csv.specs.Plain.{ends_line, is_plain}
 use Rattle.bw_csv.specs.Records.{records_in}
-use Rattle.bw_csv.proofs.DigitsAlone.{both}
 use Rattle.bw_csv.proofs.PlainRecords.{begins, field-comma, field-end, records-skip}
 use Rattle.bw_csv.proofs.RecordLemmas.{records_in-none}
 use Rattle.bw_laws.proofs.SpelledValues.{shows}
@@ -27,13 +26,13 @@ fields_read : (text : List ℕ) (done : List (List ℕ)) (field : List ℕ) (mor
     → next_record default_config st.StartRecord [] [] text ≡ next_record default_config st.StartField done [] (record_text (field ∷ more) ++ rest)
     → records_in st.StartRecord (Some text) ≡ (done ++ field ∷ more) ∷ records_in st.StartRecord (Some rest)
 fields_read text done field [] rest e reads =
-    let plain = shown_plain field (both (shows field) true e).0 in
+    let plain = shown_plain field (and_parts (shows field) true e).0 in
     let split : record_text (field ∷ []) ++ rest ≡ field ++ 10 ∷ rest = append_assoc field (10 ∷ []) rest in
     let here = reads ∙ ap (λ (l : List ℕ). next_record default_config st.StartField done [] l) split in
     field-end text done field (10 ∷ rest) plain refl here
     ∙ ap (λ (l : List (List (List ℕ))). (done ++ field ∷ []) ∷ l) (records-skip 10 rest refl)
 fields_read text done field (next ∷ more) rest e reads =
-    let parts = both (shows field) (list_all shows (next ∷ more)) e in
+    let parts = and_parts (shows field) (list_all shows (next ∷ more)) e in
     let split : record_text (field ∷ next ∷ more) ++ rest ≡ field ++ 44 ∷ (record_text (next ∷ more) ++ rest) =
     ap (λ (l : List ℕ). l ++ rest) (append_assoc field (44 ∷ join_with_byte 44 (next ∷ more)) (10 ∷ [])) ∙ append_assoc field (44 ∷ record_text (next ∷ more)) rest in
     let here = reads ∙ ap (λ (l : List ℕ). next_record default_config st.StartField done [] l) split ∙ field-comma done field (record_text (next ∷ more) ++ rest) (shown_plain field parts.0) in
@@ -53,7 +52,7 @@ begun c cs (next ∷ more) rest e = begins c _ e
 pub record_read : (fields : List (List ℕ)) (rest : List ℕ) → is_record fields ≡ true
     → records_in st.StartRecord (Some (record_text fields ++ rest)) ≡ fields ∷ records_in st.StartRecord (Some rest)
 record_read ((c ∷ cs) ∷ more) rest e =
-    let plain = both (is_plain c) (list_all is_plain cs) (both (shows (c ∷ cs)) (list_all shows more) e).0 in
+    let plain = and_parts (is_plain c) (list_all is_plain cs) (and_parts (shows (c ∷ cs)) (list_all shows more) e).0 in
     fields_read (record_text ((c ∷ cs) ∷ more) ++ rest) [] (c ∷ cs) more rest e
     (begun c cs more rest (no_line_end (eqb c 44) (ends_line c) (eqb c 34) plain.0))
 record_read _ rest e = absurd (cc e)
@@ -66,7 +65,7 @@ pub records_read : (all : List (List (List ℕ))) → list_all is_record all ≡
 unfolding csv_text
 records_read [] e = no_records
 records_read (fields ∷ more) e =
-    let parts = both (is_record fields) (list_all is_record more) e in
+    let parts = and_parts (is_record fields) (list_all is_record more) e in
     record_read fields (csv_text more) parts.0 ∙ ap (λ (l : List (List (List ℕ))). fields ∷ l) (records_read more parts.1)
 
 -- no byte order mark begins with another byte

@@ -1,18 +1,15 @@
 -- A number in decimal, NULL and a name, each as a field of a CSV text: it needs no quotes, and it
 -- spells itself.
 use Rattle.std.proofs.Common.{◌≡◌, ◌∙◌, ℕ, ℤ, pos, negsuc, suc, ◌-ℤ◌, ◌-◌, ◌^◌, ◌<◌, ◌≤◌, List, []}
-use Rattle.std.proofs.Common.{◌∷◌, Some, None, Ok, Bool, true, false, not, length, take, get_or}
+use Rattle.std.proofs.Common.{◌∷◌, Some, None, Ok, Bool, true, false, not, length}
 use Rattle.std.proofs.Common.{map, refl, sym, ap, arith, eqb, lt-ltb, FitsSigned, w64, All}
 use Rattle.std.specs.Prelude.{◌&&◌, ◌||◌, int_le, nat_le}
-use Rattle.std.specs.Char.{is_ascii_digit, to_ascii_lowercase}
+use Rattle.std.specs.Char.{is_ascii_digit}
 use Rattle.std.specs.Fmt.{decimal, signed_decimal}
 use Rattle.std.specs.Int.{is_in_range}
-use Rattle.std.specs.List.{list_all, suffix_len}
-use Rattle.std.proofs.lemmas.Bool.{le-leb, ne_eqb}
+use Rattle.std.specs.List.{list_all}
+use Rattle.std.proofs.lemmas.Bool.{le-leb, ne_eqb, and_parts}
 use Rattle.std.proofs.lemmas.Int.{ints}
-use Rattle.std.proofs.lemmas.List.{take_all}
-use Rattle.std.proofs.lemmas.List.Sums.{AllPass-from_list_all, suffix_len-take_no}
-use Rattle.std.proofs.lemmas.Slice.Eq.{bytes_eq-Decides}
 use Rattle.bw_model.specs.declared.column.Column.{Column}
 use Rattle.bw_model.specs.Column.{admits_value, names_of}
 use Rattle.bw_model.specs.Name.{is_name}
@@ -23,11 +20,12 @@ use Rattle.bw_text.specs.Keyword.{is_reserved}
 use Rattle.bw_text.specs.Number.{are_digits, number_of}
 use Rattle.bw_text.specs.Text.{begins_word, goes_on_in_word, is_word, same_text}
 use Rattle.bw_text.proofs.DecimalLemmas.{Spells, decimal_spells}
+use Rattle.bw_text.proofs.WordSpelling.{same_as_itself}
 use Rattle.bw_answer.specs.Answer.{value_text}
 use Rattle.bw_csv.specs.Plain.{is_plain}
 use Rattle.bw_csv.specs.Rows.{after_minus, is_blank, is_heading, is_minus, value_of_field}
-use Rattle.bw_csv.specs.Rows.{without_blanks, without_end_blanks, without_front_blanks}
-use Rattle.bw_csv.proofs.DigitsAlone.{both, other_than, signed_digits}
+use Rattle.bw_csv.specs.Rows.{without_blanks, without_front_blanks}
+use Rattle.bw_csv.proofs.DigitsAlone.{other_than, signed_digits, ended, last_of}
 use Rattle.bw_csv.proofs.PlainFields.{plain_number}
 
 -- a field that shows itself: a byte or more, none of which ends a field or is a quotation mark
@@ -44,7 +42,7 @@ positive : (n : ℕ) (digits : List ℕ) → n < 2 ^ 63 → Spells n digits → 
 unfolding number_of
 positive n [] small spells = absurd (omega (arith, spells.nonempty))
 positive n (c ∷ cs) small spells =
-    let first = both (is_ascii_digit c) (list_all is_ascii_digit cs) spells.all in
+    let first = and_parts (is_ascii_digit c) (list_all is_ascii_digit cs) spells.all in
     let unsigned : eqb c 45 ≡ false = other_than c 45 first.0 (omega arith) in
     record {
       digits = rw unsigned spells.all;
@@ -68,7 +66,7 @@ fits_between lo hi n low high above below = grind (arith, ints)
 
 pub fits_in : (column : Column) (n : ℤ) → IsColumn (column_shape column) → admits_value column (Some n) ≡ true → FitsSigned w64 n
 fits_in column n is admitted =
-    let sides = both (int_le column.lo n) (int_le n column.hi) admitted in
+    let sides = and_parts (int_le column.lo n) (int_le n column.hi) admitted in
     fits_between column.lo column.hi n is.lo is.hi sides.0 sides.1
 
 signed_in : (column : Column) (n : ℤ) → IsColumn (column_shape column) → admits_value column (Some n) ≡ true → Signed n (signed_decimal n)
@@ -112,7 +110,7 @@ word_unmarked c e = other goes_on_in_word c 0xEF e refl
 
 words_plain : (cs : List ℕ) → list_all goes_on_in_word cs ≡ true → list_all is_plain cs ≡ true
 words_plain [] e = refl
-words_plain (c ∷ cs) e = let is = both (goes_on_in_word c) (list_all goes_on_in_word cs) e in rw (word_plain c is.0, words_plain cs is.1) refl
+words_plain (c ∷ cs) e = let is = and_parts (goes_on_in_word c) (list_all goes_on_in_word cs) e in rw (word_plain c is.0, words_plain cs is.1) refl
 
 goes_on : (a b u d : Bool) → ((a || b) || u) ≡ true → (((d || a) || b) || u) ≡ true
 goes_on true b u false e = refl
@@ -129,13 +127,13 @@ is_solid (c ∷ cs) = list_all goes_on_in_word (c ∷ cs)
 word_is_solid : (text : List ℕ) → is_word text ≡ true → is_solid text ≡ true
 word_is_solid [] e = absurd (cc e)
 word_is_solid (c ∷ cs) e =
-    let parts = both (begins_word c) (list_all goes_on_in_word cs) e in
+    let parts = and_parts (begins_word c) (list_all goes_on_in_word cs) e in
     let first : goes_on_in_word c ≡ true = goes_on (is_in_range 65 90 c) (is_in_range 97 122 c) (eqb c 95) (is_in_range 48 57 c) parts.0 in
     rw first parts.1
 
 pub name_is_solid : (name : List ℕ) → is_name name ≡ true → is_solid name ≡ true
 unfolding is_name
-name_is_solid name e = word_is_solid name (both (is_word name) (nat_le (length name) 63) (both (is_word name && nat_le (length name) 63) (not (is_reserved name)) e).0).0
+name_is_solid name e = word_is_solid name (and_parts (is_word name) (nat_le (length name) 63) (and_parts (is_word name && nat_le (length name) 63) (not (is_reserved name)) e).0).0
 
 pub solid_shows : (name : List ℕ) → is_solid name ≡ true → shows name ≡ true
 solid_shows [] e = absurd (cc e)
@@ -145,24 +143,11 @@ solid_shows (c ∷ cs) e = words_plain (c ∷ cs) e
 front_stays : (c : ℕ) (cs : List ℕ) → goes_on_in_word c ≡ true → without_front_blanks (c ∷ cs) ≡ c ∷ cs
 front_stays c cs e = rw (word_solid c e) refl
 
-end_stays : (text : List ℕ) → 0 < length text → is_blank (get_or text (length text - 1) 0) ≡ false → without_end_blanks text ≡ text
-end_stays text some last =
-    let whole : take (length text) text ≡ text = take_all (length text) text (omega arith) in
-    let zeros : suffix_len is_blank text ≡ 0 = rw whole at (suffix_len-take_no is_blank text (length text) 0 some (omega arith) last) in
-    rw zeros (take_all (length text - 0) text (omega arith))
-
-last_solid : (text : List ℕ) → 0 < length text → list_all goes_on_in_word text ≡ true → is_blank (get_or text (length text - 1) 0) ≡ false
-last_solid text some all = word_solid (get_or text (length text - 1) 0) (AllPass-from_list_all goes_on_in_word text all (length text - 1) 0 (omega (arith, some)))
-
 solid_stays : (name : List ℕ) → is_solid name ≡ true → without_blanks name ≡ name
 solid_stays [] e = absurd (cc e)
 solid_stays (c ∷ cs) e =
-    let parts = both (goes_on_in_word c) (list_all goes_on_in_word cs) e in
-    rw (front_stays c cs parts.0) (end_stays (c ∷ cs) (omega arith) (last_solid (c ∷ cs) (omega arith) e))
-
-same_as_itself : (text : List ℕ) → same_text text text ≡ true
-unfolding same_text
-same_as_itself text = (bytes_eq-Decides (map to_ascii_lowercase text) (map to_ascii_lowercase text)).1 refl
+    let parts = and_parts (goes_on_in_word c) (list_all goes_on_in_word cs) e in
+    rw (front_stays c cs parts.0) (ended (c ∷ cs) (omega arith) (last_of goes_on_in_word word_solid (c ∷ cs) (omega arith) e))
 
 -- columns, each as every column is
 abbrev pub AreColumns : List Column → Type 0

@@ -117,8 +117,6 @@ length-value_bits column value = length_value_list column.nullable (is_null valu
 row_from-bits_of : (columns : List Column) (values : List Value) (before : List Bool) → admits_values columns values ≡ true →
     row_from columns (assignment_of (before ++ bits_of columns values)) (length before) ≡ values
 row_from-bits_of [] [] before admitted = refl
-row_from-bits_of [] (value ∷ values) before admitted = cc
-row_from-bits_of (column ∷ columns) [] before admitted = cc
 row_from-bits_of (column ∷ columns) (value ∷ values) before admitted =
     let each = both (admits_value column value) (admits_values columns values) admitted in
     let here = value_spelled-value_bits column value before (bits_of columns values) each.0 in
@@ -126,6 +124,7 @@ row_from-bits_of (column ∷ columns) (value ∷ values) before admitted =
     let same = append_assoc before (value_bits column value) (bits_of columns values) in
     let longer = length-append before (value_bits column value) ∙ ap (λ k. length before + k) (length-value_bits column value) in
     ap₂ (λ v vs. v ∷ vs) here (ap₂ (λ bits k. row_from columns (assignment_of bits) k) (sym same) (sym longer) ∙ later)
+row_from-bits_of _ _ before admitted = cc
 
 pub row_of-bits_of : (columns : List Column) (values : List Value) → admits_values columns values ≡ true → row_of columns (assignment_of (bits_of columns values)) ≡ values
 row_of-bits_of columns values admitted = row_from-bits_of columns values [] admitted

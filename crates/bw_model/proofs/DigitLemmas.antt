@@ -1,12 +1,13 @@
 -- Binary digits of numbers between two powers of 2.
 use Rattle.std.proofs.Common.{◌≡◌, ℕ, zero, suc, ◌+◌, ◌*◌, ◌/◌, ◌^◌, ◌<◌, ◌≤◌, max, length, arith}
-use Rattle.std.proofs.Common.{ap, ◌∙◌, add-one}
+use Rattle.std.proofs.Common.{ap, ◌∙◌, add-one, ℤ, pos, ◌-ℤ◌, ◌≤ℤ◌, ◌<ℤ◌, unsigned_abs, List, [], ◌∷◌}
 use Rattle.std.proofs.Math.Nat.{pow-succ'}
 use Rattle.std.proofs.Math.Pow.{pow_mono}
+use Rattle.std.proofs.lemmas.Int.{ints}
 use Rattle.std.proofs.lemmas.Nat.{pow_pos}
 use Rattle.std.specs.Int.Digits.{digits_of}
 use Rattle.bw_model.specs.declared.column.Column.{Column}
-use Rattle.bw_model.specs.Code.{span_of, width_of}
+use Rattle.bw_model.specs.Code.{span_of, width_of, width_at}
 use Rattle.std.proofs.lemmas.Int.Digits.{length-digits_of-le, length-digits_of_step}
 
 -- a number that is at least a power of 2 has more digits than its exponent
@@ -37,3 +38,17 @@ below_width column code le =
     let below = digits_below (span_of column) (span_of column) (omega arith) in
     let mono = pow_mono {i = length (digits_of 2 (span_of column))} {j = max 1 (length (digits_of 2 (span_of column)))} (omega arith) in
     omega arith
+
+-- a code has at most 63 binary digits
+distance_small : (lo hi : ℤ) → lo ≤ℤ hi → (hi -ℤ lo) <ℤ pos (2 ^ 63) → unsigned_abs (hi -ℤ lo) < 2 ^ 63
+distance_small lo hi ordered narrow = grind (arith, ints)
+
+pub width_of-le : (column : Column) → width_of column ≤ 63
+unfolding width_of
+width_of-le column =
+    omega (arith, length-digits_of-le 2 63 (span_of column) (omega arith) (distance_small column.lo column.hi column.ordered column.narrow))
+
+pub width_at-le : (columns : List Column) (column : ℕ) → width_at columns column ≤ 63
+width_at-le [] column = omega arith
+width_at-le (first ∷ columns) zero = width_of-le first
+width_at-le (first ∷ columns) (suc column) = width_at-le columns column

@@ -20,14 +20,13 @@ within_enough : {A : Type 0} (m n : ℕ) (rows : List A) → length rows ≤ m �
 unfolding group_size
 within_enough zero zero rows a b = refl
 within_enough zero (suc n) [] a b = refl
-within_enough zero (suc n) (row ∷ rows) a b = absurd (omega arith)
 within_enough (suc m) zero [] a b = refl
-within_enough (suc m) zero (row ∷ rows) a b = absurd (omega arith)
 within_enough (suc m) (suc n) [] a b = refl
 within_enough (suc m) (suc n) (row ∷ rows) a b =
     let rest = drop 512 (row ∷ rows) in
     let shorter : length rest ≡ length (row ∷ rows) - 512 = length-drop 512 (row ∷ rows) in
     ap (λ groups. take 512 (row ∷ rows) ∷ groups) (within_enough m n rest (omega arith) (omega arith))
+within_enough _ _ _ a b = absurd (omega arith)
 
 pub groups_of-nothing : {A : Type 0} → groups_of {A = A} [] ≡ []
 unfolding groups_of
@@ -122,14 +121,13 @@ positions_from-append position (bit ∷ front) back =
 pub selected_items-append : {A : Type 0} (front back : List Bool) (items others : List A) → length front ≡ length items →
     selected_items (front ++ back) (items ++ others) ≡ selected_items front items ++ selected_items back others
 selected_items-append [] back [] others same = refl
-selected_items-append [] back (item ∷ items) others same = absurd (omega arith)
-selected_items-append (bit ∷ front) back [] others same = absurd (omega arith)
 selected_items-append {A = A} (bit ∷ front) back (item ∷ items) others same = go bit (selected_items-append front back items others (omega arith))
   where
     go : (b : Bool) → selected_items (front ++ back) (items ++ others) ≡ selected_items front items ++ selected_items back others →
         selected_items (b ∷ (front ++ back)) (item ∷ (items ++ others)) ≡ selected_items (b ∷ front) (item ∷ items) ++ selected_items back others
     go true later = ap (λ (rest : List A). item ∷ rest) later
     go false later = later
+selected_items-append _ back _ others same = absurd (omega arith)
 
 -- lanes
 pub lanes_of-length : (columns : List Column) (rows : List (List Value)) → length rows ≤ group_size → length (lanes_of columns rows) ≡ group_size

@@ -105,9 +105,8 @@ not_test cond none = unlike 8 cond by
 -- equal trees of parts are those of equal lists
 trees_same : (xs ys : List CondTree) → trees_of xs ≡ trees_of ys → xs ≡ ys
 trees_same [] [] is = refl
-trees_same [] (y ∷ ys) is = absurd (omega (arith, ap count_of is))
-trees_same (x ∷ xs) [] is = absurd (omega (arith, ap count_of is))
 trees_same (x ∷ xs) (y ∷ ys) is = ap₂ (λ t ts. t ∷ ts) (cc is) (trees_same xs ys (cc is))
+trees_same _ _ is = absurd (omega (arith, ap count_of is))
 
 abbrev parts_of : CondTree → CondTrees
 parts_of (shape.And parts) = parts

@@ -1,6 +1,8 @@
 pub mod BitsLemmas
 pub mod CondLemmas
 pub mod DigitLemmas
+pub mod ErrLemmas
+pub mod FaultLemmas
 pub mod GroupLemmas
 mod KindLemmas
 pub mod NameLemmas

@@ -23,11 +23,17 @@ use Rattle.bw_model.proofs.VariableLemmas.{width_before_next, width_positive}
 -- as many bits as variables
 pub length-bits_of : (columns : List Column) (values : List Value) → admits_values columns values ≡ true → length (bits_of columns values) ≡ variables_of columns
 length-bits_of [] [] admitted = refl
-length-bits_of [] (value ∷ values) admitted = cc
-length-bits_of (column ∷ columns) [] admitted = cc
 length-bits_of (column ∷ columns) (value ∷ values) admitted =
     let each = both (admits_value column value) (admits_values columns values) admitted in
     length-append (value_bits column value) (bits_of columns values) ∙ ap₂ ◌+◌ (length-value_bits column value) (length-bits_of columns values each.1) ∙ sym (sum_by-cons variable_count column columns)
+length-bits_of _ _ admitted = cc
+
+-- a row that columns admit has a value for each
+pub length_admitted : (columns : List Column) (values : List Value) → admits_values columns values ≡ true → length values ≡ length columns
+length_admitted [] [] admitted = refl
+length_admitted (column ∷ columns) (value ∷ values) admitted =
+    ap suc (length_admitted columns values (both (admits_value column value) (admits_values columns values) admitted).1)
+length_admitted _ _ admitted = cc
 
 -- past the bits of the first value come those of the others
 past_first : (column : Column) (value : Value) (others : List Bool) (k : ℕ) → get_or (value_bits column value ++ others) (variable_count column + k) false ≡ get_or others k false

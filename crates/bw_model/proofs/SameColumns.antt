@@ -37,16 +37,16 @@ column_same a b e =
     of_parts a b.name b.lo b.hi b.nullable (ap (λ (s : ColumnShape). s.name) e) (ap (λ (s : ColumnShape). s.lo) e) (ap (λ (s : ColumnShape). s.hi) e) (ap (λ (s : ColumnShape). s.nullable) e)
     b.ordered b.narrow
 
-first_shape : (a b : ColumnShape) (cs ds : List ColumnShape) → a ∷ cs ≡ b ∷ ds → a ≡ b
-first_shape a b cs ds e = cc
+-- equal lists have equal heads and tails
+pub heads : {A : Type 0} {x y : A} {xs ys : List A} → x ∷ xs ≡ y ∷ ys → x ≡ y
+heads e = cc
 
-other_shapes : (a b : ColumnShape) (cs ds : List ColumnShape) → a ∷ cs ≡ b ∷ ds → cs ≡ ds
-other_shapes a b cs ds e = cc
+pub tails : {A : Type 0} {x y : A} {xs ys : List A} → x ∷ xs ≡ y ∷ ys → xs ≡ ys
+tails e = cc
 
 -- so schemas of one shape have the same columns
 pub columns_same : (cs ds : List Column) → map column_shape cs ≡ map column_shape ds → cs ≡ ds
 columns_same [] [] e = refl
-columns_same [] (b ∷ ds) e = absurd (cc e)
-columns_same (a ∷ cs) [] e = absurd (cc e)
 columns_same (a ∷ cs) (b ∷ ds) e =
-    ap₂ (λ (c : Column) (l : List Column). c ∷ l) (column_same a b (first_shape _ _ _ _ e)) (columns_same cs ds (other_shapes (column_shape a) (column_shape b) _ _ e))
+    ap₂ (λ (c : Column) (l : List Column). c ∷ l) (column_same a b (heads e)) (columns_same cs ds (tails e))
+columns_same _ _ e = absurd (cc e)

@@ -46,15 +46,11 @@ truths-known row (part ∷ parts) = ap₂ (λ t ts. t ∷ ts) part.1 (truths-kno
 truth-known : (row : List Value) (layer : Cond-F (Truths row)) →
     truth_step row (map-Cond Cond Truth (fold-Cond Truth (truth_step row)) (bare Truth (truth_step row) (tree_truth row) layer))
     ≡ tree_truth row (tree_step (map-Cond Cond CondTree tree_of (bare Truth (truth_step row) (tree_truth row) layer)))
-truth-known row Cond-F.Always = refl
-truth-known row (Cond-F.Cmp op x y) = refl
-truth-known row (Cond-F.Between x y z) = refl
-truth-known row (Cond-F.Among x items) = refl
-truth-known row (Cond-F.IsNull x) = refl
 truth-known row (Cond-F.And parts) = ap all_of (truths-known row parts.items)
 truth-known row (Cond-F.Or parts) = ap any_of (truths-known row parts.items)
 truth-known row (Cond-F.Not part) = ap negation part.value.1
 truth-known row (Cond-F.Test part t) = ap (λ s. truth_from (is_truth s t)) part.value.1
+truth-known row _ = refl
 
 pub truth_of-tree_of : (row : List Value) (cond : Cond) → truth_of row cond ≡ tree_truth row (tree_of cond)
 unfolding truth_of
@@ -71,15 +67,11 @@ withins-known n (part ∷ parts) = ap₂ (λ b bs. b && bs) part.1 (withins-know
 within-known : (n : ℕ) (layer : Cond-F (Within n)) →
     within_step n (map-Cond Cond Bool (fold-Cond Bool (within_step n)) (bare Bool (within_step n) (tree_within n) layer))
     ≡ tree_within n (tree_step (map-Cond Cond CondTree tree_of (bare Bool (within_step n) (tree_within n) layer)))
-within-known n Cond-F.Always = refl
-within-known n (Cond-F.Cmp op x y) = refl
-within-known n (Cond-F.Between x y z) = refl
-within-known n (Cond-F.Among x items) = refl
-within-known n (Cond-F.IsNull x) = refl
 within-known n (Cond-F.And parts) = withins-known n parts.items
 within-known n (Cond-F.Or parts) = withins-known n parts.items
 within-known n (Cond-F.Not part) = part.value.1
 within-known n (Cond-F.Test part t) = part.value.1
+within-known n _ = refl
 
 pub names_within-tree_of : (n : ℕ) (cond : Cond) → names_within n cond ≡ tree_within n (tree_of cond)
 unfolding names_within
@@ -101,15 +93,11 @@ count-known (part ∷ parts) = ap suc (count-known parts)
 whole-known : (layer : Cond-F Whole) →
     whole_step (map-Cond Cond Bool (fold-Cond Bool whole_step) (bare Bool whole_step is_whole_tree layer))
     ≡ is_whole_tree (tree_step (map-Cond Cond CondTree tree_of (bare Bool whole_step is_whole_tree layer)))
-whole-known Cond-F.Always = refl
-whole-known (Cond-F.Cmp op x y) = refl
-whole-known (Cond-F.Between x y z) = refl
-whole-known (Cond-F.Among x items) = refl
-whole-known (Cond-F.IsNull x) = refl
 whole-known (Cond-F.And parts) = ap₂ (λ k b. nat_le 2 k && b) (count-known parts.items) (wholes-known parts.items)
 whole-known (Cond-F.Or parts) = ap₂ (λ k b. nat_le 2 k && b) (count-known parts.items) (wholes-known parts.items)
 whole-known (Cond-F.Not part) = part.value.1
 whole-known (Cond-F.Test part t) = part.value.1
+whole-known _ = refl
 
 pub is_whole-tree_of : (cond : Cond) → is_whole cond ≡ is_whole_tree (tree_of cond)
 unfolding is_whole

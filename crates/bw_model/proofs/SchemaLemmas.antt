@@ -1,7 +1,8 @@
 -- What schema texts say, line by line.
 use Rattle.std.proofs.Common.{sym, map, ℤ, ◌≤◌, nat_lt, Result, arith, ◌∙◌, ◌<◌, nat_le, Some, Ok}
 use Rattle.std.proofs.Common.{Err, ◌≡◌, ◌≢◌, ℕ, List, [], ◌∷◌, ◌++◌, length, None, Bool, true}
-use Rattle.std.proofs.Common.{false, refl, not, ◌||◌, ◌&&◌, ap}
+use Rattle.std.proofs.Common.{false, refl, not, ◌||◌, ap, pos, ◌^◌, ◌≤ℤ◌, ◌<ℤ◌, ◌-ℤ◌, int_le}
+use Rattle.std.proofs.Common.{int_lt, rules}
 use Rattle.std.specs.List.{list_any}
 use Rattle.std.proofs.lemmas.List.Folds.{list_any-append}
 use Rattle.bw_model.specs.declared.fault.Fault.{Fault}
@@ -10,7 +11,7 @@ use Rattle.bw_model.specs.Column.{names_of}
 use Rattle.bw_model.specs.Fault.{at_line, nowhere, ◌>>=◌}
 use Rattle.bw_text.specs.Lines.{NumberedWords, Unread, lines_in, end_in, whole}
 use Rattle.bw_model.specs.Name.{are_apart, is_name}
-use Rattle.std.proofs.lemmas.Bool.{lt-leb, le-ltb, lt-ltb}
+use Rattle.std.proofs.lemmas.Bool.{lt-leb, le-ltb, lt-ltb, and_parts, or_parts, not-true}
 use Rattle.std.proofs.lemmas.List.{length-map}
 use Rattle.bw_text.specs.Text.{same_text}
 use Rattle.bw_model.specs.SchemaText.{ColumnShape, shape, shape_names, column_shape, schema_of}
@@ -20,41 +21,24 @@ use Rattle.bw_model.specs.SchemaText.{column_on, after_room, is_range}
 -- lines of other numbers of words are no columns
 pub column_words-other : (words : List (List ℕ)) → length words ≢ 4 → length words ≢ 6 → None ≡ column_words words
 unfolding column_words
-column_words-other [] four six = refl
-column_words-other (a ∷ []) four six = refl
-column_words-other (a ∷ b ∷ []) four six = refl
-column_words-other (a ∷ b ∷ c ∷ []) four six = refl
 column_words-other (a ∷ b ∷ c ∷ d ∷ []) four six = absurd (four refl)
-column_words-other (a ∷ b ∷ c ∷ d ∷ e ∷ []) four six = refl
 column_words-other (a ∷ b ∷ c ∷ d ∷ e ∷ f ∷ []) four six = absurd (six refl)
-column_words-other (a ∷ b ∷ c ∷ d ∷ e ∷ f ∷ g ∷ more) four six = refl
+column_words-other _ four six = refl
 
 -- a name among the columns' names is that of a column
 pub list_any_names : (columns : List Column) (name : List ℕ) → list_any (λ other. same_text other name) (names_of columns) ≡ list_any (λ column. same_text column.name name) columns
 list_any_names [] name = refl
 list_any_names (column ∷ columns) name = ap (λ b. same_text column.name name || b) (list_any_names columns name)
 
-pub not_both : (a b : Bool) → (a || b) ≡ false → (a ≡ false) × (b ≡ false)
-not_both true b e = absurd (cc e)
-not_both false b e = (refl, e)
-
-pub both : (a b : Bool) → (a && b) ≡ true → (a ≡ true) × (b ≡ true)
-both true b e = (refl, e)
-both false b e = absurd (cc e)
-
-pub negated : (b : Bool) → not b ≡ true → b ≡ false
-negated true e = absurd (cc e)
-negated false e = refl
-
 -- a name that is no earlier one's stays apart from them
 pub are_apart-push : (names : List (List ℕ)) (name : List ℕ) → are_apart names ≡ true → list_any (λ other. same_text other name) names ≡ false → are_apart (names ++ name ∷ []) ≡ true
 unfolding are_apart
 are_apart-push [] name apart new = refl
 are_apart-push (other ∷ others) name apart new =
-    let now = both (not (list_any (same_text other) others)) (are_apart others) apart in
-    let fresh = not_both (same_text other name) (list_any (λ other. same_text other name) others) new in
+    let now = and_parts (not (list_any (same_text other) others)) (are_apart others) apart in
+    let fresh = or_parts (same_text other name) (list_any (λ other. same_text other name) others) new in
     let rest = are_apart-push others name now.1 fresh.1 in
-    let none : list_any (same_text other) others ≡ false = negated _ now.0 in
+    let none : list_any (same_text other) others ≡ false = not-true _ now.0 in
     rw (list_any-append (same_text other) others (name ∷ []), none, fresh.0, rest) refl
 
 -- the names of columns, and one more
@@ -151,3 +135,14 @@ pub schema_of-first : (text : List ℕ) (lines : Unread) (rest : List NumberedWo
     → schema_of text ≡ (name >>= λ n. columns_on [] rest >>= λ columns. with_columns n (end_in lines) columns)
 schema_of-first text lines rest line name short e first table =
     schema_of-lines text short ∙ ap (λ u. schema_on (lines_in u) (end_in u)) (sym e) ∙ schema_on-first (lines_in lines) rest line (end_in lines) name first table
+
+-- a column's bounds are in order and less than 2^63 apart, by its type
+pub ordered : (l h : ℤ) → l ≤ℤ h → int_le l h ≡ true
+ordered l h o = search rules
+
+pub narrow : (n m : ℤ) → n <ℤ m → int_lt n m ≡ true
+narrow n m l = search rules
+
+pub in_range : (column : Column) → is_range column.lo column.hi ≡ true
+unfolding is_range
+in_range column = rw (ordered column.lo column.hi column.ordered, narrow (column.hi -ℤ column.lo) (pos (2 ^ 63)) column.narrow) refl

@@ -1,14 +1,15 @@
 -- What is read of a schema text is spelled by it, and what is spelled is read.
-use Rattle.std.proofs.Common.{◌≡◌, ℕ, ◌<◌, ◌≤◌, List, [], ◌∷◌, ◌++◌, length, Bool, true, false, not}
+use Rattle.std.proofs.Common.{◌≡◌, ℕ, ◌<◌, ◌≤◌, List, [], ◌∷◌, ◌++◌, length, true, false, not}
 use Rattle.std.proofs.Common.{◌||◌, Option, Some, None, Result, Ok, Err, refl, ap, sym, subst, ◌∙◌}
 use Rattle.std.proofs.Common.{arith, IfOk, nat_le, nat_lt, append_assoc, length-append}
 use Rattle.std.specs.List.{list_any, AllZip}
-use Rattle.std.proofs.lemmas.Bool.{leb-false, lt-leb, le-ltb, ltb-false}
+use Rattle.std.proofs.lemmas.Bool.{leb-false, lt-leb, le-ltb, ltb-false, not-false, and_parts}
+use Rattle.std.proofs.lemmas.Bool.{or_parts, not-true}
 use Rattle.std.proofs.lemmas.List.{length-map, append-nil, map-append}
 use Rattle.std.proofs.lemmas.List.Folds.{list_any-append}
 use Rattle.bw_model.specs.declared.fault.Fault.{Fault}
 use Rattle.bw_model.specs.declared.schema.Schema.{Schema}
-use Rattle.bw_model.specs.Fault.{MatchesUnlessOom, ◌>>=◌, refused_if, at_line, nowhere}
+use Rattle.bw_model.specs.Fault.{MatchesUnlessOom, ◌>>=◌, at_line, nowhere}
 use Rattle.bw_text.specs.Lines.{NumberedWords, lines_in, end_in, whole, is_empty}
 use Rattle.bw_model.specs.Name.{is_name, are_apart}
 use Rattle.bw_model.specs.SchemaText.{ColumnShape, SchemaShape, schema_shape, shape_names, is_range}
@@ -16,21 +17,8 @@ use Rattle.bw_model.specs.SchemaText.{column_words, table_words, table_on, named
 use Rattle.bw_model.specs.SchemaText.{next_column, after_room, columns_on, with_columns, schema_on}
 use Rattle.bw_model.specs.SchemaText.{schema_of, SpellsColumn, SpellsSchema, IsSchemaText}
 use Rattle.bw_text.specs.Text.{same_text}
-use Rattle.bw_model.proofs.SchemaLemmas.{are_apart-push, both, not_both, negated}
-
--- an answer that follows from an answer
-bind_ok : {A B : Type 0} (r : Result A Fault) (f : A → Result B Fault) (y : B) → (r >>= f) ≡ Ok y → (x : A) × (r ≡ Ok x) × (f x ≡ Ok y)
-bind_ok (Ok x) f y e = (x, refl, e)
-bind_ok (Err fault) f y e = absurd (cc e)
-
--- an answer after a test
-not_refused : {A : Type 0} (b : Bool) (fault : Fault) (r : Result A Fault) (x : A) → refused_if b fault r ≡ Ok x → (b ≡ false) × (r ≡ Ok x)
-not_refused true fault r x e = absurd (cc e)
-not_refused false fault r x e = (refl, e)
-
-holds_not : (b : Bool) → not b ≡ false → b ≡ true
-holds_not true e = refl
-holds_not false e = absurd (cc e)
+use Rattle.bw_model.proofs.SchemaLemmas.{are_apart-push}
+use Rattle.bw_model.proofs.FaultLemmas.{bind_ok, not_refused}
 
 -- a column that was taken has passed every test
 record Taken (before : List (List ℕ)) (line : NumberedWords) (column : ColumnShape) : Type 0 where
@@ -49,7 +37,7 @@ taken_by before line (Some found) column w e =
     let same : found ≡ column = cc range.1 in
     let P : ColumnShape → Type 0 = λ c. Taken before line c in
     subst P same (record {
-      spelled = (w, holds_not _ named.0, holds_not _ range.0);
+      spelled = (w, not-false _ named.0, not-false _ range.0);
       room = leb-false 64 (length before) room.0;
       new = new.0;
     })
@@ -98,11 +86,11 @@ named number None name e = absurd (cc e)
 named number (Some word) name e =
     let passed = not_refused (not (is_name word)) (at_line 102 number) (Ok word) name e in
     let same : word ≡ name = cc passed.1 in
-    (ap Some same, rw (← same) (holds_not _ passed.0))
+    (ap Some same, rw (← same) (not-false _ passed.0))
 
-not_empty : (columns : List ColumnShape) → is_empty columns ≡ false → 1 ≤ length columns
+pub not_empty : {A : Type 0} (xs : List A) → is_empty xs ≡ false → 1 ≤ length xs
 not_empty [] e = absurd (cc e)
-not_empty (c ∷ columns) e = omega arith
+not_empty (x ∷ xs) e = omega arith
 
 spelled_by : (lines : List NumberedWords) (end : ℕ) (schema : SchemaShape) → schema_on lines end ≡ Ok schema → SpellsSchema lines schema
 unfolding schema_on are_apart
@@ -131,19 +119,17 @@ apart_at : (names : List (List ℕ)) (name : List ℕ) (more : List (List ℕ)) 
 unfolding are_apart
 apart_at [] name more e = refl
 apart_at (other ∷ others) name more e =
-    let parts = both (not (list_any (same_text other) (others ++ name ∷ more))) (are_apart (others ++ name ∷ more)) e in
-    let none = negated _ parts.0 in
+    let parts = and_parts (not (list_any (same_text other) (others ++ name ∷ more))) (are_apart (others ++ name ∷ more)) e in
+    let none = not-true _ parts.0 in
     let split = sym (list_any-append (same_text other) others (name ∷ more)) ∙ none in
-    let here = not_both (list_any (same_text other) others) (same_text other name || list_any (same_text other) more) split in
-    let apart = not_both (same_text other name) (list_any (same_text other) more) here.1 in
+    let here = or_parts (list_any (same_text other) others) (same_text other name || list_any (same_text other) more) split in
+    let apart = or_parts (same_text other name) (list_any (same_text other) more) here.1 in
     rw (apart.0, apart_at others name more parts.1) refl
 
 read_by : (before rest : List ColumnShape) (lines : List NumberedWords) → AllZip SpellsColumn lines rest → length (before ++ rest) ≤ 64
     → are_apart (shape_names (before ++ rest)) ≡ true → columns_on before lines ≡ Ok (before ++ rest)
 unfolding columns_on
 read_by before [] [] h few apart = ap Ok (sym (append-nil before))
-read_by before (c ∷ rest) [] h few apart = absurd h
-read_by before [] (line ∷ lines) h few apart = absurd h
 read_by before (column ∷ rest) (line ∷ lines) h few apart =
     let names : shape_names (before ++ column ∷ rest) ≡ shape_names before ++ column.name ∷ shape_names rest = map-append _ before (column ∷ rest) in
     let room : nat_le 64 (length (shape_names before)) ≡ false =
@@ -152,6 +138,7 @@ read_by before (column ∷ rest) (line ∷ lines) h few apart =
     let again : (before ++ column ∷ []) ++ rest ≡ before ++ column ∷ rest = append_assoc before (column ∷ []) rest in
     let next = read_by (before ++ column ∷ []) rest lines h.1 (rw again few) (rw again apart) in
     rw (h.0.0, room, h.0.1, new, h.0.2) (next ∙ ap Ok again)
+read_by before _ _ h few apart = absurd h
 
 one_or_more : (columns : List ColumnShape) → 1 ≤ length columns → is_empty columns ≡ false
 one_or_more [] h = absurd (omega arith)

@@ -1,10 +1,21 @@
 -- Where the variables of a column are.
-use Rattle.std.proofs.Common.{◌≡◌, ℕ, zero, suc, ◌+◌, ◌<◌, ◌≤◌, List, [], ◌∷◌, length, take, arith}
-use Rattle.std.proofs.Common.{add-one}
+use Rattle.std.proofs.Common.{◌≡◌, ℕ, zero, suc, ◌+◌, ◌^◌, ◌<◌, ◌≤◌, Bool, true, false, cond, List}
+use Rattle.std.proofs.Common.{[], ◌∷◌, length, take, arith, add-one}
+use Rattle.std.proofs.Math.Nat.{pow-succ'}
 use Rattle.std.proofs.lemmas.List.Sums.{sum_by-cons, sum_by-take-drop}
 use Rattle.bw_model.specs.declared.column.Column.{Column}
 use Rattle.bw_model.specs.Code.{width_of, width_at}
-use Rattle.bw_model.specs.Variable.{variable_count, variables_of, first_variable}
+use Rattle.bw_model.specs.Variable.{Assignment, binary_number, variable_count, variables_of}
+use Rattle.bw_model.specs.Variable.{first_variable}
+
+-- this many bits spell a number below that power of 2
+pub binary_number-lt : (bits : Assignment) (first count : ℕ) → binary_number bits first count < 2 ^ count
+binary_number-lt bits first zero = omega arith
+binary_number-lt bits first (suc count) = by_bit (bits first) (binary_number-lt bits (suc first) count)
+  where
+    by_bit : (bit : Bool) → binary_number bits (suc first) count < 2 ^ count → cond bit (2 ^ count) 0 + binary_number bits (suc first) count < 2 ^ suc count
+    by_bit true lt = omega (arith, pow-succ' 2 count)
+    by_bit false lt = omega (arith, pow-succ' 2 count)
 
 -- a column's bits stand before the next column
 pub width_before_next : (columns : List Column) (column : ℕ) → column < length columns → width_at columns column ≤ first_variable columns (suc column)

@@ -1,5 +1,5 @@
 -- That an error's place is of the kind that the table of errors lists for its number.
-use Rattle.std.specs.Prelude.{◌≡◌, Result, Ok, Err}
+use Rattle.std.specs.Prelude.{◌≡◌}
 use Rattle.bw_model.specs.declared.fault.Fault.{Fault}
 use Rattle.bw_model.specs.declared.fault.Place.{Place}
 use Rattle.bw_model.specs.declared.fault.Place.TheVariants.{Nowhere, Byte, Line, Rec}
@@ -15,8 +15,3 @@ standing_at (Rec at) = InRecords
 -- an error's place is of the kind that is listed for it: none, a byte, a line or a record
 abbrev pub StandsAsListed : Fault → Type 0
 StandsAsListed fault = standing_at fault.place ≡ standing_of fault.code
-
--- if a call fails, its error's place is of the kind that is listed for it
-abbrev pub FaultAsListed : {A : Type 0} → Result A Fault → Type 0
-FaultAsListed (Ok x) = Unit {0}
-FaultAsListed (Err fault) = StandsAsListed fault

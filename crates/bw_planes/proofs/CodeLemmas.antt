@@ -17,10 +17,11 @@ use Rattle.bw_model.specs.Variable.{binary_number}
 use Rattle.bw_model.proofs.BitsLemmas.{bit_denotes}
 use lib.Lanes.{zip2}
 use Rattle.bw_model.specs.StoredCodes.{byte_of}
+use Rattle.bw_model.proofs.VariableLemmas.{binary_number-lt}
 use Rattle.bw_segment.proofs.ByteLemmas.{with_byte, codes_from, top_byte, byte_more, codes_whole}
 use Rattle.bw_segment.proofs.DescentLemmas.{high_more}
 use Rattle.bw_planes.specs.Planes.{plane_lanes, row_bits, planes_codes}
-use Rattle.bw_planes.proofs.KeptLemmas.{spelled_below, length-planes_codes, plane_of_codes}
+use Rattle.bw_planes.proofs.KeptLemmas.{length-planes_codes, plane_of_codes}
 
 pub codes_long : (width : ℕ) (bytes : List ℕ) → length (planes_codes width bytes) ≡ 512
 unfolding group_size
@@ -32,11 +33,11 @@ unfolding planes_codes
 codes_agree f g width bytes same =
     let rows = range_with_len 0 group_size in
     let code = λ (row : ℕ). binary_number (row_bits bytes row) 0 width in
-    map-map f code rows ∙ (λ i. map (λ row. same (code row) (spelled_below (row_bits bytes row) 0 width) i) rows) ∙ sym (map-map g code rows)
+    map-map f code rows ∙ (λ i. map (λ row. same (code row) (binary_number-lt (row_bits bytes row) 0 width) i) rows) ∙ sym (map-map g code rows)
 
 pub small_in_rows : (width : ℕ) (bytes rows : List ℕ) → AllByRecursion (λ code. code < 2 ^ width) (map (λ row. binary_number (row_bits bytes row) 0 width) rows)
 small_in_rows width bytes [] = tt
-small_in_rows width bytes (row ∷ rows) = (spelled_below (row_bits bytes row) 0 width, small_in_rows width bytes rows)
+small_in_rows width bytes (row ∷ rows) = (binary_number-lt (row_bits bytes row) 0 width, small_in_rows width bytes rows)
 
 pub codes_small : (width : ℕ) (bytes : List ℕ) → AllByRecursion (λ code. code < 2 ^ width) (planes_codes width bytes)
 unfolding planes_codes
@@ -66,7 +67,7 @@ top_small width place lane bytes le lt =
     let all : width ≡ place + (width - place) = omega arith in
     let code : get_or (planes_codes width bytes) lane 0 ≡ binary_number (row_bits bytes lane) 0 width =
     get_or-map-range_with_len (λ row. binary_number (row_bits bytes row) 0 width) 0 512 lane lane 0 lt (omega arith) in
-    shr_lt place (width - place) (subst (λ k. get_or (planes_codes width bytes) lane 0 < 2 ^ k) all (subst (λ n. n < 2 ^ width) (sym code) (spelled_below (row_bits bytes lane) 0 width)))
+    shr_lt place (width - place) (subst (λ k. get_or (planes_codes width bytes) lane 0 < 2 ^ k) all (subst (λ n. n < 2 ^ width) (sym code) (binary_number-lt (row_bits bytes lane) 0 width)))
 
 pub top_fits : (width place lane : ℕ) (bytes : List ℕ) → place < width → width ≤ 63 → lane < 512 → top_bits width place lane bytes < 2 ^ 62
 top_fits width place lane bytes lt few within =

@@ -5,7 +5,7 @@ use Rattle.std.proofs.Common.{◌^◌, ◌<◌, ◌≤◌, Bool, true, false, co
 use Rattle.std.proofs.Common.{take, drop, get_or, length-append, add-one, arith}
 use Rattle.std.specs.Int.{bit_at}
 use Rattle.std.specs.List.{range_with_len, All}
-use Rattle.std.proofs.Math.Nat.{div-eq_of_lt, mod-eq_of_lt, mod-lt, two-pow-succ, add-mod_left}
+use Rattle.std.proofs.Math.Nat.{div-eq_of_lt, mod-eq_of_lt, mod-lt, add-mod_left}
 use Rattle.std.proofs.Math.Pow.{mod-mod-pow}
 use Rattle.std.proofs.Math.Seq.{take-append_seam, drop-append-add, drop-drop}
 use Rattle.std.proofs.lemmas.Nat.{mod-pow-add, div-mul-add, pow_pos}
@@ -23,6 +23,7 @@ use Rattle.bw_model.specs.Code.{has_bit}
 use Rattle.bw_model.specs.Groups.{group_size}
 use Rattle.bw_model.specs.Variable.{Assignment, binary_number}
 use Rattle.bw_model.proofs.BitsLemmas.{bit_denotes}
+use Rattle.bw_model.proofs.VariableLemmas.{binary_number-lt}
 use Rattle.bw_segment.specs.Packing.{IsPacking}
 use Rattle.bw_segment.proofs.SoundLemmas.{each_below}
 use Rattle.bw_planes.specs.Planes.{plane_lanes, row_bits, planes_bytes, planes_codes, plane_packing}
@@ -44,15 +45,6 @@ low_bit n count bit lt =
     ∙ div-mul-add (n / 2 ^ bit % 2 ^ (rest + 1)) (2 ^ bit) (n % 2 ^ bit) (mod-lt n (pow_pos bit)) in
     ap (λ m. m % 2 == 1) high ∙ ap (λ k. k == 1) (mod-mod-pow (n / 2 ^ bit) rest 1)
 
-pub spelled_below : (bits : Assignment) (first count : ℕ) → binary_number bits first count < 2 ^ count
-spelled_below bits first zero = omega arith
-spelled_below bits first (suc count) =
-    omega (arith, two-pow-succ count, at_most (bits first) (2 ^ count), spelled_below bits (suc first) count)
-  where
-    at_most : (b : Bool) (p : ℕ) → cond b p 0 ≤ p
-    at_most true p = omega arith
-    at_most false p = omega arith
-
 -- the bit above smaller numbers, and what stands below it
 above_low : (b : Bool) (p s : ℕ) → s < p → (cond b p 0 + s) / p ≡ cond b 1 0
 above_low true p s lt = let one : p + s ≡ 1 * p + s = omega arith in ap (λ n. n / p) one ∙ div-mul-add 1 p s lt
@@ -71,7 +63,7 @@ bit_of_spelled bits first (suc count) zero lt =
     let here : first ≡ first + 0 = omega arith in
     ap (has_bit (binary_number bits first (suc count))) top
     ∙ ap (λ q. q % 2 == 1)
-    (above_low (bits first) (2 ^ count) (binary_number bits (suc first) count) (spelled_below bits (suc first) count))
+    (above_low (bits first) (2 ^ count) (binary_number bits (suc first) count) (binary_number-lt bits (suc first) count))
     ∙ shown (bits first) ∙ ap bits here
   where
     shown : (b : Bool) → (cond b 1 0 % 2 == 1) ≡ b
@@ -82,7 +74,7 @@ bit_of_spelled bits first (suc count) (suc k) lt =
     let same : suc count - suc (suc k) ≡ bit = omega arith in
     let next : suc first + k ≡ first + suc k = omega arith in
     let low = below_high (bits first) (2 ^ count) (binary_number bits (suc first) count)
-    (spelled_below bits (suc first) count) in
+    (binary_number-lt bits (suc first) count) in
     ap (has_bit (binary_number bits first (suc count))) same
     ∙ sym (low_bit (binary_number bits first (suc count)) count bit (omega arith)) ∙ ap (λ n. has_bit n bit) low
     ∙ bit_of_spelled bits (suc first) count k (omega arith) ∙ ap bits next

@@ -5,6 +5,7 @@ use Rattle.std.proofs.Common.{true, false, not, cond, ltb, ◌||◌, List, [], �
 use Rattle.std.proofs.Common.{mod-eq_of_lt, le-ltb, ltb-true, ltb-false, pow_pos}
 use Rattle.std.specs.List.{AllByRecursion, list_all, list_any}
 use Rattle.std.proofs.Math.Bool.{not-not}
+use Rattle.std.proofs.lemmas.Bool.{or_parts}
 use Rattle.bw_model.proofs.BitsLemmas.{both}
 use Rattle.bw_segment.proofs.DescentLemmas.{below}
 use Rattle.bw_segment.proofs.LowLemmas.{without_ones}
@@ -39,14 +40,10 @@ apart false width low other code whole small far =
     let lt : other < code = below other code (2 ^ low) (pow_pos low) (omega (arith, same, higher)) in
     le-ltb code other (omega (arith, lt))
 
-neither : (a b : Bool) → (a || b) ≡ false → (a ≡ false) × (b ≡ false)
-neither false b e = (refl, e)
-neither true b e = absurd (cc e)
-
 -- no code is beyond another where the highest digits of none are near that one's
 pub none_beyond : (greatest : Bool) (width low other : ℕ) → width ≡ 6 + low → (codes : List ℕ) → AllByRecursion (λ code. code < 2 ^ width) codes
     → list_any (is_near greatest low (other / 2 ^ low)) codes ≡ false → list_any (is_beyond greatest other) codes ≡ false
 none_beyond greatest width low other whole [] small far = refl
 none_beyond greatest width low other whole (code ∷ codes) small far =
-    let parts = neither (is_near greatest low (other / 2 ^ low) code) _ far in
+    let parts = or_parts (is_near greatest low (other / 2 ^ low) code) _ far in
     ap (λ b. b || list_any (is_beyond greatest other) codes) (apart greatest width low other code whole small.0 parts.0) ∙ none_beyond greatest width low other whole codes small.1 parts.1

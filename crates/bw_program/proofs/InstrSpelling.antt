@@ -1,9 +1,8 @@
 -- What is read of a line is spelled by it, and what is spelled is read.
-use Rattle.std.proofs.Common.{◌≡◌, ◌∙◌, refl, sym, ap, subst, ℕ, ◌<◌, ◌≤◌, ◌==◌, Bool, true, false}
-use Rattle.std.proofs.Common.{not, List, [], ◌∷◌, drop, Option, Some, None, Result, Ok, Err, nat_le}
-use Rattle.std.proofs.Common.{nat_lt}
-use Rattle.std.proofs.lemmas.Bool.{ltb-true, ltb-false, leb-false, lt-ltb, le-ltb, lt-leb}
-use Rattle.std.proofs.lemmas.Bool.{not-false}
+use Rattle.std.proofs.Common.{◌≡◌, ◌∙◌, refl, sym, ap, subst, ℕ, ◌<◌, ◌≤◌, ◌==◌, true, false, not}
+use Rattle.std.proofs.Common.{List, [], ◌∷◌, drop, Option, Some, None, Result, Ok, Err, nat_le}
+use Rattle.std.proofs.Common.{nat_lt, ltb-true, ltb-false, leb-false, lt-ltb, le-ltb}
+use Rattle.std.proofs.lemmas.Bool.{lt-leb, not-false}
 use Rattle.bw_model.specs.declared.column.Column.{Column}
 use Rattle.bw_model.specs.declared.fault.Fault.{Fault}
 use Rattle.bw_model.specs.Code.{width_at, slices_at}
@@ -12,6 +11,7 @@ use Rattle.bw_model.specs.Fault.{at_line, ◌>>=◌, refused_if}
 use Rattle.bw_text.specs.Lines.{NumberedWords}
 use Rattle.bw_text.specs.Number.{natural_of}
 use Rattle.bw_model.specs.Variable.{is_nullable}
+use Rattle.bw_model.proofs.FaultLemmas.{not_refused}
 use Rattle.bw_program.specs.declared.instr.Instr.{Instr}
 use Rattle.bw_program.specs.declared.instr.Instr.TheVariants.{Load, Nulls, Fill, And, Or, Xor, Not}
 use Rattle.bw_program.specs.declared.instr.Instr.TheVariants.{ByteLt, ByteEq, Skip}
@@ -24,11 +24,6 @@ use Rattle.bw_program.specs.ProgramText.{goes_past, SpellsInstr, load, nulls, fi
 use Rattle.bw_program.specs.ProgramText.{disjunction, difference, negation, below, same, skip}
 use Rattle.bw_text.specs.Register.{register_of}
 
--- what is after a test that did not reject
-passed : {A : Type 0} (b : Bool) (fault : Fault) (r : Result A Fault) (x : A) → refused_if b fault r ≡ Ok x → (b ≡ false) × (r ≡ Ok x)
-passed true fault r x e = absurd (cc e)
-passed false fault r x e = (refl, e)
-
 module _ (columns : List Column) (end number line : ℕ) where
   load_spelled : (word r c b : List ℕ) (instr : Instr) → opcode_of word ≡ Some op.Load → load_on columns line (r ∷ c ∷ b ∷ []) ≡ Ok instr → SpellsInstr columns end number (word ∷ r ∷ c ∷ b ∷ []) instr
   load_spelled word r c b instr is e = go (natural_of b) (register_of r) (column_named columns c) refl refl refl e
@@ -38,7 +33,7 @@ module _ (columns : List Column) (end number line : ℕ) where
           refused_if (not (nat_lt bit (width_at columns column))) (at_line 503 line) (Ok (Load register column bit))) ≡ Ok instr →
           SpellsInstr columns end number (word ∷ r ∷ c ∷ b ∷ []) instr
       go (Some bit) (Some register) (Some column) x y z e =
-          let ok = passed (not (nat_lt bit (width_at columns column))) (at_line 503 line) (Ok (Load register column bit)) instr e in
+          let ok = not_refused (not (nat_lt bit (width_at columns column))) (at_line 503 line) (Ok (Load register column bit)) instr e in
           let there : Load register column bit ≡ instr = cc ok.1 in
           rw (← there) (load is y z x (ltb-true bit (width_at columns column) (not-false (nat_lt bit (width_at columns column)) ok.0)))
       go _ _ _ x y z e = absurd (cc e)
@@ -51,7 +46,7 @@ module _ (columns : List Column) (end number line : ℕ) where
           refused_if (not (is_nullable columns column)) (at_line 507 line) (Ok (Nulls register column))) ≡ Ok instr →
           SpellsInstr columns end number (word ∷ r ∷ c ∷ []) instr
       go (Some register) (Some column) y z e =
-          let ok = passed (not (is_nullable columns column)) (at_line 507 line) (Ok (Nulls register column)) instr e in
+          let ok = not_refused (not (is_nullable columns column)) (at_line 507 line) (Ok (Nulls register column)) instr e in
           let there : Nulls register column ≡ instr = cc ok.1 in
           rw (← there) (nulls is y z (not-false (is_nullable columns column) ok.0))
       go _ _ y z e = absurd (cc e)
@@ -64,7 +59,7 @@ module _ (columns : List Column) (end number line : ℕ) where
           SpellsInstr columns end number (word ∷ r ∷ b ∷ []) instr
       go None nr x y e = absurd (cc e)
       go (Some bit) nr x y e =
-          let ok = passed (nat_lt 1 bit) (at_line 501 line) (found_on 502 line nr >>= λ register. Ok (Fill register (bit == 1))) instr e in
+          let ok = not_refused (nat_lt 1 bit) (at_line 501 line) (found_on 502 line nr >>= λ register. Ok (Fill register (bit == 1))) instr e in
           written nr y ok.1 (ltb-false 1 bit ok.0)
         where
           written : (nr : Option ℕ) → register_of r ≡ nr → (found_on 502 line nr >>= λ register. Ok (Fill register (bit == 1))) ≡ Ok instr → bit ≤ 1 →
@@ -122,14 +117,14 @@ module _ (columns : List Column) (end number line : ℕ) where
           (found_on 502 line (register_of r) >>= λ register. found_on 503 line (column_named columns c) >>= λ column.
           refused_if (not (nat_lt slice (slices_at columns column))) (at_line 503 line) (Ok (register, column, slice, byte)))) ≡ Ok t → Four (r ∷ c ∷ s ∷ b ∷ []) t
       go (Some slice) (Some byte) x y e =
-          let small = passed (nat_lt 255 byte) (at_line 501 line) _ t e in
+          let small = not_refused (nat_lt 255 byte) (at_line 501 line) _ t e in
           named (ltb-false 255 byte small.0) (register_of r) (column_named columns c) refl refl small.1
         where
           named : byte ≤ 255 → (nr nc : Option ℕ) → register_of r ≡ nr → column_named columns c ≡ nc →
               (found_on 502 line nr >>= λ register. found_on 503 line nc >>= λ column.
               refused_if (not (nat_lt slice (slices_at columns column))) (at_line 503 line) (Ok (register, column, slice, byte))) ≡ Ok t → Four (r ∷ c ∷ s ∷ b ∷ []) t
           named le (Some register) (Some column) z w e =
-              let there = passed (not (nat_lt slice (slices_at columns column))) (at_line 503 line) (Ok (register, column, slice, byte)) t e in
+              let there = not_refused (not (nat_lt slice (slices_at columns column))) (at_line 503 line) (Ok (register, column, slice, byte)) t e in
               let is : ◌≡◌ {A = ℕ × ℕ × ℕ × ℕ} (register, column, slice, byte) t = cc there.1 in
               rw (← is) (record {
                 r = r;
@@ -171,7 +166,7 @@ module _ (columns : List Column) (end number line : ℕ) where
           (found_on 501 line nl >>= λ target. found_on 502 line na >>= λ x. refused_if (nat_le target number) (at_line 504 line) (Ok (Skip x target))) ≡ Ok instr →
           SpellsInstr columns end number (word ∷ a ∷ l ∷ []) instr
       go (Some target) (Some n) x y e =
-          let ok = passed (nat_le target number) (at_line 504 line) (Ok (Skip n target)) instr e in
+          let ok = not_refused (nat_le target number) (at_line 504 line) (Ok (Skip n target)) instr e in
           let there : Skip n target ≡ instr = cc ok.1 in
           let near : nat_lt end target ≡ false = ap (goes_past end) there ∙ within in
           rw (← there) (skip is y x (leb-false target number ok.0) (ltb-false end target near))

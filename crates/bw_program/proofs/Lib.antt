@@ -1,3 +1,4 @@
+pub mod EndLemmas
 pub mod InstrSpelling
 pub mod MachineLaws
 pub mod PrintLemmas

@@ -1,18 +1,13 @@
 -- The canonical text of a program spells it.
-use Rattle.std.proofs.Common.{◌≡◌, ◌∙◌, refl, sym, ap, subst, ℕ, zero, suc, ◌+◌, ◌^◌, ◌<◌, ◌≤◌}
-use Rattle.std.proofs.Common.{Bool, true, false, not, ◌&&◌, ◌||◌, List, [], ◌∷◌, ◌++◌, length, map}
-use Rattle.std.proofs.Common.{Some, nat_le, nat_lt, get_or, arith}
-use Rattle.std.specs.Char.{to_ascii_lowercase}
-use Rattle.std.specs.Fmt.{decimal}
+use Rattle.std.proofs.Common.{◌≡◌, ◌∙◌, refl, sym, ap, subst, ℕ, zero, suc, ◌+◌, ◌<◌, ◌≤◌, true}
+use Rattle.std.proofs.Common.{false, not, ◌&&◌, List, [], ◌∷◌, ◌++◌, length, Some, nat_le, nat_lt}
+use Rattle.std.proofs.Common.{get_or, arith, decimal}
 use Rattle.std.specs.List.{list_all, list_any}
-use Rattle.std.proofs.lemmas.Bool.{ltb-true, lt-ltb, leb-true}
-use Rattle.std.proofs.lemmas.Int.{ints}
-use Rattle.std.proofs.lemmas.Int.Digits.{length-digits_of-le}
+use Rattle.std.proofs.lemmas.Bool.{ltb-true, lt-ltb, leb-true, not-true, or_parts}
 use Rattle.std.proofs.lemmas.List.{append-nil, get_or-map, length-map}
 use Rattle.std.proofs.lemmas.List.Sums.{position_or_len_is}
-use Rattle.std.proofs.lemmas.Slice.Eq.{bytes_eq-Decides}
 use Rattle.bw_model.specs.declared.column.Column.{Column}
-use Rattle.bw_model.specs.Code.{width_of, span_of, width_at, slices_at}
+use Rattle.bw_model.specs.Code.{width_at, slices_at}
 use Rattle.bw_model.specs.Column.{names_of, column_named}
 use Rattle.bw_text.specs.Lines.{cut_lines, numbered_words, numbered_from}
 use Rattle.bw_model.specs.Name.{is_name, are_apart}
@@ -34,10 +29,11 @@ use Rattle.bw_model.proofs.BitsLemmas.{both}
 use Rattle.bw_text.proofs.DecimalLemmas.{natural_of-decimal, plain_number}
 use Rattle.bw_text.proofs.RegisterLemmas.{plain_register, register_of-text}
 use Rattle.bw_text.proofs.SpacedWords.{line_said}
-use Rattle.bw_text.proofs.WordSpelling.{opcode_of-spelling}
+use Rattle.bw_text.proofs.WordSpelling.{opcode_of-spelling, same_as_itself}
 use Rattle.bw_text.specs.Printing.{is_plain_word, line_text}
 use Rattle.bw_text.specs.Register.{is_register, register_text}
 use Rattle.bw_model.proofs.NameLemmas.{plain_name}
+use Rattle.bw_model.proofs.DigitLemmas.{width_at-le}
 
 -- columns as a schema has them
 record Named (columns : List Column) : Type 0 where
@@ -45,32 +41,19 @@ record Named (columns : List Column) : Type 0 where
   names : list_all is_name (names_of columns) ≡ true
 
 -- a name is the first of that spelling
-same_as_itself : (text : List ℕ) → same_text text text ≡ true
-unfolding same_text
-same_as_itself text = (bytes_eq-Decides (map to_ascii_lowercase text) (map to_ascii_lowercase text)).1 refl
-
-not_true : (b : Bool) → not b ≡ true → b ≡ false
-not_true true e = absurd (cc e)
-not_true false e = refl
-
-neither : (a b : Bool) → (a || b) ≡ false → (a ≡ false) × (b ≡ false)
-neither true b e = absurd (cc e)
-neither false b e = (refl, e)
-
 differs_from_each : (name : List ℕ) (names : List (List ℕ)) (c : ℕ) → list_any (same_text name) names ≡ false → c < length names → same_text name (get_or names c []) ≡ false
 differs_from_each name [] c none lt = absurd (omega arith)
-differs_from_each name (next ∷ names) zero none lt = (neither (same_text name next) (list_any (same_text name) names) none).0
-differs_from_each name (next ∷ names) (suc c) none lt = differs_from_each name names c (neither (same_text name next) (list_any (same_text name) names) none).1 (omega arith)
+differs_from_each name (next ∷ names) zero none lt = (or_parts (same_text name next) (list_any (same_text name) names) none).0
+differs_from_each name (next ∷ names) (suc c) none lt = differs_from_each name names c (or_parts (same_text name next) (list_any (same_text name) names) none).1 (omega arith)
 
 differ : (names : List (List ℕ)) (k c : ℕ) → are_apart names ≡ true → k < c → c < length names → same_text (get_or names k []) (get_or names c []) ≡ false
 unfolding are_apart
-differ [] k c apart less lt = absurd (omega arith)
-differ (name ∷ names) k zero apart less lt = absurd (omega arith)
 differ (name ∷ names) zero (suc c) apart less lt =
     let here = both (not (list_any (same_text name) names)) (are_apart names) apart in
-    differs_from_each name names c (not_true (list_any (same_text name) names) here.0) (omega arith)
+    differs_from_each name names c (not-true (list_any (same_text name) names) here.0) (omega arith)
 differ (name ∷ names) (suc k) (suc c) apart less lt =
     differ names k c (both (not (list_any (same_text name) names)) (are_apart names) apart).1 (omega arith) (omega arith)
+differ _ k _ apart less lt = absurd (omega arith)
 
 column_named-text : (columns : List Column) (c : ℕ) → are_apart (names_of columns) ≡ true → c < length columns → column_named columns (column_text columns c) ≡ Some c
 unfolding column_named
@@ -94,20 +77,6 @@ plain_column [] c names lt = absurd (omega arith)
 plain_column (column ∷ columns) zero names lt = plain_name column.name (both (is_name column.name) (list_all is_name (names_of columns)) names).0
 plain_column (column ∷ columns) (suc c) names lt = plain_column columns c (both (is_name column.name) (list_all is_name (names_of columns)) names).1 (omega arith)
 
--- numbers of bits and slices are small
-narrow : (column : Column) → width_of column ≤ 63
-unfolding width_of
-narrow column =
-    let ordered = column.ordered in
-    let close = column.narrow in
-    let span : span_of column < 2 ^ 63 = grind (arith, ints) in
-    omega (arith, length-digits_of-le 2 63 (span_of column) (omega arith) span)
-
-width_small : (columns : List Column) (c : ℕ) → width_at columns c ≤ 63
-width_small [] c = omega arith
-width_small (column ∷ columns) zero = narrow column
-width_small (column ∷ columns) (suc c) = width_small columns c
-
 -- three registers
 three : (r x y : ℕ) → (is_register r && is_register x && is_register y) ≡ true → (r < 64) × (x < 64) × (y < 64)
 three r x y sound =
@@ -128,7 +97,7 @@ module _ (columns : List Column) (named : Named columns) where
       let there = both (nat_lt column (length columns)) (nat_lt bit (width_at columns column)) fit in
       let within = ltb-true bit (width_at columns column) there.1 in
       load (opcode_of-spelling op.Load) (register_of-text r (ltb-true r 64 sound)) (column_named-text columns column named.apart (ltb-true column (length columns) there.0))
-      (natural_of-decimal bit (omega (arith, width_small columns column))) within
+      (natural_of-decimal bit (omega (arith, width_at-le columns column))) within
   instr_spelled end number (Nulls r column) few sound fit =
       let there = both (nat_lt column (length columns)) (is_nullable columns column) fit in
       nulls (opcode_of-spelling op.Nulls) (register_of-text r (ltb-true r 64 sound)) (column_named-text columns column named.apart (ltb-true column (length columns) there.0)) there.1
@@ -154,14 +123,14 @@ module _ (columns : List Column) (named : Named columns) where
       let within = ltb-true slice (slices_at columns column) there.1 in
       let small : k ≤ 255 = leb-true k 255 valid.1 in
       below (opcode_of-spelling op.ByteLt) (register_of-text r (ltb-true r 64 valid.0)) (column_named-text columns column named.apart (ltb-true column (length columns) there.0))
-      (natural_of-decimal slice (omega (arith, width_small columns column))) within (natural_of-decimal k (omega arith)) small
+      (natural_of-decimal slice (omega (arith, width_at-le columns column))) within (natural_of-decimal k (omega arith)) small
   instr_spelled end number (ByteEq r column slice k) few sound fit =
       let valid = both (is_register r) (nat_le k 255) sound in
       let there = both (nat_lt column (length columns)) (nat_lt slice (slices_at columns column)) fit in
       let within = ltb-true slice (slices_at columns column) there.1 in
       let small : k ≤ 255 = leb-true k 255 valid.1 in
       same (opcode_of-spelling op.ByteEq) (register_of-text r (ltb-true r 64 valid.0)) (column_named-text columns column named.apart (ltb-true column (length columns) there.0))
-      (natural_of-decimal slice (omega (arith, width_small columns column))) within (natural_of-decimal k (omega arith)) small
+      (natural_of-decimal slice (omega (arith, width_at-le columns column))) within (natural_of-decimal k (omega arith)) small
   instr_spelled end number (Skip x target) few sound fit =
       let ends = both (is_register x && nat_lt number target) (nat_le target end) sound in
       let begins = both (is_register x) (nat_lt number target) ends.0 in
@@ -171,7 +140,7 @@ module _ (columns : List Column) (named : Named columns) where
   plain_byte : (r column slice k : ℕ) → r < 64 → column < length columns → slice < slices_at columns column → k ≤ 255 →
       list_all is_plain_word (register_text r ∷ column_text columns column ∷ decimal slice ∷ decimal k ∷ []) ≡ true
   plain_byte r column slice k register there within small =
-      rw (plain_register r register, plain_column columns column named.names there, plain_number slice (omega (arith, width_small columns column)), plain_number k (omega arith)) refl
+      rw (plain_register r register, plain_column columns column named.names there, plain_number slice (omega (arith, width_at-le columns column)), plain_number k (omega arith)) refl
 
   -- and its line is cut into them
   instr_said : (line end number : ℕ) (instr : Instr) (rest : List ℕ) → end ≤ 4096 → is_sound end number instr ≡ true → instr_fits columns instr ≡ true →
@@ -180,7 +149,7 @@ module _ (columns : List Column) (named : Named columns) where
       let there = both (nat_lt column (length columns)) (nat_lt bit (width_at columns column)) fit in
       let within = ltb-true bit (width_at columns column) there.1 in
       line_said line (opcode_spelling op.Load) (register_text r ∷ column_text columns column ∷ decimal bit ∷ []) rest refl refl
-      (rw (plain_register r (ltb-true r 64 sound), plain_column columns column named.names (ltb-true column (length columns) there.0), plain_number bit (omega (arith, width_small columns column))) refl)
+      (rw (plain_register r (ltb-true r 64 sound), plain_column columns column named.names (ltb-true column (length columns) there.0), plain_number bit (omega (arith, width_at-le columns column))) refl)
   instr_said line end number (Nulls r column) rest few sound fit =
       let there = both (nat_lt column (length columns)) (is_nullable columns column) fit in
       line_said line (opcode_spelling op.Nulls) (register_text r ∷ column_text columns column ∷ []) rest refl refl

@@ -1,9 +1,8 @@
 -- What is read of a program text is spelled by it, and what is spelled is read; what is spelled is
 -- a program that fits.
 use Rattle.std.proofs.Common.{◌≡◌, ◌∙◌, refl, sym, ap, subst, ℕ, suc, ◌+◌, ◌<◌, ◌≤◌, Bool, true}
-use Rattle.std.proofs.Common.{false, cond, List, [], ◌∷◌, ◌++◌, length, drop, Option, Some}
-use Rattle.std.proofs.Common.{None, Result, Ok, Err, nat_le, arith, append_assoc, length-append}
-use Rattle.std.proofs.Common.{add-one}
+use Rattle.std.proofs.Common.{false, cond, List, [], ◌∷◌, ◌++◌, length, drop, Option, Some, None}
+use Rattle.std.proofs.Common.{Result, Ok, Err, nat_le, arith, append_assoc, length-append, add-one}
 use Rattle.std.specs.List.{list_all}
 use Rattle.std.specs.Prelude.{IfOk, IsTrue}
 use Rattle.std.proofs.lemmas.Bool.{and_from, lt-ltb, le-leb, leb-false, lt-leb}
@@ -19,15 +18,14 @@ use Rattle.bw_text.specs.declared.opcode.Opcode.TheVariants as op
 use Rattle.bw_text.specs.Opcode.{opcode_of}
 use Rattle.bw_program.specs.Program.{ProgramShape, most_instructions, is_sound, are_sound}
 use Rattle.bw_program.specs.Program.{is_program, instr_fits, fits}
-use Rattle.bw_text.specs.Register.{is_register}
+use Rattle.bw_text.specs.Register.{is_register, register_of}
 use Rattle.bw_text.proofs.RegisterLemmas.{register_is}
 use Rattle.bw_model.proofs.NameLemmas.{named_column_is_there}
 use Rattle.bw_program.specs.ProgramText.{found_on, names_result, opcode_in, is_result_line}
-use Rattle.bw_program.specs.ProgramText.{result_after, last_line, within_end, goes_past, instrs_of}
+use Rattle.bw_program.specs.ProgramText.{result_after, within_end, goes_past, instrs_of}
 use Rattle.bw_program.specs.ProgramText.{program_within, program_with_result, instr_on, program_on, program_of}
 use Rattle.bw_program.specs.ProgramText.{SpellsInstr, SpellsLines, result_line, instr_line}
 use Rattle.bw_program.specs.ProgramText.{IsProgramText}
-use Rattle.bw_text.specs.Register.{register_of}
 use Rattle.bw_program.specs.ProgramText as text
 use Rattle.bw_program.proofs.InstrSpelling.{instr_spelled, spelled_instr}
 
@@ -86,8 +84,6 @@ finished_read columns before line lines program is few e = go (result_after line
   where
     go : (r : Result ℕ Fault) (rest : List NumberedWords) → result_after line.number (drop 1 line.words) ≡ r → lines ≡ rest →
         (r >>= λ result. program_with_result before rest result) ≡ Ok program → Read columns before (line ∷ lines) program
-    go (Err fault) rest read none e = absurd (cc e)
-    go (Ok result) (l ∷ rest) read none e = absurd (cc e)
     go (Ok result) [] read none e =
         let program_within = within_read (length before) before (record { instrs = instrs_of before; result = result }) program e in
         let same : before ++ [] ≡ before = append-nil before in
@@ -100,6 +96,7 @@ finished_read columns before line lines program is few e = go (result_after line
           within = subst (λ (p : List Placed). AllWithin (length p) p) (sym same) program_within.0;
           spelled = spelled;
         })
+    go _ _ read none e = absurd (cc e)
 
 program_read : (columns : List Column) (before : List Placed) (lines : List NumberedWords) (end : ℕ) (program : ProgramShape) → length before ≤ most_instructions →
     program_on columns before lines end ≡ Ok program → Read columns before lines program

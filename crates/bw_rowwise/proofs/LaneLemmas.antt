@@ -1,8 +1,9 @@
 -- Truth values in lanes, worked out one after another.
 use Rattle.std.proofs.Common.{◌≡◌, ◌∙◌, refl, sym, ap, ◌⊎◌, inl, inr, ℕ, zero, suc, ◌+◌, ◌-◌, ◌<◌}
-use Rattle.std.proofs.Common.{◌≤◌, leb, Bool, true, false, ◌&&◌, List, [], ◌∷◌, ◌++◌, None, length}
+use Rattle.std.proofs.Common.{◌≤◌, leb, Bool, true, false, List, [], ◌∷◌, ◌++◌, None, length}
 use Rattle.std.proofs.Common.{length-append, map, replicate, get_or, arith}
 use Rattle.std.proofs.lemmas.Bool.Decides.{leb_tells}
+use Rattle.std.proofs.lemmas.Bool.{and_parts}
 use Rattle.std.proofs.lemmas.List.{ext_get_or, get_or-append-add, get_or_past, get_or-map}
 use Rattle.std.proofs.lemmas.List.{get_or_append_left, get_or-replicate, length-map}
 use Rattle.std.proofs.lemmas.List.{length-replicate}
@@ -56,16 +57,12 @@ last_lane count rest lane past =
     ap (λ k. get_or (replicate count true ++ replicate rest false) k false) (sym there)
     ∙ get_or-append-add (replicate count true) (replicate rest false) (lane - count) false ∙ same_at false rest (lane - count)
 
-both : (a b : Bool) → (a && b) ≡ true → (a ≡ true) × (b ≡ true)
-both true b e = (refl, e)
-both false b e = absurd (cc e)
-
 -- a column past those that each row has is null in every lane
 pub no_column : (columns : List Column) (rows : List (List Value)) (column lane : ℕ) → ((row : List Value) → admits_values columns row ≡ true → length row ≡ length columns)
     → list_all (admits_values columns) rows ≡ true → length columns ≤ column → value_in (row_at rows lane) column ≡ None
 no_column columns [] column lane long all past = refl
 no_column columns (row ∷ rows) column zero long all past =
-    let here = both (admits_values columns row) (list_all (admits_values columns) rows) all in
+    let here = and_parts (admits_values columns row) (list_all (admits_values columns) rows) all in
     get_or_past row column None (omega (arith, long row here.0))
 no_column columns (row ∷ rows) column (suc lane) long all past =
-    no_column columns rows column lane long (both (admits_values columns row) (list_all (admits_values columns) rows) all).1 past
+    no_column columns rows column lane long (and_parts (admits_values columns row) (list_all (admits_values columns) rows) all).1 past

@@ -1,13 +1,10 @@
 -- Numbers that a value is looked up among: how they are found, and that their order is no matter.
 use Rattle.std.proofs.Common.{◌≡◌, ◌∙◌, refl, sym, ap, ◌⊎◌, inl, inr, ℕ, ◌<◌, ◌≤◌, ℤ, ◌<ℤ◌, leb}
 use Rattle.std.proofs.Common.{◌==◌, Bool, true, false, List, [], ◌∷◌, ◌++◌, map, take, Some, None}
-use Rattle.std.proofs.Common.{Result, Ok, Err, length, get_or, ◌+◌, arith}
+use Rattle.std.proofs.Common.{Result, Ok, Err, length, get_or, ◌+◌, arith, IsPermutation, IsSorted}
+use Rattle.std.proofs.Common.{Less, Equal, Greater, int_cmp, int_eq, is_ok}
 use Rattle.std.specs.List.{list_any, Contains}
-use Rattle.std.specs.List.Sorted.{IsBinarySearchResult, IsPartitionPoint, IsPermutation}
-use Rattle.std.specs.List.Sorted.{IsSearchInRange, IsSorted}
-use Rattle.std.specs.declared.cmp.Ordering.TheVariants.{Less, Equal, Greater}
-use Rattle.std.specs.Ordering.{int_cmp, int_eq}
-use Rattle.std.specs.Result.{is_ok}
+use Rattle.std.specs.List.Sorted.{IsBinarySearchResult, IsPartitionPoint, IsSearchInRange}
 use Rattle.std.proofs.lemmas.Bool.Decides.{Decides-int_eq, leb_tells}
 use Rattle.std.proofs.lemmas.Cmp.{int_cmp_total, int_ranked, int_eq_equiv}
 use Rattle.std.proofs.lemmas.Int.{ints}
@@ -84,9 +81,8 @@ any_of_moved n xs ys moved is = list_any-from_Contains int_eq_equiv n ys (Contai
 
 null_as_long : (xs ys : List ℤ) → length ys ≡ length xs → among_numbers None ys ≡ among_numbers None xs
 null_as_long [] [] same = refl
-null_as_long [] (y ∷ ys) same = absurd (omega arith)
-null_as_long (x ∷ xs) [] same = absurd (omega arith)
 null_as_long (x ∷ xs) (y ∷ ys) same = null_among y ys ∙ sym (null_among x xs)
+null_as_long _ _ same = absurd (omega arith)
 
 -- in any order they're the same numbers
 pub in_any_order : (x : Value) (xs ys : List ℤ) → IsPermutation xs ys → among_numbers x ys ≡ among_numbers x xs

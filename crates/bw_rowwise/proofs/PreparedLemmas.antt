@@ -11,6 +11,8 @@ use Rattle.bw_model.specs.Truth.{all_of, in_list, any_of, between, compare_value
 use Rattle.bw_model.specs.Truth.{is_null, is_truth, least, negation, truth_from}
 use Rattle.bw_rowwise.specs.declared.numbers.Numbers.{Numbers}
 use Rattle.bw_rowwise.specs.declared.prepared.Prepared.{Prepared, Prepared-F, fold-roll-Prepared}
+use Rattle.bw_rowwise.specs.declared.prepared.Prepared.{roll-Prepared}
+use Rattle.bw_rowwise.specs.declared.prepared.Prepared.TheFolds.{map-Prepared}
 use Rattle.bw_rowwise.specs.declared.prepared.Prepared.TheVariants.{Always, Cmp, Between, Among}
 use Rattle.bw_rowwise.specs.declared.prepared.Prepared.TheVariants.{IsNull, And, Or, Not, Test}
 use Rattle.bw_rowwise.specs.declared.prepared.Prepared.TheVariants.{rolls-Always, rolls-Cmp}
@@ -23,42 +25,38 @@ use Rattle.bw_rowwise.proofs.LogicLemmas.{greatest_assoc, least_assoc}
 use Rattle.bw_rowwise.proofs.TruthLemmas.{all_more, all_pushed, any_more, any_pushed}
 use Rattle.bw_rowwise.proofs.TruthLemmas.{greatest-first, least-first}
 
-pub truth-Always : (row : List Value) → prepared_truth row Always ≡ Yes
+-- a condition's truth is made of its parts' by its outermost layer
+truth_folded : (row : List Value) (layer : Prepared-F Prepared) {cond : Prepared} → roll-Prepared layer ≡ cond → prepared_truth row cond ≡ prepared_step row (map-Prepared Prepared Truth (prepared_truth row) layer)
 unfolding prepared_truth
-truth-Always row = ap (prepared_truth row) (sym rolls-Always) ∙ fold-roll-Prepared Truth (prepared_step row) Prepared-F.Always
+truth_folded row layer is = ap (prepared_truth row) (sym is) ∙ fold-roll-Prepared Truth (prepared_step row) layer
+
+pub truth-Always : (row : List Value) → prepared_truth row Always ≡ Yes
+truth-Always row = truth_folded row Prepared-F.Always rolls-Always
 
 pub truth-Cmp : (row : List Value) (op : Op) (x y : Operand) → prepared_truth row (Cmp op x y) ≡ compare_values op (operand_value row x) (operand_value row y)
-unfolding prepared_truth
-truth-Cmp row op x y = ap (prepared_truth row) (sym (rolls-Cmp op x y)) ∙ fold-roll-Prepared Truth (prepared_step row) (Prepared-F.Cmp op x y)
+truth-Cmp row op x y = truth_folded row (Prepared-F.Cmp op x y) (rolls-Cmp op x y)
 
 pub truth-Between : (row : List Value) (x y z : Operand) → prepared_truth row (Between x y z) ≡ between (operand_value row x) (operand_value row y) (operand_value row z)
-unfolding prepared_truth
-truth-Between row x y z = ap (prepared_truth row) (sym (rolls-Between x y z)) ∙ fold-roll-Prepared Truth (prepared_step row) (Prepared-F.Between x y z)
+truth-Between row x y z = truth_folded row (Prepared-F.Between x y z) (rolls-Between x y z)
 
 pub truth-Among : (row : List Value) (x : Operand) (numbers : Numbers) (others : Vec Operand Global) → prepared_truth row (Among x numbers others)
     ≡ greatest (among_numbers (operand_value row x) numbers.sorted.items) (in_list (operand_value row x) (map (operand_value row) others.items))
-unfolding prepared_truth
-truth-Among row x numbers others = ap (prepared_truth row) (sym (rolls-Among x numbers others)) ∙ fold-roll-Prepared Truth (prepared_step row) (Prepared-F.Among x numbers others)
+truth-Among row x numbers others = truth_folded row (Prepared-F.Among x numbers others) (rolls-Among x numbers others)
 
 pub truth-IsNull : (row : List Value) (x : Operand) → prepared_truth row (IsNull x) ≡ truth_from (is_null (operand_value row x))
-unfolding prepared_truth
-truth-IsNull row x = ap (prepared_truth row) (sym (rolls-IsNull x)) ∙ fold-roll-Prepared Truth (prepared_step row) (Prepared-F.IsNull x)
+truth-IsNull row x = truth_folded row (Prepared-F.IsNull x) (rolls-IsNull x)
 
 pub truth-And : (row : List Value) (parts : Vec Prepared Global) → prepared_truth row (And parts) ≡ all_of (map (prepared_truth row) parts.items)
-unfolding prepared_truth
-truth-And row parts = ap (prepared_truth row) (sym (rolls-And parts)) ∙ fold-roll-Prepared Truth (prepared_step row) (Prepared-F.And parts)
+truth-And row parts = truth_folded row (Prepared-F.And parts) (rolls-And parts)
 
 pub truth-Or : (row : List Value) (parts : Vec Prepared Global) → prepared_truth row (Or parts) ≡ any_of (map (prepared_truth row) parts.items)
-unfolding prepared_truth
-truth-Or row parts = ap (prepared_truth row) (sym (rolls-Or parts)) ∙ fold-roll-Prepared Truth (prepared_step row) (Prepared-F.Or parts)
+truth-Or row parts = truth_folded row (Prepared-F.Or parts) (rolls-Or parts)
 
 pub truth-Not : (row : List Value) (part : Box Prepared Global) → prepared_truth row (Not part) ≡ negation (prepared_truth row part.value)
-unfolding prepared_truth
-truth-Not row part = ap (prepared_truth row) (sym (rolls-Not part)) ∙ fold-roll-Prepared Truth (prepared_step row) (Prepared-F.Not part)
+truth-Not row part = truth_folded row (Prepared-F.Not part) (rolls-Not part)
 
 pub truth-Test : (row : List Value) (part : Box Prepared Global) (t : Truth) → prepared_truth row (Test part t) ≡ truth_from (is_truth (prepared_truth row part.value) t)
-unfolding prepared_truth
-truth-Test row part t = ap (prepared_truth row) (sym (rolls-Test part t)) ∙ fold-roll-Prepared Truth (prepared_step row) (Prepared-F.Test part t)
+truth-Test row part t = truth_folded row (Prepared-F.Test part t) (rolls-Test part t)
 
 pub ruleset truths = (truth-Always, truth-Cmp, truth-Between, truth-Among, truth-IsNull, truth-And, truth-Or, truth-Not, truth-Test)
 

@@ -1,8 +1,7 @@
 -- The size of a total, and totals of one more row.
 use Rattle.std.proofs.Common.{◌≡◌, ◌∙◌, refl, sym, ap, ◌⊎◌, inl, inr, ℕ, ℤ, pos, ◌+◌, ◌≤◌, ◌+ℤ◌}
 use Rattle.std.proofs.Common.{List, [], ◌∷◌, ◌++◌, length, length-append, append-nil, Option, Some}
-use Rattle.std.proofs.Common.{None, FitsSigned, w64, arith}
-use Rattle.std.specs.Option.{option_map, option_to_list}
+use Rattle.std.proofs.Common.{None, FitsSigned, w64, arith, option_map, option_to_list}
 use Rattle.std.specs.List.{fold, reduce, cons_option}
 use Rattle.std.specs.Int.{int_min, int_max}
 use Rattle.std.proofs.lemmas.List.Sums.{fold-append}

@@ -3,6 +3,7 @@ use Rattle.std.proofs.Common.{◌≡◌, ◌∙◌, refl, sym, ap, ℕ, ℤ, ◌
 use Rattle.std.proofs.Common.{take, drop, length, get_or, Bool, true, false, not, cond, ◌&&◌, ◌||◌}
 use Rattle.std.proofs.Common.{Some, None}
 use Rattle.std.proofs.lemmas.List.{map-append, take_more, take-append-drop}
+use Rattle.std.proofs.Math.Bool.{and-false, or-true}
 use Rattle.bw_model.specs.declared.cond.Op.{Op}
 use Rattle.bw_model.specs.declared.cond.Truth.{Truth}
 use Rattle.bw_model.specs.declared.cond.Truth.TheVariants.{No, Unknown, Yes}
@@ -13,57 +14,40 @@ use Rattle.bw_rowwise.specs.Lanes.{AreTruths}
 use Rattle.bw_rowwise.specs.declared.truths.Truths.{Truths}
 
 pub least_yes : (a b : Truth) → (is_truth a Yes && is_truth b Yes) ≡ is_truth (least a b) Yes
-least_yes No b = refl
-least_yes Yes b = refl
-least_yes Unknown No = refl
-least_yes Unknown Unknown = refl
 least_yes Unknown Yes = refl
+least_yes _ _ = refl
 
 pub least_maybe : (a b : Truth) → (not (is_truth a No) && not (is_truth b No)) ≡ not (is_truth (least a b) No)
-least_maybe No b = refl
-least_maybe Yes b = refl
-least_maybe Unknown No = refl
-least_maybe Unknown Unknown = refl
 least_maybe Unknown Yes = refl
+least_maybe _ _ = refl
 
 pub greatest_yes : (a b : Truth) → (is_truth a Yes || is_truth b Yes) ≡ is_truth (greatest a b) Yes
-greatest_yes No b = refl
-greatest_yes Yes b = refl
-greatest_yes Unknown No = refl
-greatest_yes Unknown Unknown = refl
 greatest_yes Unknown Yes = refl
+greatest_yes _ _ = refl
 
 pub greatest_maybe : (a b : Truth) → (not (is_truth a No) || not (is_truth b No)) ≡ not (is_truth (greatest a b) No)
-greatest_maybe No b = refl
-greatest_maybe Yes b = refl
-greatest_maybe Unknown No = refl
-greatest_maybe Unknown Unknown = refl
 greatest_maybe Unknown Yes = refl
+greatest_maybe _ _ = refl
 
 pub negation_yes : (a : Truth) → not (not (is_truth a No)) ≡ is_truth (negation a) Yes
-negation_yes No = refl
-negation_yes Unknown = refl
 negation_yes Yes = refl
+negation_yes _ = refl
 
 pub negation_maybe : (a : Truth) → not (is_truth a Yes) ≡ not (is_truth (negation a) No)
-negation_maybe No = refl
-negation_maybe Unknown = refl
 negation_maybe Yes = refl
+negation_maybe _ = refl
 
 pub no_by : (a : Truth) → not (not (is_truth a No)) ≡ is_truth a No
-no_by No = refl
-no_by Unknown = refl
 no_by Yes = refl
+no_by _ = refl
 
 pub unknown_by : (a : Truth) → (not (is_truth a No) && not (is_truth a Yes)) ≡ is_truth a Unknown
-unknown_by No = refl
-unknown_by Unknown = refl
 unknown_by Yes = refl
+unknown_by _ = refl
 
 pub is_yes : (a : Truth) → is_truth a Yes ≡ true → a ≡ Yes
 is_yes Yes is = refl
-is_yes No is = absurd (cc is)
-is_yes Unknown is = absurd (cc is)
+is_yes _ is = absurd (cc is)
 
 pub from_yes : (b : Bool) → b ≡ is_truth (truth_from b) Yes
 from_yes true = refl
@@ -73,78 +57,32 @@ pub from_maybe : (b : Bool) → b ≡ not (is_truth (truth_from b) No)
 from_maybe true = refl
 from_maybe false = refl
 
+kept_yes : (h : Bool) → (h && true) ≡ is_truth (truth_from h) Yes
+kept_yes true = refl
+kept_yes false = refl
+
+kept_maybe : (h : Bool) → (h || false) ≡ not (is_truth (truth_from h) No)
+kept_maybe true = refl
+kept_maybe false = refl
+
 -- a comparison is TRUE if it holds and no value is null, and isn't FALSE if it holds or a
 -- value is null
 pub compared_yes : (op : Op) (p q : Bool) (m n : ℤ) → (holds op m n && not (p || q)) ≡ is_truth (compare_values op (cond p None (Some m)) (cond q None (Some n))) Yes
-compared_yes op true q m n = off (holds op m n)
-  where
-    off : (h : Bool) → (h && false) ≡ false
-    off true = refl
-    off false = refl
-compared_yes op false true m n = off (holds op m n)
-  where
-    off : (h : Bool) → (h && false) ≡ false
-    off true = refl
-    off false = refl
-compared_yes op false false m n = on (holds op m n)
-  where
-    on : (h : Bool) → (h && true) ≡ is_truth (truth_from h) Yes
-    on true = refl
-    on false = refl
+compared_yes op false false m n = kept_yes (holds op m n)
+compared_yes op _ _ m n = and-false (holds op m n)
 
 pub compared_maybe : (op : Op) (p q : Bool) (m n : ℤ) → (holds op m n || (p || q)) ≡ not (is_truth (compare_values op (cond p None (Some m)) (cond q None (Some n))) No)
-compared_maybe op true q m n = on (holds op m n)
-  where
-    on : (h : Bool) → (h || true) ≡ true
-    on true = refl
-    on false = refl
-compared_maybe op false true m n = on (holds op m n)
-  where
-    on : (h : Bool) → (h || true) ≡ true
-    on true = refl
-    on false = refl
-compared_maybe op false false m n = off (holds op m n)
-  where
-    off : (h : Bool) → (h || false) ≡ not (is_truth (truth_from h) No)
-    off true = refl
-    off false = refl
+compared_maybe op false false m n = kept_maybe (holds op m n)
+compared_maybe op _ _ m n = or-true (holds op m n)
 
 -- the same if the second side is a number
 pub compared_one_yes : (op : Op) (p : Bool) (m n : ℤ) → (holds op m n && not p) ≡ is_truth (compare_values op (cond p None (Some m)) (Some n)) Yes
-compared_one_yes op true m n = off (holds op m n)
-  where
-    off : (h : Bool) → (h && false) ≡ false
-    off true = refl
-    off false = refl
-compared_one_yes op false m n = on (holds op m n)
-  where
-    on : (h : Bool) → (h && true) ≡ is_truth (truth_from h) Yes
-    on true = refl
-    on false = refl
+compared_one_yes op true m n = and-false (holds op m n)
+compared_one_yes op false m n = kept_yes (holds op m n)
 
 pub compared_one_maybe : (op : Op) (p : Bool) (m n : ℤ) → (holds op m n || p) ≡ not (is_truth (compare_values op (cond p None (Some m)) (Some n)) No)
-compared_one_maybe op true m n = on (holds op m n)
-  where
-    on : (h : Bool) → (h || true) ≡ true
-    on true = refl
-    on false = refl
-compared_one_maybe op false m n = off (holds op m n)
-  where
-    off : (h : Bool) → (h || false) ≡ not (is_truth (truth_from h) No)
-    off true = refl
-    off false = refl
-
-pub and_true : (b : Bool) → (b && true) ≡ b
-and_true true = refl
-and_true false = refl
-
-pub and_false : (b : Bool) → (b && false) ≡ false
-and_false true = refl
-and_false false = refl
-
-pub not_none : (b : Bool) → not b ≡ false → b ≡ true
-not_none true is = refl
-not_none false is = absurd (cc is)
+compared_one_maybe op true m n = or-true (holds op m n)
+compared_one_maybe op false m n = kept_maybe (holds op m n)
 
 -- the same truths, said otherwise
 pub alike : (truths : Truths) (f g : ℕ → Truth) → AreTruths truths f → ((lane : ℕ) → lane < 512 → f lane ≡ g lane) → AreTruths truths g
@@ -155,9 +93,8 @@ alike truths f g are same = record {
 
 -- AND of the first parts, and of one more
 least-Yes : (a : Truth) → least a Yes ≡ a
-least-Yes No = refl
-least-Yes Unknown = refl
 least-Yes Yes = refl
+least-Yes _ = refl
 
 all_of-append : (xs ys : List Truth) → all_of (xs ++ ys) ≡ least (all_of xs) (all_of ys)
 all_of-append [] ys = refl
@@ -176,9 +113,8 @@ all_false f parts i is =
 
 -- OR of the first parts, and of one more
 greatest-No : (a : Truth) → greatest a No ≡ a
-greatest-No No = refl
-greatest-No Unknown = refl
 greatest-No Yes = refl
+greatest-No _ = refl
 
 any_of-append : (xs ys : List Truth) → any_of (xs ++ ys) ≡ greatest (any_of xs) (any_of ys)
 any_of-append [] ys = refl
@@ -198,22 +134,14 @@ any_pushed f parts x = ap any_of (map-append f parts (x ∷ [])) ∙ any_of-appe
 
 -- AND with its first truth once more is the same, and so is OR
 pub least-first : (a b : Truth) → least (least a b) a ≡ least a b
-least-first No b = refl
-least-first Yes No = refl
-least-first Yes Unknown = refl
 least-first Yes Yes = refl
-least-first Unknown No = refl
-least-first Unknown Unknown = refl
 least-first Unknown Yes = refl
+least-first _ _ = refl
 
 pub greatest-first : (a b : Truth) → greatest (greatest a b) a ≡ greatest a b
-greatest-first Yes b = refl
-greatest-first No No = refl
-greatest-first No Unknown = refl
 greatest-first No Yes = refl
-greatest-first Unknown No = refl
-greatest-first Unknown Unknown = refl
 greatest-first Unknown Yes = refl
+greatest-first _ _ = refl
 
 -- once one is TRUE so are all
 pub any_true : {A : Type 0} (f : A → Truth) (parts : List A) (i : ℕ) → any_of (map f (take i parts)) ≡ Yes → Yes ≡ any_of (map f parts)

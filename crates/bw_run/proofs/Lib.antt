@@ -1,4 +1,3 @@
-pub mod EndLemmas
 pub mod MachineLemmas
 pub mod RegisterLemmas
 pub mod RunLemmas

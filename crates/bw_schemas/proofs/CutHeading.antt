@@ -2,10 +2,8 @@
 -- has.
 use Rattle.std.proofs.Common.{◌≡◌, ◌∙◌, sym, ap, subst, refl, ℕ, ◌+◌, ◌≤◌, Bool, true, false, not}
 use Rattle.std.proofs.Common.{List, [], ◌∷◌, ◌++◌, length, map, nat_le, Result, Ok, Err, arith, inl}
-use Rattle.std.proofs.Common.{inr, length-append}
-use Rattle.std.specs.Prelude.{IfErr}
+use Rattle.std.proofs.Common.{inr, length-append, IfErr, le-leb}
 use Rattle.std.specs.List.{list_any}
-use Rattle.std.proofs.lemmas.Bool.{le-leb}
 use Rattle.bw_model.specs.declared.fault.Fault.{Fault}
 use Rattle.bw_model.specs.Fault.{at_record, refused_if}
 use Rattle.bw_model.specs.Name.{is_name}

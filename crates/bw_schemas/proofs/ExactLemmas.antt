@@ -1,16 +1,12 @@
 -- The schema that is inferred from a text is exact for it.
 use Rattle.std.proofs.Common.{◌≡◌, ◌∙◌, refl, sym, ap, subst, ℕ, ℤ, zero, suc, ◌+◌, ◌<◌, ◌≤ℤ◌, Bool}
-use Rattle.std.proofs.Common.{true, not, int_le, All, List, [], ◌∷◌, length, map, drop}
-use Rattle.std.proofs.Common.{get_or, Option, Some, None, Result, Ok, arith}
-use Rattle.std.specs.Prelude.{◌&&◌}
-use Rattle.std.specs.Char.{to_ascii_lowercase}
+use Rattle.std.proofs.Common.{true, not, int_le, All, List, [], ◌∷◌, length, map, drop, get_or}
+use Rattle.std.proofs.Common.{Option, Some, None, Result, Ok, arith, ◌&&◌, drop-cons}
 use Rattle.std.specs.List.{list_all}
-use Rattle.std.proofs.lemmas.Bool.{or_left, or_right}
+use Rattle.std.proofs.lemmas.Bool.{or_left, or_right, and_parts}
 use Rattle.std.proofs.lemmas.Int.{ints, clamps}
 use Rattle.std.proofs.lemmas.List.{drop_all, length-map}
 use Rattle.std.proofs.lemmas.List.Elements.{All-head, All-tail}
-use Rattle.std.proofs.lemmas.Slice.Eq.{bytes_eq-Decides}
-use Rattle.std.proofs.Math.Seq.{drop-cons}
 use Rattle.bw_model.specs.declared.column.Column.{Column}
 use Rattle.bw_model.specs.declared.fault.Fault.{Fault}
 use Rattle.bw_model.specs.declared.query.Item.TheVariants.{Min, Max}
@@ -20,14 +16,15 @@ use Rattle.bw_model.specs.Fault.{at_record, ◌>>=◌}
 use Rattle.bw_model.specs.Row.{Value, value_in}
 use Rattle.bw_model.specs.SchemaText.{ColumnShape, SchemaShape, column_shape, schema_shape, shape}
 use Rattle.bw_model.specs.SchemaText.{is_range}
-use Rattle.bw_text.specs.Text.{same_text}
+use Rattle.bw_text.proofs.WordSpelling.{same_as_itself}
 use Rattle.bw_model.specs.Total.{combine_totals, total}
 use Rattle.bw_model.specs.Truth.{is_null}
 use Rattle.bw_model.proofs.TotalLemmas.{total_append}
+use Rattle.bw_model.proofs.FaultLemmas.{not_refused, bind_ok}
+use Rattle.bw_model.proofs.SameColumns.{heads, tails}
+use Rattle.bw_model.proofs.SchemaLemmas.{ordered}
 use Rattle.bw_csv.specs.Bare.{bare_rows, records_of}
 use Rattle.bw_csv.specs.Rows.{is_heading, rows_after, without_blanks}
-use Rattle.bw_csv.proofs.DigitsAlone.{both}
-use Rattle.bw_csv.proofs.FieldLemmas.{bound, passed}
 use Rattle.bw_csv.proofs.BareLemmas.{rows_are, rows_wide}
 use Rattle.bw_schemas.specs.Heading.{heading_names}
 use Rattle.bw_schemas.specs.InferredSchema.{column_over, columns_over, has_null, infer_schema}
@@ -35,7 +32,6 @@ use Rattle.bw_schemas.specs.InferredSchema.{inferred_after, or_zero, check_bound
 use Rattle.bw_schemas.specs.InferredSchema.{schema_over, table_of, IsExact, IsNarrowest}
 use Rattle.bw_schemas.proofs.HeadingLemmas.{heading_is}
 use Rattle.bw_schemas.proofs.NarrowLemmas.{greatest_of_one, least_of_one}
-use Rattle.bw_schemas.proofs.PrintedText.{ordered}
 
 -- a value that a column of this shape admits
 abbrev within : ColumnShape → Value → Bool
@@ -96,12 +92,6 @@ all_within (row ∷ part) i name lo hi nullable low high null =
 column_within : (rows : List (List Value)) (i : ℕ) (name : List ℕ) → list_all (λ (row : List Value). within (column_over rows i name) (value_in row i)) rows ≡ true
 column_within rows i name = all_within rows i name _ _ (has_null i rows) (least_own (total (Min i) rows)) (greatest_own (total (Max i) rows)) (λ e. e)
 
-heads : {x y : ColumnShape} {xs ys : List ColumnShape} → x ∷ xs ≡ y ∷ ys → x ≡ y
-heads e = cc
-
-tails : {x y : ColumnShape} {xs ys : List ColumnShape} → x ∷ xs ≡ y ∷ ys → xs ≡ ys
-tails e = cc
-
 -- columns over rows admit a row whose values are within
 row_admitted : (columns : List Column) (rows : List (List Value)) (i : ℕ) (names : List (List ℕ)) (row : List Value) → map column_shape columns ≡ columns_over rows i names
     → ((i : ℕ) (name : List ℕ) → within (column_over rows i name) (value_in row i) ≡ true) → length row ≡ i + length names → admits_values columns (drop i row) ≡ true
@@ -121,7 +111,7 @@ rows_admitted : (columns : List Column) (rows : List (List Value)) (names : List
     → All (λ (row : List Value). length row ≡ length names) part → list_all (admits_values columns) part ≡ true
 rows_admitted columns rows names [] e is wide = refl
 rows_admitted columns rows names (row ∷ part) e is wide =
-    let own = λ (i : ℕ) (name : List ℕ). both (within (column_over rows i name) (value_in row i)) (list_all (λ (r : List Value). within (column_over rows i name) (value_in r i)) part) (is i name) in
+    let own = λ (i : ℕ) (name : List ℕ). and_parts (within (column_over rows i name) (value_in row i)) (list_all (λ (r : List Value). within (column_over rows i name) (value_in r i)) part) (is i name) in
     let size = All-head (λ (row : List Value). length row ≡ length names) row part wide in
     let here : admits_values columns row ≡ true = row_admitted columns rows 0 names row e (λ i name. (own i name).0) (omega (arith, size)) in
     rw here (rows_admitted columns rows names part e (λ i name. (own i name).1) (All-tail (λ (row : List Value). length row ≡ length names) row part wide))
@@ -136,10 +126,6 @@ names_over (column ∷ columns) rows i (name ∷ names) e =
     let own : column.name ≡ name = ap (λ (c : ColumnShape). c.name) first in
     rw (own, names_over columns rows (suc i) names rest) refl
 names_over _ rows i _ e = absurd (cc e)
-
-same_as_itself : (text : List ℕ) → same_text text text ≡ true
-unfolding same_text
-same_as_itself text = (bytes_eq-Decides (map to_ascii_lowercase text) (map to_ascii_lowercase text)).1 refl
 
 heading_same : (columns : List Column) (fields : List (List ℕ)) → names_of columns ≡ map without_blanks fields → is_heading columns fields ≡ true
 unfolding is_heading
@@ -169,9 +155,9 @@ ranged_is : (columns found : List ColumnShape) → check_bounds columns ≡ Ok f
 unfolding check_bounds
 ranged_is [] found e = cc e
 ranged_is (column ∷ columns) found e =
-    let one = bound (ranged_column column) (λ first. check_bounds columns >>= λ rest. Ok (first ∷ rest)) found e in
-    let more = bound (check_bounds columns) (λ rest. Ok (one.0 ∷ rest)) found one.2 in
-    let first : ◌≡◌ {A = Result ColumnShape Fault} (Ok column) (Ok one.0) = (passed (not (is_range column.lo column.hi)) (at_record 103 0) (Ok column) one.0 one.1).1 in
+    let one = bind_ok (ranged_column column) (λ first. check_bounds columns >>= λ rest. Ok (first ∷ rest)) found e in
+    let more = bind_ok (check_bounds columns) (λ rest. Ok (one.0 ∷ rest)) found one.2 in
+    let first : ◌≡◌ {A = Result ColumnShape Fault} (Ok column) (Ok one.0) = (not_refused (not (is_range column.lo column.hi)) (at_record 103 0) (Ok column) one.0 one.1).1 in
     let here : column ≡ one.0 = cc first in
     let rest = ranged_is columns more.0 more.1 in
     let whole : one.0 ∷ more.0 ≡ found = cc more.2 in
@@ -187,11 +173,11 @@ unfolding inferred_after rows_after
 found_in table schema [] e = absurd (cc e)
 found_in table schema (heading ∷ more) e =
     let columns = schema.columns.items in
-    let one = bound (heading_names heading) (λ names. bare_rows (length names) 1 more >>= λ rows. schema_over table names rows) (schema_shape schema) e in
+    let one = bind_ok (heading_names heading) (λ names. bare_rows (length names) 1 more >>= λ rows. schema_over table names rows) (schema_shape schema) e in
     let names = one.0 in
-    let two = bound (bare_rows (length names) 1 more) (λ rows. schema_over table names rows) (schema_shape schema) one.2 in
+    let two = bind_ok (bare_rows (length names) 1 more) (λ rows. schema_over table names rows) (schema_shape schema) one.2 in
     let rows = two.0 in
-    let three = bound (check_bounds (columns_over rows 0 names)) (λ found. Ok (table_of table found)) (schema_shape schema) two.2 in
+    let three = bind_ok (check_bounds (columns_over rows 0 names)) (λ found. Ok (table_of table found)) (schema_shape schema) two.2 in
     let told : table_of table three.0 ≡ schema_shape schema = cc three.2 in
     let shapes : map column_shape columns ≡ columns_over rows 0 names = sym (ranged_is (columns_over rows 0 names) three.0 three.1 ∙ ap (λ (s : SchemaShape). s.columns) told) in
     let named = names_over columns rows 0 names shapes in

@@ -1,11 +1,8 @@
 -- The comments after a schema's text say nothing, and are short.
 use Rattle.std.proofs.Common.{◌≡◌, ◌∙◌, refl, sym, ap, subst, ℕ, ◌+◌, ◌*◌, ◌/◌, ◌^◌, ◌<◌, ◌≤◌, true}
 use Rattle.std.proofs.Common.{List, [], ◌∷◌, ◌++◌, length, append_assoc, length-append, codes}
-use Rattle.std.proofs.Common.{arith}
-use Rattle.std.specs.Fmt.{decimal}
+use Rattle.std.proofs.Common.{arith, decimal, append-nil, mul-le-mul_left}
 use Rattle.std.specs.List.{list_all}
-use Rattle.std.proofs.lemmas.List.{append-nil}
-use Rattle.std.proofs.Math.Nat.{mul-le-mul_left}
 use Rattle.bw_model.specs.declared.schema.Schema.{Schema}
 use Rattle.bw_text.specs.Lines.{cut_lines, numbered_from}
 use Rattle.bw_model.specs.SchemaText.{IsSchemaText, schema_shape}

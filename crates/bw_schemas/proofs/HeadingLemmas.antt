@@ -1,19 +1,16 @@
 -- The names of a heading, one more at a time.
 use Rattle.std.proofs.Common.{◌≡◌, ◌∙◌, refl, sym, ℕ, ◌+◌, ◌<◌, ◌≤◌, Bool, true, false, not, List}
 use Rattle.std.proofs.Common.{[], ◌∷◌, ◌++◌, length, map, drop, get_or, add-one, append_assoc}
-use Rattle.std.proofs.Common.{nat_le, Result, Ok, Err, arith}
-use Rattle.std.specs.Prelude.{◌==◌}
+use Rattle.std.proofs.Common.{nat_le, Result, Ok, Err, arith, ◌==◌, eqb-true, drop-cons}
 use Rattle.std.specs.List.{list_any}
-use Rattle.std.proofs.lemmas.Bool.{eqb-true}
 use Rattle.std.proofs.lemmas.List.{append-nil, drop_all}
-use Rattle.std.proofs.Math.Seq.{drop-cons}
 use Rattle.bw_model.specs.declared.fault.Fault.{Fault}
 use Rattle.bw_model.specs.Fault.{at_record, ◌>>=◌, refused_if}
 use Rattle.bw_text.specs.Lines.{is_empty}
 use Rattle.bw_model.specs.Name.{is_name, are_apart}
+use Rattle.bw_model.proofs.FaultLemmas.{not_refused}
 use Rattle.bw_text.specs.Text.{same_text}
 use Rattle.bw_csv.specs.Rows.{without_blanks}
-use Rattle.bw_csv.proofs.FieldLemmas.{passed}
 use Rattle.bw_schemas.specs.Heading.{heading_names, names_from, some_names}
 
 -- the names of the fields from a place on
@@ -48,9 +45,9 @@ names_are before [] all e = let same : before ≡ all = cc e in sym same ∙ sym
 names_are before (name ∷ names) all e =
     let rest = names_from (before ++ name ∷ []) names in
     let twice = refused_if (list_any (λ other. same_text other name) before) (at_record 104 0) rest in
-    let a = (passed (nat_le 64 (length before)) (at_record 105 0) (refused_if (not (is_name name)) (at_record 102 0) twice) all e).1 in
-    let b = (passed (not (is_name name)) (at_record 102 0) twice all a).1 in
-    let c = (passed (list_any (λ other. same_text other name) before) (at_record 104 0) rest all b).1 in
+    let a = (not_refused (nat_le 64 (length before)) (at_record 105 0) (refused_if (not (is_name name)) (at_record 102 0) twice) all e).1 in
+    let b = (not_refused (not (is_name name)) (at_record 102 0) twice all a).1 in
+    let c = (not_refused (list_any (λ other. same_text other name) before) (at_record 104 0) rest all b).1 in
     names_are (before ++ name ∷ []) names all c ∙ append_assoc before (name ∷ []) names
 
 pub heading_is : (fields names : List (List ℕ)) → heading_names fields ≡ Ok names → names ≡ map without_blanks fields
@@ -59,7 +56,7 @@ heading_is fields names e = go (names_from [] (map without_blanks fields)) refl 
   where
     go : (r : Result (List (List ℕ)) Fault) → names_from [] (map without_blanks fields) ≡ r → (r >>= some_names) ≡ Ok names → names ≡ map without_blanks fields
     go (Ok found) f g =
-        let same = (passed (is_empty found) (at_record 105 0) (Ok found) names g).1 in
+        let same = (not_refused (is_empty found) (at_record 105 0) (Ok found) names g).1 in
         let is : found ≡ names = cc same in
         sym is ∙ names_are [] (map without_blanks fields) found f
     go (Err fault) f g = absurd (cc g)

@@ -1,7 +1,6 @@
 -- Where a call that reports a header ends: at the header, or when the text is written.
-use Rattle.std.proofs.Common.{◌≡◌, ◌∙◌, ◌+◌, refl, sym, ap, subst, ℕ, true, false, List}
-use Rattle.std.proofs.Common.{[], length, Option, Result, Ok, Err, arith}
-use Rattle.std.specs.Prelude.{OnOk}
+use Rattle.std.proofs.Common.{◌≡◌, ◌∙◌, ◌+◌, refl, sym, ap, subst, ℕ, true, false, List, [], length}
+use Rattle.std.proofs.Common.{Option, Result, Ok, Err, arith, OnOk}
 use Rattle.std.proofs.lemmas.Bool.{or_left}
 use Rattle.std.specs.Io.KnownBytes.{Appends}
 use Rattle.bw_model.specs.declared.fault.Fault.{Fault}
@@ -17,8 +16,7 @@ use Rattle.bw_file.specs.declared.table_reader.TableReader.{TableReader}
 use Rattle.bw_file.specs.FileBytes.{IsFileBytes}
 use Rattle.bw_file.specs.Reading.{State, Fails, GoesOn, give}
 use Rattle.bw_file.specs.TableReader.{ReturnsFirst, header_stated, layout_in, rows_stated}
-use Rattle.bw_file.specs.TableReader.{schema_in}
-use Rattle.bw_file.specs.TableReader.{version_in}
+use Rattle.bw_file.specs.TableReader.{schema_in, version_in}
 use Rattle.bw_file.specs.TableReading.{IsTableFault, header, is_table_fault}
 use Rattle.bw_model.proofs.SameColumns.{columns_same}
 use Rattle.bw_schemas.specs.Info.{IsInfoResult, TellsFile, info_text, is_no_verdict}

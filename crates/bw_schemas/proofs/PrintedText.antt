@@ -1,14 +1,12 @@
 -- The text of a schema spells it.
-use Rattle.std.proofs.Common.{◌≡◌, ◌∙◌, refl, sym, ap, subst, ℕ, ℤ, pos, ◌+◌, ◌*◌, ◌^◌, ◌<◌, ◌≤◌}
-use Rattle.std.proofs.Common.{◌≤ℤ◌, ◌<ℤ◌, ◌-ℤ◌, Bool, true, false, not, ◌&&◌, All, List, [], ◌∷◌}
-use Rattle.std.proofs.Common.{◌++◌, length, map, drop, get_or, add-one, Some, nat_le, int_le}
-use Rattle.std.proofs.Common.{int_lt, append_assoc, length-append, arith, rules}
+use Rattle.std.proofs.Common.{◌≡◌, ◌∙◌, refl, sym, ap, subst, ℕ, ℤ, ◌+◌, ◌*◌, ◌<◌, ◌≤◌, Bool, true}
+use Rattle.std.proofs.Common.{false, not, ◌&&◌, All, List, [], ◌∷◌, ◌++◌, length, map, drop, get_or}
+use Rattle.std.proofs.Common.{add-one, Some, nat_le, append_assoc, length-append, arith, leb-true}
+use Rattle.std.proofs.Common.{drop-cons}
 use Rattle.std.specs.Fmt.{signed_decimal}
 use Rattle.std.specs.List.{list_all, AllZip}
-use Rattle.std.proofs.lemmas.Bool.{leb-true}
 use Rattle.std.proofs.lemmas.List.{append-nil, drop_all, length-map}
 use Rattle.std.proofs.lemmas.List.Elements.{All-cons, All-head, All-nil, All-tail}
-use Rattle.std.proofs.Math.Seq.{drop-cons}
 use Rattle.bw_model.specs.declared.column.Column.{Column}
 use Rattle.bw_model.specs.declared.schema.Schema.{Schema}
 use Rattle.bw_text.specs.Keyword.{is_reserved}
@@ -17,15 +15,14 @@ use Rattle.bw_text.specs.Lines.{NumberedWords, cut_lines, numbered_words, number
 use Rattle.bw_model.specs.Name.{is_name, are_apart}
 use Rattle.bw_model.specs.Schema.{IsColumn, IsSchema}
 use Rattle.bw_model.specs.SchemaText.{ColumnShape, SchemaShape, shape, shape_names, column_shape}
-use Rattle.bw_model.specs.SchemaText.{schema_shape, column_words}
-use Rattle.bw_model.specs.SchemaText.{table_words, is_range, SpellsColumn, SpellsSchema}
-use Rattle.bw_model.specs.SchemaText.{IsSchemaText}
+use Rattle.bw_model.specs.SchemaText.{schema_shape, column_words, table_words, is_range}
+use Rattle.bw_model.specs.SchemaText.{SpellsColumn, SpellsSchema, IsSchemaText}
 use Rattle.bw_text.specs.Text.{same_text, is_word}
 use Rattle.bw_schemas.specs.PrintedSchema.{AreComments, column_line, columns_text, schema_text}
 use Rattle.bw_schemas.specs.PrintedSchema.{table_line}
 use Rattle.bw_text.specs.Printing.{is_plain_word, line_text, spaced_words}
 use Rattle.bw_model.proofs.BitsLemmas.{both}
-use Rattle.bw_model.proofs.SchemaLemmas.{shape_names-of}
+use Rattle.bw_model.proofs.SchemaLemmas.{shape_names-of, in_range}
 use Rattle.bw_text.proofs.SpacedWords.{line_said, plain_word}
 use Rattle.bw_schemas.proofs.PrintedBounds.{bound_spelled, bound_plain, bound_length}
 
@@ -144,16 +141,6 @@ shape_with schema comments is none few =
         is.apart,
       ),
     )
-
-pub ordered : (l h : ℤ) → l ≤ℤ h → int_le l h ≡ true
-ordered l h o = search rules
-
-narrow : (n m : ℤ) → n <ℤ m → int_lt n m ≡ true
-narrow n m l = search rules
-
-in_range : (column : Column) → is_range column.lo column.hi ≡ true
-unfolding is_range
-in_range column = rw (ordered column.lo column.hi column.ordered, narrow (column.hi -ℤ column.lo) (pos (2 ^ 63)) column.narrow) refl
 
 are_sound : (columns : List Column) → All IsColumn (map column_shape columns) → All IsSound (map column_shape columns)
 are_sound [] are = All-nil IsSound

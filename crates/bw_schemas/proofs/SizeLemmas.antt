@@ -1,18 +1,15 @@
 -- How long the header of a table file is, and the whole file.
-use Rattle.std.proofs.Common.{◌≡◌, ◌∙◌, sym, ap, subst, ℕ, ◌+◌, ◌*◌, ◌≤◌, All, true, List, [], ◌∷◌}
-use Rattle.std.proofs.Common.{◌++◌, length, length-append, inl, inr, arith}
+use Rattle.std.proofs.Common.{◌≡◌, ◌∙◌, sym, ap, subst, ℕ, ◌+◌, ◌*◌, All, List, [], ◌∷◌, ◌++◌}
+use Rattle.std.proofs.Common.{length, length-append, inl, inr, arith, append-nil}
 use Rattle.std.specs.List.{flat_map, list_all}
-use Rattle.std.proofs.lemmas.List.{append-nil}
-use Rattle.std.proofs.lemmas.List.Elements.{All-nil, All-cons, All-head, All-tail}
-use Rattle.std.proofs.lemmas.List.Folds.{list_all-append}
+use Rattle.std.proofs.lemmas.List.Elements.{All-head, All-tail}
 use Rattle.bw_model.specs.declared.column.Column.{Column}
 use Rattle.bw_model.specs.declared.schema.Schema.{Schema}
 use Rattle.bw_model.specs.Column.{admits_values}
-use Rattle.bw_model.specs.Groups.{groups_of, group_size, together}
+use Rattle.bw_model.specs.Groups.{groups_of}
 use Rattle.bw_model.specs.Row.{Value}
-use Rattle.bw_model.proofs.BitsLemmas.{both}
 use Rattle.bw_model.proofs.GroupLemmas.{groups_of-count, groups_of-sizes, groups_of-table}
-use Rattle.bw_segment.specs.Meaning.{IsGroup, Meaning}
+use Rattle.bw_segment.specs.Meaning.{IsGroup}
 use Rattle.bw_segment.proofs.BytesLemmas.{length-text}
 use Rattle.bw_file.specs.declared.layout.Layout.{Layout}
 use Rattle.bw_file.specs.declared.table_reader.TableReader.{TableReader}
@@ -26,6 +23,7 @@ use Rattle.bw_file.proofs.FileSpelling.{head_is}
 use Rattle.bw_file.proofs.ReaderLemmas.{head_at}
 use Rattle.bw_file.proofs.SegmentLemmas.{is_packing}
 use Rattle.bw_file.proofs.SpellingLemmas.{IsBytes, head_bytes, header_takes}
+use Rattle.bw_file.proofs.SpelledBody.{Admits, HasSize, each_admitted, group_under}
 use Rattle.bw_schemas.specs.Info.{file_size, segment_count}
 
 -- a reader took the bytes of its header
@@ -41,22 +39,6 @@ header_taken start now reader first read =
     let size : length bytes ≡ length (head_bytes h) = ap length same in
     let shaped = ap length (head_is (version_in reader) (rows_stated reader) (layout_in reader) (schema_in reader)) in
     omega (arith, read.took.advanced, size, shaped, first)
-
--- the sizes of groups, and what is said of each of them
-abbrev HasSize : List (List Value) → Type 0
-HasSize group = (1 ≤ length group) × (length group ≤ group_size)
-
-abbrev Admits : List Column → List (List Value) → Type 0
-Admits columns group = list_all (admits_values columns) group ≡ true
-
-abbrev group_under : List Column → List (List Value) → Meaning
-group_under columns rows = record { name = []; columns = columns; rows = rows }
-
-each_admitted : (columns : List Column) (groups : List (List (List Value))) → list_all (admits_values columns) (together groups) ≡ true → All (Admits columns) groups
-each_admitted columns [] all = All-nil (Admits columns)
-each_admitted columns (group ∷ groups) all =
-    let p = both (list_all (admits_values columns) group) (list_all (admits_values columns) (together groups)) (sym (list_all-append (admits_values columns) group (together groups)) ∙ all) in
-    All-cons (Admits columns) group groups p.0 (each_admitted columns groups p.1)
 
 -- each group has a segment's bytes
 groups_sized : (layout : Layout) (columns : List Column) (groups : List (List (List Value))) → All HasSize groups → All (Admits columns) groups

@@ -4,7 +4,7 @@ use Rattle.std.proofs.Common.{false, not, ◌||◌, List, [], ◌∷◌, length,
 use Rattle.std.proofs.Common.{mod-eq_of_lt, le-ltb, ltb-true, pow_pos, sym, w64, ◌⊎◌, ◌==◌, ◌%◌}
 use Rattle.std.specs.Int.{bit_at}
 use Rattle.std.specs.List.{list_any}
-use Rattle.std.proofs.lemmas.Bool.{cases_eq, cases_lt, eqb-true}
+use Rattle.std.proofs.lemmas.Bool.{cases_eq, cases_lt, eqb-true, not-false}
 use Rattle.std.proofs.lemmas.List.{get_or_past}
 use Rattle.std.proofs.lemmas.Nat.Bits.{bit_at_clear_other, bit_at-zero}
 use Rattle.bw_lanes.specs.Lanes.{lanes_of_words}
@@ -45,14 +45,10 @@ module _ (greatest : Bool) (top : ℕ) (bytes : List ℕ) where
   far_but word rows left row lt far before other within set = elim (before other within set) [
     | inr is ↦ inr is
     | inl bit ↦ elim (cases_eq other row) [
-      | inl same ↦ inr (ap (λ k. is_beyond (not greatest) top (get_or bytes (64 * word + k) 0)) same ∙ beyond (is_beyond (not greatest) top (get_or bytes (64 * word + row) 0)) far)
+      | inl same ↦ inr (ap (λ k. is_beyond (not greatest) top (get_or bytes (64 * word + k) 0)) same ∙ not-false (is_beyond (not greatest) top (get_or bytes (64 * word + row) 0)) far)
       | inr apart ↦ inl (bit_at_clear_other w64 left row lt other within apart ∙ bit)
     ]
   ]
-    where
-      beyond : (b : Bool) → not b ≡ false → b ≡ true
-      beyond true e = refl
-      beyond false e = absurd (cc e)
 
   pub far_at_end : (word rows left : ℕ) → left ≡ 0 → AreFarButLeft greatest top bytes word rows left → AreFarInWord greatest top bytes word rows
   far_at_end word rows left none before row lt set = elim (before row lt set) [

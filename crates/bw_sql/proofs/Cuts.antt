@@ -1,7 +1,7 @@
 -- How a text is cut: which piece is the longest, step by step, in one way, and each text.
 use Rattle.std.proofs.Common.{◌==◌, ◌≡◌, ℕ, suc, ◌≤◌, Bool, true, false, List, [], ◌∷◌, ◌++◌}
 use Rattle.std.proofs.Common.{length, take, drop, refl, sym, ◌∙◌, ap, subst, arith, zero, ◌+◌, ◌-◌}
-use Rattle.std.proofs.Common.{◌<◌, if◌then◌else◌, Option, Some, None, append_assoc}
+use Rattle.std.proofs.Common.{◌<◌, if◌then◌else◌, Option, Some, None, append_assoc, option_map}
 use Rattle.std.specs.List.{list_all, prefix_len, take_while}
 use Rattle.std.specs.Char.{is_ascii_digit}
 use Rattle.std.proofs.lemmas.Bool.{both_ways, and_parts, and_from, eqb-true}
@@ -18,7 +18,6 @@ use Rattle.bw_sql.proofs.Cases.{bool_cases, option_cases}
 use Rattle.bw_sql.proofs.Spellings.{follows, is_run, known, NoLong, delimiter_of, found, is_gap}
 use Rattle.bw_sql.proofs.Spellings.{no_long_at_end, long_longest, short_longest, none_begins}
 use Rattle.std.proofs.Math.Seq.{take-append_seam, drop-append_seam}
-use Rattle.std.specs.Option.{option_map}
 use Rattle.bw_text.specs.Number.{are_digits}
 use Rattle.bw_sql.specs.declared.token.Placed.{Placed}
 use Rattle.bw_sql.specs.Cut.{IsCut, Spot, spot, spots, ended, stopped, gap, token}

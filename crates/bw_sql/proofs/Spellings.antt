@@ -1,17 +1,16 @@
 -- Reserved words and delimiters, which are comparisons and marks: which bytes they are, and which
 -- is the longest.
 use Rattle.std.proofs.Common.{◌≡◌, ℕ, suc, ◌≤◌, Bool, true, false, if◌then◌else◌, List, [], ◌∷◌}
-use Rattle.std.proofs.Common.{◌++◌, length, Option, Some, refl, sym, ◌∙◌, ap, subst, arith}
+use Rattle.std.proofs.Common.{◌++◌, length, Option, Some, refl, sym, ◌∙◌, ap, subst, arith, find}
+use Rattle.std.proofs.Common.{bytes_eq}
 use Rattle.std.specs.Char.{is_ascii_digit}
 use Rattle.std.specs.List.{list_all}
-use Rattle.std.specs.Prelude.{find}
-use Rattle.std.specs.Str.{bytes_eq}
 use Rattle.std.proofs.lemmas.Bool.{and_parts}
 use Rattle.std.proofs.lemmas.Slice.Eq.{bytes_eq-Decides}
 use Rattle.bw_model.specs.declared.cond.Op.{Op}
 use Rattle.bw_model.specs.declared.cond.Op.TheVariants.{Eq, Ne, Lt, Gt, Le, Ge}
 use Rattle.bw_text.specs.Number.{are_digits}
-use Rattle.bw_text.specs.Text.{begins_word, goes_on_in_word, is_word, same_text}
+use Rattle.bw_text.specs.Text.{begins_word, goes_on_in_word, is_word}
 use Rattle.bw_sql.specs.declared.token.Mark.{Mark}
 use Rattle.bw_sql.specs.declared.token.Mark.TheVariants.{Open, Close, Comma, Star, Semicolon, Plus}
 use Rattle.bw_sql.specs.declared.token.Mark.TheVariants.{Minus}
@@ -21,8 +20,8 @@ use Rattle.bw_sql.specs.Piece.{is_long_delimiter, mark_spelling}
 use Rattle.bw_sql.specs.Token.{Lexeme, Compare, Punct, Reserved}
 use Rattle.bw_sql.proofs.Cases.{bool_cases}
 use Rattle.bw_text.specs.declared.keyword.Keyword.{Keyword}
-use Rattle.bw_text.specs.declared.keyword.Keyword.TheVariants as word
 use Rattle.bw_text.specs.Keyword.{keyword_of, spelling}
+use Rattle.bw_text.proofs.WordSpelling.{keyword_of-spelling}
 use Rattle.bw_sql.specs.Reading.{same_keyword, same_mark, after_keyword, after_mark}
 
 abbrev delimiters : List Lexeme
@@ -161,15 +160,10 @@ none_begins c rest none short (x ∷ d ∷ more) after t g is =
     let most = at_most_one c rest none (x ∷ d ∷ more) after t g is in omega arith
 
 -- a reserved word, and so a mark, is known by its spelling
-spelled_word : (w : Keyword) → keyword_of (spelling w) ≡ Some w
-unfolding keyword_of same_text
-spelled_word word.And = refl
-spelled_word _ = refl
-
 pub word_same : (v w : Keyword) → same_keyword v w ≡ true → v ≡ w
 word_same v w e =
-    let both : Some v ≡ Some w = sym (spelled_word v) ∙ ap keyword_of ((bytes_eq-Decides (spelling v) (spelling w)).0 e)
-    ∙ spelled_word w in cc
+    let both : Some v ≡ Some w = sym (keyword_of-spelling v) ∙ ap keyword_of ((bytes_eq-Decides (spelling v) (spelling w)).0 e)
+    ∙ keyword_of-spelling w in cc
 
 mark_same : (m n : Mark) → same_mark m n ≡ true → m ≡ n
 mark_same m n e =

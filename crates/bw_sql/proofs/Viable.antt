@@ -1,13 +1,8 @@
 -- What the machine has read can be completed to a statement.
 use Rattle.std.proofs.Common.{◌≡◌, ℕ, suc, ◌≤◌, Bool, true, false, List, [], ◌∷◌, ◌++◌, length}
 use Rattle.std.proofs.Common.{is_some, Some, None, if◌then◌else◌, Result, Ok, refl, sym, subst}
-use Rattle.std.proofs.Common.{arith}
+use Rattle.std.proofs.Common.{arith, append-nil, position}
 use Rattle.std.proofs.lemmas.Bool.{and_parts, lt-ltb}
-use Rattle.std.proofs.lemmas.List.{append-nil}
-use Rattle.std.specs.List.{position}
-use Rattle.std.proofs.lemmas.Slice.Eq.{bytes_eq-Decides}
-use Rattle.std.specs.Char.{to_ascii_lowercase}
-use Rattle.std.specs.Prelude.{map}
 use Rattle.bw_model.specs.declared.column.Column.{Column}
 use Rattle.bw_model.specs.declared.cond.Operand.{Operand}
 use Rattle.bw_model.specs.declared.cond.Operand.TheVariants.{Null}
@@ -20,6 +15,7 @@ use Rattle.bw_model.specs.declared.query.Item.TheVariants.{CountAll}
 use Rattle.bw_model.specs.declared.schema.Schema.{Schema}
 use Rattle.bw_text.specs.Number.{digits_value, number_of}
 use Rattle.bw_text.specs.Text.{same_text}
+use Rattle.bw_text.proofs.WordSpelling.{same_as_itself}
 use Rattle.bw_sql.specs.declared.condition.Connective.TheVariants as connective
 use Rattle.bw_sql.specs.declared.items.Aggregate.{Aggregate}
 use Rattle.bw_sql.specs.declared.items.Aggregate.TheVariants as aggregate
@@ -286,10 +282,6 @@ path_fair columns met (there {stack = stack} {next = next} {t = t} {tokens = tok
     step_fair columns met stack t next (tokens ++ more) e (path_fair columns met p more q)
 
 -- each symbol has a completion
-same_as_itself : (text : List ℕ) → same_text text text ≡ true
-unfolding same_text
-same_as_itself text = (bytes_eq-Decides (map to_ascii_lowercase text) (map to_ascii_lowercase text)).1 refl
-
 first_named : (columns : List Column) → 1 ≤ length columns →
     (text : List ℕ) × (is_some (position (λ column. same_text column.name text) columns) ≡ true)
 first_named [] h = absurd (omega arith)

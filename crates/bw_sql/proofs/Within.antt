@@ -1,11 +1,9 @@
 -- What a query that is spelled names, and that it is whole.
 use Rattle.std.proofs.Common.{◌≡◌, ◌≤◌, ◌+◌, ℕ, zero, suc, Bool, true, false, nat_lt, List, [], ◌∷◌}
-use Rattle.std.proofs.Common.{map, length, vec_len, Some, Result, Ok, Err, IfOk, refl, ap, subst}
-use Rattle.std.proofs.Common.{arith}
+use Rattle.std.proofs.Common.{map, length, vec_len, Result, Ok, Err, IfOk, refl, ap, subst, arith}
 use Rattle.std.specs.List.{list_all, range_with_len}
 use Rattle.std.proofs.lemmas.Bool.{and_from, le-leb, lt-ltb}
 use Rattle.std.proofs.lemmas.List.FromFn.{length-map-range_with_len}
-use Rattle.std.proofs.lemmas.List.Quantifiers.{position-Some}
 use Rattle.bw_model.specs.declared.column.Column.{Column}
 use Rattle.bw_model.specs.declared.cond.Operand.{Operand}
 use Rattle.bw_model.specs.declared.fault.Fault.{Fault}
@@ -17,8 +15,8 @@ use Rattle.bw_model.specs.Column.{column_named}
 use Rattle.bw_model.specs.Cond.{is_within}
 use Rattle.bw_model.specs.CondTree.{CondTree, And, trees_of, tree_within, trees_within}
 use Rattle.bw_model.specs.CondTree.{is_whole_tree, are_whole_trees, count_of}
-use Rattle.bw_text.specs.Text.{same_text}
 use Rattle.bw_model.specs.Total.{item_within}
+use Rattle.bw_model.proofs.NameLemmas.{named_column_is_there}
 use Rattle.bw_sql.specs.declared.condition.Connective.{Connective}
 use Rattle.bw_sql.specs.declared.condition.Connective.TheVariants as connective
 use Rattle.bw_sql.specs.declared.items.Aggregate.TheVariants as kind
@@ -76,12 +74,6 @@ kind_is schema true kind m = m
 kind_is schema false true m = cc
 kind_is schema false false m = refl
 
-named_within : (columns : List Column) (text : List ℕ) (i : ℕ) → column_named columns text ≡ Some i →
-    nat_lt i (length columns) ≡ true
-unfolding column_named
-named_within [] text i e = cc
-named_within (c ∷ cs) text i e = lt-ltb i (length (c ∷ cs)) (position-Some (λ (column : Column). same_text column.name text) (c ∷ cs) i c e).0
-
 commas_all : {A : Type 0} {Is : List Lexeme → List Lexeme → A → Type 0} (p : A → Bool) →
     ((tokens rest : List Lexeme) (x : A) → Is tokens rest x → p x ≡ true) → {tokens rest : List Lexeme} {xs : List A} →
     CommaList Is tokens rest xs → list_all p xs ≡ true
@@ -98,7 +90,7 @@ module _ (schema : Schema) where
   column_within : (text : List ℕ) → is_met schema (NamesColumn text) ≡ true → nat_lt (column_number cs text) n ≡ true
   unfolding meets
   column_within text m = option_cases (column_named cs text) (λ e. let none : false ≡ true = rw e at m in cc)
-      (λ i e. rw (ap column_or_first e) (named_within cs text i e))
+      (λ i e. rw (ap column_or_first e) (named_column_is_there cs text i e))
 
   operand_within : {tokens rest : List Lexeme} {x : Operand} → OperandIs cs (is_met schema) tokens rest x → is_within n x ≡ true
   operand_within null = refl

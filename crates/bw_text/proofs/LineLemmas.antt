@@ -1,12 +1,10 @@
 -- How a text is cut into lines, one line at a time.
 use Rattle.std.proofs.Common.{◌≡◌, ℕ, ◌+◌, Bool, true, false, List, [], ◌∷◌, take, drop, refl, ap}
 use Rattle.std.proofs.Common.{◌∙◌, cond, arith, suc, not, ◌<◌, length, Some, None, position, ◌≤◌}
-use Rattle.std.proofs.Common.{◌++◌, inl, inr, subst}
+use Rattle.std.proofs.Common.{◌++◌, inl, inr, subst, eqb-true, ltb-false, ltb-true, take_all}
+use Rattle.std.proofs.Common.{drop_of_length-le}
 use Rattle.std.specs.List.{before_first, after_first, position_or_len, list_all}
-use Rattle.std.proofs.lemmas.Bool.{eqb-true, ltb-false, ltb-true}
-use Rattle.std.proofs.lemmas.List.{take_all}
 use Rattle.std.proofs.lemmas.Option.{cond_some}
-use Rattle.std.proofs.Math.ListN.{drop_of_length-le}
 use Rattle.bw_text.specs.Lines.{cut_lines, with_first, is_line_feed, is_skipped, words_of}
 use Rattle.bw_text.specs.Lines.{numbered_from, numbered_words, NumberedWords, IsFirstLine}
 

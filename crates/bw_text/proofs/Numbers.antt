@@ -1,13 +1,11 @@
 -- Decimal digits, one more at a time.
 use Rattle.std.proofs.Common.{◌≡◌, ◌∙◌, ap, sym, ℕ, suc, ◌+◌, ◌-◌, ◌*◌, ◌^◌, ◌<◌, ◌≤◌, List, []}
-use Rattle.std.proofs.Common.{◌∷◌, ◌++◌, fold, length, take, drop, min, get_or, refl, arith}
-use Rattle.std.proofs.lemmas.List.{take-append-drop}
+use Rattle.std.proofs.Common.{◌∷◌, ◌++◌, fold, length, take, drop, min, get_or, refl, arith, ℤ, pos}
+use Rattle.std.proofs.Common.{◌-ℤ◌, cond, true, false, Option, Some, None, FitsSigned, w64, leb}
+use Rattle.std.proofs.Common.{ltb, take-append-drop, SomeIff}
 use Rattle.std.proofs.lemmas.List.Sums.{fold_more, fold-append}
-use Rattle.std.proofs.Common.{ℤ, pos, ◌-ℤ◌, cond, true, false, Option, Some, None, FitsSigned, w64}
-use Rattle.std.proofs.Common.{leb, ltb}
 use Rattle.std.proofs.lemmas.Int.{ints}
 use Rattle.std.proofs.Math.Nat.{pow-le-pow_right, pow-succ'}
-use Rattle.std.specs.Option.{SomeIff}
 use Rattle.std.proofs.lemmas.Bool.{le-leb, lt-leb, lt-ltb, le-ltb}
 use Rattle.bw_text.specs.Number.{digits_value, where_64_bits_hold}
 

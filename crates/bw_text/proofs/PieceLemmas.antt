@@ -1,8 +1,7 @@
 -- What is written piece by piece.
 use Rattle.std.proofs.Common.{◌≡◌, ◌∙◌, refl, sym, ap, ℕ, ◌+◌, ◌<◌, ◌≤◌, List, [], ◌∷◌, ◌++◌, map}
-use Rattle.std.proofs.Common.{length, drop, get_or, add-one, append_assoc}
+use Rattle.std.proofs.Common.{length, drop, get_or, add-one, append_assoc, drop-cons}
 use Rattle.std.proofs.lemmas.List.{append-nil, drop_all}
-use Rattle.std.proofs.Math.Seq.{drop-cons}
 use Rattle.bw_text.specs.declared.piece.Piece.{Piece}
 use Rattle.bw_text.specs.Printing.{piece_text, spaced_words}
 

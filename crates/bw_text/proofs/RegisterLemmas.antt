@@ -1,8 +1,6 @@
 -- Registers are read as they are written.
 use Rattle.std.proofs.Common.{◌≡◌, refl, ℕ, ◌<◌, Bool, true, false, ◌||◌, ◌==◌, cond, List, drop}
-use Rattle.std.proofs.Common.{Option, Some, None, slice_index, arith}
-use Rattle.std.specs.Fmt.{decimal}
-use Rattle.std.proofs.lemmas.Bool.{lt-ltb}
+use Rattle.std.proofs.Common.{Option, Some, None, slice_index, arith, decimal, lt-ltb}
 use Rattle.bw_text.specs.Number.{natural_of}
 use Rattle.bw_text.specs.Printing.{is_plain_word}
 use Rattle.bw_text.specs.Register.{is_register, register_below, register_of, register_text}

@@ -1,7 +1,6 @@
 -- The only one of some words.
 use Rattle.std.proofs.Common.{◌≡◌, ℕ, Bool, true, false, List, [], ◌∷◌, filter, length, refl, cond}
-use Rattle.std.proofs.Common.{arith, None, Some}
-use Rattle.std.specs.List.{find}
+use Rattle.std.proofs.Common.{arith, None, Some, find}
 use Rattle.bw_text.specs.Lines.{only_of}
 
 alone : (x : List ℕ) (xs : List (List ℕ)) → length (x ∷ xs) ≡ 1 → Some x ≡ only_of (x ∷ xs)

@@ -1,10 +1,8 @@
 -- Each word of a table is found by its spelling, ignoring case, and what is found has that
 -- spelling.
 use Rattle.std.proofs.Common.{◌≡◌, ◌∙◌, refl, sym, ap, ℕ, Bool, true, false, cond, List, [], ◌∷◌}
-use Rattle.std.proofs.Common.{map, Some}
+use Rattle.std.proofs.Common.{map, Some, find, bytes_eq}
 use Rattle.std.specs.Char.{to_ascii_lowercase}
-use Rattle.std.specs.List.{find}
-use Rattle.std.specs.Str.{bytes_eq}
 use Rattle.std.proofs.lemmas.Slice.Eq.{bytes_eq-Decides}
 use Rattle.bw_text.specs.declared.form.Form.{Form}
 use Rattle.bw_text.specs.declared.form.Form.TheVariants as form
@@ -38,6 +36,11 @@ unfolding same_text
 same_found {A} spelling all key word same =
     let alike : map to_ascii_lowercase key ≡ map to_ascii_lowercase word = (bytes_eq-Decides (map to_ascii_lowercase key) (map to_ascii_lowercase word)).0 same in
     ap (λ (lower : List ℕ). find (λ (x : A). bytes_eq (map to_ascii_lowercase (spelling x)) lower) all) (sym alike)
+
+-- a word is itself
+pub same_as_itself : (text : List ℕ) → same_text text text ≡ true
+unfolding same_text
+same_as_itself text = (bytes_eq-Decides (map to_ascii_lowercase text) (map to_ascii_lowercase text)).1 refl
 
 -- the reserved words
 pub keyword_of-spelling : (k : Keyword) → keyword_of (spelling k) ≡ Some k

@@ -6,72 +6,35 @@ use Rattle.bw_model.proofs.TreeLemmas.{tree_of-Always, tree_of-Cmp, tree_of-Betw
 use Rattle.bw_model.proofs.TreeLemmas.{tree_of-IsNull, tree_of-And, tree_of-Or, tree_of-Not}
 use Rattle.bw_model.proofs.TreeLemmas.{tree_of-Test}
 use Rattle.bw_model.proofs.KindLemmas.{tree_kind, not_always, not_cmp, not_between, not_among}
-use Rattle.bw_model.proofs.KindLemmas.{not_is_null, not_and, not_or, not_not, not_test}
-use Rattle.bw_model.proofs.KindLemmas.{parts_same}
+use Rattle.bw_model.proofs.KindLemmas.{not_is_null, not_and, not_or, not_not, not_test, parts_same}
 use Rattle.bw_model.proofs.+is_same.Goals as goal
 
-pub cond::Cond::is_same-returns-in_default : goal.cond::Cond::is_same-returns-in_default
-cond::Cond::is_same-returns-in_default t c =
-    record {
-      same = λ is. absurd (cc is);
-      complete = λ is. absurd (not_always c.args.other.now c.in_default.not-Always-1 (ap tree_kind (sym is ∙ ap tree_of c.in_default.is-0 ∙ tree_of-Always)));
-    }
+pub cond::Cond::is_same-returns-in_default-clause-complete : goal.cond::Cond::is_same-returns-in_default-clause-complete
+cond::Cond::is_same-returns-in_default-clause-complete t c = λ is. absurd (not_always c.args.other.now c.in_default.not-Always-1 (ap tree_kind (sym is ∙ ap tree_of c.in_default.is-0 ∙ tree_of-Always)))
 
-pub cond::Cond::is_same-returns-in_default-2 : goal.cond::Cond::is_same-returns-in_default-2
-cond::Cond::is_same-returns-in_default-2 t c =
-    record {
-      same = λ is. absurd (cc is);
-      complete = λ is. absurd (not_cmp c.args.other.now c.in_default.not-Cmp-1 (ap tree_kind (sym is ∙ ap tree_of c.in_default.is-0 ∙ tree_of-Cmp _ _ _)));
-    }
+pub cond::Cond::is_same-returns-in_default-2-clause-complete : goal.cond::Cond::is_same-returns-in_default-2-clause-complete
+cond::Cond::is_same-returns-in_default-2-clause-complete t c = λ is. absurd (not_cmp c.args.other.now c.in_default.not-Cmp-1 (ap tree_kind (sym is ∙ ap tree_of c.in_default.is-0 ∙ tree_of-Cmp _ _ _)))
 
-pub cond::Cond::is_same-returns-in_default-3 : goal.cond::Cond::is_same-returns-in_default-3
-cond::Cond::is_same-returns-in_default-3 t c =
-    record {
-      same = λ is. absurd (cc is);
-      complete = λ is. absurd (not_between c.args.other.now c.in_default.not-Between-1 (ap tree_kind (sym is ∙ ap tree_of c.in_default.is-0 ∙ tree_of-Between _ _ _)));
-    }
+pub cond::Cond::is_same-returns-in_default-3-clause-complete : goal.cond::Cond::is_same-returns-in_default-3-clause-complete
+cond::Cond::is_same-returns-in_default-3-clause-complete t c = λ is. absurd (not_between c.args.other.now c.in_default.not-Between-1 (ap tree_kind (sym is ∙ ap tree_of c.in_default.is-0 ∙ tree_of-Between _ _ _)))
 
-pub cond::Cond::is_same-returns-in_default-4 : goal.cond::Cond::is_same-returns-in_default-4
-cond::Cond::is_same-returns-in_default-4 t c =
-    record {
-      same = λ is. absurd (cc is);
-      complete = λ is. absurd (not_among c.args.other.now c.in_default.not-Among-1 (ap tree_kind (sym is ∙ ap tree_of c.in_default.is-0 ∙ tree_of-Among _ _)));
-    }
+pub cond::Cond::is_same-returns-in_default-4-clause-complete : goal.cond::Cond::is_same-returns-in_default-4-clause-complete
+cond::Cond::is_same-returns-in_default-4-clause-complete t c = λ is. absurd (not_among c.args.other.now c.in_default.not-Among-1 (ap tree_kind (sym is ∙ ap tree_of c.in_default.is-0 ∙ tree_of-Among _ _)))
 
-pub cond::Cond::is_same-returns-in_default-5 : goal.cond::Cond::is_same-returns-in_default-5
-cond::Cond::is_same-returns-in_default-5 t c =
-    record {
-      same = λ is. absurd (cc is);
-      complete = λ is. absurd (not_is_null c.args.other.now c.in_default.not-IsNull-1 (ap tree_kind (sym is ∙ ap tree_of c.in_default.is-0 ∙ tree_of-IsNull _)));
-    }
+pub cond::Cond::is_same-returns-in_default-5-clause-complete : goal.cond::Cond::is_same-returns-in_default-5-clause-complete
+cond::Cond::is_same-returns-in_default-5-clause-complete t c = λ is. absurd (not_is_null c.args.other.now c.in_default.not-IsNull-1 (ap tree_kind (sym is ∙ ap tree_of c.in_default.is-0 ∙ tree_of-IsNull _)))
 
-pub cond::Cond::is_same-returns-in_default-6 : goal.cond::Cond::is_same-returns-in_default-6
-cond::Cond::is_same-returns-in_default-6 t c =
-    record {
-      same = λ is. absurd (cc is);
-      complete = λ is. absurd (not_and c.args.other.now c.in_default.not-And-1 (ap tree_kind (sym is ∙ ap tree_of c.in_default.is-0 ∙ tree_of-And _)));
-    }
+pub cond::Cond::is_same-returns-in_default-6-clause-complete : goal.cond::Cond::is_same-returns-in_default-6-clause-complete
+cond::Cond::is_same-returns-in_default-6-clause-complete t c = λ is. absurd (not_and c.args.other.now c.in_default.not-And-1 (ap tree_kind (sym is ∙ ap tree_of c.in_default.is-0 ∙ tree_of-And _)))
 
-pub cond::Cond::is_same-returns-in_default-7 : goal.cond::Cond::is_same-returns-in_default-7
-cond::Cond::is_same-returns-in_default-7 t c =
-    record {
-      same = λ is. absurd (cc is);
-      complete = λ is. absurd (not_or c.args.other.now c.in_default.not-Or-1 (ap tree_kind (sym is ∙ ap tree_of c.in_default.is-0 ∙ tree_of-Or _)));
-    }
+pub cond::Cond::is_same-returns-in_default-7-clause-complete : goal.cond::Cond::is_same-returns-in_default-7-clause-complete
+cond::Cond::is_same-returns-in_default-7-clause-complete t c = λ is. absurd (not_or c.args.other.now c.in_default.not-Or-1 (ap tree_kind (sym is ∙ ap tree_of c.in_default.is-0 ∙ tree_of-Or _)))
 
-pub cond::Cond::is_same-returns-in_default-8 : goal.cond::Cond::is_same-returns-in_default-8
-cond::Cond::is_same-returns-in_default-8 t c =
-    record {
-      same = λ is. absurd (cc is);
-      complete = λ is. absurd (not_not c.args.other.now c.in_default.not-Not-1 (ap tree_kind (sym is ∙ ap tree_of c.in_default.is-0 ∙ tree_of-Not _)));
-    }
+pub cond::Cond::is_same-returns-in_default-8-clause-complete : goal.cond::Cond::is_same-returns-in_default-8-clause-complete
+cond::Cond::is_same-returns-in_default-8-clause-complete t c = λ is. absurd (not_not c.args.other.now c.in_default.not-Not-1 (ap tree_kind (sym is ∙ ap tree_of c.in_default.is-0 ∙ tree_of-Not _)))
 
-pub cond::Cond::is_same-returns-in_default-9 : goal.cond::Cond::is_same-returns-in_default-9
-cond::Cond::is_same-returns-in_default-9 t c =
-    record {
-      same = λ is. absurd (cc is);
-      complete = λ is. absurd (not_test c.args.other.now c.in_default.not-Test-1 (ap tree_kind (sym is ∙ ap tree_of c.in_default.is-0 ∙ tree_of-Test _ _)));
-    }
+pub cond::Cond::is_same-returns-in_default-9-clause-complete : goal.cond::Cond::is_same-returns-in_default-9-clause-complete
+cond::Cond::is_same-returns-in_default-9-clause-complete t c = λ is. absurd (not_test c.args.other.now c.in_default.not-Test-1 (ap tree_kind (sym is ∙ ap tree_of c.in_default.is-0 ∙ tree_of-Test _ _)))
 
 pub cond::Cond::is_same-returns-in-And-And-clause-complete : goal.cond::Cond::is_same-returns-in-And-And-clause-complete
 cond::Cond::is_same-returns-in-And-And-clause-complete t c = λ is.

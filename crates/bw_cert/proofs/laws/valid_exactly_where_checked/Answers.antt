@@ -1,6 +1,7 @@
 -- A certificate is valid if and only if no line breaks a rule.
 use Rattle.std.proofs.Common.{◌∙◌, sym, ap, ◌++◌, append-nil, length}
 use Rattle.bw_model.specs.Fault.{◌>>=◌}
+use Rattle.bw_model.proofs.FaultLemmas.{bind_ok}
 use Rattle.bw_cert_rules.specs.Pair.{pair_of}
 use Rattle.bw_cert_rules.specs.Accepted.{known_before, lines_of}
 use Rattle.bw_cert_rules.specs.Known.{node_of}
@@ -8,7 +9,6 @@ use Rattle.bw_cert_rules.specs.Walk.{check_lines}
 use Rattle.bw_cert.specs.StatedFacts.{facts_stated}
 use Rattle.bw_cert.specs.Valid.{end_on}
 use Rattle.bw_cert.proofs.ValidLemmas.{ended, ends}
-use Rattle.bw_cert_rules.proofs.HoldLemmas.{bind_ok}
 use Rattle.bw_cert.proofs.laws.valid_exactly_where_checked.Goals as goal
 
 pub returns-clause-sound : goal.returns-clause-sound

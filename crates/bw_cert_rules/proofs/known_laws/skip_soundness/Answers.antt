@@ -14,4 +14,4 @@ returns-clause-reached c = λ facts program parts true_facts sound valid_parts l
 
 pub returns-clause-end : goal.returns-clause-end
 returns-clause-end c = λ facts program parts true_facts sound valid_parts lanes.
-    holds_at_end facts lanes program parts (c.cited_nodes_have_stated_values.ensures facts true_facts) valid_parts (forward program sound)
+    holds_at_end facts lanes program parts (c.cited_nodes_have_stated_values.ensures facts true_facts) valid_parts sound

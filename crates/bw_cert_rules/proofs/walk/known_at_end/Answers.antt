@@ -1,11 +1,11 @@
 -- The lines of one instruction after another.
 use Rattle.std.proofs.Common.{◌∙◌, refl, sym, ap, ◌+◌, [], arith}
-use Rattle.std.proofs.lemmas.Result.{err_from_is_err_and}
 use Rattle.bw_cert_rules.specs.Join.{edge_of, with_edge}
 use Rattle.bw_cert_rules.specs.Known.{nothing_known}
 use Rattle.bw_cert_rules.proofs.EdgeLemmas.{suc-is}
 use Rattle.bw_cert_rules.proofs.WalkLemmas.{walked_on, walked_refused, walked_end}
 use Rattle.bw_cert_rules.proofs.walk.known_at_end.Goals as goal
+use Rattle.bw_model.proofs.ErrLemmas.{err_passed_on}
 
 pub loop-number-init : goal.loop-number-init
 unfolding nothing_known
@@ -16,16 +16,14 @@ loop-number-init c = record {
 
 pub returns-in_err-rest-clause-judged : goal.returns-in_err-rest-clause-judged
 returns-in_err-rest-clause-judged c =
-    let p = err_from_is_err_and c.from_residual-in_err-rest.result c.from_residual-in_err-rest.ensures.1 in
     let walking = c.loop-number.invariant.walking in
-    rw (p.1, p.2) (λ _. walking.told ∙ walked_refused _ _ _ _ _ _ _ _ c.instr-instr.ensures.instr c.in_err-rest.ensures.fault)
+    rw (err_passed_on _ c.from_residual-in_err-rest.ensures.1) (λ _. walking.told ∙ walked_refused _ _ _ _ _ _ _ _ c.instr-instr.ensures.instr c.in_err-rest.ensures.fault)
 
 pub returns-in_err-rest-2-clause-judged : goal.returns-in_err-rest-2-clause-judged
 returns-in_err-rest-2-clause-judged c =
-    let p = err_from_is_err_and c.from_residual-in_err-rest-2.result c.from_residual-in_err-rest-2.ensures.1 in
     let walking = c.loop-number.invariant.walking in
     let holds = c.in_ok-add.ensures.holds walking.edges walking.holds in
-    rw (p.1, p.2) (λ _. walking.told ∙ walked_on _ _ _ _ _ _ _ _ _ _ _ c.instr-instr.ensures.instr c.in_ok-rest.ensures.taken (sym (suc-is c.loop-number.number))
+    rw (err_passed_on _ c.from_residual-in_err-rest-2.ensures.1) (λ _. walking.told ∙ walked_on _ _ _ _ _ _ _ _ _ _ _ c.instr-instr.ensures.instr c.in_ok-rest.ensures.taken (sym (suc-is c.loop-number.number))
     (c.into_place.ensures _ holds) c.in_err-rest-2.ensures.fault)
 
 pub loop-number-preserved : goal.loop-number-preserved

@@ -1,17 +1,16 @@
 -- Each turn reads one more line; the end and each error are the text's.
 use Rattle.std.proofs.Common.{◌∙◌, ℕ, ap, sym, Err}
-use Rattle.std.proofs.lemmas.Result.{err_from_is_err_and}
 use Rattle.bw_cert_text.specs.CertificateText.{form_fault}
 use Rattle.bw_cert_text.specs.Parts.{append_fields}
 use Rattle.bw_cert_text.specs.ParsedFields.{part_fields}
 use Rattle.bw_cert_text.proofs.TextLemmas.{whole-end, whole-next, whole-before, whole-last}
 use Rattle.bw_cert_text.proofs.parse.read_parts.Goals as goal
+use Rattle.bw_model.proofs.ErrLemmas.{err_passed_on}
 
 pub returns-in_err-part-clause-fault : goal.returns-in_err-part-clause-fault
 returns-in_err-part-clause-fault c =
-    let p = err_from_is_err_and c.from_residual-in_err-part.result c.from_residual-in_err-part.ensures.1 in
     let line = rw c.in-Some.is at c.in_ok-line.ensures.line in
-    rw (p.1, p.2) (λ aside. whole-next _ _ _ _ _ _ _ c.loop-pairs.invariant.told line (Err c.in_err-part.field-0.0) (c.in_err-part.ensures.parsed aside))
+    rw (err_passed_on _ c.from_residual-in_err-part.ensures.1) (λ aside. whole-next _ _ _ _ _ _ _ c.loop-pairs.invariant.told line (Err c.in_err-part.field-0.0) (c.in_err-part.ensures.parsed aside))
 
 pub returns-in-End-clause-read : goal.returns-in-End-clause-read
 returns-in-End-clause-read c =

@@ -1,6 +1,5 @@
 -- A byte order mark before the record stays.
-use Rattle.std.proofs.Common.{◌≤◌, sym, arith, length}
-use Rattle.std.proofs.lemmas.List.{length-take-le}
+use Rattle.std.proofs.Common.{◌≤◌, sym, arith, length, length-take-le}
 use Rattle.csv.specs.Reading.{strip_bom}
 use Rattle.bw_csv.specs.Fields.{HasMoreFields}
 use Rattle.bw_csv.proofs.CutLemmas.{cuts, strip_less}

@@ -1,10 +1,10 @@
 -- Each turn puts one more value after those so far.
 use Rattle.std.proofs.Common.{◌∙◌, sym, ap, Err}
 use Rattle.std.proofs.lemmas.List.{drop_all}
-use Rattle.std.proofs.lemmas.Result.{err_from_is_err_and}
 use Rattle.bw_csv.proofs.FieldLemmas.{drop-column, drop-field_at, drop-no_field, values-next}
 use Rattle.bw_csv.proofs.FieldLemmas.{values-fault, values-short, values-end}
 use Rattle.bw_csv.proofs.row.read_values.Goals as goal
+use Rattle.bw_model.proofs.ErrLemmas.{err_passed_on}
 
 pub returns-in_default-clause-values : goal.returns-in_default-clause-values
 returns-in_default-clause-values c = λ _.
@@ -14,10 +14,9 @@ returns-in_default-clause-values c = λ _.
 
 pub returns-in_err-value-clause-values : goal.returns-in_err-value-clause-values
 returns-in_err-value-clause-values c =
-    let p = err_from_is_err_and c.from_residual.result c.from_residual.ensures.1 in
     let column = drop-column _ _ _ c.loop-i-test.true c.index-columns-i.is in
     let field = drop-field_at _ c.loop-i.i _ (sym c.in-Some.ensures.value) in
-    rw (p.1, p.2) (λ aside. c.loop-i.invariant ∙ values-fault _ _ _ _ _ _ _ _ _ column field (c.in_err-value.ensures.value aside))
+    rw (err_passed_on _ c.from_residual.ensures.1) (λ aside. c.loop-i.invariant ∙ values-fault _ _ _ _ _ _ _ _ _ column field (c.in_err-value.ensures.value aside))
 
 pub loop-i-preserved : goal.loop-i-preserved
 loop-i-preserved c =

@@ -1,7 +1,6 @@
 -- The answer has taken the rows that the CSV text spells.
-use Rattle.std.proofs.Common.{◌≡◌, ◌∙◌, ℕ, List, [], true, false, Result, Ok, Err, sym, ap}
-use Rattle.std.specs.Prelude.{IfOk, IfErr, IsOkAnd, Vec}
-use Rattle.std.specs.declared.alloc.Global.{Global}
+use Rattle.std.proofs.Common.{◌≡◌, ◌∙◌, ℕ, List, [], true, false, Result, Ok, Err, sym, ap, IfOk}
+use Rattle.std.proofs.Common.{IfErr, IsOkAnd, Vec, Global}
 use Rattle.std.proofs.lemmas.Result.{IfOk-weaker}
 use Rattle.bw_model.specs.declared.fault.Fault.{Fault}
 use Rattle.bw_model.specs.Column.{names_of}

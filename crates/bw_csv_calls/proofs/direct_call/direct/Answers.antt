@@ -1,12 +1,12 @@
 -- Each exit, by the contracts of its calls.
 use Rattle.std.proofs.Common.{◌≡◌, Ok, Err, refl}
 use Rattle.bw_model.specs.Limits.{longest_schema, longest_csv}
+use Rattle.bw_model.proofs.ErrLemmas.{err_passed_on}
 use Rattle.bw_io.specs.Source.{NotReached, Whole}
 use Rattle.bw_io.proofs.SinkLemmas.{no_write_fault}
 use Rattle.bw_sql.specs.Refusal.{is_statement_fault}
 use Rattle.bw_csv.specs.Rows.{is_rows_fault}
 use Rattle.bw_csv.proofs.InputLemmas.{made_of_none}
-use Rattle.bw_file.proofs.ErrLemmas.{err_passed_on}
 use Rattle.bw_csv_calls.specs.Direct.{answer_of}
 use Rattle.bw_csv_calls.proofs.Exits.{Given, IsFaultOf, came_of, stopped_of, refused_exit, text_exit}
 use Rattle.bw_csv_calls.proofs.Exits.{none_understood, not_reached, went_nowhere, went_on}

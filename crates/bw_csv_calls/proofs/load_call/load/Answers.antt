@@ -3,13 +3,13 @@ use Rattle.std.proofs.Common.{◌≡◌, Ok, Err, Result, refl}
 use Rattle.bw_model.specs.declared.fault.Fault.{Fault}
 use Rattle.bw_model.specs.declared.schema.Schema.{Schema}
 use Rattle.bw_model.specs.Limits.{longest_csv}
+use Rattle.bw_model.proofs.ErrLemmas.{err_passed_on}
 use Rattle.bw_io.specs.Source.{Arrival, NotReached, Whole}
 use Rattle.bw_io.proofs.SinkLemmas.{no_write_fault}
 use Rattle.bw_file.specs.declared.layout.Layout.{Layout}
 use Rattle.bw_csv.specs.Input.{IsMadeOf}
 use Rattle.bw_csv.specs.Rows.{is_rows_fault}
 use Rattle.bw_csv.proofs.InputLemmas.{made_of_none}
-use Rattle.bw_file.proofs.ErrLemmas.{err_passed_on}
 use Rattle.bw_csv_calls.specs.ReadInputs.{IsSchemaFrom}
 use Rattle.bw_csv_calls.specs.Load.{IsFile, file_of}
 use Rattle.bw_csv_calls.proofs.Exits.{Given, IsFaultOf, came_of, stopped_of, refused_exit, text_exit}

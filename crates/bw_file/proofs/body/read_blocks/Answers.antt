@@ -1,13 +1,12 @@
 use Rattle.std.proofs.Common.{◌≡◌, ◌<◌, ◌+◌, ◌-◌, ◌++◌, ℕ, drop, take, length, length-take}
-use Rattle.std.proofs.Common.{length-drop, ap, ◌∙◌, arith}
-use Rattle.std.proofs.lemmas.List.{take_all}
+use Rattle.std.proofs.Common.{length-drop, ap, ◌∙◌, arith, take_all}
 use Rattle.bw_file.specs.Blocks.{block_from, block_size, bytes_before, segment_size}
 use Rattle.bw_file.specs.SegmentBytes.{bytes_held}
-use Rattle.bw_file.proofs.ErrLemmas.{err_passed_on}
 use Rattle.bw_file.proofs.BodyLemmas.{blocks_more, blocks_stop, blocks_read, sound_more}
 use Rattle.bw_file.proofs.BodyLemmas.{before_more}
 use Rattle.bw_file.proofs.SegmentBytesLemmas.{with_part}
 use Rattle.bw_file.proofs.body.read_blocks.Goals as goal
+use Rattle.bw_model.proofs.ErrLemmas.{err_passed_on}
 
 pub returns-in_err-read_block-clause-reads : goal.returns-in_err-read_block-clause-reads
 returns-in_err-read_block-clause-reads g c =

@@ -1,9 +1,9 @@
 use Rattle.bw_segment.proofs.SoundLemmas.{length-rows_spelled}
 use Rattle.bw_file.specs.Blocks.{form_of}
-use Rattle.bw_file.proofs.ErrLemmas.{err_passed_on}
 use Rattle.bw_file.proofs.BodyLemmas.{segment_read, segment_stops}
 use Rattle.bw_file.proofs.ReadingLemmas.{stops_memory}
 use Rattle.bw_file.proofs.body.read_segment.Goals as goal
+use Rattle.bw_model.proofs.ErrLemmas.{err_passed_on}
 
 pub returns-in_err-read_blocks-clause-reads : goal.returns-in_err-read_blocks-clause-reads
 returns-in_err-read_blocks-clause-reads g c =

@@ -1,5 +1,4 @@
-use Rattle.std.proofs.Common.{◌≡◌, ◌++◌, take}
-use Rattle.std.specs.List.{flat_map}
+use Rattle.std.proofs.Common.{◌≡◌, ◌++◌, take, flat_map}
 use Rattle.bw_file.specs.FileBytes.{column_bytes}
 use Rattle.bw_file.proofs.encoder.push_columns.Given as goal
 

@@ -1,8 +1,8 @@
 use Rattle.std.proofs.Common.{FitsSigned, w64, rules}
 use Rattle.std.proofs.lemmas.Int.{to_z-of_z}
 use Rattle.bw_model.specs.Column.{names_of}
+use Rattle.bw_model.proofs.ErrLemmas.{err_passed_on}
 use Rattle.bw_file.specs.TableReading.{column}
-use Rattle.bw_file.proofs.ErrLemmas.{err_passed_on}
 use Rattle.bw_file.proofs.HeaderLemmas.{column_named, column_bounded, column_read}
 use Rattle.bw_file.proofs.ReadingLemmas.{begins, stops}
 use Rattle.bw_file.proofs.header.read_column.Goals as goal

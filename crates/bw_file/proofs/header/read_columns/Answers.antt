@@ -5,7 +5,7 @@ use Rattle.bw_model.specs.Column.{names_of}
 use Rattle.bw_model.specs.Name.{are_apart}
 use Rattle.bw_model.specs.SchemaText.{column_shape}
 use Rattle.bw_model.proofs.SchemaLemmas.{are_apart-push}
-use Rattle.bw_file.proofs.ErrLemmas.{err_passed_on}
+use Rattle.bw_model.proofs.ErrLemmas.{err_passed_on}
 use Rattle.bw_file.proofs.HeaderLemmas.{columns_more, columns_stop, columns_begin, columns_read}
 use Rattle.bw_file.proofs.HeaderLemmas.{names_in}
 use Rattle.bw_file.proofs.ReadingLemmas.{stops_memory}

@@ -1,7 +1,7 @@
 use Rattle.std.proofs.lemmas.List.{length-replicate}
-use Rattle.bw_file.proofs.ErrLemmas.{err_passed_on}
 use Rattle.bw_file.proofs.ReadingLemmas.{read_field_stops, read_field_done}
 use Rattle.bw_file.proofs.header.read_field.Goals as goal
+use Rattle.bw_model.proofs.ErrLemmas.{err_passed_on}
 
 pub returns-in_err-take-clause-reads : goal.returns-in_err-take-clause-reads
 returns-in_err-take-clause-reads g c =

@@ -1,9 +1,9 @@
 use Rattle.bw_file.specs.TableReading.{front}
-use Rattle.bw_file.proofs.ErrLemmas.{err_passed_on}
 use Rattle.bw_file.proofs.HeaderLemmas.{magic_read, version_read, layout_read, count_read}
 use Rattle.bw_file.proofs.HeaderLemmas.{front_read}
 use Rattle.bw_file.proofs.ReadingLemmas.{begins, stops}
 use Rattle.bw_file.proofs.header.read_front.Goals as goal
+use Rattle.bw_model.proofs.ErrLemmas.{err_passed_on}
 
 pub returns-in_err-read_field-clause-reads : goal.returns-in_err-read_field-clause-reads
 unfolding front

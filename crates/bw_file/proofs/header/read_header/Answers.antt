@@ -1,9 +1,9 @@
 use Rattle.std.proofs.Common.{arith}
 use Rattle.bw_file.specs.TableReading.{header}
-use Rattle.bw_file.proofs.ErrLemmas.{err_passed_on}
 use Rattle.bw_file.proofs.HeaderLemmas.{header_fronted, header_named, header_read}
 use Rattle.bw_file.proofs.ReadingLemmas.{begins, stops}
 use Rattle.bw_file.proofs.header.read_header.Goals as goal
+use Rattle.bw_model.proofs.ErrLemmas.{err_passed_on}
 
 pub returns-in_err-front-clause-reads : goal.returns-in_err-front-clause-reads
 unfolding header

@@ -1,6 +1,6 @@
 use Rattle.std.proofs.Common.{arith, length-take}
 use Rattle.bw_model.specs.Column.{names_of}
-use Rattle.bw_file.proofs.ErrLemmas.{err_passed_on}
+use Rattle.bw_model.proofs.ErrLemmas.{err_passed_on}
 use Rattle.bw_file.proofs.HeaderLemmas.{name_begins, name_judged, name_taken, name_refused}
 use Rattle.bw_file.proofs.HeaderLemmas.{name_stops}
 use Rattle.bw_file.proofs.ReadingLemmas.{stops, stops_memory}

@@ -1,8 +1,8 @@
 use Rattle.std.proofs.Common.{◌++◌, ◌∷◌, [], List, map, ap, sym, ◌∙◌, refl, arith}
 use Rattle.bw_model.specs.declared.schema.Schema.{Schema}
 use Rattle.bw_model.specs.Row.{Value, values_of}
+use Rattle.bw_model.proofs.ErrLemmas.{err_passed_on}
 use Rattle.bw_file.specs.AnySegment.{any_meaning, any_is_group}
-use Rattle.bw_file.proofs.ErrLemmas.{err_passed_on}
 use Rattle.bw_file.proofs.FileSpelling.{read_is_spelled_by}
 use Rattle.bw_file.proofs.NextLemmas.{segment_of, end_of, refusal_of}
 use Rattle.bw_file.proofs.SpelledFile.{bytes_read}

@@ -1,6 +1,5 @@
 -- Each segment is kept after those before it.
 use Rattle.std.proofs.Common.{◌∙◌, length, refl, sym, ap, arith}
-use Rattle.std.proofs.lemmas.Result.{err_from_is_err_and}
 use Rattle.bw_file.specs.AnySegment.{any_is_group}
 use Rattle.bw_file.specs.TableReader.{layout_in, rows_given, schema_in}
 use Rattle.bw_file.proofs.MemoryAnswers.{columns_of, later_answers, memory_answers, same_table}
@@ -8,6 +7,7 @@ use Rattle.bw_file.proofs.NextLemmas.{end_of, refusal_of, segment_of}
 use Rattle.bw_memory.proofs.ReadLemmas.{all_kept, given_next, groups_next, kept_next, no_groups}
 use Rattle.bw_memory.proofs.ReadLemmas.{none_given, none_read}
 use Rattle.bw_memory.proofs.reading.read_segments.Goals as goal
+use Rattle.bw_model.proofs.ErrLemmas.{err_passed_on}
 
 pub loop-segment-init : goal.loop-segment-init
 loop-segment-init g c =
@@ -24,15 +24,13 @@ loop-segment-init g c =
 
 pub returns-in_err-segment-clause-refused : goal.returns-in_err-segment-clause-refused
 returns-in_err-segment-clause-refused g c =
-    let p = err_from_is_err_and c.from_residual.result c.from_residual.ensures.1 in
     let so_far = c.loop-segment.invariant in
-    rw (p.1, p.2) (λ start read. later_answers start _ _ _ c.in_err-segment.field-0.0 so_far.failures
+    rw (err_passed_on _ c.from_residual.ensures.1) (λ start read. later_answers start _ _ _ c.in_err-segment.field-0.0 so_far.failures
     ((refusal_of c.in_err-segment.ensures so_far.reading).answers start _ (so_far.read start read)))
 
 pub returns-in_err-segment-clause-fault : goal.returns-in_err-segment-clause-fault
 returns-in_err-segment-clause-fault g c =
-    let p = err_from_is_err_and c.from_residual.result c.from_residual.ensures.1 in
-    rw (p.1, p.2) (refusal_of c.in_err-segment.ensures c.loop-segment.invariant.reading).own
+    rw (err_passed_on _ c.from_residual.ensures.1) (refusal_of c.in_err-segment.ensures c.loop-segment.invariant.reading).own
 
 pub push_segment-pushed-requires : goal.push_segment-pushed-requires
 push_segment-pushed-requires g c =
@@ -42,10 +40,9 @@ push_segment-pushed-requires g c =
 
 pub returns-in_err-pushed-clause-refused : goal.returns-in_err-pushed-clause-refused
 returns-in_err-pushed-clause-refused g c =
-    let p = err_from_is_err_and c.from_residual-in_err-pushed.result c.from_residual-in_err-pushed.ensures.1 in
     let so_far = c.loop-segment.invariant in
     let gave = segment_of (rw c.in-Some.is at c.in_ok-segment.ensures) in
-    rw (p.1, p.2) (λ start read. memory_answers start _ _ c.in_err-pushed.field-0.0
+    rw (err_passed_on _ c.from_residual-in_err-pushed.ensures.1) (λ start read. memory_answers start _ _ c.in_err-pushed.field-0.0
     (c.bytes_were_taken.ensures start _ c.next_segment.new.self _ (gave.after start _ (so_far.read start read))).0
     (omega (arith, gave.failures, so_far.failures)) c.in_err-pushed.ensures.only_oom)
 

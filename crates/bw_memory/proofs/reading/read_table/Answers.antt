@@ -1,7 +1,7 @@
 -- Out of memory before the segments; and the table of all of them.
 use Rattle.std.proofs.Common.{◌∙◌, [], refl, ap, arith}
-use Rattle.std.proofs.lemmas.Result.{err_from_is_err_and}
 use Rattle.bw_model.specs.declared.schema.Schema.{Schema}
+use Rattle.bw_model.proofs.ErrLemmas.{err_passed_on}
 use Rattle.std.proofs.lemmas.List.{with_items_is}
 use Rattle.bw_file.proofs.MemoryAnswers.{memory_answers}
 use Rattle.bw_memory.proofs.ReadLemmas.{came_whole, cut_made, segments_made}
@@ -9,13 +9,11 @@ use Rattle.bw_memory.proofs.reading.read_table.Goals as goal
 
 pub returns-in_err-placement-clause-refused : goal.returns-in_err-placement-clause-refused
 returns-in_err-placement-clause-refused g c =
-    let p = err_from_is_err_and c.from_residual.result c.from_residual.ensures.1 in
-    rw (p.1, p.2) (λ start read. memory_answers start _ _ c.in_err-placement.field-0.0 (c.bytes_were_taken.ensures start _ c.args.reader.now [] read).0 refl c.in_err-placement.ensures.only_oom)
+    rw (err_passed_on _ c.from_residual.ensures.1) (λ start read. memory_answers start _ _ c.in_err-placement.field-0.0 (c.bytes_were_taken.ensures start _ c.args.reader.now [] read).0 refl c.in_err-placement.ensures.only_oom)
 
 pub returns-in_err-columns-clause-refused : goal.returns-in_err-columns-clause-refused
 returns-in_err-columns-clause-refused g c =
-    let p = err_from_is_err_and c.from_residual-in_err-columns.result c.from_residual-in_err-columns.ensures.1 in
-    rw (p.1, p.2) (λ start read. memory_answers start _ _ c.in_err-columns.field-0.0 (c.bytes_were_taken.ensures start _ c.args.reader.now [] read).0 refl c.in_err-columns.ensures.only_oom)
+    rw (err_passed_on _ c.from_residual-in_err-columns.ensures.1) (λ start read. memory_answers start _ _ c.in_err-columns.field-0.0 (c.bytes_were_taken.ensures start _ c.args.reader.now [] read).0 refl c.in_err-columns.ensures.only_oom)
 
 pub invariant_of-result : goal.invariant_of-result
 invariant_of-result g c =

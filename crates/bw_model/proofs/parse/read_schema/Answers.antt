@@ -2,7 +2,6 @@
 use Rattle.std.proofs.Common.{◌≡◌, ◌≢◌, ◌∷◌, [], ◌<◌, ◌∙◌, length, arith, ap, sym, length-append}
 use Rattle.std.proofs.Common.{refl, ℕ, Ok, Err}
 use Rattle.std.proofs.lemmas.Bool.{eqb-true, eqb-false}
-use Rattle.std.proofs.lemmas.Result.{err_from_is_err_and}
 use Rattle.bw_model.specs.Column.{names_of}
 use Rattle.bw_model.specs.Fault.{at_line, ◌>>=◌}
 use Rattle.bw_text.specs.Lines.{lines_in, end_in, line_of}
@@ -13,6 +12,7 @@ use Rattle.bw_model.proofs.SchemaLemmas.{schema_of-long, schema_of-first, schema
 use Rattle.bw_model.proofs.SchemaLemmas.{columns_on-next, columns_on-nothing, shapes-push}
 use Rattle.bw_model.proofs.SchemaLemmas.{with_columns-none, with_columns-some}
 use Rattle.bw_model.proofs.parse.read_schema.Goals as goal
+use Rattle.bw_model.proofs.ErrLemmas.{err_passed_on}
 
 pub loop-columns-init : goal.loop-columns-init
 unfolding are_apart
@@ -47,18 +47,16 @@ returns-in_default c = λ _.
 
 pub returns-in_err-name : goal.returns-in_err-name
 returns-in_err-name c =
-    let p = err_from_is_err_and c.from_residual-in_err-name.result c.from_residual-in_err-name.ensures.1 in
     let first = rw c.in-Some.is at c.in_ok-first.ensures.line in
-    rw (p.1, p.2) (λ aside.
+    rw (err_passed_on _ c.from_residual-in_err-name.ensures.1) (λ aside.
     schema_of-first c.args.text.now c.new-lines.result _ _ (Err c.in_err-name.field-0.0) c.if-text-gt-MAX_SCHEMA_LEN.false c.new-lines.ensures first (c.in_err-name.ensures aside))
 
 pub returns-in_err-column : goal.returns-in_err-column
 returns-in_err-column c =
-    let p = err_from_is_err_and c.from_residual-in_err-column.result c.from_residual-in_err-column.ensures.1 in
     let first = rw c.in-Some.is at c.in_ok-first.ensures.line in
     let line = rw c.in-Some-2.is at c.in_ok-line.ensures.line in
     let before = c.loop-columns.columns.items in
-    rw (p.1, p.2) (λ aside.
+    rw (err_passed_on _ c.from_residual-in_err-column.ensures.1) (λ aside.
     let column : column_on (names_of before) (line_of c.in-Some-2.line) ≡ Err c.in_err-column.field-0.0 = rw (← c.deref.ensures.value) (c.in_err-column.ensures.column aside) in
     schema_of-first c.args.text.now c.new-lines.result _ _ (Ok c.in_ok-name.name) c.if-text-gt-MAX_SCHEMA_LEN.false c.new-lines.ensures first c.in_ok-name.ensures
     ∙ ap (λ r. r >>= λ columns. with_columns c.in_ok-name.name (end_in c.new-lines.result) columns)

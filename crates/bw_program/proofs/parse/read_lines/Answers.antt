@@ -1,9 +1,8 @@
 -- Each turn reads one more line; the end and each error are the text's.
 use Rattle.std.proofs.Common.{◌≡◌, ◌∙◌, ◌∷◌, [], ◌<◌, ◌≤◌, ℕ, ap, sym, Err, length, length-append}
-use Rattle.std.proofs.Common.{arith}
-use Rattle.std.proofs.lemmas.Bool.{le-leb}
-use Rattle.std.proofs.lemmas.Result.{err_from_is_err_and}
+use Rattle.std.proofs.Common.{arith, le-leb}
 use Rattle.bw_model.specs.Fault.{at_line}
+use Rattle.bw_model.proofs.ErrLemmas.{err_passed_on}
 use Rattle.bw_text.specs.Lines.{line_of}
 use Rattle.bw_program.specs.Program.{most_instructions}
 use Rattle.bw_program.specs.ProgramText.{instr_on}
@@ -31,13 +30,12 @@ returns-then-len-ge-MAX_INSTRUCTIONS-clause-fault c = λ _.
 
 pub returns-in_err-instr-clause-fault : goal.returns-in_err-instr-clause-fault
 returns-in_err-instr-clause-fault c =
-    let p = err_from_is_err_and c.from_residual-in_err-instr.result c.from_residual-in_err-instr.ensures.1 in
     let columns = c.args.schema.now.columns.items in
     let line = rw c.in-Some.is at c.in_ok-line.ensures.line in
     let count : c.len-in-Some.result ≡ length c.loop-line.placed.items = c.len-in-Some.ensures ∙ c.loop-line.placed.ok.0 in
     let room : length c.loop-line.placed.items < most_instructions = omega (arith, c.len.ensures, c.loop-line.placed.ok.0) in
     let read = sym c.in_err-instr.was ∙ c.instr_of.ensures.parsed ∙ ap (λ (n : ℕ). instr_on columns n (line_of c.in-Some.line)) count in
-    rw (p.1, p.2) (λ _. c.loop-line.invariant.told ∙ instr_read columns _ _ _ _ _ _ line (sym c.is_result_line.ensures ∙ c.if-is_result_line.false) room read)
+    rw (err_passed_on _ c.from_residual-in_err-instr.ensures.1) (λ _. c.loop-line.invariant.told ∙ instr_read columns _ _ _ _ _ _ line (sym c.is_result_line.ensures ∙ c.if-is_result_line.false) room read)
 
 pub loop-line-preserved : goal.loop-line-preserved
 loop-line-preserved c =

@@ -1,7 +1,6 @@
 -- One more number, or one more of the others.
-use Rattle.std.proofs.Common.{rules, ◌≡◌, ◌∙◌, List, map, take, ap, w64, arith}
+use Rattle.std.proofs.Common.{rules, ◌≡◌, ◌∙◌, List, map, take, ap, w64, arith, take_all}
 use Rattle.std.proofs.lemmas.Int.{to_z-of_z}
-use Rattle.std.proofs.lemmas.List.{take_all}
 use Rattle.bw_model.specs.Cond.{operand_value}
 use Rattle.bw_model.specs.Truth.{in_list, greatest}
 use Rattle.bw_model.specs.declared.cond.Operand.{Operand}

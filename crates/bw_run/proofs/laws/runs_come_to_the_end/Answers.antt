@@ -1,4 +1,4 @@
-use Rattle.bw_run.proofs.EndLemmas.{raises, ends}
+use Rattle.bw_program.proofs.EndLemmas.{raises, ends}
 use Rattle.bw_run.proofs.laws.runs_come_to_the_end.Goals as goal
 
 pub returns-clause-raises : goal.returns-clause-raises

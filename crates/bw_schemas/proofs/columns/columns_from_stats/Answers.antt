@@ -1,9 +1,9 @@
 -- Each turn makes one column more.
 use Rattle.std.proofs.Common.{◌∙◌, ◌<◌, length, arith, refl}
-use Rattle.bw_file.proofs.ErrLemmas.{err_passed_on}
 use Rattle.bw_schemas.specs.ColumnStats.{no_stats}
 use Rattle.bw_schemas.proofs.ColumnLemmas.{column_more, columns_end, names-push, out_of_range}
 use Rattle.bw_model.proofs.SchemaLemmas.{shapes-push}
+use Rattle.bw_model.proofs.ErrLemmas.{err_passed_on}
 use Rattle.bw_schemas.proofs.columns.columns_from_stats.Goals as goal
 
 pub returns-in_err-column-clause-columns : goal.returns-in_err-column-clause-columns

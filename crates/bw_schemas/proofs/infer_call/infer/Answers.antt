@@ -1,12 +1,12 @@
 -- Each exit, by the contracts of its calls.
 use Rattle.std.proofs.Common.{◌∙◌, Err, refl, sym, ap}
-use Rattle.bw_file.proofs.ErrLemmas.{err_passed_on}
 use Rattle.bw_csv.specs.Rows.{is_exempt}
 use Rattle.bw_io.specs.Sink.{is_write_fault}
 use Rattle.bw_io.proofs.SinkLemmas.{no_write_fault, wrote_nothing, wrote_text}
 use Rattle.bw_schemas.specs.Infer.{is_inferring_fault}
 use Rattle.bw_schemas.proofs.InferExits.{csv_exit, name_exit, text_exit}
 use Rattle.bw_schemas.proofs.infer_call.infer.Goals as goal
+use Rattle.bw_model.proofs.ErrLemmas.{err_passed_on}
 
 pub returns-then-not-is_name-clause-schema : goal.returns-then-not-is_name-clause-schema
 returns-then-not-is_name-clause-schema g c =

@@ -1,6 +1,5 @@
 -- Each exit, by the contracts of its calls.
 use Rattle.std.proofs.Common.{ℕ, [], refl}
-use Rattle.bw_file.proofs.ErrLemmas.{err_passed_on}
 use Rattle.bw_file.specs.Reading.{State, state}
 use Rattle.bw_file.specs.TableReader.{bytes_taken}
 use Rattle.bw_schemas.proofs.InfoExits.{header_exit, input_verdict, memory_exit, text_exit}
@@ -9,6 +8,7 @@ use Rattle.bw_io.specs.Sink.{none_aside}
 use Rattle.bw_io.proofs.SinkLemmas.{wrote_text}
 use Rattle.bw_schemas.proofs.SizeLemmas.{header_taken}
 use Rattle.bw_schemas.proofs.info_call.info.Goals as goal
+use Rattle.bw_model.proofs.ErrLemmas.{err_passed_on}
 
 pub info_text-requires-clause-head : goal.info_text-requires-clause-head
 info_text-requires-clause-head g c = header_taken _ _ c.in_ok-reader.reader refl c.in_ok-reader.ensures.stated

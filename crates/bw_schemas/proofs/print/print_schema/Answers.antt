@@ -1,7 +1,6 @@
 -- Each column that is written goes over from those that are left.
 use Rattle.std.proofs.Common.{◌≡◌, ◌∙◌, ◌++◌, List, [], ap, sym, subst, arith, ℕ, ◌≤◌, length, map}
-use Rattle.std.proofs.Common.{drop}
-use Rattle.std.proofs.lemmas.List.{append-nil}
+use Rattle.std.proofs.Common.{drop, append-nil}
 use Rattle.bw_model.specs.declared.schema.Schema.{Schema}
 use Rattle.bw_model.specs.SchemaText.{column_shape, schema_shape, IsSchemaText}
 use Rattle.bw_schemas.specs.PrintedSchema.{column_line, columns_text, schema_text, table_line}

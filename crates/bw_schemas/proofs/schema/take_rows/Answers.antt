@@ -1,6 +1,5 @@
 -- Each turn takes one row more.
 use Rattle.std.proofs.Common.{◌∙◌, ◌+◌, [], ◌∷◌, ap, refl, sym, arith, length}
-use Rattle.bw_file.proofs.ErrLemmas.{err_passed_on}
 use Rattle.bw_csv.specs.Bare.{bare_rows}
 use Rattle.bw_csv.specs.Records.{remaining_records}
 use Rattle.bw_csv.proofs.BareLemmas.{bare_rows-end, bare_rows-next}
@@ -8,6 +7,7 @@ use Rattle.bw_csv.proofs.Passed.{passed-next, passed-stops}
 use Rattle.bw_schemas.specs.ColumnStats.{with_records}
 use Rattle.bw_schemas.proofs.ColumnStatsLemmas.{length-with_values, records-end, records-next}
 use Rattle.bw_schemas.proofs.schema.take_rows.Goals as goal
+use Rattle.bw_model.proofs.ErrLemmas.{err_passed_on}
 
 pub rows-preserved : goal.rows-preserved
 rows-preserved c =

@@ -1,18 +1,17 @@
 -- Brackets and NOT read one level deeper; each part goes after those before it.
 use Rattle.std.proofs.Common.{◌≡◌, ℕ, suc, ◌-◌, ◌<◌, [], ◌∷◌, map, Err, refl, sym, ◌∙◌, ap, arith}
 use Rattle.std.proofs.lemmas.List.{map-append}
-use Rattle.std.proofs.lemmas.Result.{err_from_is_err_and}
 use Rattle.bw_sql.specs.declared.reader.Refusal.TheVariants.{Nesting}
 use Rattle.bw_model.specs.CondTree.{tree_of}
 use Rattle.bw_model.specs.declared.schema.Schema.{Schema}
+use Rattle.bw_model.proofs.ErrLemmas.{err_passed_on}
 use Rattle.bw_sql.specs.Reading.{factor_in, nested_readers, primary_in}
 use Rattle.bw_sql.proofs.Repeats.{ends, halts, steps, halts_too, length-lexemes}
 use Rattle.bw_sql.proofs.condition.+condition.Goals as goal
 
 pub more_parts-returns-in_err-another-clause-read : goal.more_parts-returns-in_err-another-clause-read
 more_parts-returns-in_err-another-clause-read t c =
-    let p = err_from_is_err_and c.from_residual.result c.from_residual.ensures.1 in
-    rw (p.1, p.2) (halts c.loop-next.invariant.read c.in_err-another.field-0.0 (rw c.keyword.ensures at (sym c.in-Some.ensures.is))
+    rw (err_passed_on _ c.from_residual.ensures.1) (halts c.loop-next.invariant.read c.in_err-another.field-0.0 (rw c.keyword.ensures at (sym c.in-Some.ensures.is))
     c.in_err-another.ensures.read (omega (arith, c.in-Some.ensures.consumes_input)))
 
 pub more_parts-loop-next-preserved : goal.more_parts-loop-next-preserved
@@ -40,8 +39,7 @@ nested_deeper schema n h = ap (nested_readers schema) (omega arith)
 pub factor-returns-in_err-cond-clause-read : goal.factor-returns-in_err-cond-clause-read
 unfolding factor_in nested_readers
 factor-returns-in_err-cond-clause-read t c =
-    let p = err_from_is_err_and c.from_residual.result c.from_residual.ensures.1 in
-    rw (p.1, p.2, ← c.in-Some.ensures.is, nested_deeper c.args.schema.now c.args.levels (omega arith))
+    rw (err_passed_on _ c.from_residual.ensures.1, ← c.in-Some.ensures.is, nested_deeper c.args.schema.now c.args.levels (omega arith))
     (halts_too c.in_err-cond.field-0.0 _ _ c.in_err-cond.ensures.read (λ halt f. rw f refl))
 
 pub factor-returns-clause-read : goal.factor-returns-clause-read
@@ -59,15 +57,13 @@ primary-returns-then-levels-eq0-clause-read t c =
 pub primary-returns-in_err-cond-clause-read : goal.primary-returns-in_err-cond-clause-read
 unfolding primary_in nested_readers
 primary-returns-in_err-cond-clause-read t c =
-    let p = err_from_is_err_and c.from_residual.result c.from_residual.ensures.1 in
-    rw (p.1, p.2, ← c.in-Some.ensures.is, nested_deeper c.args.schema.now c.args.levels (omega arith))
+    rw (err_passed_on _ c.from_residual.ensures.1, ← c.in-Some.ensures.is, nested_deeper c.args.schema.now c.args.levels (omega arith))
     (halts_too c.in_err-cond.field-0.0 _ _ c.in_err-cond.ensures.read (λ halt f. rw f refl))
 
 pub primary-returns-in_err-rest-clause-read : goal.primary-returns-in_err-rest-clause-read
 unfolding primary_in nested_readers
 primary-returns-in_err-rest-clause-read t c =
-    let p = err_from_is_err_and c.from_residual-in_err-rest.result c.from_residual-in_err-rest.ensures.1 in
-    rw (p.1, p.2, ← c.in-Some.ensures.is, nested_deeper c.args.schema.now c.args.levels (omega arith), c.in_ok-cond.ensures.read)
+    rw (err_passed_on _ c.from_residual-in_err-rest.ensures.1, ← c.in-Some.ensures.is, nested_deeper c.args.schema.now c.args.levels (omega arith), c.in_ok-cond.ensures.read)
     (halts_too c.in_err-rest.field-0.0 _ _ c.in_err-rest.ensures.read (λ halt f. rw f refl))
 
 pub primary-returns-clause-read : goal.primary-returns-clause-read

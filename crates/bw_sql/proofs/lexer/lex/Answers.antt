@@ -1,6 +1,5 @@
 -- What has been cut so far goes before what is cut of the rest.
-use Rattle.std.proofs.Common.{subst, ◌<◌, ◌-◌, Some, None, [], length, arith, sym, ◌∙◌}
-use Rattle.std.proofs.lemmas.List.{append-nil}
+use Rattle.std.proofs.Common.{subst, ◌<◌, ◌-◌, Some, None, [], length, arith, sym, ◌∙◌, append-nil}
 use Rattle.std.proofs.lemmas.Bool.{eqb-true, eqb-false}
 use Rattle.bw_sql.specs.Cut.{IsCut, stopped}
 use Rattle.bw_sql.proofs.Cuts.{ended_at, shrinks, cut_step, spots_push}

@@ -1,13 +1,12 @@
 -- Each operand goes after those before it.
 use Rattle.std.proofs.Common.{sym, arith}
-use Rattle.std.proofs.lemmas.Result.{err_from_is_err_and}
 use Rattle.bw_sql.proofs.Repeats.{ends, halts, steps}
 use Rattle.bw_sql.proofs.predicate.more_operands.Goals as goal
+use Rattle.bw_model.proofs.ErrLemmas.{err_passed_on}
 
 pub returns-in_err-item-clause-read : goal.returns-in_err-item-clause-read
 returns-in_err-item-clause-read c =
-    let p = err_from_is_err_and c.from_residual.result c.from_residual.ensures.1 in
-    rw (p.1, p.2) (halts c.loop-next.invariant.read c.in_err-item.field-0.0 (sym c.in-Some.ensures.is)
+    rw (err_passed_on _ c.from_residual.ensures.1) (halts c.loop-next.invariant.read c.in_err-item.field-0.0 (sym c.in-Some.ensures.is)
     c.in_err-item.ensures.read (omega (arith, c.in-Some.ensures.consumes_input)))
 
 pub loop-next-preserved : goal.loop-next-preserved

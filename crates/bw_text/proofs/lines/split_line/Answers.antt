@@ -1,6 +1,5 @@
 -- The line ends at the first line feed.
-use Rattle.std.proofs.Common.{◌+◌, ◌-◌, ◌∙◌, ◌≤◌, sym, length, drop, arith, length-drop}
-use Rattle.std.proofs.lemmas.List.{take_all}
+use Rattle.std.proofs.Common.{◌+◌, ◌-◌, ◌∙◌, ◌≤◌, sym, length, drop, arith, length-drop, take_all}
 use Rattle.bw_text.specs.Lines.{cut_lines}
 use Rattle.bw_text.proofs.LineLemmas.{cut_at, cut_whole, first_at, first_whole}
 use Rattle.bw_text.proofs.lines.split_line.Goals as goal

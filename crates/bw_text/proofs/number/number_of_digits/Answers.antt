@@ -1,6 +1,5 @@
 -- Each turn takes one more digit; if that is too much, so is the whole.
-use Rattle.std.proofs.Common.{◌-◌, get_or, arith, refl, ap, ◌∙◌}
-use Rattle.std.proofs.lemmas.List.{take_all}
+use Rattle.std.proofs.Common.{◌-◌, get_or, arith, refl, ap, ◌∙◌, take_all}
 use Rattle.bw_text.specs.Number.{digits_value}
 use Rattle.bw_text.proofs.Numbers.{decimal_more, too_much, enough}
 use Rattle.bw_text.proofs.number.number_of_digits.Goals as goal

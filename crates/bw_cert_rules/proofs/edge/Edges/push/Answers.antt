@@ -1,7 +1,6 @@
 -- One more edge.
 use Rattle.std.proofs.Common.{◌≡◌, ◌∙◌, sym, ap, subst, ◌<◌, List, [], ◌∷◌, ◌++◌, length, map}
-use Rattle.std.proofs.Common.{get_or, Vec, Global}
-use Rattle.std.proofs.Math.ListN.{set}
+use Rattle.std.proofs.Common.{get_or, Vec, Global, set}
 use Rattle.std.proofs.Math.Seq.{map-set}
 use Rattle.std.proofs.lemmas.List.{get_or-map, length-map}
 use Rattle.bw_cert_rules.specs.declared.edge.Edge.{Edge}

@@ -1,6 +1,5 @@
 use Rattle.std.proofs.Common.{◌≡◌, ◌+◌, ◌-◌, ◌≤◌, length, length-take, length-drop, take, drop}
-use Rattle.std.proofs.Common.{subst, arith}
-use Rattle.std.specs.Prelude.{slice_range}
+use Rattle.std.proofs.Common.{subst, arith, slice_range}
 use Rattle.bw_io.specs.Shared.{bytes_in}
 use Rattle.bw_file.specs.Reading.{HasConsumed, state}
 use Rattle.bw_file.specs.SegmentBytes.{bytes_held, AreNext}

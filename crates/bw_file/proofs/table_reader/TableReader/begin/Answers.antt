@@ -1,9 +1,9 @@
 use Rattle.std.proofs.Common.{refl, arith}
 use Rattle.bw_file.specs.TableReading.{header}
-use Rattle.bw_file.proofs.ErrLemmas.{err_passed_on}
 use Rattle.bw_file.proofs.FaultLemmas.{refused_by, header_own}
 use Rattle.bw_file.proofs.ReaderLemmas.{header_refused}
 use Rattle.bw_file.proofs.table_reader.TableReader.begin.Goals as goal
+use Rattle.bw_model.proofs.ErrLemmas.{err_passed_on}
 
 pub returns-in_err-version-clause-refused : goal.returns-in_err-version-clause-refused
 returns-in_err-version-clause-refused g c =

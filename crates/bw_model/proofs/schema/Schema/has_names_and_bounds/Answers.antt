@@ -1,6 +1,5 @@
 -- All columns were looked at, and bounds are in order by their type.
-use Rattle.std.proofs.Common.{◌≡◌, true, refl, subst, ℤ, pos, ◌^◌, ◌≤ℤ◌, ◌<ℤ◌, ◌-ℤ◌, int_le, int_lt}
-use Rattle.std.proofs.Common.{All, List, [], ◌∷◌, length, ◌≤◌, ℕ, take, rules}
+use Rattle.std.proofs.Common.{◌≡◌, true, refl, subst, All, List, [], ◌∷◌, length, ◌≤◌, ℕ, take}
 use Rattle.std.specs.List.{list_all}
 use Rattle.std.proofs.lemmas.List.{take_all}
 use Rattle.std.proofs.lemmas.List.Elements.{All-head, All-tail, All-more, All-map}
@@ -10,6 +9,7 @@ use Rattle.bw_model.specs.Name.{is_name}
 use Rattle.bw_model.specs.Schema.{IsColumn}
 use Rattle.bw_model.specs.SchemaText.{column_shape, is_range}
 use Rattle.bw_model.proofs.schema.Schema.has_names_and_bounds.Goals as goal
+use Rattle.bw_model.proofs.SchemaLemmas.{in_range}
 
 abbrev IsOne : Column → Type 0
 IsOne column = IsColumn (column_shape column)
@@ -19,16 +19,6 @@ named [] are = refl
 named (column ∷ columns) are =
     let first : IsOne column = All-head IsOne column columns are in
     rw (first.name, named columns (All-tail IsOne column columns are)) refl
-
-ordered : (l h : ℤ) → l ≤ℤ h → int_le l h ≡ true
-ordered l h o = search rules
-
-narrow : (n m : ℤ) → n <ℤ m → int_lt n m ≡ true
-narrow n m l = search rules
-
-in_range : (column : Column) → is_range column.lo column.hi ≡ true
-unfolding is_range
-in_range column = rw (ordered column.lo column.hi column.ordered, narrow (column.hi -ℤ column.lo) (pos (2 ^ 63)) column.narrow) refl
 
 ranged : (columns : List Column) → list_all (λ (column : Column). is_range column.lo column.hi) columns ≡ true
 ranged [] = refl

@@ -1,8 +1,8 @@
 -- By what the planes are in each lane, and by the one key.
 use Rattle.std.proofs.Common.{rules, w64, ◌∙◌, ◌<◌, ℕ, ap, ap₂, ◌&&◌, ◌||◌, false, get_or}
 use Rattle.std.proofs.Common.{slice_index}
-use Rattle.std.proofs.lemmas.Int.{to_z-of_z}
 use Rattle.std.proofs.lemmas.List.{get_or-replicate}
+use Rattle.std.proofs.lemmas.Int.{to_z-of_z}
 use Rattle.bw_lanes.specs.Lanes.{lanes_of_words}
 use Rattle.bw_model.specs.Truth.{holds}
 use Rattle.bw_segment.specs.Keys.{number_of_key}

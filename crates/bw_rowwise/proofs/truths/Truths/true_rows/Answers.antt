@@ -1,9 +1,9 @@
 -- The lanes of the rows that are TRUE, and zeros.
 use Rattle.std.proofs.Common.{◌∙◌, ap, ◌-◌, ◌<◌, ◌&&◌, false, get_or, arith}
+use Rattle.std.proofs.Math.Bool.{and-true, and-false}
 use Rattle.bw_model.specs.Groups.{group_size}
 use Rattle.bw_lanes.specs.Lanes.{lanes_of_words}
 use Rattle.bw_rowwise.proofs.LaneLemmas.{first_lane, last_lane, marked}
-use Rattle.bw_rowwise.proofs.TruthLemmas.{and_true, and_false}
 use Rattle.bw_rowwise.proofs.truths.Truths.true_rows.Goals as goal
 
 pub returns : goal.returns
@@ -18,9 +18,9 @@ returns c = λ f rows keeps a many each.
           let within : lane < 512 = omega (arith, many, c.requires, below) in
           c.both_lanes.ensures.each lane within
           ∙ ap (λ b. get_or lanes lane false && b) (ap (λ l. get_or l lane false) c.mask.ensures ∙ first_lane count (512 - count) lane (omega (arith, many, below)))
-          ∙ and_true (get_or lanes lane false) ∙ a.yes lane within ∙ each lane (omega (arith, many, below));
+          ∙ and-true (get_or lanes lane false) ∙ a.yes lane within ∙ each lane (omega (arith, many, below));
       past = λ lane above within.
           c.both_lanes.ensures.each lane within
           ∙ ap (λ b. get_or lanes lane false && b) (ap (λ l. get_or l lane false) c.mask.ensures ∙ last_lane count (512 - count) lane (omega (arith, many, above)))
-          ∙ and_false (get_or lanes lane false);
+          ∙ and-false (get_or lanes lane false);
     })

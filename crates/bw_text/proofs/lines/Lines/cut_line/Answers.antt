@@ -1,5 +1,4 @@
-use Rattle.std.proofs.Common.{◌≡◌, ◌∙◌, sym, refl, ap, length}
-use Rattle.std.proofs.lemmas.Bool.{eqb-true}
+use Rattle.std.proofs.Common.{◌≡◌, ◌∙◌, sym, refl, ap, length, eqb-true}
 use Rattle.bw_text.specs.Lines.{Unread, cut_lines}
 use Rattle.bw_text.proofs.LineLemmas.{cut_nothing}
 use Rattle.bw_text.proofs.lines.Lines.cut_line.Goals as goal

@@ -1,6 +1,5 @@
 -- Each turn takes the first line off the text, and returns it if it isn't skipped.
-use Rattle.std.proofs.Common.{◌≡◌, ◌∙◌, sym, true, false, arith}
-use Rattle.std.proofs.lemmas.Bool.{eqb-true}
+use Rattle.std.proofs.Common.{◌≡◌, ◌∙◌, sym, true, false, arith, eqb-true}
 use Rattle.bw_text.specs.Lines.{is_skipped, words_of}
 use Rattle.bw_text.proofs.LineLemmas.{numbered_from-said, numbered_from-skipped, count_more}
 use Rattle.bw_text.proofs.LineLemmas.{nothing_in, cons-words}
