@@ -16,4 +16,3 @@ returns-then-segments-eq0-clause-counts c =
     let table = c.args.table.now in
     let none = sym c.segments.ensures ∙ c.if-segments-eq0.true in
     rw (none, no_groups table.layout (schema_of table).columns.items table.rows table.columns.items) (record { segments = refl; loads = refl; skips = refl })
-
