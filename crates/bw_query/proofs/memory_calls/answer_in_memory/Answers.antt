@@ -1,7 +1,7 @@
 -- Each exit, by the contracts of its calls.
 use Rattle.std.proofs.Common.{ℕ, List, Ok, Err, subst}
 use Rattle.std.specs.Io.KnownBytes.{Appends}
-use Rattle.bw_file.proofs.ErrLemmas.{err_passed_on}
+use Rattle.bw_model.proofs.ErrLemmas.{err_passed_on}
 use Rattle.bw_report.specs.declared.served.Served.{Served}
 use Rattle.bw_query.proofs.TableExits.{memory_output, refused, went}
 use Rattle.bw_query.proofs.memory_calls.answer_in_memory.Goals as goal

@@ -1,6 +1,6 @@
 -- Each exit, by the contracts of its calls.
 use Rattle.std.proofs.Common.{List, ℕ, Result, Ok, Err, subst, sym}
-use Rattle.bw_file.proofs.ErrLemmas.{err_passed_on}
+use Rattle.bw_model.proofs.ErrLemmas.{err_passed_on}
 use Rattle.bw_model.specs.declared.fault.Fault.{Fault}
 use Rattle.bw_query.specs.Plan.{IsPlanFault, schema_refused, statement_refused, unplanned}
 use Rattle.bw_query.proofs.TableExits.{refused, schema_writes_nothing, statement_writes_nothing}

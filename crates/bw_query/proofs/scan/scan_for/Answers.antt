@@ -1,5 +1,5 @@
 -- A program file that is accepted is rejected only if memory runs out.
-use Rattle.bw_file.proofs.ErrLemmas.{err_passed_on}
+use Rattle.bw_model.proofs.ErrLemmas.{err_passed_on}
 use Rattle.bw_query.proofs.ScanLemmas.{only_memory}
 use Rattle.bw_query.proofs.scan.scan_for.Goals as goal
 

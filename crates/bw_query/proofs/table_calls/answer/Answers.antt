@@ -1,6 +1,6 @@
 -- Each exit, by the contracts of its calls.
 use Rattle.std.proofs.Common.{Ok, Err}
-use Rattle.bw_file.proofs.ErrLemmas.{err_passed_on}
+use Rattle.bw_model.proofs.ErrLemmas.{err_passed_on}
 use Rattle.bw_report.specs.declared.served.Served.{Served}
 use Rattle.bw_query.specs.Scan.{given_file}
 use Rattle.bw_query.specs.Served.{IsServed}

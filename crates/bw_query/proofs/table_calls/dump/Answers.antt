@@ -1,5 +1,5 @@
 -- Each exit, by the contracts of its calls.
-use Rattle.bw_file.proofs.ErrLemmas.{err_passed_on}
+use Rattle.bw_model.proofs.ErrLemmas.{err_passed_on}
 use Rattle.bw_query.specs.TableAnswer.{by_dump}
 use Rattle.bw_query.proofs.TableExits.{answered_or_not, ends, refused, tells, went}
 use Rattle.bw_query.proofs.table_calls.dump.Goals as goal

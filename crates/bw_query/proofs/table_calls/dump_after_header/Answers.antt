@@ -1,6 +1,6 @@
 -- Each exit, by the contracts of its calls.
 use Rattle.std.proofs.Common.{◌≡◌, ◌∙◌, true, false, sym, ap}
-use Rattle.bw_file.proofs.ErrLemmas.{err_passed_on}
+use Rattle.bw_model.proofs.ErrLemmas.{err_passed_on}
 use Rattle.bw_io.specs.Source.{failed_reads}
 use Rattle.bw_file.specs.TableReader.{schema_in}
 use Rattle.bw_model.specs.Fault.{is_memory}

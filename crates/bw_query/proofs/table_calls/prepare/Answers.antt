@@ -1,6 +1,6 @@
 -- Each exit, by the contracts of its calls.
 use Rattle.std.proofs.Common.{List, ap, inl, inr, refl, subst, sym}
-use Rattle.bw_file.proofs.ErrLemmas.{err_passed_on}
+use Rattle.bw_model.proofs.ErrLemmas.{err_passed_on}
 use Rattle.bw_cert.specs.FileVerdict.{is_file_fault}
 use Rattle.bw_model.specs.declared.column.Column.{Column}
 use Rattle.bw_sql.specs.QueryShape.{QueryShape, query_shape}

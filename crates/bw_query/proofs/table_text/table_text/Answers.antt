@@ -1,6 +1,6 @@
 -- Out of memory before, after or among the segments; and the text of all rows.
 use Rattle.std.proofs.Common.{◌∙◌, [], refl, sym}
-use Rattle.bw_file.proofs.ErrLemmas.{err_passed_on}
+use Rattle.bw_model.proofs.ErrLemmas.{err_passed_on}
 use Rattle.bw_model.specs.Column.{names_of}
 use Rattle.bw_model.specs.Groups.{together}
 use Rattle.bw_file.specs.TableReader.{found_so_far, schema_in}

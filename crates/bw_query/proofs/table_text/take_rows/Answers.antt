@@ -1,7 +1,7 @@
 -- Each segment's rows are taken after those of the segments before it.
 use Rattle.std.proofs.Common.{◌∙◌, ℕ, ◌+◌, List, [], ◌∷◌, ◌++◌, length, length-append, refl, sym}
 use Rattle.std.proofs.Common.{ap, subst, arith}
-use Rattle.bw_file.proofs.ErrLemmas.{err_passed_on}
+use Rattle.bw_model.proofs.ErrLemmas.{err_passed_on}
 use Rattle.bw_model.specs.declared.column.Column.{Column}
 use Rattle.bw_model.specs.declared.query.Query.{Query}
 use Rattle.bw_answer.specs.TextAndTotals.{CountsRows}
