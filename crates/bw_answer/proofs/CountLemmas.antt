@@ -1,7 +1,6 @@
 -- Rows that are counted alone.
-use Rattle.std.proofs.Common.{◌≡◌, ◌∙◌, ℕ, zero, suc, ◌+◌, ◌≤◌, List, [], ◌∷◌, ◌++◌, true, false}
-use Rattle.std.proofs.Common.{map, length, refl, sym, ap, arith, nat_le, cond, count_by, replicate}
-use Rattle.std.proofs.lemmas.List.Sums.{count_by-le-length, length-filter, sum_by-cons}
+use Rattle.std.proofs.Common.{◌≡◌, ℕ, ◌+◌, ◌≤◌, List, [], ◌∷◌, true, false}
+use Rattle.std.proofs.Common.{map, length, refl, ap, arith, nat_le}
 use Rattle.std.specs.List.{list_all}
 use Rattle.std.proofs.lemmas.Bool.{leb-true, le-leb}
 use Rattle.bw_model.specs.declared.cond.Cond.{Cond}
@@ -9,7 +8,7 @@ use Rattle.bw_model.specs.declared.query.Item.{Item}
 use Rattle.bw_model.specs.declared.query.Item.TheVariants.{Plain, CountAll}
 use Rattle.bw_model.specs.Cond.{is_match}
 use Rattle.bw_model.specs.Row.{Value}
-use Rattle.bw_model.specs.Selection.{matching_rows, selection}
+use Rattle.bw_model.specs.Selection.{matching_rows}
 use Rattle.bw_model.specs.Total.{item_within}
 use Rattle.bw_rowwise.specs.Accumulator.{Tally, tally_of, count_rows}
 use Rattle.bw_answer.specs.Answer.{is_count_all, lists_rows}
@@ -47,20 +46,3 @@ is_of-counted width rows count n (t ∷ ts) le e =
     let here = both (item_within width t.item) (nat_le t.count rows) parts.0 in
     let most : t.count + n ≤ rows + count = omega (arith, le, leb-true t.count rows here.1) in
     and_from _ _ (and_from _ _ here.0 (le-leb _ _ most)) (is_of-counted width rows count n ts le parts.1)
-
--- the lanes of a selection that are 1, with zeros after them, are as many as the rows that match
-zeros_counted : (n : ℕ) → count_by (λ lane. lane) (replicate n false) ≡ 0
-zeros_counted zero = refl
-zeros_counted (suc n) = sum_by-cons (λ b. cond b 1 0) false (replicate n false) ∙ omega (arith, zeros_counted n)
-
-lanes_counted : (c : Cond) (rows : List (List Value)) (n : ℕ) → count_by (λ lane. lane) (selection c rows ++ replicate n false) ≡ count_by (is_match c) rows
-lanes_counted c [] n = zeros_counted n
-lanes_counted c (row ∷ rows) n =
-    sum_by-cons (λ b. cond b 1 0) (is_match c row) (selection c rows ++ replicate n false) ∙ ap (λ k. cond (is_match c row) 1 0 + k) (lanes_counted c rows n)
-    ∙ sym (sum_by-cons (λ (r : List Value). cond (is_match c r) 1 0) row rows)
-
-pub matches_counted : (c : Cond) (rows : List (List Value)) (n : ℕ) → length (matching_rows c rows) ≡ count_by (λ lane. lane) (selection c rows ++ replicate n false)
-matches_counted c rows n = length-filter (is_match c) rows ∙ sym (lanes_counted c rows n)
-
-pub matches_among : (c : Cond) (rows : List (List Value)) → length (matching_rows c rows) ≤ length rows
-matches_among c rows = let few = count_by-le-length (is_match c) rows in omega (arith, few, length-filter (is_match c) rows)

@@ -24,7 +24,7 @@ use crate::listing::Listing;
 use crate::matching::is_match;
 use crate::selected::total_selected;
 use crate::totals::{add_count, add_kept, totals_of, with_totals};
-use bw_lanes::{Selection, count};
+use bw_lanes::Selection;
 use bw_model::{
     Fault, Item, Query, Row, RowConsumer, Schema, admitted_rows_have_each_value, totals_join,
 };
@@ -43,8 +43,6 @@ pub struct Answer<'a> {
     filter: Filter,
     /// Whether the query lists rows, and doesn't aggregate them.
     lists: bool,
-    /// Whether the query only counts the matching rows.
-    counts: bool,
     /// The columns that it lists.
     records: Listing,
     /// The heading, and then the records of the matching rows, if the query lists them.
@@ -55,7 +53,6 @@ pub struct Answer<'a> {
     ghost items: { IsTrue (list_all (item_within width) query.now.items.items) },
     ghost nonempty: { 1 ≤ length query.now.items.items },
     ghost listing: { lists ≡ lists_rows query.now.items.items },
-    ghost counting: { counts ≡ list_all is_count_all query.now.items.items },
     ghost names: { lists ≡ true → IsListing records width query.now.items.items },
     ghost totalling: { lists ≡ false → IsTrue (list_all is_aggregate query.now.items.items) },
     ghost capacity: { IsTrue (list_all (is_of width rows) totals.items) },
@@ -91,7 +88,6 @@ impl<'a> Answer<'a> {
             query,
             filter: Filter::new(alloc, &query.cond)?,
             lists: lists_rows(&query.items),
-            counts: count_all_alone(&query.items),
             records: Listing::new(alloc, width, &query.items)?,
             text: heading_text(alloc, &schema.columns, &query.items)?,
             totals: totals_of(alloc, &query.items)?,
@@ -124,7 +120,15 @@ impl<'a> Answer<'a> {
     pub fn counts_rows(&self) -> bool
         ensures { result ≡ true → CountsRows (query_in self.now) }
     {
-        matches_all(&self.query.cond) && self.counts
+        matches_all(&self.query.cond) && self.only_counts()
+    }
+
+    /// Returns whether the query only counts the matching rows. No value need be read then, if their
+    /// number is known.
+    pub fn only_counts(&self) -> bool
+        ensures { result ≡ list_all is_count_all (query_in self.now).items.items }
+    {
+        count_all_alone(&self.query.items)
     }
 
     /// Consumes `count` rows, whatever their values. The query must only count rows, and have space
@@ -142,7 +146,7 @@ impl<'a> Answer<'a> {
 
     /// Consumes `count` rows, of which `matches` match, whatever their values. The query must only
     /// count rows, and have space for them.
-    fn take_matches(&mut self, count: u32, matches: u32)
+    pub fn take_matches(&mut self, count: u32, matches: u32)
         requires alone { IsTrue (list_all is_count_all (query_in self.old).items.items) }
         requires matches { matches ≤ count }
         requires capacity { self.old.rows + count ≤ most_rows }
@@ -179,10 +183,6 @@ impl<'a> Answer<'a> {
             ≡ self.old.rows + length (S.meaning segment.now).rows) }
         ensures only_oom { IfErr result (λ fault. fault ≡ no_memory) }
     {
-        if self.counts {
-            self.take_matches(segment.rows_in(), count(selection));
-            return Ok(());
-        }
         put_selected(
             &mut self.text,
             &mut self.totals,
@@ -255,7 +255,6 @@ impl<'a> Answer<'a> {
             query,
             filter: _,
             lists,
-            counts: _,
             records: _,
             text,
             totals,
@@ -321,8 +320,6 @@ fn put_row(
 }
 
 /// Adds the matching rows of a segment, which the selection selects, to the text or to the totals.
-/// It isn't compiled into its caller, which needs less of the stack for a count.
-#[inline(never)]
 fn put_selected<S: Segment>(
     text: &mut Vec<u8>,
     totals: &mut [Accumulator],

@@ -1,3 +1,4 @@
+pub mod CountLemmas
 pub mod FaultLemmas
 pub mod FirstFaultLemmas
 pub mod FirstWrongLemmas

@@ -6,7 +6,8 @@ ghost use Rattle.bw_lanes.specs.Lanes.{lanes_of_words};
 ghost use Rattle.bw_model.specs.Column.{admits_values};
 ghost use Rattle.bw_model.specs.Groups.{group_size};
 ghost use Rattle.bw_model.specs.Row.{Value};
-ghost use Rattle.bw_model.specs.Selection.{selection, matching_positions, positions_of};
+ghost use Rattle.bw_model.specs.Selection.{matching_positions, matching_rows, positions_of};
+ghost use Rattle.bw_model.specs.Selection.{selection};
 ghost use Rattle.bw_run.specs.Run.{run_of};
 ghost use Rattle.bw_model.specs.CondTree.{tree_of};
 ghost use Rattle.bw_model.specs.Fault.{is_memory};
@@ -14,7 +15,7 @@ ghost use Rattle.std.specs.Prelude.{IsTrue};
 ghost use Rattle.bw_program.specs.Program.{fits};
 ghost use Rattle.bw_cert.specs.Selects.{Selects, selection_by};
 
-use bw_lanes::Selection;
+use bw_lanes::{Selection, count};
 use bw_model::{Cond, Fault, Schema, groups_make_the_table};
 use bw_program::Program;
 use bw_run::{Counts, run_segment};
@@ -106,6 +107,20 @@ impl Certified {
         self.program.is_valid();
         self.schema.bits_spell_row();
         run_segment(&self.program, segment)
+    }
+
+    /// Runs the program on a segment of a table of the schema, and returns the number of its rows on
+    /// which the condition is TRUE, with the counts of the run, as [`Certified::run_segment`] does.
+    pub fn count_matches<S: Segment>(&self, segment: &S) -> (u32, Counts)
+        requires { (S.meaning segment.now).columns ≡ self.now.schema.columns.items }
+        ensures matches { result.0
+            ≡ length (matching_rows self.now.condition (S.meaning segment.now).rows) }
+        ensures loads { result.1.loads ≡ (run_of self.now.program (S.meaning segment.now)).loads }
+        ensures skips { result.1.skips ≡ (run_of self.now.program (S.meaning segment.now)).skips }
+        ensures most { result.1.loads + result.1.skips ≤ 4096 }
+    {
+        let run = self.run_segment(segment);
+        (count(&run.0), run.1)
     }
 
     /// A law, exact selection: on every table of the schema the program selects exactly the rows on

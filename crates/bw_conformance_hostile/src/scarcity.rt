@@ -50,7 +50,12 @@ fn check_with_all_memory_taken(
     file: &[u8],
     answer: &[u8],
 ) -> Result<(), Fail> {
-    let mut output = Vec::with_capacity(rt.alloc(), 16_384)?;
+    // A call with all memory comes first: the stack can't grow once none is left.
+    let mut sink = Taker::without_failures(Vec::with_capacity(rt.alloc(), 16_384)?);
+    let first = call.make(rt.alloc(), Reads::WHOLE, file, &mut sink);
+    assert_eq!(rt; first, Ok(call.served_by()));
+    let mut output = sink.taken;
+    output.clear();
     let blocks = take_all(rt.alloc(), LEFT)?;
     let mut refused = 0;
     let mut outcome = Err(Fault::new(code::OUT_OF_MEMORY));

@@ -64,10 +64,10 @@ impl Link {
 /// Returns the node of a comparison of numbers with top bits `x` and `y`, from that of the bits
 /// below, `lower`.
 fn outcome(kind: ChainKind, x: bool, y: bool, lower: u32) -> u32 {
-    match (kind, x, y) {
-        (_, false, false) | (_, true, true) => lower,
-        (ChainKind::Less, false, true) => 1,
-        _ => 0,
+    match kind {
+        _ if x == y => lower,
+        ChainKind::Less => u32::from(y),
+        ChainKind::Equal => 0,
     }
 }
 
@@ -87,50 +87,38 @@ impl Facts<'_> {
         let mut last: Option<Cited> = None;
         for len in 0..=whole.len.min(63) {
             let link = whole.with_len(len);
-            last = Some(match self.chains.find(link.key()) {
-                Some((number, found)) => Cited {
-                    number,
-                    node: found.node,
-                },
-                None => self.add_chain(link, last),
-            });
+            if let Some((number, Link { node, .. })) = self.chains.find(link.key()) {
+                last = Some(Cited { number, node });
+                continue;
+            }
+            let (node, prev) = match last {
+                Some(lower) => (self.node_above(link, lower.node), Some(lower.number)),
+                None => (u32::from(link.kind == ChainKind::Equal), None),
+            };
+            let pushed = self.chains.push(Link { node, prev, ..link });
+            last = Some(self.fact_of(pushed, node));
         }
         self.expect(last, NO_FACT)
     }
 
-    /// Adds a chain, from the one with one bit less.
-    fn add_chain(&mut self, link: Link, lower: Option<Cited>) -> Cited {
-        let (node, prev) = match lower {
-            Some(lower) => (self.node_above(link, lower.node), Some(lower.number)),
-            None => (u32::from(link.kind == ChainKind::Equal), None),
-        };
-        let pushed = self.chains.push(Link { node, prev, ..link });
-        self.fact_of(pushed, node)
-    }
-
-    /// Returns the node of a comparison, from that of the bits below the top bit, `lower`. The left
-    /// column may have no variable there.
+    /// Returns the node of a comparison, from that of the bits below the top bit, `lower`. A column
+    /// may have no variable there.
     fn node_above(&mut self, link: Link, lower: u32) -> u32 {
         let place = link.len.saturating_sub(1);
-        let low = self.node_right(link, place, false, lower);
-        let Some(left) = self.variable(link.left, link.start.saturating_add(place)) else {
-            return low;
-        };
-        let high = self.node_right(link, place, true, lower);
-        self.choice(left, low, high)
-    }
-
-    /// Returns the same node if the left column's bit is `x`. The right column may have no variable
-    /// there.
-    fn node_right(&mut self, link: Link, place: u32, x: bool, lower: u32) -> u32 {
-        let Some(right) = link.right else {
-            let top = link.bound >> place.min(63) & 1 == 1;
-            return outcome(link.kind, x, top, lower);
-        };
-        let low = outcome(link.kind, x, false, lower);
-        let Some(right) = self.variable(right, place) else {
-            return low;
-        };
-        self.choice(right, low, outcome(link.kind, x, true, lower))
+        let left = self.variable(link.left, link.start.saturating_add(place));
+        let right = link.right.and_then(|right| self.variable(right, place));
+        let top = link.bound >> place.min(63) & 1 == 1;
+        let mut nodes = [0; 2];
+        for (node, x) in nodes.iter_mut().zip([false, left.is_some()]) {
+            let low = outcome(link.kind, x, top, lower);
+            *node = match right {
+                Some(right) => self.choice(right, low, outcome(link.kind, x, true, lower)),
+                None => low,
+            };
+        }
+        match left {
+            Some(left) => self.choice(left, nodes[0], nodes[1]),
+            None => nodes[0],
+        }
     }
 }

@@ -1,11 +1,12 @@
 //! Instructions, with the node of each register.
 use crate::chains::Link;
-use crate::digits::Digits;
+use crate::digits::Digit;
 use crate::facts::{Cited, Extent, Facts};
 use crate::line::PlannedLine;
 use crate::order::VariableOrder;
 use crate::products::MAX_PRODUCTS;
 use crate::refusal::Refusal;
+use crate::registers::Numbers;
 use crate::skips::Skip;
 use bw_cert_text::{EdgeProducts, InstructionEntry};
 use bw_diagram::{ChainKind, Connective};
@@ -36,19 +37,12 @@ const MANY_BITS: u32 = 441;
 
 /// What is known of a register: its node, whether it is needed, and whether it contains a plane as
 /// it was loaded, which may be used again.
-#[derive(Clone, Copy)]
+#[derive(Clone, Copy, Default)]
 pub(crate) struct RegisterState {
     pub(crate) node: Option<u32>,
     pub(crate) needed: bool,
     pub(crate) is_plane: bool,
 }
-
-/// A register without a known node.
-pub(crate) const UNUSED: RegisterState = RegisterState {
-    node: None,
-    needed: false,
-    is_plane: false,
-};
 
 /// The instructions so far, and the lines of the certificate after those of its facts.
 #[derive(Drop)]
@@ -63,9 +57,9 @@ pub(crate) struct Code<'a> {
     pub(crate) edges: Vec<EdgeProducts>,
     /// The order of variables in which registers' nodes are worked out.
     pub(crate) order: VariableOrder,
-    /// The digits of a byte of the column whose codes are compared, and those of its top byte, if
-    /// they are kept in registers.
-    pub(crate) digits: [Option<Digits>; 2],
+    /// The digits of the column whose codes are compared, from the lowest one up, if they are kept
+    /// in registers.
+    pub(crate) digits: [Option<Digit>; 16],
     /// Whether skips that save only a few instructions are omitted.
     pub(crate) has_few_skips: bool,
     pub(crate) registers: [RegisterState; 64],
@@ -95,9 +89,9 @@ impl<'a> Code<'a> {
             instrs: Vec::new(alloc),
             edges: Vec::new(alloc),
             order: VariableOrder::Whole,
-            digits: [None; 2],
+            digits: [None; 16],
             has_few_skips: false,
-            registers: [UNUSED; 64],
+            registers: [RegisterState::default(); 64],
             skips: Vec::new(alloc),
             meeting: usize::MAX,
             skip_count: 0,
@@ -122,23 +116,17 @@ impl<'a> Code<'a> {
         Ok(node)
     }
 
-    /// Removes all instructions, and all facts and lines after those of the condition. There are to
-    /// be no skips.
-    pub(crate) fn begin_again(&mut self) {
+    /// Returns the same without instructions, and without the facts and lines after those of the
+    /// condition. There are to be no skips.
+    pub(crate) fn without_skips(self) -> Self {
         let (facts, lines) = self.begun;
-        self.facts.return_to(facts);
-        self.lines.truncate(lines);
-        self.instrs.clear();
-        self.edges.clear();
-        self.order = VariableOrder::Whole;
-        self.digits = [None; 2];
-        self.has_few_skips = false;
-        self.registers = [UNUSED; 64];
-        self.skips.clear();
-        self.meeting = usize::MAX;
-        self.skip_count = 0;
-        self.with_skips = false;
-        self.looks = 0;
+        let mut code = Code::new(self.alloc, self.facts);
+        code.facts.return_to(facts);
+        code.lines = self.lines;
+        code.lines.truncate(lines);
+        code.with_skips = false;
+        code.skips_parts = self.skips_parts;
+        code
     }
 
     /// Returns the product row of a connective of two nodes.
@@ -148,24 +136,23 @@ impl<'a> Code<'a> {
 
     /// Appends an instruction and its line.
     pub(crate) fn put(&mut self, instr: Instr, entry: InstructionEntry) {
-        if self.instrs.len() >= MAX_INSTRUCTIONS {
+        let is_look = matches!(entry, InstructionEntry::Byte(_));
+        self.looks = self.looks.saturating_add(usize::from(is_look));
+        if self.room() == 0 || !self.with_skips && self.looks > MAX_LOOKS {
             return self.facts.refuse(Refusal::NoProgram);
         }
-        let pushed = self.instrs.push(instr).is_ok();
-        self.facts.expect_memory(pushed);
+        self.facts.expect_memory(self.instrs.push(instr).is_ok());
         self.put_line(PlannedLine::Instruction(entry));
     }
 
     /// Appends a line.
     pub(crate) fn put_line(&mut self, line: PlannedLine) {
-        let pushed = self.lines.push(line).is_ok();
-        self.facts.expect_memory(pushed);
+        self.facts.expect_memory(self.lines.push(line).is_ok());
     }
 
     /// Returns what is known of a register.
     pub(crate) fn state(&self, register: Register) -> RegisterState {
-        let known = self.registers.get(register as usize).copied();
-        known.unwrap_or(UNUSED)
+        self.registers[usize::from(register % 64)]
     }
 
     /// Returns the node of a register, which must have one.
@@ -174,57 +161,46 @@ impl<'a> Code<'a> {
         self.facts.expect(node, 0)
     }
 
-    /// Records what is known of a register.
-    pub(crate) fn set_state(&mut self, register: Register, state: RegisterState) {
-        if let Some(kept) = self.registers.get_mut(register as usize) {
-            *kept = state;
-        }
-    }
-
     /// Records the node of a register, which is needed.
     fn hold(&mut self, register: Register, node: u32, is_plane: bool) {
-        let state = RegisterState {
+        self.registers[usize::from(register % 64)] = RegisterState {
             node: Some(node),
             needed: true,
             is_plane,
         };
-        self.set_state(register, state);
     }
 
     /// Returns a register that isn't needed, preferably one without a node.
     fn claim(&mut self) -> Register {
         self.meet();
-        let mut found = None;
-        for register in 0..64u8 {
-            let known = self.state(register);
-            if !known.needed && known.node.is_none() {
-                return register;
-            }
-            if !known.needed && found.is_none() {
-                found = Some(register);
-            }
-        }
-        self.facts.expect(found, 0)
+        let unknown = self.free_register(None);
+        let found = unknown.or(self.registers.iter().position(|known| !known.needed));
+        (self.facts.expect(found, 0) % 64) as Register
+    }
+
+    /// Returns a register that isn't needed and has this node, or none.
+    fn free_register(&self, node: Option<u32>) -> Option<usize> {
+        let mut registers = self.registers.iter();
+        registers.position(|known| !known.needed && known.node == node)
     }
 
     /// Reserves a free register that already has this node's plane, if there is one.
     fn reserve_plane(&mut self, node: u32) -> Option<Register> {
         self.meet();
-        for (number, register) in self.registers.iter_mut().enumerate() {
-            if !register.needed && register.is_plane && register.node == Some(node) {
-                register.needed = true;
-                return u8::try_from(number).ok();
-            }
-        }
-        None
+        let register = self.free_register(Some(node))?;
+        self.registers[register % 64].needed = true;
+        Some((register % 64) as Register)
     }
 
-    /// Returns a register for the plane of a node, and whether it already has it.
-    fn claim_plane(&mut self, node: u32) -> (Register, bool) {
-        match self.reserve_plane(node) {
-            Some(register) => (register, true),
-            None => (self.claim(), false),
+    /// Returns a register with the plane of a node: by an instruction, unless one has it already.
+    fn plane(&mut self, node: u32, instr: Instr, entry: InstructionEntry) -> Register {
+        if let Some(register) = self.reserve_plane(node) {
+            return register;
         }
+        let register = self.claim();
+        self.put(Numbers([register; 64]).in_instr(instr), entry);
+        self.hold(register, node, true);
+        register
     }
 
     /// Returns how many more instructions fit.
@@ -234,23 +210,16 @@ impl<'a> Code<'a> {
 
     /// Returns how many registers aren't needed.
     pub(crate) fn free_registers(&self) -> usize {
-        let mut free = 0usize;
-        for register in &self.registers {
-            free = free.saturating_add(usize::from(!register.needed));
-        }
-        free
+        self.registers.iter().filter(|known| !known.needed).count()
     }
 
     /// Releases a register. If it contains a plane, that may be used again.
     pub(crate) fn release(&mut self, register: Register) {
-        let known = self.state(register);
-        let node = if known.is_plane { known.node } else { None };
-        let state = RegisterState {
-            node,
-            needed: false,
-            ..known
-        };
-        self.set_state(register, state);
+        let known = &mut self.registers[usize::from(register % 64)];
+        known.needed = false;
+        if !known.is_plane {
+            known.node = None;
+        }
     }
 
     /// Returns a register with the same bit in every lane.
@@ -264,25 +233,15 @@ impl<'a> Code<'a> {
     /// Returns a register with the plane of a column's bit.
     pub(crate) fn bit(&mut self, column: ColumnIndex, bit: u32) -> Register {
         let node = self.facts.bit(column, bit);
-        let (register, is_loaded) = self.claim_plane(node);
-        if !is_loaded {
-            let entry = InstructionEntry::Load(u64::from(node));
-            self.put(Instr::Load(register, column, bit.min(63) as u8), entry);
-            self.hold(register, node, true);
-        }
-        register
+        let instr = Instr::Load(0, column, bit.min(63) as u8);
+        self.plane(node, instr, InstructionEntry::Load(u64::from(node)))
     }
 
     /// Returns a register with a column's null plane, if it has one.
     pub(crate) fn nulls(&mut self, column: ColumnIndex) -> Option<Register> {
         let node = self.facts.nulls(column)?;
-        let (register, is_loaded) = self.claim_plane(node);
-        if !is_loaded {
-            let entry = InstructionEntry::Load(u64::from(node));
-            self.put(Instr::Nulls(register, column), entry);
-            self.hold(register, node, true);
-        }
-        Some(register)
+        let entry = InstructionEntry::Load(u64::from(node));
+        Some(self.plane(node, Instr::Nulls(0, column), entry))
     }
 
     /// Returns a register that is 1 where a column has a value, if it is nullable.
@@ -310,21 +269,12 @@ impl<'a> Code<'a> {
         let len = self.facts.width(column).saturating_sub(start).min(8);
         let link = Link::bound(kind, column, start, len, u64::from(byte));
         let cited = self.facts.chain(link);
-        let (register, is_loaded) = self.claim_plane(cited.node);
-        if is_loaded {
-            return register;
-        }
-        self.looks = self.looks.saturating_add(1);
-        if !self.with_skips && self.looks > MAX_LOOKS {
-            self.facts.refuse(Refusal::NoProgram);
-        }
         let instr = match kind {
-            ChainKind::Less => Instr::ByteLt(register, column, slice, byte),
-            ChainKind::Equal => Instr::ByteEq(register, column, slice, byte),
+            ChainKind::Less => Instr::ByteLt(0, column, slice, byte),
+            ChainKind::Equal => Instr::ByteEq(0, column, slice, byte),
         };
-        self.put(instr, InstructionEntry::Byte(Some(cited.reference())));
-        self.hold(register, cited.node, true);
-        register
+        let entry = InstructionEntry::Byte(Some(cited.reference()));
+        self.plane(cited.node, instr, entry)
     }
 
     /// Sets a register to a connective of two.
@@ -343,12 +293,7 @@ impl<'a> Code<'a> {
     }
 
     /// Returns a new register with a connective of two.
-    pub(crate) fn emit_connective(
-        &mut self,
-        op: Connective,
-        left: Register,
-        right: Register,
-    ) -> Register {
+    pub(crate) fn connect(&mut self, op: Connective, left: Register, right: Register) -> Register {
         let register = self.claim();
         self.join(op, register, left, right);
         register

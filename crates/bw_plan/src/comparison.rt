@@ -77,23 +77,23 @@ pub(crate) fn compare(facts: &mut Facts<'_>, op: Op, x: Operand, y: Operand) -> 
     }
 }
 
+/// Returns the kind of the chains of a comparison.
+fn kind_of(op: Op) -> ChainKind {
+    match op {
+        Op::Eq | Op::Ne => ChainKind::Equal,
+        _ => ChainKind::Less,
+    }
+}
+
 /// Returns the comparison of a column with a literal.
 fn with_literal(facts: &mut Facts<'_>, op: Op, column: usize, n: i64) -> Comparison {
     let (column, lo) = facts.column(column);
-    let distance = i128::from(n) - i128::from(lo);
-    let (kind, limit, negated) = match op {
-        Op::Lt => (ChainKind::Less, distance, false),
-        Op::Ge => (ChainKind::Less, distance, true),
-        Op::Le => (ChainKind::Less, distance + 1, false),
-        Op::Gt => (ChainKind::Less, distance + 1, true),
-        Op::Eq => (ChainKind::Equal, distance, false),
-        Op::Ne => (ChainKind::Equal, distance, true),
-    };
+    let is_past = matches!(op, Op::Le | Op::Gt);
     Comparison::Literal(LiteralComparison {
         column,
-        kind,
-        limit,
-        negated,
+        kind: kind_of(op),
+        limit: (i128::from(n) - i128::from(lo)).saturating_add(i128::from(is_past)),
+        negated: matches!(op, Op::Ge | Op::Gt | Op::Ne),
     })
 }
 
@@ -103,13 +103,12 @@ fn with_column(facts: &mut Facts<'_>, op: Op, c: usize, d: usize) -> Comparison 
     if lo != other {
         facts.refuse(Refusal::NoProgram);
     }
-    let (kind, left, right) = match op {
-        Op::Lt | Op::Ge => (ChainKind::Less, c, d),
-        Op::Gt | Op::Le => (ChainKind::Less, d, c),
-        Op::Eq | Op::Ne => (ChainKind::Equal, c, d),
+    let (left, right) = match op {
+        Op::Gt | Op::Le => (d, c),
+        _ => (c, d),
     };
     Comparison::Columns(ColumnComparison {
-        kind,
+        kind: kind_of(op),
         left,
         right,
         negated: matches!(op, Op::Ge | Op::Le | Op::Ne),

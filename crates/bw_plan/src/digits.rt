@@ -5,21 +5,11 @@ use crate::sets::groups_from;
 use bw_diagram::{ChainKind, Connective};
 use bw_program::{ColumnIndex, Register, SliceIndex};
 
-/// Registers that are 1 where the upper digit of a byte is 0, 1 and so on, and where the lower one
-/// is. A byte of four bits or fewer has no upper digit.
-#[derive(Clone, Copy)]
-pub(crate) struct Digits {
-    slice: SliceIndex,
-    upper: Option<[Register; 16]>,
-    lower: [Register; 16],
-}
+/// Registers that are 1 where four bits of a code are 0, 1 and so on.
+pub(crate) type Digit = [Register; 16];
 
-/// A register that is 1 where a byte has this upper digit and a mask is 1.
-#[derive(Clone, Copy)]
-pub(crate) struct Upper {
-    digit: u8,
-    register: Register,
-}
+/// An upper digit of a byte, and a register that is 1 where the byte has it and a mask is 1.
+pub(crate) type Upper = (u8, Register);
 
 /// The least number of values for which two digits of a byte, which take 64 instructions, save
 /// time: a byte comparison takes ten times as long as an AND.
@@ -44,42 +34,33 @@ impl Code<'_> {
         };
         let width = self.facts.width(column);
         let varying = 64 - (*first ^ *last).leading_zeros();
-        let slice = varying.saturating_sub(17).div_ceil(8) as u8;
-        let start = u32::from(slice) * 8;
+        let start = varying.saturating_sub(17).div_ceil(8) * 8;
         let free = self.free_registers();
         if width < start + 8 || free < ROOM_FOR_TWO || groups_from(bounds, start) < MANY_NUMBERS {
             return;
         }
-        let above = slice.saturating_add(1);
-        let is_digit = width == start + 12;
-        if is_digit && free >= ROOM_FOR_THREE && groups_from(bounds, start + 8) >= SOME_NUMBERS {
-            self.digits[1] = Some(Digits {
-                slice: above,
-                upper: None,
-                lower: self.digit(column, start + 8),
-            });
+        let has_third = width == start + 12
+            && free >= ROOM_FOR_THREE
+            && groups_from(bounds, start + 8) >= SOME_NUMBERS;
+        let lowest = start / 4;
+        for number in (lowest..lowest + 2 + u32::from(has_third)).rev() {
+            self.digits[number as usize % 16] = Some(self.digit(column, number * 4));
         }
-        let upper = self.digit(column, start + 4);
-        let lower = self.digit(column, start);
-        self.digits[0] = Some(Digits {
-            slice,
-            upper: Some(upper),
-            lower,
-        });
     }
 
     /// Returns the byte of which both digits are kept.
     pub(crate) fn split_slice(&self) -> Option<SliceIndex> {
-        Some(self.digits[0]?.slice)
+        let lowest = self.digits.iter().position(|digit| digit.is_some())?;
+        Some((lowest / 2).min(7) as SliceIndex)
     }
 
     /// Returns registers that are 1 where the four bits from `start` are 0, 1 and so on.
-    fn digit(&mut self, column: ColumnIndex, start: u32) -> [Register; 16] {
+    fn digit(&mut self, column: ColumnIndex, start: u32) -> Digit {
         let low = self.two_bits(column, start);
         let high = self.two_bits(column, start.saturating_add(2));
         let mut made = [0; 16];
         for (number, slot) in made.iter_mut().enumerate() {
-            *slot = self.emit_connective(Connective::And, high[number / 4], low[number % 4]);
+            *slot = self.connect(Connective::And, high[number / 4], low[number % 4]);
         }
         for register in low.iter().chain(high.iter()) {
             self.release(*register);
@@ -91,11 +72,11 @@ impl Code<'_> {
     fn two_bits(&mut self, column: ColumnIndex, start: u32) -> [Register; 4] {
         let low = self.bit(column, start);
         let high = self.bit(column, start.saturating_add(1));
-        let none = self.emit_connective(Connective::Or, low, high);
+        let none = self.connect(Connective::Or, low, high);
         self.oppose(none, none);
-        let both = self.emit_connective(Connective::And, low, high);
-        let first = self.emit_connective(Connective::Xor, low, both);
-        let second = self.emit_connective(Connective::Xor, high, both);
+        let both = self.connect(Connective::And, low, high);
+        let first = self.connect(Connective::Xor, low, both);
+        let second = self.connect(Connective::Xor, high, both);
         self.release(low);
         self.release(high);
         [none, first, second, both]
@@ -103,20 +84,11 @@ impl Code<'_> {
 
     /// Releases the registers of all digits.
     pub(crate) fn forget_digits(&mut self) {
-        for digits in self.digits {
-            let Some(digits) = digits else {
-                continue;
-            };
-            for register in &digits.lower {
-                self.release(*register);
-            }
-            if let Some(upper) = digits.upper {
-                for register in &upper {
-                    self.release(*register);
-                }
-            }
+        let digits = self.digits;
+        for register in digits.iter().flatten().flatten() {
+            self.release(*register);
         }
-        self.digits = [None; 2];
+        self.digits = [None; 16];
     }
 
     /// Returns a register that is 1 if a byte is a number and a mask, if there is one, is 1.
@@ -129,60 +101,37 @@ impl Code<'_> {
         mask: Option<Register>,
         before: &mut Option<Upper>,
     ) -> Register {
-        if let Some(digits) = self.digits_of(slice) {
-            return self.same_digits(digits, byte, mask, before);
-        }
-        let same = self.byte(ChainKind::Equal, column, slice, byte);
-        if let Some(mask) = mask {
-            self.join(Connective::And, same, same, mask);
-        }
-        same
-    }
-
-    /// Returns the digits of a byte, if they are kept.
-    fn digits_of(&self, slice: SliceIndex) -> Option<Digits> {
-        for digits in self.digits {
-            match digits {
-                Some(digits) if digits.slice == slice => return Some(digits),
-                _ => {}
+        let place = usize::from(slice % 8) * 2;
+        let digit = byte >> 4;
+        let Some(lower) = self.digits[place] else {
+            let same = self.byte(ChainKind::Equal, column, slice, byte);
+            if let Some(mask) = mask {
+                self.join(Connective::And, same, same, mask);
             }
-        }
-        None
-    }
-
-    /// Returns the same, by the digits of the byte.
-    fn same_digits(
-        &mut self,
-        digits: Digits,
-        byte: u8,
-        mask: Option<Register>,
-        before: &mut Option<Upper>,
-    ) -> Register {
-        let lower = digits.lower[usize::from(byte & 15)];
-        let (Some(mask), Some(upper)) = (mask, digits.upper) else {
-            let upper = digits.upper.unwrap_or([lower; 16])[usize::from(byte >> 4)];
-            return self.emit_connective(Connective::And, lower, mask.unwrap_or(upper));
+            return same;
+        };
+        let lower = lower[usize::from(byte & 15)];
+        let upper = self.digits[place + 1].map(|upper| upper[usize::from(byte >> 4)]);
+        let (Some(mask), Some(upper)) = (mask, upper) else {
+            let other = mask.or(upper).unwrap_or(lower);
+            return self.connect(Connective::And, lower, other);
         };
         let register = match *before {
-            Some(known) if known.digit == byte >> 4 => known.register,
+            Some((known, register)) if known == digit => register,
             _ => {
                 self.release_upper(*before);
-                let upper = upper[usize::from(byte >> 4)];
-                let register = self.emit_connective(Connective::And, upper, mask);
-                *before = Some(Upper {
-                    digit: byte >> 4,
-                    register,
-                });
+                let register = self.connect(Connective::And, upper, mask);
+                *before = Some((digit, register));
                 register
             }
         };
-        self.emit_connective(Connective::And, register, lower)
+        self.connect(Connective::And, register, lower)
     }
 
     /// Releases the register of an upper digit.
     pub(crate) fn release_upper(&mut self, before: Option<Upper>) {
-        if let Some(upper) = before {
-            self.release(upper.register);
+        if let Some((_, register)) = before {
+            self.release(register);
         }
     }
 }

@@ -7,65 +7,26 @@ ghost use Rattle.bw_plan.specs.ChainNames.{is_chain_named, are_chains_named};
 
 use crate::chains::Link;
 use crate::code::Code;
-use crate::ledger::Ledger;
-use crate::line::PlannedLine;
-use crate::products::Row;
+use crate::facts::Facts;
 use crate::refusal::Refusal;
-use bw_cert_text::{
-    Body, BodyLine, Certificate, ChainLine, EdgeProducts, EndLine, NodeLine, ProductLine,
-};
-use bw_diagram::{ChainColumns, Reason};
+use bw_cert_text::{Body, BodyLine, Certificate, ChainLine, EndLine, NodeLine, ProductLine};
+use bw_diagram::ChainColumns;
 use bw_model::{Schema, code};
-use bw_program::{ColumnIndex, Instr, Program, Register};
-use std::alloc::{AllocError, Global};
-use std::str;
+use bw_program::{ColumnIndex, Program, Register, program_text};
 
-/// Returns the program of instructions and a result register, by its text.
+/// Returns the program of the instructions and a result register, by its text.
 pub(crate) fn program(
-    alloc: Global,
     schema: &Schema,
-    instrs: &[Instr],
+    code: &Code<'_>,
     answer: Register,
 ) -> Result<Program, Refusal>
     ensures { IfOk result (λ program. IsTrue (fits schema.now.columns.items program)) }
 {
-    let mut text = String::new(alloc);
-    for instr in instrs {
-        put_instr(schema, *instr, &mut text)?;
-    }
-    writeln!(text, "RESULT r{answer}")?;
-    match Program::parse(alloc, schema, text.as_bytes()) {
+    let text = program_text(code.alloc, schema, &code.instrs, answer)?;
+    match Program::parse(code.alloc, schema, &text) {
         Ok(program) => Ok(program),
         Err(fault) if fault.code == code::OUT_OF_MEMORY => Err(Refusal::NoMemory),
         Err(_) => Err(Refusal::NoProgram),
-    }
-}
-
-/// Appends the line of an instruction.
-fn put_instr(schema: &Schema, instr: Instr, text: &mut String) -> Result<(), AllocError> {
-    match instr {
-        Instr::Load(r, col, bit) => writeln!(text, "LOAD r{r} {} {bit}", name_of(schema, col)),
-        Instr::Nulls(r, col) => writeln!(text, "NULLS r{r} {}", name_of(schema, col)),
-        Instr::Fill(r, bit) => writeln!(text, "FILL r{r} {}", u8::from(bit)),
-        Instr::And(r, x, y) => writeln!(text, "AND r{r} r{x} r{y}"),
-        Instr::Or(r, x, y) => writeln!(text, "OR r{r} r{x} r{y}"),
-        Instr::Xor(r, x, y) => writeln!(text, "XOR r{r} r{x} r{y}"),
-        Instr::Not(r, x) => writeln!(text, "NOT r{r} r{x}"),
-        Instr::ByteLt(r, col, slice, k) => {
-            writeln!(text, "BYTELT r{r} {} {slice} {k}", name_of(schema, col))
-        }
-        Instr::ByteEq(r, col, slice, k) => {
-            writeln!(text, "BYTEEQ r{r} {} {slice} {k}", name_of(schema, col))
-        }
-        Instr::Skip(x, target) => writeln!(text, "SKIP r{x} {target}"),
-    }
-}
-
-/// Returns a column's name, or nothing if the schema has no such column.
-fn name_of(schema: &Schema, column: ColumnIndex) -> &str {
-    match schema.columns.get(column as usize) {
-        Some(column) => str::from_utf8(column.name.as_bytes()).unwrap_or(""),
-        None => "",
     }
 }
 
@@ -79,30 +40,24 @@ pub(crate) fn certificate<'a>(
     ensures { IfOk result (λ certificate.
         IsTrue (has_columns schema.now.columns.items (certificate_fields certificate))) }
 {
-    let (alloc, facts) = (code.alloc, &code.facts);
+    let facts = &code.facts;
     let line = (code.instrs.len() as u64).saturating_add(3);
-    let nodes = node_lines(alloc, facts.nodes.as_slice(), line)?;
+    let nodes = node_lines(facts, line)?;
     let line = line.saturating_add(nodes.len() as u64);
-    let chains = chain_lines(alloc, schema, &facts.chains, line)?;
+    let chains = chain_lines(schema, facts, line)?;
     let line = line.saturating_add(chains.len() as u64);
-    let rows = product_lines(alloc, &facts.products, line)?;
+    let rows = product_lines(facts, line)?;
     let line = line.saturating_add(rows.len() as u64);
-    let body = body_lines(alloc, &code.lines, &code.edges, line)?;
-    let end = EndLine {
-        line: line.saturating_add(body.len() as u64),
-        row: u64::from(row),
-    };
-    Ok(Certificate::new(nodes, chains, rows, body, end))
+    let body = body_lines(code, line)?;
+    let line = line.saturating_add(body.len() as u64);
+    let row = u64::from(row);
+    Ok(Certificate::new(nodes, chains, rows, body, EndLine { line, row }))
 }
 
 /// Returns the lines of nodes. The first line has the number `first`.
-fn node_lines(
-    alloc: Global,
-    nodes: &[(u32, u32, u32)],
-    first: u64,
-) -> Result<Vec<NodeLine>, Refusal> {
-    let mut lines = Vec::with_capacity(alloc, nodes.len())?;
-    for (number, (v, low, high)) in nodes.iter().enumerate() {
+fn node_lines(facts: &Facts<'_>, first: u64) -> Result<Vec<NodeLine>, Refusal> {
+    let mut lines = Vec::with_capacity(facts.alloc, facts.nodes.len())?;
+    for (number, (v, low, high)) in facts.nodes.iter().enumerate() {
         lines.push(NodeLine {
             line: first.saturating_add(number as u64),
             n: (number as u64).saturating_add(2),
@@ -116,79 +71,48 @@ fn node_lines(
 
 /// Returns the lines of chains.
 fn chain_lines<'a>(
-    alloc: Global,
     schema: &'a Schema,
-    chains: &Ledger<Link>,
+    facts: &Facts<'_>,
     first: u64,
 ) -> Result<Vec<ChainLine<'a>>, Refusal>
     ensures { IfOk result (λ lines. IsTrue
         (are_chains_named schema.now.columns.items lines.items)) }
 {
-    let mut lines = Vec::with_capacity(alloc, chains.len())?;
-    for number in 0..chains.len() {
-        let Some(link) = chains.get(number) else {
-            break;
-        };
-        let number = number as u64;
-        let line = first.saturating_add(number);
-        lines.push(chain_line(schema, line, number, link)?)?;
+    let mut lines = Vec::with_capacity(facts.alloc, facts.chains.len())?;
+    for (number, slot) in facts.chains.slots.iter().enumerate() {
+        let line = first.saturating_add(number as u64);
+        lines.push(chain_line(schema, line, number as u64, slot.entry)?)?;
     }
     Ok(lines)
 }
 
 /// Returns the lines of product rows.
-fn product_lines(
-    alloc: Global,
-    rows: &Ledger<Row>,
-    first: u64,
-) -> Result<Vec<ProductLine>, Refusal> {
-    let mut lines = Vec::with_capacity(alloc, rows.len())?;
-    for number in 0..rows.len() {
-        let Some(row) = rows.get(number) else {
-            break;
-        };
-        lines.push(row_line(first, number as u64, row))?;
-    }
-    Ok(lines)
-}
-
-/// Returns the lines of the condition, the instructions and the joins.
-fn body_lines(
-    alloc: Global,
-    entries: &[PlannedLine],
-    edges: &[EdgeProducts],
-    first: u64,
-) -> Result<Body, Refusal> {
-    let mut lines = Body::new(alloc);
-    for entry in entries {
-        let line = first.saturating_add(lines.len() as u64);
-        lines.push(&BodyLine {
-            line,
-            entry: entry.entry(edges),
+fn product_lines(facts: &Facts<'_>, first: u64) -> Result<Vec<ProductLine>, Refusal> {
+    let mut lines = Vec::with_capacity(facts.alloc, facts.products.len())?;
+    for (number, slot) in facts.products.slots.iter().enumerate() {
+        let row = slot.entry;
+        lines.push(ProductLine {
+            line: first.saturating_add(number as u64),
+            n: number as u64,
+            op: row.question.op,
+            a: u64::from(row.question.a),
+            b: u64::from(row.question.b),
+            c: u64::from(row.node),
+            reason: row.reason(),
         })?;
     }
     Ok(lines)
 }
 
-/// Returns the line of a product row.
-fn row_line(first: u64, number: u64, row: Row) -> ProductLine {
-    let reason = match row.reason {
-        None => Reason::Shortcut,
-        Some(cofactors) => Reason::Cofactors {
-            v: u64::from(cofactors.variable),
-            i: u64::from(cofactors.low),
-            j: u64::from(cofactors.high),
-        },
-    };
-    ProductLine {
-        line: first.saturating_add(number),
-        n: number,
-        op: row.question.op,
-        a: u64::from(row.question.a),
-        b: u64::from(row.question.b),
-        c: u64::from(row.node),
-        reason,
+/// Returns the lines of the condition, the instructions and the joins.
+fn body_lines(code: &Code<'_>, first: u64) -> Result<Body, Refusal> {
+    let mut lines = Body::new(code.alloc);
+    for entry in &code.lines {
+        let line = first.saturating_add(lines.len() as u64);
+        let entry = entry.entry(&code.edges);
+        lines.push(&BodyLine { line, entry })?;
     }
+    Ok(lines)
 }
 
 /// Returns the line of a chain.

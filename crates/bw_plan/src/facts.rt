@@ -2,7 +2,7 @@
 use crate::chains::Link;
 use crate::ledger::Ledger;
 use crate::order::Ranks;
-use crate::products::{MAX_PRODUCTS, Pending, Row};
+use crate::products::{MAX_PRODUCTS, Question, Row};
 use crate::refusal::Refusal;
 use bw_diagram::Node;
 use bw_model::{Cond, Schema};
@@ -53,7 +53,8 @@ pub(crate) struct Facts<'a> {
     pub(crate) nodes: IndexSet<(u32, u32, u32)>,
     pub(crate) chains: Ledger<Link>,
     pub(crate) products: Ledger<Row>,
-    pub(crate) pending: Vec<Pending>,
+    /// The products that wait for the next one.
+    pub(crate) pending: Vec<Question>,
     pub(crate) ranks: Ranks,
     /// Why there is no proposal, once that is known. What is computed after that isn't used.
     pub(crate) refusal: Option<Refusal>,
@@ -99,10 +100,7 @@ impl<'a> Facts<'a> {
 
     /// Returns what was refused first, if anything was.
     pub(crate) fn check_refusal(&self) -> Result<(), Refusal> {
-        match self.refusal {
-            Some(refusal) => Err(refusal),
-            None => Ok(()),
-        }
+        self.refusal.map_or(Ok(()), |refusal| Err(refusal))
     }
 
     /// Returns the chain or product row of this number and node, if it could be added.
@@ -127,9 +125,9 @@ impl<'a> Facts<'a> {
 
     /// Removes what was added since there were so many, and what was refused since.
     pub(crate) fn return_to(&mut self, extent: Extent) {
-        self.products.truncate(extent.products);
-        self.chains.truncate(extent.chains);
         self.nodes.truncate(extent.nodes);
+        self.chains.truncate(extent.chains);
+        self.products.truncate(extent.products);
         self.refusal = None;
     }
 
@@ -198,10 +196,8 @@ impl<'a> Facts<'a> {
     /// Returns a column's number as instructions store it, and its minimum. Refuses if the schema
     /// lacks the column.
     pub(crate) fn column(&mut self, column: usize) -> (ColumnIndex, i64) {
-        let found = match (u8::try_from(column), self.schema.columns.get(column)) {
-            (Ok(number), Some(column)) => Some((number, column.lo)),
-            _ => None,
-        };
+        let found = self.schema.columns.get(column);
+        let found = found.map(|found| ((column % 256) as u8, found.lo));
         self.expect(found, (0, 0))
     }
 }

@@ -13,8 +13,8 @@ pub(crate) trait Entry: Copy {
 
 /// An entry, and the number of the one before it with the same hash, plus 1, or 0.
 #[derive(Clone, Copy)]
-struct Slot<T: Entry> {
-    entry: T,
+pub(crate) struct Slot<T: Entry> {
+    pub(crate) entry: T,
     before: u32,
 }
 
@@ -23,7 +23,7 @@ struct Slot<T: Entry> {
 /// `IndexMap`.
 #[derive(Drop)]
 pub(crate) struct Ledger<T: Entry> {
-    slots: Vec<Slot<T>>,
+    pub(crate) slots: Vec<Slot<T>>,
     /// For each hash the number of the last entry that has it, from 1 on, or 0; a power of two of
     /// them.
     last: Vec<u32>,
@@ -47,12 +47,6 @@ impl<T: Entry> Ledger<T> {
     /// Returns how many there are.
     pub(crate) fn len(&self) -> usize {
         self.slots.len()
-    }
-
-    /// Returns the entry of a number.
-    pub(crate) fn get(&self, number: usize) -> Option<T> {
-        let slot = self.slots.get(number)?;
-        Some(slot.entry)
     }
 
     /// Returns the entry with a key, and its number.

@@ -37,6 +37,7 @@ mod parts;
 mod planner;
 mod products;
 mod refusal;
+mod registers;
 mod relations;
 mod select;
 mod sequence;

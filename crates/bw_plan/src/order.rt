@@ -1,12 +1,9 @@
 //! The orders in which diagrams test variables.
 use crate::refusal::Refusal;
-use crate::sequence::{Pairs, Sequence};
+use crate::sequence::Pairs;
 use bw_model::{Cond, Schema};
 use bw_program::ColumnIndex;
 use std::alloc::Global;
-
-/// The bit number of a null variable, above those of all bits.
-const NULL_BIT: u32 = 64;
 
 /// An order of the variables of a schema, in which the nodes of a product row test them.
 #[derive(Clone, Copy, PartialEq, Eq, Hash)]
@@ -19,11 +16,12 @@ pub(crate) enum VariableOrder {
     Places(u8),
 }
 
-/// The place of a variable in the orders.
+/// The place of a variable in its column, 0 for the null variable and 64 for the lowest bit, and
+/// its rank among all variables.
 #[derive(Clone, Copy)]
 struct Position {
-    column: ColumnIndex,
-    bit: u32,
+    column: usize,
+    place: u32,
     rank: u32,
 }
 
@@ -43,24 +41,30 @@ impl Ranks {
         let pairs = Vec::new(alloc);
         let mut compared = Pairs { schema, pairs };
         let sequence = compared.sequence_of(cond)?;
-        let compared = compared.pairs;
-        let groups = Groups::of(&sequence, &compared);
-        let mut positions = Vec::new(alloc);
+        let groups = groups_of(sequence.columns(), &compared.pairs);
+        let (mut positions, mut bits) = (Vec::new(alloc), 0u32);
         for (column, each) in schema.columns.iter().enumerate() {
-            let Ok(number) = u8::try_from(column) else {
-                return Err(Refusal::NoProgram);
-            };
-            if each.nullable {
-                positions.push(groups.position(number, NULL_BIT))?;
+            let (first, level) = groups[column % 64];
+            let width = schema.width(column);
+            if first < NO_PLACE {
+                bits = bits.saturating_add(width);
             }
-            for bit in (0..schema.width(column)).rev() {
-                positions.push(groups.position(number, bit))?;
+            let (first, level) = (u32::from(first), u32::from(level));
+            for place in 0..=64 {
+                if place > 64u32.saturating_sub(width) || place == 0 && each.nullable {
+                    let rank = ((first * 65 + place) * 64 + level) * 256 + column as u32;
+                    positions.push(Position {
+                        column,
+                        place,
+                        rank,
+                    })?;
+                }
             }
         }
         Ok(Ranks {
             positions,
-            relations: compared.len(),
-            bits: sequence.bits(schema),
+            relations: compared.pairs.len(),
+            bits,
         })
     }
 
@@ -72,68 +76,39 @@ impl Ranks {
         match order {
             VariableOrder::Whole => position.rank,
             VariableOrder::Places(right) => {
-                let second = u32::from(position.column == right);
-                NULL_BIT.saturating_sub(position.bit).saturating_mul(2) + second
+                position.place << 1 | u32::from(position.column == usize::from(right))
             }
         }
     }
 }
 
 /// A column's group, by the place of its first column, and how far to the right the column is in it.
-#[derive(Clone, Copy, PartialEq, Eq)]
-struct Group {
-    first: u8,
-    level: u8,
-}
+type Group = (u8, u8);
 
-/// For each column, the group of those that it is compared with, directly or through others.
-#[derive(Drop)]
-struct Groups([Group; 64]);
+/// The place of a column that the condition lacks.
+const NO_PLACE: u8 = 64;
 
-impl Groups {
-    /// Returns the groups of columns that are compared, left with right.
-    fn of(sequence: &Sequence, compared: &[(ColumnIndex, ColumnIndex)]) -> Self {
-        let mut groups = Groups([Group { first: 0, level: 0 }; 64]);
-        for (column, group) in groups.0.iter_mut().enumerate() {
-            group.first = sequence.place((column % 64) as u8);
+/// Returns for each column the group of those that it is compared with, directly or through others.
+/// The columns are in their sequence, and those that are compared are left with right.
+fn groups_of(columns: &[ColumnIndex], compared: &[(ColumnIndex, ColumnIndex)]) -> [Group; 64] {
+    let mut groups = [(NO_PLACE, 0u8); 64];
+    for (place, column) in columns.iter().enumerate() {
+        groups[usize::from(*column % 64)].0 = (place % 64) as u8;
+    }
+    for _ in 0..64 {
+        let mut changed = false;
+        for (left, right) in compared {
+            let (left, right) = (usize::from(*left % 64), usize::from(*right % 64));
+            let ((x, above), (y, below)) = (groups[left], groups[right]);
+            let first = x.min(y);
+            let level = above.saturating_add(1).min(63).max(below);
+            groups[left].0 = first;
+            groups[right] = (first, level);
+            changed |= x != y || below != level;
         }
-        for _ in 0..64 {
-            let mut changed = false;
-            for (left, right) in compared {
-                changed |= groups.bring_together(*left, *right);
-            }
-            if !changed {
-                break;
-            }
-        }
-        groups
-    }
-
-    /// Returns the group of a column.
-    fn group(&self, column: ColumnIndex) -> Group {
-        self.0[usize::from(column % 64)]
-    }
-
-    /// Puts two columns into one group, the right one further to the right. Returns whether
-    /// anything changed.
-    fn bring_together(&mut self, left: ColumnIndex, right: ColumnIndex) -> bool {
-        let before = (self.group(left), self.group(right));
-        let first = before.0.first.min(before.1.first);
-        let level = before.0.level.saturating_add(1).min(63).max(before.1.level);
-        self.0[usize::from(left % 64)].first = first;
-        self.0[usize::from(right % 64)] = Group { first, level };
-        before != (self.group(left), self.group(right))
-    }
-
-    /// Returns the place of the variable of a column's bit.
-    fn position(&self, column: ColumnIndex, bit: u32) -> Position {
-        let Group { first, level } = self.group(column);
-        let place = NULL_BIT.saturating_sub(bit).min(64);
-        let rank = ((u32::from(first) * 65 + place) * 64 + u32::from(level)) * 256;
-        Position {
-            column,
-            bit,
-            rank: rank + u32::from(column),
+        if !changed {
+            break;
         }
     }
+    groups
 }

@@ -3,7 +3,7 @@
 use crate::comparison::{ColumnComparison, Comparison, compare};
 use crate::facts::Facts;
 use crate::refusal::Refusal;
-use crate::sets::{Set, Union};
+use crate::sets::Set;
 use bw_model::{Cond, Op, Operand, Truth};
 use bw_program::ColumnIndex;
 
@@ -22,55 +22,52 @@ pub(crate) enum Part {
     Codes(Set),
     /// A comparison of two columns.
     Columns(ColumnComparison),
-    /// Whether a column, which may be null, is null.
-    Null(ColumnIndex),
+    /// Whether a column, which may be null, is null, or isn't if it is negated.
+    Null(ColumnIndex, bool),
     /// The OR of all parts, or else their AND.
     All(bool, Vec<Part>),
-    Not(Box<Part>),
-    Test(Box<Part>, Truth),
+    /// Whether a part has this truth, or another one if it is negated.
+    Test(Box<Part>, Truth, bool),
     /// Nothing: an earlier part does what this one did.
     Done,
 }
 
-/// Returns a condition as instructions compute it. Refuses what [`compare`] does.
+/// A part, unless memory was refused.
+type PartResult = Result<Part, Refusal>;
+
+/// Returns a condition as instructions compute it, or its opposite if it is negated. Refuses what
+/// [`compare`] does.
 #[cycle(part)]
-pub(crate) fn part_of(facts: &mut Facts<'_>, cond: &Cond) -> Part {
+pub(crate) fn part_of(facts: &mut Facts<'_>, cond: &Cond, negated: bool) -> PartResult {
     match cond {
-        Cond::Always => Part::Fixed(Truth::Yes),
-        Cond::Cmp(op, x, y) => comparison(facts, *op, *x, *y),
-        Cond::Between(x, y, z) => range(facts, *x, *y, *z),
-        Cond::Among(x, items) => list(facts, *x, items),
-        Cond::IsNull(x) => null_test(facts, *x),
-        Cond::And(parts) => all_of(facts, false, parts),
-        Cond::Or(parts) => all_of(facts, true, parts),
-        Cond::Not(part) => {
-            let part = part_of(facts, part);
-            negate(facts, part)
-        }
+        Cond::Always => Ok(Part::Fixed(Truth::of(!negated))),
+        Cond::Cmp(op, x, y) => comparison(facts, *op, *x, *y, negated),
+        Cond::Between(x, y, z) => range(facts, *x, *y, *z, negated),
+        Cond::Among(x, items) => list(facts, *x, items, negated),
+        Cond::IsNull(x) => Ok(null_test(facts, *x, negated)),
+        Cond::And(parts) => all_of(facts, false, parts, negated),
+        Cond::Or(parts) => all_of(facts, true, parts, negated),
+        Cond::Not(part) => part_of(facts, part, !negated),
         Cond::Test(part, truth) => {
-            let part = part_of(facts, part);
-            match Box::new(facts.alloc, part) {
-                Ok(part) => Part::Test(part, *truth),
-                Err(_) => no_memory(facts),
-            }
+            let part = part_of(facts, part, false)?;
+            Ok(Part::Test(Box::new(facts.alloc, part)?, *truth, negated))
         }
     }
 }
 
-/// Returns the OR of some conditions, or else their AND. A comparison is left out if it is the same
-/// as the one before.
+/// Returns the OR of some conditions, or else their AND, or its opposite if it is negated. A
+/// comparison is left out if it is the same as the one before.
 #[cycle(part)]
-fn all_of(facts: &mut Facts<'_>, any: bool, conds: &[Cond]) -> Part {
+fn all_of(facts: &mut Facts<'_>, any: bool, conds: &[Cond], negated: bool) -> PartResult {
     let mut parts = Vec::new(facts.alloc);
     let mut before = None;
     for cond in conds {
         if !is_same_comparison(before, cond) {
-            let part = part_of(facts, cond);
-            push(facts, &mut parts, part);
+            parts.push(part_of(facts, cond, negated)?)?;
         }
         before = Some(cond);
     }
-    combine(facts, any, parts, true)
+    combine(facts, any != negated, parts, true)
 }
 
 /// Returns whether a condition is the same comparison as the one before it, if there is one.
@@ -81,215 +78,148 @@ fn is_same_comparison(before: Option<&Cond>, cond: &Cond) -> bool {
     }
 }
 
-/// Returns a comparison.
-fn comparison(facts: &mut Facts<'_>, op: Op, x: Operand, y: Operand) -> Part {
-    match compare(facts, op, x, y) {
-        Comparison::Fixed(truth) => Part::Fixed(truth),
-        Comparison::Literal(compared) => Part::Codes(Set::of(facts, compared)),
-        Comparison::Columns(compared) => Part::Columns(compared),
-    }
+/// Returns a comparison, or its opposite if it is negated.
+fn comparison(facts: &mut Facts<'_>, op: Op, x: Operand, y: Operand, negated: bool) -> PartResult {
+    Ok(match compare(facts, op, x, y) {
+        Comparison::Fixed(Truth::Unknown) => Part::Fixed(Truth::Unknown),
+        Comparison::Fixed(truth) => Part::Fixed(Truth::of((truth == Truth::Yes) != negated)),
+        Comparison::Literal(compared) => Part::Codes(Set::of(facts, compared, negated)?),
+        Comparison::Columns(compared) => Part::Columns(ColumnComparison {
+            negated: compared.negated != negated,
+            ..compared
+        }),
+    })
 }
 
-/// Returns `BETWEEN`.
-fn range(facts: &mut Facts<'_>, x: Operand, y: Operand, z: Operand) -> Part {
+/// Returns `BETWEEN`, or its opposite if it is negated.
+fn range(facts: &mut Facts<'_>, x: Operand, y: Operand, z: Operand, negated: bool) -> PartResult {
     let mut parts = Vec::new(facts.alloc);
     for (op, bound) in [(Op::Ge, y), (Op::Le, z)] {
-        let part = comparison(facts, op, x, bound);
-        push(facts, &mut parts, part);
+        parts.push(comparison(facts, op, x, bound, negated)?)?;
     }
-    combine(facts, false, parts, true)
+    combine(facts, negated, parts, true)
 }
 
-/// Returns `IN`: first the set of the literals, however long it is, and then the other items.
-fn list(facts: &mut Facts<'_>, x: Operand, items: &[Operand]) -> Part {
+/// Returns `IN`, or its opposite if it is negated: first the set of the literals, however long it
+/// is, and then the other items.
+fn list(facts: &mut Facts<'_>, x: Operand, items: &[Operand], negated: bool) -> PartResult {
     let mut parts = Vec::new(facts.alloc);
     for are_literals in [true, false] {
         for item in items {
             if matches!(item, Operand::Lit(_)) == are_literals {
-                let part = comparison(facts, Op::Eq, x, *item);
-                push(facts, &mut parts, part);
+                parts.push(comparison(facts, Op::Eq, x, *item, negated)?)?;
             }
         }
     }
-    combine(facts, true, parts, false)
+    combine(facts, !negated, parts, false)
 }
 
 /// Returns whether the literals of `IN` are a long set.
 pub(crate) fn is_long_list(facts: &mut Facts<'_>, x: Operand, items: &[Operand]) -> bool {
-    let list = list(facts, x, items);
-    let first = match &list {
-        Part::All(_, parts) => parts.first(),
-        part => Some(part),
-    };
-    matches!(first, Some(Part::Codes(set)) if set.is_long(facts))
-}
-
-/// Returns `IS NULL`.
-fn null_test(facts: &mut Facts<'_>, x: Operand) -> Part {
-    let column = match x {
-        Operand::Col(column) => facts.column(column).0,
-        Operand::Lit(_) => return Part::Fixed(Truth::No),
-        Operand::Null => return Part::Fixed(Truth::Yes),
-    };
-    match facts.nulls(column) {
-        Some(_) => Part::Null(column),
-        None => Part::Fixed(Truth::No),
-    }
-}
-
-/// Returns the opposite of a part.
-fn negate(facts: &mut Facts<'_>, part: Part) -> Part {
-    match part {
-        Part::Codes(mut set) => {
-            set.inverted = !set.inverted;
-            Part::Codes(set)
+    match list(facts, x, items, false) {
+        Ok(Part::Codes(set)) => set.is_long(facts),
+        Ok(Part::All(_, parts)) => {
+            matches!(parts.first(), Some(Part::Codes(set)) if set.is_long(facts))
         }
-        Part::Fixed(Truth::Yes) => Part::Fixed(Truth::No),
-        Part::Fixed(Truth::No) => Part::Fixed(Truth::Yes),
-        Part::Fixed(Truth::Unknown) => part,
-        part => match Box::new(facts.alloc, part) {
-            Ok(part) => Part::Not(part),
-            Err(_) => no_memory(facts),
-        },
+        Ok(_) => false,
+        Err(refusal) => {
+            facts.refuse(refusal);
+            false
+        }
     }
 }
 
-/// Appends a part.
-fn push(facts: &mut Facts<'_>, parts: &mut Vec<Part>, part: Part) {
-    let pushed = parts.push(part).is_ok();
-    facts.expect_memory(pushed);
-}
-
-/// Returns what stands for a part for which memory was refused.
-fn no_memory(facts: &mut Facts<'_>) -> Part {
-    facts.refuse(Refusal::NoMemory);
-    Part::Done
+/// Returns `IS NULL`, or its opposite if it is negated.
+fn null_test(facts: &mut Facts<'_>, x: Operand, negated: bool) -> Part {
+    if let Operand::Col(column) = x {
+        let column = facts.column(column).0;
+        if facts.nulls(column).is_some() {
+            return Part::Null(column, negated);
+        }
+    }
+    Part::Fixed(Truth::of((x == Operand::Null) != negated))
 }
 
 /// Returns the OR of some parts, or else their AND. All sets of one column become one where the
 /// first of them was. If `only_short`, that isn't done if it takes more instructions, or if the set
 /// is long: it takes more product rows than the sets one after another.
-fn combine(facts: &mut Facts<'_>, any: bool, mut parts: Vec<Part>, only_short: bool) -> Part {
+fn combine(facts: &mut Facts<'_>, any: bool, mut parts: Vec<Part>, only_short: bool) -> PartResult {
     for column in 0..64 {
-        merge(facts, any, &mut parts, column, only_short);
+        let mut set = combined_set(facts, any, &parts, column, only_short)?.map(Part::Codes);
+        let has_set = set.is_some();
+        for part in parts.iter_mut() {
+            if has_set && matches!(part, Part::Codes(other) if other.column == column) {
+                *part = set.take().unwrap_or(Part::Done);
+            }
+        }
     }
     parts.retain(|part| !matches!(part, Part::Done));
     if parts.len() > 1 {
-        return Part::All(any, parts);
+        return Ok(Part::All(any, parts));
     }
-    parts.pop().unwrap_or(Part::Done)
+    Ok(parts.pop().unwrap_or(Part::Done))
 }
 
-/// Makes the sets of a column one, if there are several.
-fn merge(
-    facts: &mut Facts<'_>,
+/// Returns what all sets of a column are together, if there are several. If `only_short`, there is
+/// none if it takes more instructions, as two or three codes of more than four bytes do.
+fn combined_set(
+    facts: &Facts<'_>,
     any: bool,
-    parts: &mut [Part],
+    parts: &[Part],
     column: ColumnIndex,
     only_short: bool,
-) {
-    let mut union = Union::new(facts.alloc);
-    for part in parts.iter() {
+) -> Result<Option<Set>, Refusal> {
+    let mut sets = Vec::new(facts.alloc);
+    for part in parts {
         match part {
-            Part::Codes(set) if set.column == column => {
-                let added = union.add(set, !any).is_ok();
-                facts.expect_memory(added);
-            }
+            Part::Codes(set) if set.column == column => sets.push(set)?,
             _ => {}
         }
     }
-    if !union.has_several() || only_short && union.is_slower(facts.width(column)) {
-        return;
+    let are_codes = sets.len() <= 3 && sets.iter().all(|set| set.is_code());
+    if sets.len() < 2 || only_short && are_codes && facts.width(column) > 32 {
+        return Ok(None);
     }
-    match union.set(facts.alloc, column, !any) {
-        Ok(set) if only_short && set.is_long(facts) => {}
-        Ok(set) => replace(parts, set),
-        Err(refusal) => facts.refuse(refusal),
-    }
-}
-
-/// Puts a set in place of the first set of its column, and nothing in place of the others.
-fn replace(parts: &mut [Part], set: Set) {
-    let column = set.column;
-    let mut next = Part::Codes(set);
-    for part in parts.iter_mut() {
-        if matches!(part, Part::Codes(other) if other.column == column) {
-            *part = next;
-            next = Part::Done;
-        }
-    }
-}
-
-/// How many registers some parts take: in their order, and the two of them that take the most; and
-/// which takes the most.
-#[derive(Clone, Copy)]
-struct Registers {
-    in_order: u32,
-    most: u32,
-    second: u32,
-    largest: usize,
+    let set = Set::combine(facts.alloc, column, any, &sets)?;
+    Ok((!only_short || !set.is_long(facts)).then_some(set))
 }
 
 impl Part {
     /// Returns whether it takes only two or three instructions, so that a test whether to skip it
     /// saves nothing.
     pub(crate) fn is_quick(&self) -> bool {
-        match self {
-            Part::Not(part) => matches!(**part, Part::Null(_)),
-            _ => matches!(self, Part::Null(_) | Part::Fixed(_)),
-        }
+        matches!(self, Part::Null(..) | Part::Fixed(_))
     }
 
     /// Returns how many registers it takes at most, if each of its parts keeps one.
     #[cycle(registers)]
     fn registers(&self) -> u32 {
         match self {
-            Part::All(_, parts) => {
-                let taken = registers_of(parts);
-                if taken.in_order <= ROOMY {
-                    taken.in_order
-                } else {
-                    taken.most.max(taken.second.saturating_add(1))
-                }
-            }
-            Part::Not(part) | Part::Test(part, _) => part.registers(),
+            Part::All(_, parts) => first_part(parts).1,
+            Part::Test(part, ..) => part.registers(),
             Part::Done => 0,
             _ => COMPARISON,
         }
     }
 }
 
-/// Returns how many registers some parts take.
+/// Returns the part to begin with, and how many registers all parts take: it is the first one, or,
+/// if the parts take many registers in their order, the one that takes the most.
 #[cycle(registers)]
-fn registers_of(parts: &[Part]) -> Registers {
-    let mut made = Registers {
-        in_order: 0,
-        most: 0,
-        second: 0,
-        largest: 0,
-    };
+pub(crate) fn first_part(parts: &[Part]) -> (usize, u32) {
+    let (mut in_order, mut most, mut second, mut largest) = (0u32, 0u32, 0u32, 0);
     for (number, part) in parts.iter().enumerate() {
         let taken = part.registers();
-        let held = u32::from(number > 0);
-        made.in_order = made.in_order.max(taken.saturating_add(held));
-        if taken > made.most {
-            made.second = made.most;
-            made.most = taken;
-            made.largest = number;
-        } else {
-            made.second = made.second.max(taken);
+        in_order = in_order.max(taken.saturating_add(u32::from(number > 0)));
+        second = second.max(taken.min(most));
+        if taken > most {
+            most = taken;
+            largest = number;
         }
     }
-    made
-}
-
-/// Returns the part to begin with: the first one, or, if the parts take many registers in their
-/// order, the one that takes the most.
-pub(crate) fn first_part(parts: &[Part]) -> usize {
-    let taken = registers_of(parts);
-    if taken.in_order <= ROOMY {
-        0
+    if in_order <= ROOMY {
+        (0, in_order)
     } else {
-        taken.largest
+        (largest, most.max(second.saturating_add(1)))
     }
 }

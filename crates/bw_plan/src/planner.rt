@@ -59,53 +59,35 @@ pub fn propose_in_order<'a>(
         IsTrue (has_columns schema.now.columns.items (certificate_fields proposal.certificate))) }
     ensures fault { IfErr result IsRefusal }
 {
-    match plan(alloc, schema, cond, order) {
-        Ok(proposal) => Ok(proposal),
-        Err(refusal) => Err(refusal.fault()),
-    }
+    let code = Code::new(alloc, Facts::new(alloc, schema, cond)?);
+    let (program, code, row) = program_of(schema, cond, order, code)?;
+    let certificate = emit::certificate(schema, &code, row)?;
+    Ok(Proposal {
+        program,
+        certificate,
+    })
 }
 
-/// Returns a program for a condition, and its certificate.
-fn plan<'a>(
-    alloc: Global,
-    schema: &'a Schema,
-    cond: &Cond,
-    order: &Cond,
-) -> Result<Proposal<'a>, Refusal>
-    ensures program { IfOk result (λ proposal.
-        IsTrue (fits schema.now.columns.items proposal.program)) }
-    ensures certificate { IfOk result (λ proposal.
-        IsTrue (has_columns schema.now.columns.items (certificate_fields proposal.certificate))) }
-{
-    let mut code = Code::new(alloc, Facts::new(alloc, schema, cond)?);
-    let (program, row) = program_of(schema, cond, order, &mut code)?;
-    match emit::certificate(schema, &code, row) {
-        Ok(certificate) => Ok(Proposal {
-            program,
-            certificate,
-        }),
-        Err(refusal) => Err(refusal),
-    }
-}
-
-/// Returns the program, with skips or without, and the row that ends the certificate.
-fn program_of(
+/// Returns the program, with skips or without, its code, and the row that ends the certificate.
+fn program_of<'a>(
     schema: &Schema,
     cond: &Cond,
     order: &Cond,
-    code: &mut Code<'_>,
-) -> Result<(Program, u32), Refusal>
+    mut code: Code<'a>,
+) -> Result<(Program, Code<'a>, u32), Refusal>
     ensures { IfOk result (λ made. IsTrue (fits schema.now.columns.items made.0)) }
 {
     let node = code.begin(cond)?;
-    let part = part_of(&mut code.facts, order);
+    let part = part_of(&mut code.facts, order, false)?;
     code.facts.check_refusal()?;
-    match emit_program(schema, &part, node, code) {
+    match emit_program(schema, &part, node, &mut code) {
+        Ok((program, row)) => Ok((program, code, row)),
         Err(Refusal::NoProgram) => {
-            code.begin_again();
-            emit_program(schema, &part, node, code)
+            let mut code = code.without_skips();
+            let (program, row) = emit_program(schema, &part, node, &mut code)?;
+            Ok((program, code, row))
         }
-        made => made,
+        Err(refusal) => Err(refusal),
     }
 }
 
@@ -127,7 +109,11 @@ fn emit_program(
     let answer = code.facts.expect(answer, 0);
     code.meet();
     if code.skip_count == 0 {
-        end_with_skip(code, answer);
+        // A skip at the end lets counts show empty segments.
+        let first = code.open_skips();
+        code.skip(answer);
+        code.meet_from(first);
+        code.meet();
     }
     let made = code.node(answer);
     let row = code.row(Connective::Xor, made, node);
@@ -135,14 +121,6 @@ fn emit_program(
     if row.node != 0 {
         return Err(Refusal::NoProgram);
     }
-    let program = emit::program(code.alloc, schema, &code.instrs, answer)?;
-    Ok((program, row.number))
-}
-
-/// Ends a program without a skip with one, so that counts show empty segments.
-fn end_with_skip(code: &mut Code<'_>, answer: Register) {
-    let first = code.open_skips();
-    code.skip(answer);
-    code.meet_from(first);
-    code.meet();
+    let answer = code.renumber_registers(answer)?;
+    Ok((emit::program(schema, code, answer)?, row.number))
 }

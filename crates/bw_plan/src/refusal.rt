@@ -25,12 +25,12 @@ impl<T: Drop> From<AllocFailed<T>> for Refusal {
     }
 }
 
-impl Refusal {
-    /// Returns the error that is reported, at no place: 651, or 801 for `NoMemory`.
-    pub(crate) fn fault(self) -> Fault
-        ensures { IsRefusal result }
-    {
-        match self {
+/// The error that is reported, at no place: 651, or 801 for `NoMemory`.
+impl From<Refusal> for Fault {
+    ghost from_gives = { λ _ fault. IsRefusal fault };
+
+    fn from(refusal: Refusal) -> Self {
+        match refusal {
             Refusal::NoProgram => Fault::new(code::NO_PROGRAM),
             Refusal::NoMemory => Fault::new(code::OUT_OF_MEMORY),
         }

@@ -4,16 +4,6 @@ use crate::comparison::ColumnComparison;
 use bw_diagram::{ChainKind, Connective};
 use bw_program::Register;
 
-/// Registers of one bit of two columns.
-#[derive(Clone, Copy)]
-struct Bits {
-    /// 1 if the bits differ.
-    differs: Register,
-    /// If the bits differ, 1 if the left one is 0. It is `differs` itself if only the right column
-    /// has the bit. There is none if only the left one has it, or if only equality is wanted.
-    below: Option<Register>,
-}
-
 impl Code<'_> {
     /// Returns a register that is 1 if the code of a column is less than (equal to) that of
     /// another. Their top bits are compared from the top down, with skips to the end of the
@@ -22,10 +12,8 @@ impl Code<'_> {
         let left = self.facts.width(relation.left);
         let bits = left.max(self.facts.width(relation.right));
         let low = bits.saturating_sub(self.skipped_bits());
-        let mut less = None;
-        if relation.kind == ChainKind::Less && low < bits {
-            less = Some(self.fill(false));
-        }
+        let is_less = relation.kind == ChainKind::Less && low < bits;
+        let less = is_less.then(|| self.fill(false));
         let mut same = None;
         for bit in (low..bits).rev() {
             let now = self.next_below(relation, bit, less, same);
@@ -34,35 +22,25 @@ impl Code<'_> {
             }
             same = Some(now);
         }
-        match same {
-            Some(same) => self.relation_below(relation, low, less, same),
-            None => self.lows(relation, low),
+        match (same, less) {
+            (None, _) => self.lows(relation, low),
+            (Some(same), None) => {
+                if low > 0 {
+                    let rest = self.lows(relation, low);
+                    self.join_into(Connective::And, same, rest);
+                }
+                same
+            }
+            (Some(same), Some(less)) => {
+                if low > 0 {
+                    let rest = self.lows(relation, low);
+                    self.join_into(Connective::And, rest, same);
+                    self.join_into(Connective::Or, less, rest);
+                }
+                self.release(same);
+                less
+            }
         }
-    }
-
-    /// Returns the same, if it is known whether the code is less by the bits from `low` on, if that
-    /// is wanted, and whether it has the same bits there.
-    fn relation_below(
-        &mut self,
-        relation: ColumnComparison,
-        low: u32,
-        less: Option<Register>,
-        same: Register,
-    ) -> Register {
-        if low > 0 {
-            let rest = self.lows(relation, low);
-            let Some(less) = less else {
-                self.join_into(Connective::And, same, rest);
-                return same;
-            };
-            self.join_into(Connective::And, rest, same);
-            self.join_into(Connective::Or, less, rest);
-        }
-        let Some(less) = less else {
-            return same;
-        };
-        self.release(same);
-        less
     }
 
     /// Adds the next bit below to a comparison from the top down. Updates whether the code is less
@@ -74,14 +52,13 @@ impl Code<'_> {
         less: Option<Register>,
         same: Option<Register>,
     ) -> Register {
-        let Bits { differs, below } = self.bits(relation, bit);
-        if let (Some(less), Some(below)) = (less, below) {
-            let below = if below == differs {
-                self.copy(differs)
+        let (differs, below) = self.bits(relation, bit);
+        if let (Some(less), Some(mut below)) = (less, below) {
+            if below == differs {
+                below = self.copy(differs);
             } else {
                 self.join(Connective::And, below, below, differs);
-                below
-            };
+            }
             if let Some(same) = same {
                 self.join(Connective::And, below, below, same);
             }
@@ -100,7 +77,7 @@ impl Code<'_> {
     fn lows(&mut self, relation: ColumnComparison, bits: u32) -> Register {
         let made = self.fill(relation.kind == ChainKind::Equal);
         for bit in 0..bits {
-            let Bits { differs, below } = self.bits(relation, bit);
+            let (differs, below) = self.bits(relation, bit);
             match below {
                 Some(below) if below != differs => {
                     self.join(Connective::Xor, below, below, made);
@@ -118,15 +95,14 @@ impl Code<'_> {
         made
     }
 
-    /// Returns the registers of one bit of two columns, of which at least one has it.
-    fn bits(&mut self, relation: ColumnComparison, bit: u32) -> Bits {
-        let (mut left, mut right) = (None, None);
-        if bit < self.facts.width(relation.right) {
-            right = Some(self.bit(relation.right, bit));
-        }
-        if bit < self.facts.width(relation.left) {
-            left = Some(self.bit(relation.left, bit));
-        }
+    /// Returns the registers of one bit of two columns, of which at least one has it: that is 1 if
+    /// the bits differ, and that is 1, if they differ, if the left one is 0. The second is the
+    /// first if only the right column has the bit. There is none if only the left one has it, or
+    /// if only equality is wanted.
+    fn bits(&mut self, relation: ColumnComparison, bit: u32) -> (Register, Option<Register>) {
+        let (left, right) = (relation.left, relation.right);
+        let right = (bit < self.facts.width(right)).then(|| self.bit(right, bit));
+        let left = (bit < self.facts.width(left)).then(|| self.bit(left, bit));
         let is_less = relation.kind == ChainKind::Less;
         if let (Some(left), Some(right)) = (left, right) {
             self.join(Connective::Xor, left, left, right);
@@ -134,9 +110,7 @@ impl Code<'_> {
                 self.release(right);
             }
         }
-        Bits {
-            differs: self.facts.expect(left.or(right), 0),
-            below: if is_less { right } else { None },
-        }
+        let differs = self.facts.expect(left.or(right), 0);
+        (differs, if is_less { right } else { None })
     }
 }

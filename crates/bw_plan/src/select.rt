@@ -1,9 +1,7 @@
 //! Instructions that compare a column's codes with numbers, from the most significant byte down.
 use crate::code::Code;
 use crate::digits::Upper;
-use crate::sets::{
-    bounds_below, byte_of, first_group, groups_from, is_rare, is_soon_done, most_instructions,
-};
+use crate::sets::{bounds_below, byte_of, groups_from, is_rare, most_instructions};
 use bw_diagram::{ChainKind, Connective};
 use bw_program::{ColumnIndex, Register, SliceIndex};
 
@@ -53,16 +51,14 @@ impl Code<'_> {
         mask: Option<Register>,
         out: Option<Register>,
     ) -> Register {
-        let here = self.bytes(column, slice, bounds);
-        let masked = if out.is_some() { mask } else { None };
-        let mut out = self.toggle_lanes(here, masked, out);
+        let mut out = match self.bytes(column, slice, bounds) {
+            Some(here) => Some(self.toggle_lanes(here, mask, out)),
+            None => out,
+        };
         if slice > 0 {
-            let mut rest = bounds;
             let mut before = None;
-            for _ in 0..bounds.len() {
-                let (group, others) = first_group(rest, slice);
+            for group in bounds.chunk_by(|a, b| byte_of(*a, slice) == byte_of(*b, slice)) {
                 out = self.below(column, slice, group, mask, out, &mut before);
-                rest = others;
             }
             self.release_upper(before);
         }
@@ -90,7 +86,8 @@ impl Code<'_> {
         };
         let first = self.open_skips();
         let same = self.same_byte(column, slice, byte_of(*bound, slice), mask, before);
-        if !(self.has_few_skips && is_soon_done(inner, slice)) {
+        // Bounds of one number, whose last byte is the next, are soon done.
+        if !self.has_few_skips || slice > 1 || inner.len() > 2 {
             self.skip(same);
         }
         self.narrow(column, next, inner, same);
@@ -136,60 +133,47 @@ impl Code<'_> {
         bounds: &[u64],
     ) -> Option<Register> {
         let mut made = None;
-        let mut before: Option<Register> = None;
-        let mut upper = None;
-        let mut rest = bounds;
-        for _ in 0..bounds.len() {
-            let (group, others) = first_group(rest, slice);
-            rest = others;
-            let Some(bound) = group.first() else {
-                break;
-            };
-            let byte = byte_of(*bound, slice);
+        let mut before: Option<u8> = None;
+        for group in bounds.chunk_by(|a, b| byte_of(*a, slice) == byte_of(*b, slice)) {
+            let byte = group.first().map_or(0, |bound| byte_of(*bound, slice));
             if group.len() % 2 == 0 || byte == 0 {
                 continue;
             }
-            before = match before {
-                Some(last) if last.checked_add(1) == Some(byte) => {
-                    let next = self.same_byte(column, slice, last, None, &mut upper);
-                    made = self.toggle_lanes(Some(next), None, made);
-                    None
-                }
-                Some(last) => {
-                    let next = self.byte(ChainKind::Less, column, slice, last);
-                    made = self.toggle_lanes(Some(next), None, made);
-                    Some(byte)
-                }
-                None => Some(byte),
+            let Some(last) = before else {
+                before = Some(byte);
+                continue;
             };
+            let is_next = last.checked_add(1) == Some(byte);
+            before = (!is_next).then_some(byte);
+            let next = if is_next {
+                self.same_byte(column, slice, last, None, &mut None)
+            } else {
+                self.byte(ChainKind::Less, column, slice, last)
+            };
+            made = Some(self.toggle_lanes(next, None, made));
         }
-        match before {
-            Some(last) => {
-                let next = self.byte(ChainKind::Less, column, slice, last);
-                self.toggle_lanes(Some(next), None, made)
-            }
-            None => made,
+        if let Some(last) = before {
+            let next = self.byte(ChainKind::Less, column, slice, last);
+            made = Some(self.toggle_lanes(next, None, made));
         }
+        made
     }
 
-    /// Returns a register, `out` if there is one, with the lanes toggled that are 1 in another and
-    /// in `mask`.
+    /// Returns a register: another one, or, if there is one, `out` with the lanes toggled that are
+    /// 1 in the other and in `mask`.
     fn toggle_lanes(
         &mut self,
-        next: Option<Register>,
+        next: Register,
         mask: Option<Register>,
         out: Option<Register>,
-    ) -> Option<Register> {
-        let Some(next) = next else {
-            return out;
+    ) -> Register {
+        let Some(out) = out else {
+            return next;
         };
         if let Some(mask) = mask {
             self.join(Connective::And, next, next, mask);
         }
-        let Some(out) = out else {
-            return Some(next);
-        };
         self.join_into(Connective::Xor, out, next);
-        Some(out)
+        out
     }
 }

@@ -12,70 +12,46 @@ pub(crate) struct Sequence {
 }
 
 impl Sequence {
-    /// Returns no columns.
-    fn new() -> Self {
-        Sequence {
-            columns: [0; 64],
-            count: 0,
-            weight: 0,
-        }
-    }
-
-    /// Returns the place of a column, or 64 if it is missing.
-    pub(crate) fn place(&self, column: ColumnIndex) -> u8 {
-        for (place, other) in self.columns.iter().enumerate() {
-            if place < self.count && *other == column {
-                return u8::try_from(place).unwrap_or(64);
-            }
-        }
-        64
-    }
-
-    /// Returns how many bits the codes of these columns have.
-    pub(crate) fn bits(&self, schema: &Schema) -> u32 {
-        let mut bits = 0u32;
-        for column in self.columns.iter().take(self.count) {
-            let column = usize::from(*column);
-            if column < schema.columns.len() {
-                bits = bits.saturating_add(schema.width(column));
-            }
-        }
-        bits
+    /// Returns the columns.
+    pub(crate) fn columns(&self) -> &[ColumnIndex] {
+        self.columns.get(..self.count).unwrap_or(&self.columns)
     }
 
     /// Appends a column, if it is missing.
     fn push(&mut self, column: ColumnIndex) {
-        if self.place(column) < 64 {
-            return;
-        }
-        if let Some(slot) = self.columns.get_mut(self.count) {
+        let is_new = !self.columns().contains(&column);
+        if let (true, Some(slot)) = (is_new, self.columns.get_mut(self.count)) {
             *slot = column;
             self.count += 1;
         }
     }
 
-    /// Appends the column of an operand, which is compared once more.
-    fn push_operand(&mut self, schema: &Schema, operand: Operand) {
-        let Operand::Col(column) = operand else {
-            return;
-        };
-        if column >= schema.columns.len() {
-            return;
-        }
-        let width = u64::from(schema.width(column));
-        self.weight = self.weight.saturating_add(width);
-        if let Ok(column) = u8::try_from(column) {
-            self.push(column);
+    /// Appends the column of an operand, which is compared once more, and returns it.
+    fn push_operand(&mut self, schema: &Schema, operand: Operand) -> Option<ColumnIndex> {
+        match operand {
+            Operand::Col(column) if column < schema.columns.len() => {
+                let width = u64::from(schema.width(column));
+                self.weight = self.weight.saturating_add(width);
+                self.push(column as u8);
+                Some(column as u8)
+            }
+            _ => None,
         }
     }
 
-    /// Returns these columns, and then others.
-    fn then(mut self, others: Self) -> Self {
-        for column in others.columns.iter().take(others.count) {
-            self.push(*column);
+    /// Returns these columns and others, the smaller ones first: the nodes of the larger ones are
+    /// then unchanged below them.
+    fn join(self, others: Self) -> Self {
+        let (mut made, last) = if others.weight <= self.weight {
+            (others, self)
+        } else {
+            (self, others)
+        };
+        for column in last.columns() {
+            made.push(*column);
         }
-        self.weight = self.weight.saturating_add(others.weight);
-        self
+        made.weight = made.weight.saturating_add(last.weight);
+        made
     }
 }
 
@@ -87,64 +63,46 @@ pub(crate) struct Pairs<'a> {
 }
 
 impl Pairs<'_> {
-    /// Returns the columns of a condition, and adds its pairs. If parts are combined, the smaller
-    /// one comes first: the nodes of the larger one are then unchanged below it.
+    /// Returns the columns of a condition, and adds its pairs.
     #[cycle(sequence)]
     pub(crate) fn sequence_of(&mut self, cond: &Cond) -> Result<Sequence, Refusal> {
-        let mut made = Sequence::new();
+        let mut made = Sequence {
+            columns: [0; 64],
+            count: 0,
+            weight: 0,
+        };
         match cond {
             Cond::Always => {}
-            Cond::Cmp(op, x, y) => self.compare(&mut made, *op, *x, *y)?,
+            Cond::Cmp(op, x, y) => self.add(&mut made, *op, *x, *y)?,
             Cond::Between(x, y, z) => {
-                self.compare(&mut made, Op::Ge, *x, *y)?;
-                self.compare(&mut made, Op::Le, *x, *z)?;
+                self.add(&mut made, Op::Ge, *x, *y)?;
+                self.add(&mut made, Op::Le, *x, *z)?;
             }
             Cond::Among(x, items) => {
                 for item in items {
-                    self.compare(&mut made, Op::Eq, *x, *item)?;
+                    self.add(&mut made, Op::Eq, *x, *item)?;
                 }
             }
-            Cond::IsNull(x) => made.push_operand(self.schema, *x),
-            Cond::And(parts) | Cond::Or(parts) => return self.sequence_of_all(parts),
+            Cond::IsNull(x) => self.add(&mut made, Op::Eq, *x, Operand::Null)?,
+            Cond::And(parts) | Cond::Or(parts) => {
+                for part in parts {
+                    made = made.join(self.sequence_of(part)?);
+                }
+            }
             Cond::Not(part) | Cond::Test(part, _) => return self.sequence_of(part),
         }
         Ok(made)
     }
 
-    /// Returns the columns of some parts.
-    #[cycle(sequence)]
-    fn sequence_of_all(&mut self, parts: &[Cond]) -> Result<Sequence, Refusal> {
-        let mut made = Sequence::new();
-        for part in parts {
-            let next = self.sequence_of(part)?;
-            made = if next.weight <= made.weight {
-                next.then(made)
-            } else {
-                made.then(next)
-            };
-        }
-        Ok(made)
-    }
-
     /// Appends the columns of a comparison, and adds their pair.
-    fn compare(
-        &mut self,
-        sequence: &mut Sequence,
-        op: Op,
-        x: Operand,
-        y: Operand,
-    ) -> Result<(), Refusal> {
-        sequence.push_operand(self.schema, x);
-        sequence.push_operand(self.schema, y);
-        let (left, right) = match (x, y) {
-            (Operand::Col(x), Operand::Col(y)) if matches!(op, Op::Gt | Op::Le) => (y, x),
-            (Operand::Col(x), Operand::Col(y)) => (x, y),
-            _ => return Ok(()),
-        };
-        if let (Ok(left), Ok(right)) = (u8::try_from(left), u8::try_from(right)) {
-            if left != right {
-                self.pairs.push((left, right))?;
-            }
+    fn add(&mut self, to: &mut Sequence, op: Op, x: Operand, y: Operand) -> Result<(), Refusal> {
+        let x = to.push_operand(self.schema, x);
+        let y = to.push_operand(self.schema, y);
+        match (x, y) {
+            (Some(x), Some(y)) if x == y => {}
+            (Some(x), Some(y)) if matches!(op, Op::Gt | Op::Le) => self.pairs.push((y, x))?,
+            (Some(x), Some(y)) => self.pairs.push((x, y))?,
+            _ => {}
         }
         Ok(())
     }

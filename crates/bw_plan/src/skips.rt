@@ -1,5 +1,5 @@
 //! Skips: where they begin, where they meet, and what is proved of registers there.
-use crate::code::{Code, RegisterState, UNUSED};
+use crate::code::{Code, RegisterState};
 use crate::line::{KeepLine, PlannedLine};
 use crate::refusal::Refusal;
 use bw_cert_text::{EdgeProducts, InstructionEntry};
@@ -27,13 +27,7 @@ impl Code<'_> {
             return 0;
         }
         let each = MAX_SQUARES / self.facts.ranks.relations.max(1);
-        let mut most = 0;
-        for bits in 0..64u32 {
-            if (bits * bits) as usize <= each {
-                most = bits;
-            }
-        }
-        most
+        each.isqrt().min(63) as u32
     }
 
     /// Appends a skip, taken if a register is zero in every lane.
@@ -42,18 +36,15 @@ impl Code<'_> {
             return;
         }
         self.meet();
-        let tested = self.node(register);
-        let (number, line) = (self.instrs.len(), self.lines.len());
-        self.put(Instr::Skip(register, 0), InstructionEntry::Skip);
-        self.skip_count = self.skip_count.saturating_add(1);
         let skip = Skip {
-            number,
-            line,
-            tested,
+            number: self.instrs.len(),
+            line: self.lines.len(),
+            tested: self.node(register),
             registers: self.registers,
         };
-        let pushed = self.skips.push(skip).is_ok();
-        self.facts.expect_memory(pushed);
+        self.put(Instr::Skip(register, 0), InstructionEntry::Skip);
+        self.skip_count = self.skip_count.saturating_add(1);
+        self.facts.expect_memory(self.skips.push(skip).is_ok());
     }
 
     /// Returns how many skips are still to meet, besides those that meet here.
@@ -123,24 +114,20 @@ impl Code<'_> {
             self.lines.remove(line);
         }
         self.skip_count = self.skip_count.saturating_sub(1);
-        for skip in self.skips.iter_mut() {
-            if skip.number > number {
-                skip.number -= 1;
-                skip.line = skip.line.saturating_sub(1);
-            }
+        for skip in self.skips.iter_mut().skip(at) {
+            skip.number = skip.number.saturating_sub(1);
+            skip.line = skip.line.saturating_sub(1);
         }
         for instr in self.instrs.iter_mut() {
-            if let Instr::Skip(_, target) = instr {
-                if *target > number {
-                    *target -= 1;
-                }
+            match instr {
+                Instr::Skip(_, target) if *target > number => *target -= 1,
+                _ => {}
             }
         }
         for entry in self.lines.iter_mut() {
-            if let PlannedLine::Join(target) = entry {
-                if *target > number as u64 {
-                    *target -= 1;
-                }
+            match entry {
+                PlannedLine::Join(target) if *target > number as u64 => *target -= 1,
+                _ => {}
             }
         }
     }
@@ -151,11 +138,9 @@ impl Code<'_> {
         let Some(node) = known.node else {
             return;
         };
-        if register >= 64 {
-            return;
-        }
-        if !known.needed && !self.is_everywhere(register, node, first) {
-            self.set_state(register, UNUSED);
+        let mut skips = first..self.skips.len();
+        if !known.needed && !skips.all(|at| self.node_at(register, at) == known.node) {
+            self.registers[usize::from(register % 64)].node = None;
             return;
         }
         let through = self.row(Connective::Xor, node, node);
@@ -164,27 +149,16 @@ impl Code<'_> {
             let Some(edge) = self.edge(register, node, at) else {
                 return self.facts.refuse(Refusal::NoProgram);
             };
-            let pushed = self.edges.push(edge).is_ok();
-            self.facts.expect_memory(pushed);
+            self.facts.expect_memory(self.edges.push(edge).is_ok());
         }
         let keep = KeepLine {
-            register,
+            register: register % 64,
             node: u64::from(node),
             through: through.reference(),
             first: begin,
             end: self.edges.len(),
         };
         self.put_line(PlannedLine::Keep(keep));
-    }
-
-    /// Returns whether a register has this node by each skip.
-    fn is_everywhere(&self, register: Register, node: u32, first: usize) -> bool {
-        for at in first..self.skips.len() {
-            if self.node_at(register, at) != Some(node) {
-                return false;
-            }
-        }
-        true
     }
 
     /// Returns the node of a register at a skip, if it is known.
@@ -196,10 +170,8 @@ impl Code<'_> {
     /// Returns the product rows that prove that a register has the value of `node` by a skip, if it
     /// has: its node there and `node` differ nowhere where the skip's node is 0.
     fn edge(&mut self, register: Register, node: u32, at: usize) -> Option<EdgeProducts> {
-        let (Some(skip), Some(held)) = (self.skips.get(at), self.node_at(register, at)) else {
-            return None;
-        };
-        let tested = skip.tested;
+        let held = self.node_at(register, at)?;
+        let tested = self.skips.get(at)?.tested;
         let differs = self.row(Connective::Xor, held, node);
         let within = self.row(Connective::Diff, differs.node, tested);
         (within.node == 0).then_some(EdgeProducts {

@@ -9,7 +9,7 @@ use crate::line::PlannedLine;
 use crate::order::VariableOrder;
 use crate::parts::is_long_list;
 use crate::refusal::Refusal;
-use crate::truth_pair::{TruthPair, of_truth};
+use crate::truth_pair::TruthPair;
 use bw_cert_text::ConditionEntry;
 use bw_diagram::Connective;
 use bw_model::{Cond, Op, Operand, Truth};
@@ -77,12 +77,9 @@ impl Code<'_> {
 
     /// Returns the nodes of the OR of the equations of a list with one operand.
     fn put_list(&mut self, x: Operand, items: &[Operand]) -> TruthNodes {
-        let Some((first, others)) = items.split_first() else {
+        let (Some((first, others)), true) = (items.split_first(), items.len() <= MAX_LIST) else {
             return self.refuse_nodes();
         };
-        if items.len() > MAX_LIST {
-            return self.refuse_nodes();
-        }
         let mut most = usize::MAX;
         if is_long_list(&mut self.facts, x, items) {
             let products = self.facts.products.len();
@@ -113,10 +110,9 @@ impl Code<'_> {
     /// Returns the nodes of a step with one truth on every row.
     fn put_fixed(&mut self, truth: Truth) -> TruthNodes {
         self.put_step(ConditionEntry::Fixed);
-        let TruthPair { yes, no } = of_truth(truth);
         TruthPair {
-            yes: u32::from(yes),
-            no: u32::from(no),
+            yes: u32::from(truth == Truth::Yes),
+            no: u32::from(truth == Truth::No),
         }
     }
 
@@ -156,11 +152,10 @@ impl Code<'_> {
 
     /// Returns the nodes of `IS NULL`.
     fn put_null_test(&mut self, x: Operand) -> TruthNodes {
-        let column = match x {
-            Operand::Col(column) => self.facts.column(column).0,
-            Operand::Lit(_) => return self.put_fixed(Truth::No),
-            Operand::Null => return self.put_fixed(Truth::Yes),
+        let Operand::Col(column) = x else {
+            return self.put_fixed(Truth::of(x == Operand::Null));
         };
+        let column = self.facts.column(column).0;
         let Some(yes) = self.facts.nulls(column) else {
             return self.put_fixed(Truth::No);
         };
@@ -191,13 +186,11 @@ impl Code<'_> {
     /// Returns the number of a comparison's chain and its node: none, and a terminal, if that is
     /// its outcome for all codes.
     fn chain_of(&mut self, link: Link, terminal: Option<u32>) -> (Option<u64>, u32) {
-        match terminal {
-            Some(terminal) => (None, terminal),
-            None => {
-                let cited = self.facts.chain(link);
-                (Some(cited.reference()), cited.node)
-            }
+        if let Some(terminal) = terminal {
+            return (None, terminal);
         }
+        let cited = self.facts.chain(link);
+        (Some(cited.reference()), cited.node)
     }
 
     /// Returns the nodes of a comparison of a column with a number.

@@ -1,5 +1,4 @@
 //! Pairs: one thing for where a condition is TRUE, and one for where it is FALSE.
-use bw_model::Truth;
 
 /// What belongs to the rows on which a condition is TRUE, and to those on which it is FALSE: nodes,
 /// registers, or whether a register is wanted.
@@ -20,13 +19,5 @@ impl<T: Copy> TruthPair<T> {
         } else {
             self
         }
-    }
-}
-
-/// Returns where a condition is TRUE and where it is FALSE, if it has one truth on every row.
-pub(crate) fn of_truth(truth: Truth) -> TruthPair<bool> {
-    TruthPair {
-        yes: truth == Truth::Yes,
-        no: truth == Truth::No,
     }
 }

@@ -5,7 +5,7 @@ use crate::growth::Growth;
 use crate::order::VariableOrder;
 use crate::parts::{Part, first_part};
 use crate::sets::Set;
-use crate::truth_pair::{TruthPair, of_truth};
+use crate::truth_pair::TruthPair;
 use bw_diagram::Connective;
 use bw_model::Truth;
 use bw_program::{ColumnIndex, Register};
@@ -36,19 +36,18 @@ impl Code<'_> {
             Part::Fixed(truth) => self.constant(*truth, wanted),
             Part::Codes(set) => self.in_set(set, wanted),
             Part::Columns(compared) => self.emit_column_comparison(*compared, wanted),
-            Part::Null(column) => self.emit_null_test(*column, wanted),
-            Part::All(any, parts) => self.emit_parts(*any, parts, wanted),
-            Part::Not(part) => {
-                let made = self.truths(part, wanted.opposite_if(true));
-                made.opposite_if(true)
+            Part::Null(column, negated) => {
+                let made = self.emit_null_test(*column, wanted.opposite_if(*negated));
+                made.opposite_if(*negated)
             }
-            Part::Test(part, truth) => {
+            Part::All(any, parts) => self.emit_parts(*any, parts, wanted),
+            Part::Test(part, truth, negated) => {
                 let needed = TruthPair {
                     yes: *truth != Truth::No,
                     no: *truth != Truth::Yes,
                 };
                 let made = self.truths(part, needed);
-                self.emit_truth_test(*truth, made, wanted)
+                self.emit_truth_test(*truth, made, *negated, wanted)
             }
             Part::Done => NONE,
         }
@@ -59,7 +58,7 @@ impl Code<'_> {
     #[cycle(truths)]
     fn emit_parts(&mut self, any: bool, parts: &[Part], wanted: WantedTruths) -> TruthRegisters {
         let first = self.open_skips();
-        let start = first_part(parts);
+        let (start, _) = first_part(parts);
         let Some(part) = parts.get(start) else {
             return NONE;
         };
@@ -107,33 +106,34 @@ impl Code<'_> {
 
     /// Returns the registers of one truth on every row.
     fn constant(&mut self, truth: Truth, wanted: WantedTruths) -> TruthRegisters {
-        let bits = of_truth(truth);
         let mut made = NONE;
         if wanted.yes {
-            made.yes = Some(self.fill(bits.yes));
+            made.yes = Some(self.fill(truth == Truth::Yes));
         }
         if wanted.no {
-            made.no = Some(self.fill(bits.no));
+            made.no = Some(self.fill(truth == Truth::No));
         }
         made
     }
 
-    /// Returns the registers of `IS TRUE`, `IS FALSE` or `IS UNKNOWN`.
+    /// Returns the registers of `IS TRUE`, `IS FALSE` or `IS UNKNOWN`, or of its opposite if it is
+    /// negated.
     fn emit_truth_test(
         &mut self,
         truth: Truth,
         made: TruthRegisters,
+        negated: bool,
         wanted: WantedTruths,
     ) -> TruthRegisters {
-        let (held, negated) = match (truth, made.yes, made.no) {
-            (Truth::Yes, Some(held), _) | (Truth::No, _, Some(held)) => (held, false),
+        let (held, inverted) = match (truth, made.yes, made.no) {
+            (Truth::Yes, Some(held), _) | (Truth::No, _, Some(held)) => (held, negated),
             (Truth::Unknown, Some(held), Some(other)) => {
                 self.join_into(Connective::Or, held, other);
-                (held, true)
+                (held, !negated)
             }
             _ => return NONE,
         };
-        self.sides(held, &[], false, negated, wanted)
+        self.sides(held, &[], false, inverted, wanted)
     }
 
     /// Returns the registers of `IS NULL`, of a column that may be null.
@@ -174,9 +174,8 @@ impl Code<'_> {
         self.meet_from(first);
         self.meet();
         let [c, d] = compared.columns;
-        let both = [c, d];
-        let count = if c == d { 1 } else { 2 };
-        let made = self.sides(held, &both[..count], true, compared.negated, wanted);
+        let columns = &compared.columns[usize::from(c == d)..];
+        let made = self.sides(held, columns, true, compared.negated, wanted);
         self.meet_from(first);
         self.meet();
         self.order = VariableOrder::Whole;

@@ -1,6 +1,5 @@
 //! Program texts in their canonical form.
-ghost use Rattle.std.specs.Prelude.{◌≡◌, ◌++◌, ◌∷◌, [], ◌<◌, List, IfOk, OnOk, IsOkUnless, IsTrue};
-ghost use Rattle.std.specs.Prelude.{length};
+ghost use Rattle.std.specs.Prelude.{◌≡◌, ◌++◌, ◌∷◌, [], List, IfOk, OnOk, IsOkUnless, IsTrue};
 ghost use Rattle.std.specs.Fmt.{decimal};
 ghost use Rattle.std.specs.List.{list_all};
 ghost use Rattle.bw_model.specs.declared.column.Column.{Column};
@@ -10,8 +9,9 @@ ghost use Rattle.bw_model.specs.Name.{is_name, are_apart};
 ghost use Rattle.bw_text.specs.Opcode.{opcode_spelling};
 ghost use Rattle.bw_text.specs.Printing.{line_text, piece_text};
 ghost use Rattle.bw_text.specs.Register.{register_text};
-ghost use Rattle.bw_program.specs.PrintText.{column_text, instr_words, print_text, result_words};
-ghost use Rattle.bw_program.specs.Program.{ProgramShape, is_program, fits, instr_fits};
+ghost use Rattle.bw_program.specs.PrintText.{column_text, instr_words, lines_text, print_text};
+ghost use Rattle.bw_program.specs.PrintText.{result_words};
+ghost use Rattle.bw_program.specs.Program.{ProgramShape, is_program, fits};
 ghost use Rattle.bw_program.specs.ProgramText.{IsProgramText};
 
 use crate::instr::{ColumnIndex, Instr, Register, SliceIndex};
@@ -33,15 +33,29 @@ impl Program {
             (λ text. IsProgramText schema.now.columns.items text.items self.now) }
         ensures only_oom { IsOkUnless result no_memory }
     {
-        let _ = &self.instrs;
         schema.has_names_and_bounds();
-        let mut text = Vec::new(alloc);
-        for number in 0..self.len() {
-            put_instr(alloc, schema, self.instr(number), &mut text)?;
-        }
-        put_result(alloc, self.result(), &mut text)?;
-        Ok(text)
+        Ok(program_text(alloc, schema, &self.instrs, self.result)?)
     }
+}
+
+/// Returns the canonical text of instructions and a result register under a schema. A column that
+/// the schema lacks has no name there. The text needn't be that of a program: [`Program::parse`]
+/// decides. Errors: memory is refused.
+pub fn program_text(
+    alloc: Global,
+    schema: &Schema,
+    instrs: &[Instr],
+    answer: Register,
+) -> Result<Vec<u8>, AllocError>
+    ensures { IfOk result
+        (λ text. text.items ≡ lines_text schema.now.columns.items instrs.now answer) }
+{
+    let mut text = Vec::new(alloc);
+    for instr in instrs {
+        put_instr(alloc, schema, *instr, &mut text)?;
+    }
+    put_result(alloc, answer, &mut text)?;
+    Ok(text)
 }
 
 /// A law: the canonical text of a program spells it, if columns have different names and all that
@@ -60,7 +74,6 @@ fn put_instr(
     instr: Instr,
     text: &mut Vec<u8>,
 ) -> Result<(), AllocError>
-    requires { IsTrue (instr_fits schema.now.columns.items instr) }
     ensures { OnOk result (text.new.items
         ≡ text.old.items ++ line_text (instr_words schema.now.columns.items instr)) }
 {
@@ -123,7 +136,6 @@ fn put_byte(
     operands: (Register, ColumnIndex, SliceIndex, u8),
     text: &mut Vec<u8>,
 ) -> Result<(), AllocError>
-    requires { operands.1 < length schema.now.columns.items }
     ensures { OnOk result (text.new.items ≡ text.old.items ++ line_text (opcode_spelling opcode
         ∷ register_text operands.0 ∷ column_text schema.now.columns.items operands.1
         ∷ decimal operands.2 ∷ decimal operands.3 ∷ [])) }
@@ -151,10 +163,12 @@ fn word(opcode: Opcode) -> Piece<'static>
     Piece::Word(opcode.spelling())
 }
 
-/// Returns the name of the column of a number.
+/// Returns the name of the column of a number, or nothing if there is none.
 fn name_of(schema: &Schema, column: ColumnIndex) -> &[u8]
-    requires { column < length schema.now.columns.items }
     ensures { result.now ≡ column_text schema.now.columns.items column }
 {
-    schema.columns[column as usize].name.as_bytes()
+    match schema.columns.get(column as usize) {
+        Some(column) => column.name.as_bytes(),
+        None => &[],
+    }
 }

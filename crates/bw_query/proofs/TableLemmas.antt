@@ -1,11 +1,17 @@
 -- Groups of rows that an answer takes.
 use Rattle.std.proofs.Common.{◌≡◌, ◌∙◌, ℕ, ◌+◌, List, [], ◌∷◌, ◌++◌, refl, sym, ap, subst}
-use Rattle.std.proofs.Common.{append_assoc, arith}
+use Rattle.std.proofs.Common.{append_assoc, arith, filter, length, length-append}
 use Rattle.std.specs.List.{sum_by}
 use Rattle.std.proofs.lemmas.List.{append-nil}
+use Rattle.std.proofs.lemmas.List.Elements.{filter-append}
 use Rattle.std.proofs.lemmas.List.Sums.{sum_by-append}
+use Rattle.bw_model.specs.declared.cond.Cond.{Cond}
+use Rattle.bw_model.specs.declared.cond.Truth.TheVariants.{Yes}
+use Rattle.bw_model.specs.Cond.{is_match, truth_of}
+use Rattle.bw_model.specs.Truth.{is_truth}
 use Rattle.bw_model.specs.Groups.{together}
 use Rattle.bw_model.specs.Row.{Value}
+use Rattle.bw_model.specs.Selection.{matching_rows}
 use Rattle.bw_answer.specs.Progress.{GoesOver, IsOver}
 use Rattle.bw_answer.specs.declared.answer.Answer.{Answer}
 use Rattle.bw_file.proofs.MemoryAnswers.{together_more}
@@ -33,3 +39,15 @@ pub one_more : (count : List (List Value) → ℕ) (groups : List (List (List Va
 one_more count groups rows so_far next is more =
     let all = sum_by-append count groups (rows ∷ []) in
     omega (arith, is, more, all)
+
+-- conditions of the same truth on every row match as many
+pub matches_alike : (a b : Cond) (rows : List (List Value)) → ((row : List Value) → truth_of row a ≡ truth_of row b) → length (matching_rows a rows) ≡ length (matching_rows b rows)
+matches_alike a b rows same = λ i. length (filter (λ (row : List Value). is_truth (same row i) Yes) rows)
+
+-- how many rows match in the groups so far, and in one more
+pub more_matches : (cond : Cond) (groups : List (List (List Value))) (rows : List (List Value)) (so_far next : ℕ)
+    → so_far ≡ length (matching_rows cond (together groups)) → next ≡ length (matching_rows cond rows) → so_far + next ≡ length (matching_rows cond (together (groups ++ rows ∷ [])))
+more_matches cond groups rows so_far next is more =
+    let all = ap (λ (those : List (List Value)). length (matching_rows cond those)) (together_more groups rows) in
+    let parts = ap length (filter-append (is_match cond) (together groups) rows) in
+    omega (arith, is, more, all, parts, length-append (matching_rows cond (together groups)) (matching_rows cond rows))

@@ -20,7 +20,7 @@ ghost use Rattle.bw_query.specs.Scan.{IsFor, loads_in, skips_in};
 ghost use Rattle.bw_query.specs.TableText.{TextOver, HasConsumedAll};
 
 use crate::scan::Scan;
-use crate::served::Scanned;
+use crate::served::{NOTHING_SCANNED, Scanned};
 use bw_answer::Answer;
 use bw_file::{AnySegment, TableReader, bytes_were_taken};
 use bw_io::Source;
@@ -123,18 +123,12 @@ fn take_rows<S: Source>(
 {
     bytes_were_taken();
     let counts = answer.counts_rows();
-    let mut scanned = Scanned {
-        segments: 0,
-        loads: 0,
-        skips: 0,
-    };
+    let mut scanned = NOTHING_SCANNED;
     while let Some(segment) = reader.next_segment(source)? {
         let taken = take_either(&segment, scan, counts, answer);
         drop(segment);
         let more = taken?;
-        scanned.segments += 1;
-        scanned.loads += more.loads as u64;
-        scanned.skips += more.skips as u64;
+        scanned = scanned.plus(more);
     }
     Ok(scanned)
 }

@@ -72,3 +72,10 @@ pub fn calls_run_segment<S: Segment>(certified: &Certified, segment: &S) -> (Pla
 {
     certified.run_segment(segment)
 }
+
+pub fn calls_count_matches<S: Segment>(certified: &Certified, segment: &S) -> (u32, Counts)
+    requires name { (S.meaning segment.now).name ≡ certified.now.schema.name }
+    requires columns { (S.meaning segment.now).columns ≡ certified.now.schema.columns.items }
+{
+    certified.count_matches(segment)
+}

@@ -3,8 +3,8 @@ ghost use Rattle.std.specs.Prelude.{◌<◌, length, IsTrue};
 ghost use Rattle.bw_program.specs.Program.{fits};
 
 use bw_model::{Fault, Schema};
-use bw_program::{Instr, Program};
-use std::alloc::Global;
+use bw_program::{Instr, Program, program_text};
+use std::alloc::{AllocError, Global};
 
 pub fn tells_instrs(instr: Instr) -> u8 {
     match instr {
@@ -44,6 +44,15 @@ pub fn calls_print(program: &Program, alloc: Global, schema: &Schema) -> Result<
     requires { IsTrue (fits schema.now.columns.items program.now) }
 {
     program.print(alloc, schema)
+}
+
+pub fn calls_program_text(
+    alloc: Global,
+    schema: &Schema,
+    instrs: &[Instr],
+    answer: u8,
+) -> Result<Vec<u8>, AllocError> {
+    program_text(alloc, schema, instrs, answer)
 }
 
 pub fn calls_len(program: &Program) -> usize {

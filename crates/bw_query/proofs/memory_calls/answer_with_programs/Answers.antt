@@ -1,21 +1,19 @@
 -- Each exit, by the contracts of its calls.
 use Rattle.std.proofs.Common.{ℕ, List, Ok, Err, subst}
 use Rattle.std.specs.Io.KnownBytes.{Appends}
-use Rattle.std.proofs.lemmas.Result.{err_from_is_err_and}
+use Rattle.bw_model.proofs.ErrLemmas.{err_passed_on}
 use Rattle.bw_report.specs.declared.served.Served.{Served}
 use Rattle.bw_query.proofs.TableExits.{memory_output, refused, went}
 use Rattle.bw_query.proofs.memory_calls.answer_with_programs.Goals as goal
 
 pub returns-in_err-answered-clause-answer : goal.returns-in_err-answered-clause-answer
 returns-in_err-answered-clause-answer g c =
-    let p = err_from_is_err_and c.from_residual.result c.from_residual.ensures.1 in
-    rw (p.1, p.2) (_, c.in_err-answered.ensures.answer, refused Served _ _ _ c.in_err-answered.ensures.fault)
+    rw (err_passed_on _ c.from_residual.ensures.1) (_, c.in_err-answered.ensures.answer, refused Served _ _ _ c.in_err-answered.ensures.fault)
 
 pub returns-in_err-write_whole-clause-answer : goal.returns-in_err-write_whole-clause-answer
 returns-in_err-write_whole-clause-answer g c =
-    let p = err_from_is_err_and c.from_residual-in_err-write_whole.result c.from_residual-in_err-write_whole.ensures.1 in
     let goes = rw c.deref.ensures.value at c.in_err-write_whole.ensures in
-    rw (p.1, p.2) (
+    rw (err_passed_on _ c.from_residual-in_err-write_whole.ensures.1) (
       _,
       c.in_ok-answered.ensures.answer,
       went Served (g.K.Sink.taken c.args.sink.now) (g.K.Sink.taken c.write_whole.new.sink) (g.K.Sink.failures c.args.sink.now) (g.K.Sink.failures c.write_whole.new.sink)
@@ -42,5 +40,4 @@ returns-clause-served g c =
 
 pub returns-in_err-answered-clause-accepted : goal.returns-in_err-answered-clause-accepted
 returns-in_err-answered-clause-accepted g c =
-    let p = err_from_is_err_and c.from_residual.result c.from_residual.ensures.1 in
-    rw (p.1, p.2) (λ query asks. memory_output c.in_err-answered.field-0.0 (c.in_err-answered.ensures.accepted query asks))
+    rw (err_passed_on _ c.from_residual.ensures.1) (λ query asks. memory_output c.in_err-answered.field-0.0 (c.in_err-answered.ensures.accepted query asks))

@@ -1,6 +1,6 @@
 -- Each exit, by the contracts of its calls.
 use Rattle.std.proofs.Common.{◌≡◌, ◌∙◌, true, false, List, refl, sym, ap, subst}
-use Rattle.std.proofs.lemmas.Result.{err_from_is_err_and}
+use Rattle.bw_model.proofs.ErrLemmas.{err_passed_on}
 use Rattle.bw_model.specs.Fault.{is_memory}
 use Rattle.bw_model.specs.Row.{Value}
 use Rattle.bw_memory.specs.MemoryTable.{rows_of, schema_of}
@@ -12,14 +12,12 @@ use Rattle.bw_query.proofs.memory_calls.run_in_memory.Goals as goal
 
 pub returns-in_err-prepared-clause-answer : goal.returns-in_err-prepared-clause-answer
 returns-in_err-prepared-clause-answer c =
-    let p = err_from_is_err_and c.from_residual.result c.from_residual.ensures.1 in
-    rw (p.1, p.2) (rw c.schema.ensures at c.in_err-prepared.ensures.refused)
+    rw (err_passed_on _ c.from_residual.ensures.1) (rw c.schema.ensures at c.in_err-prepared.ensures.refused)
 
 pub returns-in_err-prepared-clause-accepted : goal.returns-in_err-prepared-clause-accepted
 returns-in_err-prepared-clause-accepted c =
-    let p = err_from_is_err_and c.from_residual.result c.from_residual.ensures.1 in
     let accepted = rw c.schema.ensures at c.in_err-prepared.ensures.accepted in
-    rw (p.1, p.2) (λ query asks. accepted (schema_of c.args.table.now) query refl asks)
+    rw (err_passed_on _ c.from_residual.ensures.1) (λ query asks. accepted (schema_of c.args.table.now) query refl asks)
 
 pub returns-clause-answer : goal.returns-clause-answer
 returns-clause-answer c = λ other. let e : true ≡ false = sym (ap is_memory c.in-Err.ensures.only_oom) ∙ other in absurd (cc e)

@@ -1,6 +1,6 @@
 -- Each exit, by the contracts of its calls.
 use Rattle.std.proofs.Common.{◌≡◌, ◌∙◌, true, false, ℕ, List, inl, refl, sym, ap, subst}
-use Rattle.std.proofs.lemmas.Result.{err_from_is_err_and}
+use Rattle.bw_model.proofs.ErrLemmas.{err_passed_on}
 use Rattle.bw_io.proofs.SinkLemmas.{no_write_fault}
 use Rattle.bw_model.specs.Fault.{is_memory}
 use Rattle.bw_model.specs.Row.{Value}
@@ -15,35 +15,29 @@ use Rattle.bw_query.proofs.memory_calls.run_with_programs.Goals as goal
 
 pub returns-in_err-query-clause-answer : goal.returns-in_err-query-clause-answer
 returns-in_err-query-clause-answer c =
-    let p = err_from_is_err_and c.from_residual.result c.from_residual.ensures.1 in
     let read = rw c.schema-schema.ensures at c.in_err-query.ensures.read in
-    rw (p.1, p.2) (λ other. inl (read other))
+    rw (err_passed_on _ c.from_residual.ensures.1) (λ other. inl (read other))
 
 pub returns-in_err-query-clause-accepted : goal.returns-in_err-query-clause-accepted
 returns-in_err-query-clause-accepted c =
-    let p = err_from_is_err_and c.from_residual.result c.from_residual.ensures.1 in
     let refused = rw c.schema-schema.ensures at c.in_err-query.ensures.refused in
-    rw (p.1, p.2) (λ query asks. refused (query_shape query) asks.0)
+    rw (err_passed_on _ c.from_residual.ensures.1) (λ query asks. refused (query_shape query) asks.0)
 
 pub returns-in_err-query-clause-fault : goal.returns-in_err-query-clause-fault
 returns-in_err-query-clause-fault c =
-    let p = err_from_is_err_and c.from_residual.result c.from_residual.ensures.1 in
-    rw (p.1, p.2) (statement_writes_nothing c.in_err-query.field-0.0 c.in_err-query.ensures.fault)
+    rw (err_passed_on _ c.from_residual.ensures.1) (statement_writes_nothing c.in_err-query.field-0.0 c.in_err-query.ensures.fault)
 
 pub returns-in_err-number-clause-answer : goal.returns-in_err-number-clause-answer
 returns-in_err-number-clause-answer c =
-    let p = err_from_is_err_and c.from_residual-in_err-number.result c.from_residual-in_err-number.ensures.1 in
-    rw (p.1, p.2) (λ other. let e : true ≡ false = sym c.in_err-number.ensures.only_oom ∙ other in absurd (cc e))
+    rw (err_passed_on _ c.from_residual-in_err-number.ensures.1) (λ other. let e : true ≡ false = sym c.in_err-number.ensures.only_oom ∙ other in absurd (cc e))
 
 pub returns-in_err-number-clause-accepted : goal.returns-in_err-number-clause-accepted
 returns-in_err-number-clause-accepted c =
-    let p = err_from_is_err_and c.from_residual-in_err-number.result c.from_residual-in_err-number.ensures.1 in
-    rw (p.1, p.2) (λ query asks. c.in_err-number.ensures.only_oom)
+    rw (err_passed_on _ c.from_residual-in_err-number.ensures.1) (λ query asks. c.in_err-number.ensures.only_oom)
 
 pub returns-in_err-number-clause-fault : goal.returns-in_err-number-clause-fault
 returns-in_err-number-clause-fault c =
-    let p = err_from_is_err_and c.from_residual-in_err-number.result c.from_residual-in_err-number.ensures.1 in
-    rw (p.1, p.2) (no_write_fault is_memory c.in_err-number.field-0.0 c.in_err-number.ensures.only_oom refl)
+    rw (err_passed_on _ c.from_residual-in_err-number.ensures.1) (no_write_fault is_memory c.in_err-number.field-0.0 c.in_err-number.ensures.only_oom refl)
 
 pub memory_text-requires-clause-scan : goal.memory_text-requires-clause-scan
 memory_text-requires-clause-scan c =

@@ -3,10 +3,12 @@ use Rattle.std.proofs.Common.{◌≡◌, ◌∙◌, ◌+◌, ◌<◌, length, re
 use Rattle.bw_model.specs.declared.query.Query.{Query}
 use Rattle.bw_answer.specs.TextAndTotals.{CountsRows}
 use Rattle.bw_memory.specs.StoredSegments.{stored_groups}
-use Rattle.bw_memory.specs.MemoryTable.{schema_of, meaning_numbered}
+use Rattle.bw_memory.specs.MemoryTable.{groups_in, schema_of, meaning_numbered}
 use Rattle.bw_memory.proofs.StoredSegmentLemmas.{groups_more, length-groups, room_for, rows_before}
 use Rattle.bw_memory.proofs.ReadLemmas.{no_groups}
 use Rattle.bw_query.specs.Scan.{IsFor, loads_in, skips_in}
+use Rattle.bw_query.specs.TableText.{IsScanOf}
+use Rattle.bw_query.specs.declared.scan.Scan.{Scan}
 use Rattle.bw_segment.specs.Meaning.{Meaning}
 use Rattle.bw_answer.specs.Progress.{GoesOver, query_in}
 use Rattle.bw_query.proofs.TableLemmas.{goes_nowhere, goes_on, one_more}
@@ -61,32 +63,24 @@ loop-number-preserved g c =
       placed = c.other_segment-segment.ensures.placed;
       covers = rw more (goes_on _ _ _ groups rows so_far.covers covers);
       scanned = rw more (record {
-        segments = omega (arith, so_far.scanned.segments, before, length-groups table.layout columns table.rows (number + 1) table.columns.items, ap length more);
-        loads = one_more (loads_in columns c.args.scan.now) groups rows _ _ so_far.scanned.loads loads;
-        skips = one_more (skips_in columns c.args.scan.now) groups rows _ _ so_far.scanned.skips skips;
+        segments = omega (arith, so_far.scanned.segments, c.plus-scanned.ensures.segments, before, length-groups table.layout columns table.rows (number + 1) table.columns.items, ap length more);
+        loads = c.plus-scanned.ensures.loads ∙ one_more (loads_in columns c.args.scan.now) groups rows _ _ so_far.scanned.loads loads;
+        skips = c.plus-scanned.ensures.skips ∙ one_more (skips_in columns c.args.scan.now) groups rows _ _ so_far.scanned.skips skips;
       });
-      few_loads = omega (arith, so_far.few_loads, taken.bounded);
-      few_skips = omega (arith, so_far.few_skips, taken.bounded);
+      few_loads = omega (arith, so_far.few_loads, c.plus-scanned.ensures.loads, taken.bounded);
+      few_skips = omega (arith, so_far.few_skips, c.plus-scanned.ensures.skips, taken.bounded);
       rows = omega (arith, count, taken.rows, rows_before table.layout columns table.rows number c.loop-number.answer.rows table.columns.items so_far.rows);
       width = taken.width ∙ so_far.width;
       asked = taken.covers.same ∙ so_far.asked;
       counts = λ is. subst CountsRows (sym taken.covers.same) (so_far.counts is);
     }
 
--- a table without a segment has no rows
-pub returns-then-segments-eq0-clause-covers : goal.returns-then-segments-eq0-clause-covers
-returns-then-segments-eq0-clause-covers g c =
-    let table = c.args.table.now in
-    let none = sym c.segments.ensures ∙ c.if-segments-eq0.true in
-    rw (none, no_groups table.layout (schema_of table).columns.items table.rows table.columns.items) (goes_nowhere c.args.answer.now)
-
-pub returns-then-segments-eq0-clause-counts : goal.returns-then-segments-eq0-clause-counts
-returns-then-segments-eq0-clause-counts g c =
-    let table = c.args.table.now in
-    let none = sym c.segments.ensures ∙ c.if-segments-eq0.true in
-    rw (none, no_groups table.layout (schema_of table).columns.items table.rows table.columns.items) (record { segments = refl; loads = refl; skips = refl })
-
-pub overflow_add-scanned : goal.overflow_add-scanned
-overflow_add-scanned g c =
+pub plus-scanned-requires-clause-segments : goal.plus-scanned-requires-clause-segments
+plus-scanned-requires-clause-segments g c =
     let table = c.args.table.now in
     omega (arith, c.loop-number.invariant.scanned.segments, length-groups table.layout (schema_of table).columns.items table.rows c.loop-number.number table.columns.items)
+
+-- by the program, the matching rows alone are counted
+pub returns-then-only_counts-clause-counts : goal.returns-then-only_counts-clause-counts
+returns-then-only_counts-clause-counts g c =
+    subst (λ (scan : Scan). IsScanOf (schema_of c.args.table.now).columns.items scan (groups_in c.args.table.now) c.count_matches.result) (sym c.in-Program.is) c.count_matches.ensures.counts

@@ -1,6 +1,6 @@
 -- Each exit, by the contracts of its calls.
 use Rattle.std.proofs.Common.{List, ℕ, Result, Ok, Err, subst, sym}
-use Rattle.std.proofs.lemmas.Result.{err_from_is_err_and}
+use Rattle.bw_model.proofs.ErrLemmas.{err_passed_on}
 use Rattle.bw_model.specs.declared.fault.Fault.{Fault}
 use Rattle.bw_query.specs.Plan.{IsPlanFault, schema_refused, statement_refused, unplanned}
 use Rattle.bw_query.proofs.TableExits.{refused, schema_writes_nothing, statement_writes_nothing}
@@ -9,23 +9,20 @@ use Rattle.bw_query.proofs.plan_call.plan_text.Goals as goal
 
 pub returns-in_err-schema : goal.returns-in_err-schema
 returns-in_err-schema g c =
-    let p = err_from_is_err_and c.from_residual.result c.from_residual.ensures.1 in
     let given : Result (List ℕ) Fault = Err c.in_err-schema.field-0.0 in
-    rw (p.1, p.2) (record { planned = (given, λ own. schema_refused (c.in_err-schema.ensures.fault own), refused (Unit {0}) _ _ _ (schema_writes_nothing _ c.in_err-schema.ensures.code)) })
+    rw (err_passed_on _ c.from_residual.ensures.1) (record { planned = (given, λ own. schema_refused (c.in_err-schema.ensures.fault own), refused (Unit {0}) _ _ _ (schema_writes_nothing _ c.in_err-schema.ensures.code)) })
 
 pub returns-in_err-query : goal.returns-in_err-query
 returns-in_err-query g c =
-    let p = err_from_is_err_and c.from_residual-in_err-query.result c.from_residual-in_err-query.ensures.1 in
     let given : Result (List ℕ) Fault = Err c.in_err-query.field-0.0 in
-    rw (p.1, p.2) (record { planned = (given, λ own. statement_refused c.in_ok-schema.ensures.spelled (c.in_err-query.ensures.read own), refused (Unit {0}) _ _ _ (statement_writes_nothing _ c.in_err-query.ensures.fault)) })
+    rw (err_passed_on _ c.from_residual-in_err-query.ensures.1) (record { planned = (given, λ own. statement_refused c.in_ok-schema.ensures.spelled (c.in_err-query.ensures.read own), refused (Unit {0}) _ _ _ (statement_writes_nothing _ c.in_err-query.ensures.fault)) })
 
 pub returns-in_err-file : goal.returns-in_err-file
 returns-in_err-file g c =
-    let p = err_from_is_err_and c.from_residual-in_err-file.result c.from_residual-in_err-file.ensures.1 in
     let fault = c.in_err-file.field-0.0 in
     let given : Result (List ℕ) Fault = Err fault in
     let F : Fault → Type 0 = λ refused. IsPlanFault c.args.schema.now c.args.sql.now refused in
-    rw (p.1, p.2) (record {
+    rw (err_passed_on _ c.from_residual-in_err-file.ensures.1) (record {
       planned = (
         given,
         λ own. subst F (sym (c.in_err-file.ensures.fault own)) (unplanned c.in_ok-query.query c.in_ok-schema.ensures.spelled c.in_ok-query.ensures.read),

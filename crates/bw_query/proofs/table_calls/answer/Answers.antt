@@ -1,6 +1,6 @@
 -- Each exit, by the contracts of its calls.
 use Rattle.std.proofs.Common.{Ok, Err}
-use Rattle.std.proofs.lemmas.Result.{err_from_is_err_and}
+use Rattle.bw_model.proofs.ErrLemmas.{err_passed_on}
 use Rattle.bw_report.specs.declared.served.Served.{Served}
 use Rattle.bw_query.specs.Scan.{given_file}
 use Rattle.bw_query.specs.Served.{IsServed}
@@ -10,15 +10,13 @@ use Rattle.bw_query.proofs.table_calls.answer.Goals as goal
 
 pub returns-in_err-answered-clause-answer : goal.returns-in_err-answered-clause-answer
 returns-in_err-answered-clause-answer g c =
-    let p = err_from_is_err_and c.from_residual.result c.from_residual.ensures.1 in
     let gave = c.in_err-answered.ensures.answer in
-    rw (p.1, p.2) (ends _ _ _ _ _ gave (refused Served _ _ _ c.in_err-answered.ensures.fault))
+    rw (err_passed_on _ c.from_residual.ensures.1) (ends _ _ _ _ _ gave (refused Served _ _ _ c.in_err-answered.ensures.fault))
 
 pub returns-in_err-write_whole-clause-answer : goal.returns-in_err-write_whole-clause-answer
 returns-in_err-write_whole-clause-answer g c =
-    let p = err_from_is_err_and c.from_residual-in_err-write_whole.result c.from_residual-in_err-write_whole.ensures.1 in
     let goes = rw c.deref.ensures.value at c.in_err-write_whole.ensures in
-    rw (p.1, p.2) (ends _ _ _ _ _ c.in_ok-answered.ensures.answer (went Served (g.K.Sink.taken c.args.sink.now) (g.K.Sink.taken c.write_whole.new.sink) (g.K.Sink.failures c.args.sink.now) (g.K.Sink.failures c.write_whole.new.sink)
+    rw (err_passed_on _ c.from_residual-in_err-write_whole.ensures.1) (ends _ _ _ _ _ c.in_ok-answered.ensures.answer (went Served (g.K.Sink.taken c.args.sink.now) (g.K.Sink.taken c.write_whole.new.sink) (g.K.Sink.failures c.args.sink.now) (g.K.Sink.failures c.write_whole.new.sink)
     c.in_ok-answered.answered.text.items (Err c.in_err-write_whole.field-0.0) goes))
 
 pub returns-clause-answer : goal.returns-clause-answer
@@ -53,5 +51,4 @@ returns-clause-file g c = λ bytes known.
 
 pub returns-in_err-answered-clause-accepted : goal.returns-in_err-answered-clause-accepted
 returns-in_err-answered-clause-accepted g c =
-    let p = err_from_is_err_and c.from_residual.result c.from_residual.ensures.1 in
-    rw (p.1, p.2) c.in_err-answered.ensures.accepted
+    rw (err_passed_on _ c.from_residual.ensures.1) c.in_err-answered.ensures.accepted

@@ -1,13 +1,12 @@
 -- Each exit, by the contracts of its calls.
-use Rattle.std.proofs.lemmas.Result.{err_from_is_err_and}
+use Rattle.bw_model.proofs.ErrLemmas.{err_passed_on}
 use Rattle.bw_query.specs.TableAnswer.{by_dump}
 use Rattle.bw_query.proofs.TableExits.{answered_or_not, ends, refused, tells, went}
 use Rattle.bw_query.proofs.table_calls.dump.Goals as goal
 
 pub returns-in_err-text-clause-answer : goal.returns-in_err-text-clause-answer
 returns-in_err-text-clause-answer g c =
-    let p = err_from_is_err_and c.from_residual.result c.from_residual.ensures.1 in
-    rw (p.1, p.2) (ends by_dump _ _ _ _ c.in_err-text.ensures.answer (refused (Unit {0}) _ _ _ c.in_err-text.ensures.fault))
+    rw (err_passed_on _ c.from_residual.ensures.1) (ends by_dump _ _ _ _ c.in_err-text.ensures.answer (refused (Unit {0}) _ _ _ c.in_err-text.ensures.fault))
 
 pub returns-clause-answer : goal.returns-clause-answer
 returns-clause-answer g c =
@@ -29,5 +28,4 @@ returns-clause-file g c = λ bytes known.
 
 pub returns-in_err-text-clause-accepted : goal.returns-in_err-text-clause-accepted
 returns-in_err-text-clause-accepted g c =
-    let p = err_from_is_err_and c.from_residual.result c.from_residual.ensures.1 in
-    rw (p.1, p.2) c.in_err-text.ensures.accepted
+    rw (err_passed_on _ c.from_residual.ensures.1) c.in_err-text.ensures.accepted

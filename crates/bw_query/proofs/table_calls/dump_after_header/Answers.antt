@@ -1,6 +1,6 @@
 -- Each exit, by the contracts of its calls.
 use Rattle.std.proofs.Common.{◌≡◌, ◌∙◌, true, false, sym, ap}
-use Rattle.std.proofs.lemmas.Result.{err_from_is_err_and}
+use Rattle.bw_model.proofs.ErrLemmas.{err_passed_on}
 use Rattle.bw_io.specs.Source.{failed_reads}
 use Rattle.bw_file.specs.TableReader.{schema_in}
 use Rattle.bw_model.specs.Fault.{is_memory}
@@ -11,21 +11,18 @@ use Rattle.bw_query.proofs.table_calls.dump_after_header.Goals as goal
 
 pub returns-in_err-query-clause-answer : goal.returns-in_err-query-clause-answer
 returns-in_err-query-clause-answer g c =
-    let p = err_from_is_err_and c.from_residual.result c.from_residual.ensures.1 in
     let fault = c.in_err-query.field-0.0 in
     let memory = c.in_err-query.ensures.only_oom in
-    rw (p.1, p.2) (λ start began. asked_refused by_dump start _ c.args.reader.now fault began.stated (ap failed_reads memory)
+    rw (err_passed_on _ c.from_residual.ensures.1) (λ start began. asked_refused by_dump start _ c.args.reader.now fault began.stated (ap failed_reads memory)
     (λ other. let e : true ≡ false = sym (ap is_memory memory) ∙ other in absurd (cc e)))
 
 pub returns-in_err-query-clause-accepted : goal.returns-in_err-query-clause-accepted
 returns-in_err-query-clause-accepted g c =
-    let p = err_from_is_err_and c.from_residual.result c.from_residual.ensures.1 in
-    rw (p.1, p.2) (λ start bytes layout schema rows began known file. memory_verdict c.in_err-query.field-0.0 (ap is_memory c.in_err-query.ensures.only_oom))
+    rw (err_passed_on _ c.from_residual.ensures.1) (λ start bytes layout schema rows began known file. memory_verdict c.in_err-query.field-0.0 (ap is_memory c.in_err-query.ensures.only_oom))
 
 pub returns-in_err-query-clause-fault : goal.returns-in_err-query-clause-fault
 returns-in_err-query-clause-fault g c =
-    let p = err_from_is_err_and c.from_residual.result c.from_residual.ensures.1 in
-    rw (p.1, p.2) (memory_writes_nothing c.in_err-query.field-0.0 c.in_err-query.ensures.only_oom)
+    rw (err_passed_on _ c.from_residual.ensures.1) (memory_writes_nothing c.in_err-query.field-0.0 c.in_err-query.ensures.only_oom)
 
 pub returns-clause-answer : goal.returns-clause-answer
 returns-clause-answer g c = λ start began.

@@ -1,6 +1,6 @@
 -- Each exit, by the contracts of its calls.
 use Rattle.std.proofs.Common.{[]}
-use Rattle.std.proofs.lemmas.Result.{err_from_is_err_and}
+use Rattle.bw_model.proofs.ErrLemmas.{err_passed_on}
 use Rattle.bw_file.specs.TableReader.{schema_in}
 use Rattle.bw_query.specs.Scan.{given_file}
 use Rattle.bw_query.specs.TableAnswer.{by_statement}
@@ -11,17 +11,15 @@ use Rattle.bw_query.proofs.table_calls.run_after_header.Goals as goal
 
 pub returns-in_err-prepared-clause-answer : goal.returns-in_err-prepared-clause-answer
 returns-in_err-prepared-clause-answer g c =
-    let p = err_from_is_err_and c.from_residual.result c.from_residual.ensures.1 in
     let fault = c.in_err-prepared.field-0.0 in
     let refused = rw c.schema.ensures at c.in_err-prepared.ensures.refused in
-    rw (p.1, p.2) (λ start began.
+    rw (err_passed_on _ c.from_residual.ensures.1) (λ start began.
     asked_refused (by_statement (given_file c.args.program) c.args.sql.now) start _ c.args.reader.now fault began.stated (no_read fault c.in_err-prepared.ensures.unread) refused)
 
 pub returns-in_err-prepared-clause-accepted : goal.returns-in_err-prepared-clause-accepted
 returns-in_err-prepared-clause-accepted g c =
-    let p = err_from_is_err_and c.from_residual.result c.from_residual.ensures.1 in
     let accepted = rw c.schema.ensures at c.in_err-prepared.ensures.accepted in
-    rw (p.1, p.2) (λ start bytes layout schema rows query began known file asks.
+    rw (err_passed_on _ c.from_residual.ensures.1) (λ start bytes layout schema rows query began known file asks.
     let gave = c.a_file_is_read_whole.ensures.groups bytes layout schema rows file _ _ c.args.reader.now [] known began.so_far in
     memory_verdict c.in_err-prepared.field-0.0 (accepted schema query gave.schema asks))
 

@@ -1,7 +1,7 @@
 -- Each segment's rows are taken after those of the segments before it.
 use Rattle.std.proofs.Common.{◌∙◌, ℕ, ◌+◌, List, [], ◌∷◌, ◌++◌, length, length-append, refl, sym}
 use Rattle.std.proofs.Common.{ap, subst, arith}
-use Rattle.std.proofs.lemmas.Result.{err_from_is_err_and}
+use Rattle.bw_model.proofs.ErrLemmas.{err_passed_on}
 use Rattle.bw_model.specs.declared.column.Column.{Column}
 use Rattle.bw_model.specs.declared.query.Query.{Query}
 use Rattle.bw_answer.specs.TextAndTotals.{CountsRows}
@@ -35,17 +35,15 @@ loop-segment-init g c = record {
 
 pub returns-in_err-segment-clause-refused : goal.returns-in_err-segment-clause-refused
 returns-in_err-segment-clause-refused g c =
-    let p = err_from_is_err_and c.from_residual.result c.from_residual.ensures.1 in
     let so_far = c.loop-segment.invariant in
-    rw (p.1, p.2) (λ start read. later_answers start _ _ _ c.in_err-segment.field-0.0 so_far.failures
+    rw (err_passed_on _ c.from_residual.ensures.1) (λ start read. later_answers start _ _ _ c.in_err-segment.field-0.0 so_far.failures
     ((refusal_of c.in_err-segment.ensures so_far.reading).answers start so_far.groups (so_far.read start read)))
 
 pub returns-in_err-more-clause-refused : goal.returns-in_err-more-clause-refused
 returns-in_err-more-clause-refused g c =
-    let p = err_from_is_err_and c.from_residual-in_err-more.result c.from_residual-in_err-more.ensures.1 in
     let so_far = c.loop-segment.invariant in
     let gave = segment_of (rw c.in-Some.is at c.in_ok-segment.ensures) in
-    rw (p.1, p.2) (λ start read. memory_answers start _ _ c.in_err-more.field-0.0
+    rw (err_passed_on _ c.from_residual-in_err-more.ensures.1) (λ start read. memory_answers start _ _ c.in_err-more.field-0.0
     (c.bytes_were_taken.ensures start _ c.next_segment.new.self _ (gave.after start so_far.groups (so_far.read start read))).0
     (omega (arith, gave.failures, so_far.failures)) c.in_err-more.ensures.only_oom)
 
@@ -91,12 +89,12 @@ loop-segment-preserved g c =
       read = λ start read. gave.after start so_far.groups (so_far.read start read);
       covers = goes_on _ _ _ so_far.groups rows so_far.covers taken.covers;
       scanned = record {
-        segments = omega (arith, so_far.scanned.segments, more);
-        loads = one_more (loads_in (schema_in c.args.reader.now).columns.items c.args.scan.now) so_far.groups rows _ _ so_far.scanned.loads (taken.loads ∙ loads);
-        skips = one_more (skips_in (schema_in c.args.reader.now).columns.items c.args.scan.now) so_far.groups rows _ _ so_far.scanned.skips (taken.skips ∙ skips);
+        segments = omega (arith, so_far.scanned.segments, c.plus-scanned.ensures.segments, more);
+        loads = c.plus-scanned.ensures.loads ∙ one_more (loads_in (schema_in c.args.reader.now).columns.items c.args.scan.now) so_far.groups rows _ _ so_far.scanned.loads (taken.loads ∙ loads);
+        skips = c.plus-scanned.ensures.skips ∙ one_more (skips_in (schema_in c.args.reader.now).columns.items c.args.scan.now) so_far.groups rows _ _ so_far.scanned.skips (taken.skips ∙ skips);
       };
-      few_loads = omega (arith, so_far.few_loads, more, taken.bounded);
-      few_skips = omega (arith, so_far.few_skips, more, taken.bounded);
+      few_loads = omega (arith, so_far.few_loads, c.plus-scanned.ensures.loads, more, taken.bounded);
+      few_skips = omega (arith, so_far.few_skips, c.plus-scanned.ensures.skips, more, taken.bounded);
       same = same_table _ _ _ so_far.same gave.same;
       reading = gave.goes_on;
       failures = omega (arith, gave.failures, so_far.failures);
@@ -121,5 +119,4 @@ returns-clause-took g c =
 
 pub returns-in_err-segment-clause-fault : goal.returns-in_err-segment-clause-fault
 returns-in_err-segment-clause-fault g c =
-    let p = err_from_is_err_and c.from_residual.result c.from_residual.ensures.1 in
-    rw (p.1, p.2) (table_writes_nothing c.in_err-segment.field-0.0 (refusal_of c.in_err-segment.ensures c.loop-segment.invariant.reading).own)
+    rw (err_passed_on _ c.from_residual.ensures.1) (table_writes_nothing c.in_err-segment.field-0.0 (refusal_of c.in_err-segment.ensures c.loop-segment.invariant.reading).own)

@@ -22,7 +22,7 @@ invariant_of-result-clause-items c = within _ _ c.args.query.now.items.items c.l
 
 pub invariant_of-result-clause-capacity : goal.invariant_of-result-clause-capacity
 invariant_of-result-clause-capacity c =
-    rw (c.in_ok-totals_of.ensures.totals, c.deref-6.ensures.value)
+    rw (c.in_ok-totals_of.ensures.totals, c.deref-5.ensures.value)
     (is_of-new c.len-width.result c.args.query.now.items.items (within _ _ c.args.query.now.items.items c.len-width.ensures c.requires.items))
 
 pub returns-clause-takes : goal.returns-clause-takes
@@ -36,7 +36,7 @@ returns-clause-covers c =
     let query = c.args.query.now in (
       refl,
       record {
-        written = rw (c.deref-4.ensures.value, c.deref-5.ensures.value) at c.in_ok-heading_text.ensures.heading ∙ heading_first names query;
-        totalled = λ e. rw c.deref-6.ensures.value at c.in_ok-totals_of.ensures.totals;
+        written = rw (c.deref-3.ensures.value, c.deref-4.ensures.value) at c.in_ok-heading_text.ensures.heading ∙ heading_first names query;
+        totalled = λ e. rw c.deref-5.ensures.value at c.in_ok-totals_of.ensures.totals;
       },
     )

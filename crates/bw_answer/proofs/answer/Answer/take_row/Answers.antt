@@ -40,23 +40,3 @@ invariant_of-self-2-clause-capacity c =
     let old : list_all (is_of (length (values_of c.args.row.now)) self.rows) c.deref_mut.result.now ≡ true = rw (c.deref_mut.ensures.value, c.requires.same_width) self.capacity in
     let more : list_all (is_of self.width (self.rows + 1)) after ≡ true = rw (sym c.requires.same_width) (c.in_ok-put_row.ensures.counts self.rows old) in
     subst (λ (tallies : List Tally). list_all (is_of self.width (self.rows + 1)) tallies ≡ true) (sym (with_items_is self.totals after size)) more
-
-pub invariant_of-self : goal.invariant_of-self
-invariant_of-self c =
-    let self = c.args.self.now in
-    let after = c.put_row.new.totals in
-    let size : length after ≡ self.totals.len = c.put_row.auto.totals ∙ c.deref_mut.ensures.len in
-    let same : after ≡ self.totals.items = c.in_err-put_row.ensures.left ∙ c.deref_mut.ensures.value in
-    record {
-      prepared = self.prepared;
-      items = self.items;
-      nonempty = self.nonempty;
-      listing = self.listing;
-      counting = self.counting;
-      names = λ is. c.put_row.ensures.names self.width self.query.now.items.items (self.names is);
-      totalling = self.totalling;
-      capacity = subst (λ (tallies : List Tally). list_all (is_of self.width self.rows) tallies ≡ true) (sym (with_items_is self.totals after size ∙ same)) self.capacity;
-    }
-
-pub invariant_of-self-2-clause-names : goal.invariant_of-self-2-clause-names
-invariant_of-self-2-clause-names c = λ is. c.put_row.ensures.names c.args.self.now.width c.args.self.now.query.now.items.items (c.args.self.now.names is)
