@@ -32,13 +32,7 @@ impl Entry for Link {
 
 impl Link {
     /// Returns the comparison of `len` bits of a column's code from bit `start` with a number.
-    pub(crate) fn bound(
-        kind: ChainKind,
-        left: ColumnIndex,
-        start: u32,
-        len: u32,
-        bound: u64,
-    ) -> Self {
+    pub(crate) fn of(kind: ChainKind, left: ColumnIndex, start: u32, len: u32, bound: u64) -> Self {
         Link {
             kind,
             left,
@@ -48,15 +42,6 @@ impl Link {
             bound,
             node: 0,
             prev: None,
-        }
-    }
-
-    /// Returns the same comparison of this many bits, without a node.
-    fn with_len(self, len: u32) -> Self {
-        Link {
-            len,
-            bound: self.bound % (1 << len.min(63)),
-            ..self
         }
     }
 }
@@ -78,7 +63,7 @@ impl Facts<'_> {
         let len = self.width(compared.left).max(self.width(compared.right));
         Link {
             right: Some(compared.right),
-            ..Link::bound(compared.kind, compared.left, 0, len, 0)
+            ..Link::of(compared.kind, compared.left, 0, len, 0)
         }
     }
 
@@ -86,7 +71,12 @@ impl Facts<'_> {
     pub(crate) fn chain(&mut self, whole: Link) -> Cited {
         let mut last: Option<Cited> = None;
         for len in 0..=whole.len.min(63) {
-            let link = whole.with_len(len);
+            let bound = whole.bound % (1 << len.min(63));
+            let link = Link {
+                len,
+                bound,
+                ..whole
+            };
             if let Some((number, Link { node, .. })) = self.chains.find(link.key()) {
                 last = Some(Cited { number, node });
                 continue;

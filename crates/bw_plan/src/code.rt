@@ -1,16 +1,15 @@
 //! Instructions, with the node of each register.
 use crate::chains::Link;
 use crate::digits::Digit;
-use crate::facts::{Cited, Extent, Facts};
+use crate::facts::{Cited, Facts};
 use crate::line::PlannedLine;
 use crate::order::VariableOrder;
 use crate::products::MAX_PRODUCTS;
 use crate::refusal::Refusal;
-use crate::registers::Numbers;
 use crate::skips::Skip;
 use bw_cert_text::{EdgeProducts, InstructionEntry};
 use bw_diagram::{ChainKind, Connective};
-use bw_model::Cond;
+use bw_model::{Cond, Schema};
 use bw_program::{ColumnIndex, Instr, Register, SliceIndex};
 use std::alloc::Global;
 
@@ -47,11 +46,10 @@ pub(crate) struct RegisterState {
 /// The instructions so far, and the lines of the certificate after those of its facts.
 #[derive(Drop)]
 pub(crate) struct Code<'a> {
-    pub(crate) alloc: Global,
     pub(crate) facts: Facts<'a>,
     pub(crate) lines: Vec<PlannedLine>,
-    /// The facts and the lines of the condition.
-    begun: (Extent, usize),
+    /// The condition's TRUE node.
+    pub(crate) condition: u32,
     pub(crate) instrs: Vec<Instr>,
     /// The pairs of all lines KEEP.
     pub(crate) edges: Vec<EdgeProducts>,
@@ -70,6 +68,8 @@ pub(crate) struct Code<'a> {
     pub(crate) skip_count: usize,
     /// Whether there are to be skips.
     pub(crate) with_skips: bool,
+    /// Whether a plane stays in its register while that isn't needed, so that it may be used again.
+    pub(crate) keeps_planes: bool,
     /// How many instructions compare a byte.
     looks: usize,
     /// Whether there are skips from part to part of a condition, which are proved by products of
@@ -78,14 +78,19 @@ pub(crate) struct Code<'a> {
 }
 
 impl<'a> Code<'a> {
-    /// Returns no lines and no instructions. There are to be skips.
-    pub(crate) fn new(alloc: Global, facts: Facts<'a>) -> Self {
-        let extent = facts.extent();
-        Code {
-            alloc,
-            facts,
+    /// Returns the lines of a condition, and no instructions. Later there are to be skips, or not.
+    ///
+    /// Errors: `NoProgram` past a limit, or for a condition without certificates.
+    pub(crate) fn begin(
+        alloc: Global,
+        schema: &'a Schema,
+        cond: &Cond,
+        with_skips: bool,
+    ) -> Result<Self, Refusal> {
+        let mut code = Code {
+            facts: Facts::new(alloc, schema, cond)?,
             lines: Vec::new(alloc),
-            begun: (extent, 0),
+            condition: 0,
             instrs: Vec::new(alloc),
             edges: Vec::new(alloc),
             order: VariableOrder::Whole,
@@ -95,38 +100,19 @@ impl<'a> Code<'a> {
             skips: Vec::new(alloc),
             meeting: usize::MAX,
             skip_count: 0,
-            with_skips: true,
+            with_skips,
+            keeps_planes: true,
             looks: 0,
             skips_parts: true,
+        };
+        if code.facts.ranks.bits > MANY_BITS {
+            code.facts.products.limit = MAX_LINE_PRODUCTS;
         }
-    }
-
-    /// Appends the lines of a condition, and returns its TRUE node.
-    ///
-    /// Errors: `NoProgram` past a limit, or for a condition without certificates.
-    pub(crate) fn begin(&mut self, cond: &Cond) -> Result<u32, Refusal> {
-        if self.facts.ranks.bits > MANY_BITS {
-            self.facts.products.limit = MAX_LINE_PRODUCTS;
-        }
-        let node = self.steps(cond).yes;
-        self.facts.products.limit = MAX_PRODUCTS;
-        self.begun = (self.facts.extent(), self.lines.len());
-        self.skips_parts = self.facts.products.len() < MAX_ROWS_TO_SKIP_PARTS;
-        self.facts.check_refusal()?;
-        Ok(node)
-    }
-
-    /// Returns the same without instructions, and without the facts and lines after those of the
-    /// condition. There are to be no skips.
-    pub(crate) fn without_skips(self) -> Self {
-        let (facts, lines) = self.begun;
-        let mut code = Code::new(self.alloc, self.facts);
-        code.facts.return_to(facts);
-        code.lines = self.lines;
-        code.lines.truncate(lines);
-        code.with_skips = false;
-        code.skips_parts = self.skips_parts;
-        code
+        code.condition = code.steps(cond).yes;
+        code.facts.products.limit = MAX_PRODUCTS;
+        code.skips_parts = code.facts.products.len() < MAX_ROWS_TO_SKIP_PARTS;
+        code.facts.check_refusal()?;
+        Ok(code)
     }
 
     /// Returns the product row of a connective of two nodes.
@@ -166,12 +152,12 @@ impl<'a> Code<'a> {
         self.registers[usize::from(register % 64)] = RegisterState {
             node: Some(node),
             needed: true,
-            is_plane,
+            is_plane: is_plane && self.keeps_planes,
         };
     }
 
     /// Returns a register that isn't needed, preferably one without a node.
-    fn claim(&mut self) -> Register {
+    pub(crate) fn claim(&mut self) -> Register {
         self.meet();
         let unknown = self.free_register(None);
         let found = unknown.or(self.registers.iter().position(|known| !known.needed));
@@ -193,12 +179,19 @@ impl<'a> Code<'a> {
     }
 
     /// Returns a register with the plane of a node: by an instruction, unless one has it already.
-    fn plane(&mut self, node: u32, instr: Instr, entry: InstructionEntry) -> Register {
+    fn plane<F: FnOnce(Register) -> Instr>(
+        &mut self,
+        node: u32,
+        load: F,
+        entry: InstructionEntry,
+    ) -> Register
+        requires { F.IsAlwaysCallable load }
+    {
         if let Some(register) = self.reserve_plane(node) {
             return register;
         }
         let register = self.claim();
-        self.put(Numbers([register; 64]).in_instr(instr), entry);
+        self.put(load(register), entry);
         self.hold(register, node, true);
         register
     }
@@ -206,11 +199,6 @@ impl<'a> Code<'a> {
     /// Returns how many more instructions fit.
     pub(crate) fn room(&self) -> usize {
         MAX_INSTRUCTIONS.saturating_sub(self.instrs.len())
-    }
-
-    /// Returns how many registers aren't needed.
-    pub(crate) fn free_registers(&self) -> usize {
-        self.registers.iter().filter(|known| !known.needed).count()
     }
 
     /// Releases a register. If it contains a plane, that may be used again.
@@ -233,15 +221,15 @@ impl<'a> Code<'a> {
     /// Returns a register with the plane of a column's bit.
     pub(crate) fn bit(&mut self, column: ColumnIndex, bit: u32) -> Register {
         let node = self.facts.bit(column, bit);
-        let instr = Instr::Load(0, column, bit.min(63) as u8);
-        self.plane(node, instr, InstructionEntry::Load(u64::from(node)))
+        let load = |register| Instr::Load(register, column, bit.min(63) as u8);
+        self.plane(node, load, InstructionEntry::Load(u64::from(node)))
     }
 
     /// Returns a register with a column's null plane, if it has one.
     pub(crate) fn nulls(&mut self, column: ColumnIndex) -> Option<Register> {
         let node = self.facts.nulls(column)?;
         let entry = InstructionEntry::Load(u64::from(node));
-        Some(self.plane(node, Instr::Nulls(0, column), entry))
+        Some(self.plane(node, |register| Instr::Nulls(register, column), entry))
     }
 
     /// Returns a register that is 1 where a column has a value, if it is nullable.
@@ -267,14 +255,14 @@ impl<'a> Code<'a> {
     ) -> Register {
         let start = u32::from(slice) * 8;
         let len = self.facts.width(column).saturating_sub(start).min(8);
-        let link = Link::bound(kind, column, start, len, u64::from(byte));
+        let link = Link::of(kind, column, start, len, u64::from(byte));
         let cited = self.facts.chain(link);
-        let instr = match kind {
-            ChainKind::Less => Instr::ByteLt(0, column, slice, byte),
-            ChainKind::Equal => Instr::ByteEq(0, column, slice, byte),
+        let load = |register| match kind {
+            ChainKind::Less => Instr::ByteLt(register, column, slice, byte),
+            ChainKind::Equal => Instr::ByteEq(register, column, slice, byte),
         };
         let entry = InstructionEntry::Byte(Some(cited.reference()));
-        self.plane(cited.node, instr, entry)
+        self.plane(cited.node, load, entry)
     }
 
     /// Sets a register to a connective of two.
@@ -312,12 +300,5 @@ impl<'a> Code<'a> {
         let row = self.row(Connective::Diff, 1, node);
         self.put(Instr::Not(to, from), InstructionEntry::Op(row.reference()));
         self.hold(to, row.node, false);
-    }
-
-    /// Returns a new register with the opposite of one.
-    pub(crate) fn opposite(&mut self, from: Register) -> Register {
-        let register = self.claim();
-        self.oppose(register, from);
-        register
     }
 }

@@ -35,7 +35,7 @@ impl Code<'_> {
         let width = self.facts.width(column);
         let varying = 64 - (*first ^ *last).leading_zeros();
         let start = varying.saturating_sub(17).div_ceil(8) * 8;
-        let free = self.free_registers();
+        let free = self.registers.iter().filter(|known| !known.needed).count();
         if width < start + 8 || free < ROOM_FOR_TWO || groups_from(bounds, start) < MANY_NUMBERS {
             return;
         }

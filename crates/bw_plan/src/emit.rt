@@ -22,8 +22,8 @@ pub(crate) fn program(
 ) -> Result<Program, Refusal>
     ensures { IfOk result (λ program. IsTrue (fits schema.now.columns.items program)) }
 {
-    let text = program_text(code.alloc, schema, &code.instrs, answer)?;
-    match Program::parse(code.alloc, schema, &text) {
+    let text = program_text(code.facts.alloc, schema, &code.instrs, answer)?;
+    match Program::parse(code.facts.alloc, schema, &text) {
         Ok(program) => Ok(program),
         Err(fault) if fault.code == code::OUT_OF_MEMORY => Err(Refusal::NoMemory),
         Err(_) => Err(Refusal::NoProgram),
@@ -35,7 +35,7 @@ pub(crate) fn program(
 pub(crate) fn certificate<'a>(
     schema: &'a Schema,
     code: &Code<'_>,
-    row: u32,
+    row: u64,
 ) -> Result<Certificate<'a>, Refusal>
     ensures { IfOk result (λ certificate.
         IsTrue (has_columns schema.now.columns.items (certificate_fields certificate))) }
@@ -50,7 +50,6 @@ pub(crate) fn certificate<'a>(
     let line = line.saturating_add(rows.len() as u64);
     let body = body_lines(code, line)?;
     let line = line.saturating_add(body.len() as u64);
-    let row = u64::from(row);
     Ok(Certificate::new(nodes, chains, rows, body, EndLine { line, row }))
 }
 
@@ -106,7 +105,7 @@ fn product_lines(facts: &Facts<'_>, first: u64) -> Result<Vec<ProductLine>, Refu
 
 /// Returns the lines of the condition, the instructions and the joins.
 fn body_lines(code: &Code<'_>, first: u64) -> Result<Body, Refusal> {
-    let mut lines = Body::new(code.alloc);
+    let mut lines = Body::new(code.facts.alloc);
     for entry in &code.lines {
         let line = first.saturating_add(lines.len() as u64);
         let entry = entry.entry(&code.edges);

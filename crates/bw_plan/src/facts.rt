@@ -34,14 +34,6 @@ impl Cited {
     }
 }
 
-/// How many nodes, chains and product rows there are.
-#[derive(Clone, Copy)]
-pub(crate) struct Extent {
-    pub(crate) nodes: usize,
-    chains: usize,
-    pub(crate) products: usize,
-}
-
 /// The nodes, chains and product rows of a certificate, under a schema. Each occurs once, after
 /// those it follows from, and is added when it is first requested.
 #[derive(Drop)]
@@ -112,23 +104,6 @@ impl<'a> Facts<'a> {
                 NO_FACT
             }
         }
-    }
-
-    /// Returns how many there are so far.
-    pub(crate) fn extent(&self) -> Extent {
-        Extent {
-            nodes: self.nodes.len(),
-            chains: self.chains.len(),
-            products: self.products.len(),
-        }
-    }
-
-    /// Removes what was added since there were so many, and what was refused since.
-    pub(crate) fn return_to(&mut self, extent: Extent) {
-        self.nodes.truncate(extent.nodes);
-        self.chains.truncate(extent.chains);
-        self.products.truncate(extent.products);
-        self.refusal = None;
     }
 
     /// Returns the node of a number, if it isn't a terminal.

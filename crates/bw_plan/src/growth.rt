@@ -1,5 +1,5 @@
 //! How many facts the parts of a condition take, forecast before all are joined.
-use crate::facts::{Extent, Facts, MAX_NODES};
+use crate::facts::{Facts, MAX_NODES};
 use crate::refusal::Refusal;
 
 /// No forecast is made before the first parts have taken this fraction of the limit of product
@@ -14,20 +14,20 @@ pub(crate) struct Growth {
     joined: usize,
     /// How many product rows there were at first.
     start: usize,
-    /// How many parts were combined, and which facts there were, after the last number of parts
-    /// that is a power of two, and after half of these.
-    late: (usize, Extent),
-    early: (usize, Extent),
+    /// How many parts were combined, and how many nodes and product rows there were, after the last
+    /// number of parts that is a power of two, and after half of these.
+    late: (usize, usize, usize),
+    early: (usize, usize, usize),
 }
 
 impl Growth {
     /// Returns this many parts, none of them combined.
     pub(crate) fn of(parts: usize, facts: &Facts<'_>) -> Self {
-        let none = (0, facts.extent());
+        let none = (0, facts.nodes.len(), facts.products.len());
         Growth {
             parts,
             joined: 0,
-            start: facts.products.len(),
+            start: none.2,
             late: none,
             early: none,
         }
@@ -37,17 +37,17 @@ impl Growth {
     /// would be passed, if each remaining part took as many as the last half of the parts so far.
     pub(crate) fn join(&mut self, facts: &mut Facts<'_>) {
         self.joined = self.joined.saturating_add(1);
-        let (now, early) = (facts.extent(), self.early.1);
+        let (nodes, products) = (facts.nodes.len(), facts.products.len());
         let limit = facts.products.limit as usize;
-        if now.products.saturating_sub(self.start) >= limit / FIRST_ROWS
-            && (self.passes(MAX_NODES, early.nodes, now.nodes)
-                || self.passes(limit, early.products, now.products))
+        if products.saturating_sub(self.start) >= limit / FIRST_ROWS
+            && (self.passes(MAX_NODES, self.early.1, nodes)
+                || self.passes(limit, self.early.2, products))
         {
             facts.refuse(Refusal::NoProgram);
         }
         if self.joined.is_power_of_two() {
             self.early = self.late;
-            self.late = (self.joined, now);
+            self.late = (self.joined, nodes, products);
         }
     }
 

@@ -85,19 +85,6 @@ impl<T: Entry> Ledger<T> {
         Ok(number)
     }
 
-    /// Removes the entries from this number on.
-    pub(crate) fn truncate(&mut self, number: usize) {
-        for _ in number..self.slots.len() {
-            let Some(slot) = self.slots.pop() else {
-                break;
-            };
-            let at = place(slot.entry.key(), self.last.len());
-            if let Some(last) = self.last.get_mut(at) {
-                *last = slot.before;
-            }
-        }
-    }
-
     /// Spreads the entries over four times as many hashes.
     fn spread(&mut self) -> Result<(), Refusal> {
         let count = self.last.len().saturating_mul(4).max(FEWEST_HASHES);

@@ -37,7 +37,6 @@ mod parts;
 mod planner;
 mod products;
 mod refusal;
-mod registers;
 mod relations;
 mod select;
 mod sequence;

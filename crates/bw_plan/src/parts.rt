@@ -72,10 +72,8 @@ fn all_of(facts: &mut Facts<'_>, any: bool, conds: &[Cond], negated: bool) -> Pa
 
 /// Returns whether a condition is the same comparison as the one before it, if there is one.
 fn is_same_comparison(before: Option<&Cond>, cond: &Cond) -> bool {
-    match (before, cond) {
-        (Some(Cond::Cmp(op, x, y)), Cond::Cmp(other, z, w)) => op == other && x == z && y == w,
-        _ => false,
-    }
+    matches!((before, cond), (Some(Cond::Cmp(op, x, y)), Cond::Cmp(other, z, w))
+        if op == other && x == z && y == w)
 }
 
 /// Returns a comparison, or its opposite if it is negated.
@@ -185,10 +183,28 @@ fn combined_set(
 }
 
 impl Part {
-    /// Returns whether it takes only two or three instructions, so that a test whether to skip it
-    /// saves nothing.
-    pub(crate) fn is_quick(&self) -> bool {
-        matches!(self, Part::Null(..) | Part::Fixed(_))
+    /// Returns whether two of its parts may load the same plane: they name the same column, or one
+    /// is a test of a truth. `seen` has a bit for each column that earlier parts name.
+    #[cycle(repeats)]
+    pub(crate) fn repeats_column(&self, seen: &mut u64) -> bool {
+        let only = |column: ColumnIndex| 1u64 << (column % 64);
+        let columns = match self {
+            Part::Codes(set) => only(set.column),
+            Part::Null(column, _) => only(*column),
+            Part::Columns(compared) => only(compared.left) | only(compared.right),
+            Part::All(_, parts) => {
+                let mut repeats = false;
+                for part in parts {
+                    repeats |= part.repeats_column(seen);
+                }
+                return repeats;
+            }
+            Part::Test(..) => return true,
+            Part::Fixed(_) | Part::Done => 0,
+        };
+        let repeats = *seen & columns != 0;
+        *seen |= columns;
+        repeats
     }
 
     /// Returns how many registers it takes at most, if each of its parts keeps one.

@@ -8,7 +8,6 @@ ghost use Rattle.bw_plan.specs.Refusal.{IsRefusal};
 
 use crate::code::Code;
 use crate::emit;
-use crate::facts::Facts;
 use crate::parts::{Part, part_of};
 use crate::refusal::Refusal;
 use crate::truth_pair::TruthPair;
@@ -59,8 +58,15 @@ pub fn propose_in_order<'a>(
         IsTrue (has_columns schema.now.columns.items (certificate_fields proposal.certificate))) }
     ensures fault { IfErr result IsRefusal }
 {
-    let code = Code::new(alloc, Facts::new(alloc, schema, cond)?);
-    let (program, code, row) = program_of(schema, cond, order, code)?;
+    let mut code = Code::begin(alloc, schema, cond, true)?;
+    let part = part_of(&mut code.facts, order, false)?;
+    code.facts.check_refusal()?;
+    let mut made = program_of(schema, &part, &mut code);
+    if matches!(made, Err(Refusal::NoProgram)) {
+        code = Code::begin(alloc, schema, cond, false)?;
+        made = program_of(schema, &part, &mut code);
+    }
+    let (program, row) = made?;
     let certificate = emit::certificate(schema, &code, row)?;
     Ok(Proposal {
         program,
@@ -68,44 +74,13 @@ pub fn propose_in_order<'a>(
     })
 }
 
-/// Returns the program, with skips or without, its code, and the row that ends the certificate.
-fn program_of<'a>(
-    schema: &Schema,
-    cond: &Cond,
-    order: &Cond,
-    mut code: Code<'a>,
-) -> Result<(Program, Code<'a>, u32), Refusal>
+/// Returns the program of a condition, and the number of the row that proves that its result has
+/// the condition's node.
+fn program_of(schema: &Schema, part: &Part, code: &mut Code<'_>) -> Result<(Program, u64), Refusal>
     ensures { IfOk result (λ made. IsTrue (fits schema.now.columns.items made.0)) }
 {
-    let node = code.begin(cond)?;
-    let part = part_of(&mut code.facts, order, false)?;
-    code.facts.check_refusal()?;
-    match emit_program(schema, &part, node, &mut code) {
-        Ok((program, row)) => Ok((program, code, row)),
-        Err(Refusal::NoProgram) => {
-            let mut code = code.without_skips();
-            let (program, row) = emit_program(schema, &part, node, &mut code)?;
-            Ok((program, code, row))
-        }
-        Err(refusal) => Err(refusal),
-    }
-}
-
-/// Returns the program of a condition that has this node, and the row that proves that its result
-/// has it too.
-fn emit_program(
-    schema: &Schema,
-    part: &Part,
-    node: u32,
-    code: &mut Code<'_>,
-) -> Result<(Program, u32), Refusal>
-    ensures { IfOk result (λ made. IsTrue (fits schema.now.columns.items made.0)) }
-{
-    let wanted = TruthPair {
-        yes: true,
-        no: false,
-    };
-    let answer = code.truths(part, wanted).yes;
+    code.keeps_planes = part.repeats_column(&mut 0);
+    let answer = code.truths(part, TruthPair::of(true, false)).yes;
     let answer = code.facts.expect(answer, 0);
     code.meet();
     if code.skip_count == 0 {
@@ -116,11 +91,10 @@ fn emit_program(
         code.meet();
     }
     let made = code.node(answer);
-    let row = code.row(Connective::Xor, made, node);
+    let row = code.row(Connective::Xor, made, code.condition);
     code.facts.check_refusal()?;
     if row.node != 0 {
         return Err(Refusal::NoProgram);
     }
-    let answer = code.renumber_registers(answer)?;
-    Ok((emit::program(schema, code, answer)?, row.number))
+    Ok((emit::program(schema, code, answer)?, row.reference()))
 }

@@ -3,7 +3,6 @@
 use crate::chains::Link;
 use crate::code::Code;
 use crate::comparison::{ColumnComparison, Comparison, LiteralComparison, compare};
-use crate::facts::Cited;
 use crate::growth::Growth;
 use crate::line::PlannedLine;
 use crate::order::VariableOrder;
@@ -33,7 +32,7 @@ impl Code<'_> {
     #[cycle(steps)]
     pub(crate) fn steps(&mut self, cond: &Cond) -> TruthNodes {
         if self.facts.refusal.is_some() {
-            return TruthPair { yes: 0, no: 0 };
+            return TruthPair::of(0, 0);
         }
         match cond {
             Cond::Always => self.put_fixed(Truth::Yes),
@@ -99,7 +98,7 @@ impl Code<'_> {
     /// Returns the nodes of a condition that has no program.
     fn refuse_nodes(&mut self) -> TruthNodes {
         self.facts.refuse(Refusal::NoProgram);
-        TruthPair { yes: 0, no: 0 }
+        TruthPair::of(0, 0)
     }
 
     /// Appends the line of a step.
@@ -110,10 +109,10 @@ impl Code<'_> {
     /// Returns the nodes of a step with one truth on every row.
     fn put_fixed(&mut self, truth: Truth) -> TruthNodes {
         self.put_step(ConditionEntry::Fixed);
-        TruthPair {
-            yes: u32::from(truth == Truth::Yes),
-            no: u32::from(truth == Truth::No),
-        }
+        TruthPair::of(
+            u32::from(truth == Truth::Yes),
+            u32::from(truth == Truth::No),
+        )
     }
 
     /// Returns the nodes of two parts, combined by OR, or else by AND.
@@ -130,7 +129,7 @@ impl Code<'_> {
         } else {
             ConditionEntry::And(yes.reference(), no.reference())
         });
-        nodes(yes, no)
+        TruthPair::of(yes.node, no.node)
     }
 
     /// Returns the nodes of `IS TRUE`, `IS FALSE` or `IS UNKNOWN`.
@@ -142,12 +141,12 @@ impl Code<'_> {
                 let known = self.row(Connective::Or, made.yes, made.no);
                 let other = self.row(Connective::Diff, 1, known.node);
                 self.put_step(ConditionEntry::IsUnknown(known.reference(), other.reference()));
-                return nodes(other, known);
+                return TruthPair::of(other.node, known.node);
             }
         };
         let no = self.row(Connective::Diff, 1, yes);
         self.put_step(ConditionEntry::Is(no.reference()));
-        TruthPair { yes, no: no.node }
+        TruthPair::of(yes, no.node)
     }
 
     /// Returns the nodes of `IS NULL`.
@@ -161,7 +160,7 @@ impl Code<'_> {
         };
         let no = self.row(Connective::Diff, 1, yes);
         self.put_step(ConditionEntry::NullTest(no.reference()));
-        TruthPair { yes, no: no.node }
+        TruthPair::of(yes, no.node)
     }
 
     /// Returns the nodes of a comparison.
@@ -198,7 +197,7 @@ impl Code<'_> {
         let (value, m) = self.values_row(compared.column);
         let len = self.facts.width(compared.column);
         let limit = u64::try_from(compared.limit).unwrap_or(0);
-        let link = Link::bound(compared.kind, compared.column, 0, len, limit);
+        let link = Link::of(compared.kind, compared.column, 0, len, limit);
         let (chain, e) = self.chain_of(link, compared.terminal(len));
         let yes = self.row(Connective::And, m, e);
         let no = self.row(Connective::Diff, m, e);
@@ -208,7 +207,7 @@ impl Code<'_> {
             yes: yes.reference(),
             no: no.reference(),
         });
-        nodes(yes, no).opposite_if(compared.negated)
+        TruthPair::of(yes.node, no.node).opposite_if(compared.negated)
     }
 
     /// Returns the nodes of a comparison of two columns.
@@ -231,14 +230,6 @@ impl Code<'_> {
             yes: yes.reference(),
             no: no.reference(),
         });
-        nodes(yes, no).opposite_if(compared.negated)
-    }
-}
-
-/// Returns the nodes of two product rows.
-fn nodes(yes: Cited, no: Cited) -> TruthNodes {
-    TruthPair {
-        yes: yes.node,
-        no: no.node,
+        TruthPair::of(yes.node, no.node).opposite_if(compared.negated)
     }
 }

@@ -9,13 +9,15 @@ pub(crate) struct TruthPair<T: Copy> {
 }
 
 impl<T: Copy> TruthPair<T> {
+    /// Returns a pair.
+    pub(crate) fn of(yes: T, no: T) -> Self {
+        TruthPair { yes, no }
+    }
+
     /// Returns the pair of the condition, or of its opposite if it is negated.
     pub(crate) fn opposite_if(self, negated: bool) -> Self {
         if negated {
-            TruthPair {
-                yes: self.no,
-                no: self.yes,
-            }
+            TruthPair::of(self.no, self.yes)
         } else {
             self
         }

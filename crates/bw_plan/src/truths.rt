@@ -42,10 +42,7 @@ impl Code<'_> {
             }
             Part::All(any, parts) => self.emit_parts(*any, parts, wanted),
             Part::Test(part, truth, negated) => {
-                let needed = TruthPair {
-                    yes: *truth != Truth::No,
-                    no: *truth != Truth::Yes,
-                };
+                let needed = TruthPair::of(*truth != Truth::No, *truth != Truth::Yes);
                 let made = self.truths(part, needed);
                 self.emit_truth_test(*truth, made, *negated, wanted)
             }
@@ -68,7 +65,9 @@ impl Code<'_> {
             if number == start {
                 continue;
             }
-            if number < SKIPPED_PARTS && self.skips_parts && !part.is_quick() {
+            // These take two or three instructions, so that a skip saves nothing.
+            let is_quick = matches!(part, Part::Null(..) | Part::Fixed(_));
+            if number < SKIPPED_PARTS && self.skips_parts && !is_quick {
                 self.skip_if_settled(any, made);
             }
             let next = self.truths(part, wanted);
@@ -84,7 +83,8 @@ impl Code<'_> {
         let made = made.opposite_if(any);
         match (made.yes, made.no) {
             (_, Some(excluded)) => {
-                let left = self.opposite(excluded);
+                let left = self.claim();
+                self.oppose(left, excluded);
                 self.skip(left);
                 self.release(left);
             }
@@ -106,14 +106,9 @@ impl Code<'_> {
 
     /// Returns the registers of one truth on every row.
     fn constant(&mut self, truth: Truth, wanted: WantedTruths) -> TruthRegisters {
-        let mut made = NONE;
-        if wanted.yes {
-            made.yes = Some(self.fill(truth == Truth::Yes));
-        }
-        if wanted.no {
-            made.no = Some(self.fill(truth == Truth::No));
-        }
-        made
+        let yes = wanted.yes.then(|| self.fill(truth == Truth::Yes));
+        let no = wanted.no.then(|| self.fill(truth == Truth::No));
+        TruthPair::of(yes, no)
     }
 
     /// Returns the registers of `IS TRUE`, `IS FALSE` or `IS UNKNOWN`, or of its opposite if it is
@@ -139,8 +134,7 @@ impl Code<'_> {
     /// Returns the registers of `IS NULL`, of a column that may be null.
     fn emit_null_test(&mut self, column: ColumnIndex, wanted: WantedTruths) -> TruthRegisters {
         if !wanted.yes {
-            let no = self.values(column);
-            return TruthPair { yes: None, no };
+            return TruthPair::of(None, self.values(column));
         }
         let nulls = self.nulls(column);
         let nulls = self.facts.expect(nulls, 0);
