@@ -2,7 +2,7 @@
 //! for each plane. There is no early end: to ask after each plane whether a lane is left takes
 //! longer than the planes of a byte.
 ghost use Rattle.std.specs.Prelude.{◌≡◌, ◌==◌, ◌&&◌, ◌||◌, if◌then◌else◌, ◌+◌, ◌*◌, ◌/◌, ◌%◌, ◌^◌};
-ghost use Rattle.std.specs.Prelude.{◌<◌, ◌≤◌, false, length, map, nat_lt, not, replicate};
+ghost use Rattle.std.specs.Prelude.{◌<◌, ◌≤◌, length, map, nat_lt, not};
 ghost use lib.Lanes.{zip2};
 ghost use Rattle.bw_lanes.specs.Lanes.{lanes_of_words};
 ghost use Rattle.bw_model.specs.Code.{has_bit};
@@ -12,16 +12,6 @@ use bw_lanes::{Plane, and, load, not, or};
 
 /// All lanes 1.
 const ONES: Plane = [u64::MAX; 8];
-
-/// Returns no lanes. It isn't compiled into its callers, which would make these zeros before each
-/// comparison.
-#[cold]
-#[inline(never)]
-fn no_lanes() -> Plane
-    ensures { lanes_of_words result ≡ replicate 512 false }
-{
-    [0; 8]
-}
 
 /// Returns the lanes in which the number that `count` bits of the code spell, from `low` upwards,
 /// is at least `c`.
@@ -34,7 +24,7 @@ pub(crate) fn at_least(width: u32, bytes: &[u8], low: u32, count: u32, c: u64) -
         ≡ map (λ code. not (nat_lt (code / 2 ^ low % 2 ^ count) c)) (planes_codes width bytes.now) }
 {
     if c >> count != 0 {
-        return no_lanes();
+        return [0; 8];
     }
     if count == 8 {
         low_at_least(width, bytes, low, 8, c)
@@ -97,7 +87,7 @@ pub(crate) fn eq(width: u32, bytes: &[u8], low: u32, count: u32, c: u8) -> Plane
         return low_eq(width, bytes, low, 8, c);
     }
     if c as u32 >> count != 0 {
-        return no_lanes();
+        return [0; 8];
     }
     low_eq(width, bytes, low, count, c)
 }
