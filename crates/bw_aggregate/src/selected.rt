@@ -1,5 +1,5 @@
 //! The totals of the selected rows of a segment.
-ghost use Rattle.std.specs.Prelude.{◌≡◌, ◌+◌, ◌≤◌, ◌++◌, List, length, IsTrue};
+ghost use Rattle.std.specs.Prelude.{◌≡◌, ◌+◌, ◌≤◌, ◌++◌, List, count_by, length, IsTrue};
 ghost use Rattle.bw_lanes.specs.Lanes.{lanes_of_words};
 ghost use Rattle.bw_model.specs.Limits.{most_rows};
 ghost use Rattle.bw_model.specs.Row.{Value};
@@ -14,13 +14,19 @@ use bw_rowwise::Accumulator;
 use bw_segment::Segment;
 
 /// Adds the selected rows of a segment to a total: row i is selected if lane i is 1. The selection
-/// must have no bit past the segment's rows, and the segment must have the aggregate's column. With
-/// the segment's rows the total must be of at most 2^24. If no row is selected, only the selection
-/// is read.
-pub fn add_selected<S: Segment>(total: &mut Accumulator, segment: &S, selection: &Selection)
+/// must have no bit past the segment's rows, and `number` bits in all, which are counted once for
+/// all totals. The segment must have the aggregate's column. With the segment's rows the total must
+/// be of at most 2^24. If no row is selected, nothing is read.
+pub fn add_selected<S: Segment>(
+    total: &mut Accumulator,
+    segment: &S,
+    selection: &Selection,
+    number: u32,
+)
     requires column { IsTrue (item_within (length (S.meaning segment.now).columns) total.old.item) }
     requires selection { IsWithin (length (S.meaning segment.now).rows)
         (lanes_of_words selection.now) }
+    requires number { number ≡ count_by (λ lane. lane) (lanes_of_words selection.now) }
     requires capacity { total.old.count + length (S.meaning segment.now).rows ≤ most_rows }
     ensures step { total.new ≡ with_selected total.old
         (selected_rows (S.meaning segment.now) (lanes_of_words selection.now)) }
@@ -33,7 +39,6 @@ pub fn add_selected<S: Segment>(total: &mut Accumulator, segment: &S, selection:
         (rows ++ selected_rows (S.meaning segment.now) (lanes_of_words selection.now)) }
 {
     totals_join();
-    let number = count(selection);
     if number != 0 {
         let others = total_of(total, segment, selection, number);
         total.add_total(number, others);
@@ -78,13 +83,15 @@ fn total_by_columns<S: Segment>(
     requires column { IsTrue (item_within (length (S.meaning segment.now).columns) item) }
     requires selection { IsWithin (length (S.meaning segment.now).rows)
         (lanes_of_words selection.now) }
+    requires number { number
+        ≡ length (selected_rows (S.meaning segment.now) (lanes_of_words selection.now)) }
     ensures total { combine_totals item so_far result ≡ combine_totals item so_far
         (total item (selected_rows (S.meaning segment.now) (lanes_of_words selection.now))) }
     ensures small { IsTotalOfRows 1 result }
 {
     match item {
         Item::Plain(_) => None,
-        Item::CountAll => Some(i128::from(count(selection))),
+        Item::CountAll => Some(i128::from(number)),
         Item::Count(col) => Some(i128::from(count(&present(segment, col, selection)))),
         Item::Sum(col) => sum(segment, col, &present(segment, col, selection)),
         Item::Min(col) => {

@@ -8,7 +8,7 @@ ghost use Rattle.bw_rowwise.specs.Accumulator.{tally_of};
 ghost use Rattle.bw_aggregate.specs.Selected.{IsWithin, selected_rows};
 
 use crate::selected::add_selected;
-use bw_lanes::Selection;
+use bw_lanes::{Selection, count};
 use bw_model::Item;
 use bw_rowwise::Accumulator;
 use bw_segment::Segment;
@@ -67,7 +67,7 @@ impl Totals {
             (rows ++ selected_rows (S.meaning segment.now) (lanes_of_words selection.now)) }
     {
         let mut selected = self.selected;
-        add_selected(&mut selected, segment, selection);
+        add_selected(&mut selected, segment, selection, count(selection));
         *self = Totals {
             selected,
             rows: self.rows + segment.rows_in(),

@@ -6,7 +6,7 @@ ghost use Rattle.bw_model.specs.Total.{item_within};
 ghost use Rattle.bw_aggregate.specs.Selected.{IsWithin, selected_rows, with_selected};
 
 use bw_aggregate::add_selected;
-use bw_lanes::Selection;
+use bw_lanes::{Selection, count};
 use bw_rowwise::Accumulator;
 use bw_segment::Segment;
 
@@ -25,7 +25,8 @@ pub(crate) fn total_selected<S: Segment>(
     ensures { totals.new ≡ map (λ tally. with_selected tally
         (selected_rows (S.meaning segment.now) (lanes_of_words selection.now))) totals.old }
 {
+    let number = count(selection);
     for total in totals.iter_mut() {
-        add_selected(total, segment, selection);
+        add_selected(total, segment, selection, number);
     }
 }

@@ -15,8 +15,7 @@ pub returns-in-CountAll-clause-total : goal.returns-in-CountAll-clause-total
 returns-in-CountAll-clause-total g c =
     let meaning = g.S.Segment.meaning c.args.segment.now in
     let rows = selected_rows meaning (lanes_of_words c.args.selection.now) in
-    let number : c.count.result ≡ length rows = c.count.ensures.ones ∙ rows_counted meaning.rows (lanes_of_words c.args.selection.now) c.requires.selection in
-    ap (combine_totals c.args.item c.args.so_far) (ap Some (omega (arith, ints, c.from.ensures)) ∙ ap (λ k. Some (pos k)) number ∙ ap (λ (item : Item). total item rows) (sym c.in-CountAll.is))
+    ap (combine_totals c.args.item c.args.so_far) (ap Some (omega (arith, ints, c.from.ensures)) ∙ ap (λ k. Some (pos k)) c.requires.number ∙ ap (λ (item : Item). total item rows) (sym c.in-CountAll.is))
 
 pub returns-in-Count-clause-total : goal.returns-in-Count-clause-total
 returns-in-Count-clause-total g c =
@@ -26,7 +25,7 @@ returns-in-Count-clause-total g c =
     let rows = selected_rows meaning lanes in
     let there = ltb-true c.in-Count.col (length meaning.columns) (sym (ap (item_within (length meaning.columns)) c.in-Count.is) ∙ c.requires.column) in
     let eight : length c.present.result ≡ 8 = search rules in
-    let number : c.count-in-Count.result ≡ length (present c.in-Count.col rows) = c.count-in-Count.ensures.ones ∙ values_counted meaning c.in-Count.col lanes c.present.result group there c.requires.selection eight c.present.ensures in
+    let number : c.count.result ≡ length (present c.in-Count.col rows) = c.count.ensures.ones ∙ values_counted meaning c.in-Count.col lanes c.present.result group there c.requires.selection eight c.present.ensures in
     ap (combine_totals c.args.item c.args.so_far) (ap Some (omega (arith, ints, c.from-in-Count.ensures)) ∙ ap (λ k. Some (pos k)) number ∙ ap (λ (item : Item). total item rows) (sym c.in-Count.is))
 
 pub returns-in-Sum-clause-total : goal.returns-in-Sum-clause-total
