@@ -63,6 +63,7 @@ pub fn propose_in_order<'a>(
     code.facts.check_refusal()?;
     let mut made = program_of(schema, &part, &mut code);
     if matches!(made, Err(Refusal::NoProgram)) {
+        drop(code);
         code = Code::begin(alloc, schema, cond, false)?;
         made = program_of(schema, &part, &mut code);
     }
