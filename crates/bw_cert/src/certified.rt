@@ -18,7 +18,7 @@ ghost use Rattle.bw_cert.specs.Selects.{Selects, selection_by};
 use bw_lanes::{Selection, count};
 use bw_model::{Cond, Fault, Schema, groups_make_the_table};
 use bw_program::Program;
-use bw_run::{Counts, run_segment};
+use bw_run::{Counts, Registers, registers, run_in};
 use bw_segment::Segment;
 use std::alloc::Global;
 
@@ -104,14 +104,37 @@ impl Certified {
         ensures bounded { result.1.loads + result.1.skips ≤ length self.now.program.instrs }
         ensures most { result.1.loads + result.1.skips ≤ 4096 }
     {
-        self.program.is_valid();
-        self.schema.bits_spell_row();
-        run_segment(&self.program, segment)
+        let mut registers = registers();
+        let (selection, counts) = self.run_in(segment, &mut registers);
+        (*selection, counts)
     }
 
-    /// Runs the program on a segment of a table of the schema, and returns the number of its rows on
-    /// which the condition is TRUE, with the counts of the run, as [`Certified::run_segment`] does.
-    pub fn count_matches<S: Segment>(&self, segment: &S) -> (u32, Counts)
+    /// Does the same in registers of the caller, whose content doesn't matter, and lends the one
+    /// with the result. A scan runs in the same ones on all segments.
+    #[inline(always)]
+    pub fn run_in<'a, S: Segment>(
+        &self,
+        segment: &S,
+        registers: &'a mut Registers,
+    ) -> (&'a Selection, Counts)
+        requires { (S.meaning segment.now).columns ≡ self.now.schema.columns.items }
+        ensures rows { lanes_of_words result.0.now
+            ≡ selection self.now.condition (S.meaning segment.now).rows
+            ++ replicate (group_size - length (S.meaning segment.now).rows) false }
+        ensures loads { result.1.loads ≡ (run_of self.now.program (S.meaning segment.now)).loads }
+        ensures skips { result.1.skips ≡ (run_of self.now.program (S.meaning segment.now)).skips }
+        ensures bounded { result.1.loads + result.1.skips ≤ length self.now.program.instrs }
+        ensures most { result.1.loads + result.1.skips ≤ 4096 }
+    {
+        self.program.is_valid();
+        self.schema.bits_spell_row();
+        run_in(&self.program, segment, registers)
+    }
+
+    /// Runs the program in registers of the caller, as [`Certified::run_in`] does, and returns the
+    /// number of the segment's rows on which the condition is TRUE, with the counts of the run.
+    #[inline(always)]
+    pub fn count_matches<S: Segment>(&self, segment: &S, registers: &mut Registers) -> (u32, Counts)
         requires { (S.meaning segment.now).columns ≡ self.now.schema.columns.items }
         ensures matches { result.0
             ≡ length (matching_rows self.now.condition (S.meaning segment.now).rows) }
@@ -119,8 +142,8 @@ impl Certified {
         ensures skips { result.1.skips ≡ (run_of self.now.program (S.meaning segment.now)).skips }
         ensures most { result.1.loads + result.1.skips ≤ 4096 }
     {
-        let run = self.run_segment(segment);
-        (count(&run.0), run.1)
+        let (selection, counts) = self.run_in(segment, registers);
+        (count(selection), counts)
     }
 
     /// A law, exact selection: on every table of the schema the program selects exactly the rows on

@@ -79,7 +79,7 @@ pub(crate) fn eq(width: u32, bytes: &[u8], low: u32, count: u32, c: u8) -> Plane
     requires width { (1 ≤ width) × (width ≤ 63) }
     requires size { length bytes.now ≡ 64 * width }
     requires bits { low + count ≤ width }
-    requires byte { count ≤ 8 }
+    requires byte { (1 ≤ count) × (count ≤ 8) }
     ensures { lanes_of_words result
         ≡ map (λ code. code / 2 ^ low % 2 ^ count == c) (planes_codes width bytes.now) }
 {
@@ -92,26 +92,25 @@ pub(crate) fn eq(width: u32, bytes: &[u8], low: u32, count: u32, c: u8) -> Plane
     low_eq(width, bytes, low, count, c)
 }
 
-/// Returns the same, with a constant that has no higher bit. The loop ends early, and not at the
-/// number of bits, so that it is unrolled for every number.
+/// Returns the lanes in which this number has the `count` lowest bits of `c`. The loop ends early,
+/// and not at the number of bits, so that it is unrolled for every number.
 #[tactic(auto, using(crate::proofs::CompareLemmas::comparison))]
 #[inline(always)]
 fn low_eq(width: u32, bytes: &[u8], low: u32, count: u32, c: u8) -> Plane
     requires width { (1 ≤ width) × (width ≤ 63) }
     requires size { length bytes.now ≡ 64 * width }
     requires bits { low + count ≤ width }
-    requires byte { count ≤ 8 }
-    requires top { c / 2 ^ count ≡ 0 }
+    requires byte { (1 ≤ count) × (count ≤ 8) }
     ensures { lanes_of_words result
-        ≡ map (λ code. code / 2 ^ low % 2 ^ count == c) (planes_codes width bytes.now) }
+        ≡ map (λ code. code / 2 ^ low % 2 ^ count == c % 2 ^ count) (planes_codes width bytes.now) }
 {
     let mut equal = ONES;
     for place in 0..8 {
-        if place == count as usize {
-            break;
-        }
         let plane = plane_above(width, bytes, low, place);
         equal = equal_step(&equal, &plane, c >> place & 1 == 1);
+        if place + 1 == count as usize {
+            break;
+        }
     }
     equal
 }

@@ -24,6 +24,7 @@ use bw_file::Layout;
 use bw_memory::MemoryTable;
 use bw_model::{Fault, Query};
 use bw_planes::Planes;
+use bw_run::registers;
 use bw_segment::{CodeLayout, NumberedBlocks, PackedSegment};
 use bw_slices::Slices;
 use std::alloc::Global;
@@ -99,10 +100,11 @@ fn take_segments<L: CodeLayout>(
         }
     }
     let counts = answer.counts_rows();
+    let mut registers = registers();
     let mut scanned = NOTHING_SCANNED;
     for number in 0..table.segments() {
         segment = table.other_segment(segment, number);
-        let more = take_segment(&segment, scan, counts, answer)?;
+        let more = take_segment(&segment, scan, counts, &mut registers, answer)?;
         scanned = scanned.plus(more);
     }
     Ok(scanned)
@@ -128,11 +130,12 @@ fn count_matches<'a, L: CodeLayout>(
 {
     certified.condition().same_meaning(&answer.query().cond);
     let mut segment = segment;
+    let mut registers = registers();
     let mut matches = 0;
     let mut scanned = NOTHING_SCANNED;
     for place in 0..table.segments() {
         segment = table.other_segment(segment, place);
-        let found = certified.count_matches(&segment);
+        let found = certified.count_matches(&segment, &mut registers);
         matches += found.0;
         scanned = scanned.plus(found.1);
     }

@@ -25,7 +25,7 @@ use bw_answer::Answer;
 use bw_file::{AnySegment, TableReader, bytes_were_taken};
 use bw_io::Source;
 use bw_model::{Fault, Query, Schema};
-use bw_run::Counts;
+use bw_run::{Counts, Registers, registers};
 use bw_segment::Segment;
 use std::alloc::Global;
 
@@ -123,9 +123,10 @@ fn take_rows<S: Source>(
 {
     bytes_were_taken();
     let counts = answer.counts_rows();
+    let mut registers = registers();
     let mut scanned = NOTHING_SCANNED;
     while let Some(segment) = reader.next_segment(source)? {
-        let taken = take_either(&segment, scan, counts, answer);
+        let taken = take_either(&segment, scan, counts, &mut registers, answer);
         drop(segment);
         let more = taken?;
         scanned = scanned.plus(more);
@@ -139,6 +140,7 @@ fn take_either(
     segment: &AnySegment,
     scan: &Scan,
     counts: bool,
+    registers: &mut Registers,
     answer: &mut Answer<'_>,
 ) -> Result<Counts, Fault>
     requires scan { IsFor (any_meaning segment.now).columns (query_in answer.old).cond scan.now }
@@ -157,8 +159,8 @@ fn take_either(
     ensures only_oom { IfErr result (λ fault. fault ≡ no_memory) }
 {
     match segment {
-        AnySegment::Planes(segment) => take_segment(segment, scan, counts, answer),
-        AnySegment::Slices(segment) => take_segment(segment, scan, counts, answer),
+        AnySegment::Planes(segment) => take_segment(segment, scan, counts, registers, answer),
+        AnySegment::Slices(segment) => take_segment(segment, scan, counts, registers, answer),
     }
 }
 
@@ -167,6 +169,7 @@ pub(crate) fn take_segment<S: Segment>(
     segment: &S,
     scan: &Scan,
     counts: bool,
+    registers: &mut Registers,
     answer: &mut Answer<'_>,
 ) -> Result<Counts, Fault>
     requires scan { IsFor (S.meaning segment.now).columns (query_in answer.old).cond scan.now }
@@ -186,10 +189,10 @@ pub(crate) fn take_segment<S: Segment>(
 {
     match scan {
         Scan::Program(certified) => {
-            let run = certified.run_segment(segment);
+            let (selection, counts) = certified.run_in(segment, registers);
             certified.condition().same_meaning(&answer.query().cond);
-            answer.take_selected(segment, &run.0)?;
-            Ok(run.1)
+            answer.take_selected(segment, selection)?;
+            Ok(counts)
         }
         Scan::Rows => {
             take_by_rows(segment, counts, answer)?;

@@ -8,7 +8,7 @@ use bw_cert::{Certificate, Certified};
 use bw_lanes::Plane;
 use bw_model::{Cond, Fault, Schema};
 use bw_program::Program;
-use bw_run::Counts;
+use bw_run::{Counts, Registers};
 use bw_segment::Segment;
 use std::alloc::Global;
 
@@ -73,9 +73,24 @@ pub fn calls_run_segment<S: Segment>(certified: &Certified, segment: &S) -> (Pla
     certified.run_segment(segment)
 }
 
-pub fn calls_count_matches<S: Segment>(certified: &Certified, segment: &S) -> (u32, Counts)
+pub fn calls_run_in<'a, S: Segment>(
+    certified: &Certified,
+    segment: &S,
+    registers: &'a mut Registers,
+) -> (&'a Plane, Counts)
     requires name { (S.meaning segment.now).name ≡ certified.now.schema.name }
     requires columns { (S.meaning segment.now).columns ≡ certified.now.schema.columns.items }
 {
-    certified.count_matches(segment)
+    certified.run_in(segment, registers)
+}
+
+pub fn calls_count_matches<S: Segment>(
+    certified: &Certified,
+    segment: &S,
+    registers: &mut Registers,
+) -> (u32, Counts)
+    requires name { (S.meaning segment.now).name ≡ certified.now.schema.name }
+    requires columns { (S.meaning segment.now).columns ≡ certified.now.schema.columns.items }
+{
+    certified.count_matches(segment, registers)
 }

@@ -7,4 +7,4 @@ use Rattle.bw_cert.proofs.certified.Certified.count_matches.Goals as goal
 pub returns-clause-matches : goal.returns-clause-matches
 returns-clause-matches g c =
     let rows = (g.S.Segment.meaning c.args.segment.now).rows in
-    c.count.ensures.ones ∙ ap (count_by (λ lane. lane)) c.run_segment-run.ensures.rows ∙ sym (matches_counted c.args.self.now.condition rows (group_size - length rows))
+    c.count.ensures.ones ∙ ap (count_by (λ lane. lane)) c.run_in.ensures.rows ∙ sym (matches_counted c.args.self.now.condition rows (group_size - length rows))

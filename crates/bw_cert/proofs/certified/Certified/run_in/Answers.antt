@@ -13,7 +13,7 @@ use Rattle.bw_model.specs.StoredCodes.{no_bits}
 use Rattle.bw_program.specs.Machine.{end_state}
 use Rattle.bw_run.specs.Run.{first_lanes}
 use Rattle.bw_cert.proofs.SelectionLemmas.{register_is, masked, on_lane}
-use Rattle.bw_cert.proofs.certified.Certified.run_segment.Goals as goal
+use Rattle.bw_cert.proofs.certified.Certified.run_in.Goals as goal
 
 pub returns-clause-rows : goal.returns-clause-rows
 returns-clause-rows g c =
@@ -23,7 +23,7 @@ returns-clause-rows g c =
     let rows : List (List Value) = meaning.rows in
     let others : List Bool = map (on_lane self.schema.columns.items self.condition) (replicate (group_size - length rows) no_bits) in
     let count : length others ≡ group_size - length rows = length-map (replicate (group_size - length rows) no_bits) (on_lane self.schema.columns.items self.condition) ∙ length-replicate (group_size - length rows) no_bits in
-    c.run_segment.ensures.plane
+    c.run_in.ensures.plane
     ∙ ap (λ (columns : List Column). zip2 (λ a b. a && b) ((end_state columns (lanes_of columns rows) self.program).registers self.program.result) (first_lanes (length rows))) c.requires
     ∙ ap (λ bits. zip2 (λ a b. a && b) bits (first_lanes (length rows))) (register_is self.schema.columns.items self.condition self.program rows self.selects c.bits_spell_row.ensures admitted)
     ∙ ap (λ n. zip2 (λ a b. a && b) (map (is_match self.condition) rows ++ others) (replicate n true ++ replicate (group_size - length rows) false)) (sym (length-map rows (is_match self.condition)))
