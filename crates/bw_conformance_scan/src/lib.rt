@@ -8,14 +8,12 @@
 #[cfg(test)]
 mod lanes;
 #[cfg(test)]
-mod planes;
+mod layouts;
 #[cfg(test)]
 mod runs;
 #[cfg(test)]
 mod segments;
 #[cfg(test)]
 mod selected;
-#[cfg(test)]
-mod slices;
 #[cfg(test)]
 mod totals;

@@ -1,10 +1,13 @@
 //! Rows in memory, as one group of a table in both layouts.
+ghost use Rattle.std.specs.Prelude.{◌≡◌, IfOk};
+
 use bw_lanes::{Plane, count};
 use bw_model::{Row, Schema, Value};
-use bw_planes::PlaneSegment;
-use bw_segment::{Segment, is_group};
-use bw_slices::SliceSegment;
+use bw_planes::Planes;
+use bw_segment::{CodeLayout, PackedSegment, Segment, is_group};
+use bw_slices::Slices;
 use std::alloc::Global;
+use std::process::Abort;
 use std::test::Fail;
 
 /// A table with a column of 8 bits, from 0 to 255, that takes no null, and one of 5 bits, from -10
@@ -29,6 +32,20 @@ pub(crate) fn rows_of(alloc: Global, table: &[[Value; 2]]) -> Result<Vec<Row>, F
         })?;
     }
     Ok(rows)
+}
+
+/// Returns the segment of rows of these values.
+pub(crate) fn segment_of<L: CodeLayout>(
+    rt: &(impl Abort + AllocGlobal),
+    schema: &Schema,
+    table: &[[Value; 2]],
+) -> Result<PackedSegment<L>, Fail>
+    ensures { IfOk result (λ segment. (⟦<PackedSegment<L> as Segment>⟧.meaning segment).columns
+        ≡ schema.now.columns.items) }
+{
+    let rows = rows_of(rt.alloc(), table)?;
+    assert!(rt; is_group(schema, &rows));
+    Ok(PackedSegment::build(rt.alloc(), schema, &rows)?)
 }
 
 /// Returns the number of rows that have a 1 at a variable; 0 if there is no such variable.
@@ -80,19 +97,16 @@ fn answers<S: Segment>(alloc: Global, segment: &S) -> Result<Vec<Plane>, Fail> {
 fn layouts_answer_alike(rt: HostRuntime) -> Result<(), Fail> {
     let alloc = rt.alloc();
     let schema = Schema::parse(alloc, SCHEMA)?;
-    let rows = rows_of(alloc, &TABLE)?;
-    assert!(rt; is_group(&schema, &rows));
-    let planes = PlaneSegment::build(alloc, &schema, &rows)?;
-    let slices = SliceSegment::build(alloc, &schema, &rows)?;
-    let answers_of_planes = answers(alloc, &planes)?;
+    let planes = answers(alloc, &segment_of::<Planes>(&rt, &schema, &TABLE)?)?;
+    let slices = answers(alloc, &segment_of::<Slices>(&rt, &schema, &TABLE)?)?;
     // 14 variables, and 256 constants for each of two bytes and two comparisons
-    assert_eq!(rt; answers_of_planes.len(), 14 + 1024);
-    assert!(rt; answers_of_planes.as_slice() == answers(alloc, &slices)?.as_slice());
-    assert!(rt; answers_of_planes.len() >= 14);
+    assert_eq!(rt; planes.len(), 14 + 1024);
+    assert!(rt; planes.as_slice() == slices.as_slice());
+    assert!(rt; planes.len() >= 14);
     // the top plane of a, its last one, the nulls of b and b's least bit: one bit a row, the first
     // row's least
     for (variable, word) in [(0, 0b00010), (7, 0b01110), (8, 0b01100), (13, 0b00000)] {
-        assert_eq!(rt; answers_of_planes[variable][0], word, "variable {variable}");
+        assert_eq!(rt; planes[variable][0], word, "variable {variable}");
     }
     Ok(())
 }

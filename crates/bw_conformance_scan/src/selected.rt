@@ -1,17 +1,16 @@
 //! Aggregates of selected rows, in segments of both layouts.
-ghost use Rattle.std.specs.Prelude.{◌≡◌, IsTrue, length};
+ghost use Rattle.std.specs.Prelude.{◌≡◌, IfOk, IsTrue, length};
 ghost use Rattle.bw_lanes.specs.Lanes.{lanes_of_words};
 ghost use Rattle.bw_model.specs.Total.{is_aggregate, item_within};
 ghost use Rattle.bw_aggregate.specs.Selected.{IsWithin};
 
-use crate::segments::rows_of;
+use crate::segments::segment_of;
 use bw_aggregate::Totals;
 use bw_lanes::{Plane, lane};
 use bw_model::{Item, Schema, Value};
-use bw_planes::PlaneSegment;
-use bw_segment::{Segment, is_group};
-use bw_slices::SliceSegment;
-use std::alloc::Global;
+use bw_planes::Planes;
+use bw_segment::{CodeLayout, Segment};
+use bw_slices::Slices;
 use std::process::Abort;
 use std::test::Fail;
 
@@ -38,60 +37,58 @@ fn assert_aggregate(rt: &impl Abort, item: &Item, columns: usize)
     }
 }
 
-/// Returns the totals of these and of the selected rows of one more segment.
-fn add_segment<S: Segment>(
-    rt: &impl Abort,
+/// A group of rows, and which of them are selected.
+pub(crate) type Selected<'a> = (&'a [[Value; 2]], Plane);
+
+/// Returns the totals of these and of the selected rows of one more group.
+fn add_group<L: CodeLayout>(
+    rt: &(impl Abort + AllocGlobal),
     mut totals: Totals,
+    schema: &Schema,
     item: &Item,
-    segment: &S,
-    plane: &Plane,
-) -> Totals
+    group: Selected,
+) -> Result<Totals, Fail>
     requires { totals.selected.item ≡ item.now }
-    ensures { result.selected.item ≡ item.now }
+    ensures { IfOk result (λ totals. totals.selected.item ≡ item.now) }
 {
+    let (rows, plane) = group;
+    let segment = segment_of::<L>(rt, schema, rows)?;
     let before = totals.rows();
     let rows = segment.rows_in();
     assert!(rt; before <= 1 << 20);
     assert!(rt; rows <= 512);
     assert_aggregate(rt, item, segment.schema().columns.len());
-    assert_within(rt, rows, plane);
-    totals.add(segment, plane);
+    assert_within(rt, rows, &plane);
+    totals.add(&segment, &plane);
     assert_eq!(rt; totals.rows(), before + u64::from(rows));
-    totals
+    Ok(totals)
 }
 
-/// A group of rows, and which of them are selected.
-#[derive(Clone, Copy)]
-pub(crate) struct Selected<'a> {
-    pub rows: &'a [[Value; 2]],
-    pub plane: Plane,
-}
-
-/// Returns the total over two groups of rows, which is the same in planes and in slices.
-pub(crate) fn total(
-    rt: &impl Abort,
-    alloc: Global,
+/// Returns the total over two groups of rows.
+fn total<L: CodeLayout>(
+    rt: &(impl Abort + AllocGlobal),
     schema: &Schema,
     item: &Item,
-    first: &Selected,
-    second: &Selected,
+    [first, second]: [Selected; 2],
 ) -> Result<Option<i128>, Fail> {
     assert_aggregate(rt, item, schema.columns.len());
-    let front = rows_of(alloc, first.rows)?;
-    assert!(rt; is_group(schema, &front));
-    let back = rows_of(alloc, second.rows)?;
-    assert!(rt; is_group(schema, &back));
+    let totals = add_group::<L>(rt, Totals::new(item), schema, item, first)?;
+    Ok(add_group::<L>(rt, totals, schema, item, second)?.finish())
+}
 
-    let planes = PlaneSegment::build(alloc, schema, &front)?;
-    let totals = add_segment(rt, Totals::new(item), item, &planes, &first.plane);
-    let planes = PlaneSegment::build(alloc, schema, &back)?;
-    let of_planes = add_segment(rt, totals, item, &planes, &second.plane).finish();
-
-    let slices = SliceSegment::build(alloc, schema, &front)?;
-    let totals = add_segment(rt, Totals::new(item), item, &slices, &first.plane);
-    let slices = SliceSegment::build(alloc, schema, &back)?;
-    let of_slices = add_segment(rt, totals, item, &slices, &second.plane).finish();
-
-    assert_eq!(rt; of_planes, of_slices, "{item:?}");
-    Ok(of_planes)
+/// Ends the test unless this is the total over two groups of rows of a table, in planes and in
+/// slices.
+pub(crate) fn assert_total(
+    rt: &(impl Abort + AllocGlobal),
+    schema: &[u8],
+    item: Item,
+    groups: [Selected; 2],
+    expected: Option<i128>,
+) -> Result<(), Fail> {
+    let schema = Schema::parse(rt.alloc(), schema)?;
+    let planes = total::<Planes>(rt, &schema, &item, groups)?;
+    assert_eq!(rt; planes, expected, "{item:?} of planes, {groups:?}");
+    let slices = total::<Slices>(rt, &schema, &item, groups)?;
+    assert_eq!(rt; slices, expected, "{item:?} of slices, {groups:?}");
+    Ok(())
 }

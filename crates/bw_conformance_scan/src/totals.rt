@@ -1,8 +1,8 @@
 //! Aggregates and their totals.
 use crate::segments::{SCHEMA, TABLE};
-use crate::selected::{Selected, total};
+use crate::selected::assert_total;
 use bw_lanes::{Plane, lane, mask};
-use bw_model::{Item, Schema, Value};
+use bw_model::{Item, Value};
 use std::test::Fail;
 
 /// Returns the plane of these first 64 lanes.
@@ -10,67 +10,60 @@ fn lanes(word: u64) -> Plane {
     [word, 0, 0, 0, 0, 0, 0, 0]
 }
 
+/// Which rows of the common table are selected, and their totals.
+const COMMON_TOTALS: [(u64, Item, Option<i128>); 22] = [
+    // all
+    (0b11111, Item::CountAll, Some(5)),
+    (0b11111, Item::Count(0), Some(5)),
+    (0b11111, Item::Count(1), Some(3)),
+    (0b11111, Item::Sum(0), Some(277)),
+    (0b11111, Item::Sum(1), Some(0)),
+    (0b11111, Item::Min(0), Some(0)),
+    (0b11111, Item::Max(0), Some(255)),
+    (0b11111, Item::Min(1), Some(-10)),
+    (0b11111, Item::Max(1), Some(10)),
+    // a = 7
+    (0b01100, Item::CountAll, Some(2)),
+    (0b01100, Item::Count(1), Some(0)),
+    (0b01100, Item::Sum(0), Some(14)),
+    (0b01100, Item::Sum(1), None),
+    (0b01100, Item::Min(1), None),
+    (0b01100, Item::Max(1), None),
+    // b IS NULL OR b = 0
+    (0b11100, Item::Min(1), Some(0)),
+    // b IS NULL OR b = -10
+    (0b01101, Item::Max(1), Some(-10)),
+    // nothing
+    (0, Item::CountAll, Some(0)),
+    (0, Item::Count(0), Some(0)),
+    (0, Item::Sum(0), None),
+    (0, Item::Min(0), None),
+    (0, Item::Max(0), None),
+];
+
+/// One more row after them or before them isn't selected.
 #[test]
 fn common_table_is_totalled(rt: HostRuntime) -> Result<(), Fail> {
-    let alloc = rt.alloc();
-    let schema = Schema::parse(alloc, SCHEMA)?;
     let other = [[Some(9), Some(9)]];
-    // which rows are selected, and the totals of all five and of the one more row after them, which
-    // isn't selected
-    for (name, word, item, expected) in [
-        ("all", 0b11111, Item::CountAll, Some(5)),
-        ("all", 0b11111, Item::Count(0), Some(5)),
-        ("all", 0b11111, Item::Count(1), Some(3)),
-        ("all", 0b11111, Item::Sum(0), Some(277)),
-        ("all", 0b11111, Item::Sum(1), Some(0)),
-        ("all", 0b11111, Item::Min(0), Some(0)),
-        ("all", 0b11111, Item::Max(0), Some(255)),
-        ("all", 0b11111, Item::Min(1), Some(-10)),
-        ("all", 0b11111, Item::Max(1), Some(10)),
-        ("a = 7", 0b01100, Item::CountAll, Some(2)),
-        ("a = 7", 0b01100, Item::Count(1), Some(0)),
-        ("a = 7", 0b01100, Item::Sum(0), Some(14)),
-        ("a = 7", 0b01100, Item::Sum(1), None),
-        ("a = 7", 0b01100, Item::Min(1), None),
-        ("a = 7", 0b01100, Item::Max(1), None),
-        ("b IS NULL OR b = 0", 0b11100, Item::Min(1), Some(0)),
-        ("b IS NULL OR b = -10", 0b01101, Item::Max(1), Some(-10)),
-        ("nothing", 0, Item::CountAll, Some(0)),
-        ("nothing", 0, Item::Count(0), Some(0)),
-        ("nothing", 0, Item::Sum(0), None),
-        ("nothing", 0, Item::Min(0), None),
-        ("nothing", 0, Item::Max(0), None),
-    ] {
-        let selected = Selected {
-            rows: &TABLE,
-            plane: lanes(word),
-        };
-        let none = Selected {
-            rows: &other,
-            plane: lanes(0),
-        };
-        assert_eq!(rt;
-            total(&rt, alloc, &schema, &item, &selected, &none)?,
-            expected,
-            "{name}, {item:?}"
-        );
-        assert_eq!(rt;
-            total(&rt, alloc, &schema, &item, &none, &selected)?,
-            expected,
-            "{name}, {item:?}"
-        );
+    let none = (other.as_slice(), lanes(0));
+    for (word, item, expected) in COMMON_TOTALS {
+        let selected = (TABLE.as_slice(), lanes(word));
+        assert_total(&rt, SCHEMA, item, [selected, none], expected)?;
+        assert_total(&rt, SCHEMA, item, [none, selected], expected)?;
     }
     Ok(())
 }
 
 #[test]
 fn whole_segments_are_totalled(rt: HostRuntime) -> Result<(), Fail> {
-    let alloc = rt.alloc();
-    let schema = Schema::parse(alloc, SCHEMA)?;
     let mut first = [[Some(3), Some(-1)]; 512];
     first[511] = [Some(200), None];
     let mut second = [[Some(2), None]; 512];
     second[64] = [Some(1), Some(-7)];
+    let groups = [
+        (first.as_slice(), mask(512)),
+        (second.as_slice(), mask(512)),
+    ];
     for (item, expected) in [
         (Item::CountAll, Some(1024)),
         (Item::Count(1), Some(512)),
@@ -81,27 +74,13 @@ fn whole_segments_are_totalled(rt: HostRuntime) -> Result<(), Fail> {
         (Item::Min(1), Some(-7)),
         (Item::Max(1), Some(-1)),
     ] {
-        let all = Selected {
-            rows: &first,
-            plane: mask(512),
-        };
-        let others = Selected {
-            rows: &second,
-            plane: mask(512),
-        };
-        assert_eq!(rt;
-            total(&rt, alloc, &schema, &item, &all, &others)?,
-            expected,
-            "{item:?}"
-        );
+        assert_total(&rt, SCHEMA, item, groups, expected)?;
     }
     Ok(())
 }
 
 #[test]
 fn few_rows_are_compared_with_earlier_ones(rt: HostRuntime) -> Result<(), Fail> {
-    let alloc = rt.alloc();
-    let schema = Schema::parse(alloc, SCHEMA)?;
     // the value of the earlier row and of the later one, which are selected beside others: far from
     // each other, with the same highest digits, and equal
     for (earlier, later) in [
@@ -121,37 +100,28 @@ fn few_rows_are_compared_with_earlier_ones(rt: HostRuntime) -> Result<(), Fail> 
             [Some(255), None],
         ];
         let second = [[Some(later), Some(1)], [Some(255), None], [Some(0), None]];
-        let before = Selected {
-            rows: &first,
-            plane: lanes(0b010),
-        };
-        let after = Selected {
-            rows: &second,
-            plane: lanes(0b001),
-        };
+        let groups = [
+            (first.as_slice(), lanes(0b010)),
+            (second.as_slice(), lanes(0b001)),
+        ];
         for (item, expected) in [
             (Item::Min(0), earlier.min(later)),
             (Item::Max(0), earlier.max(later)),
             (Item::Min(1), -1),
             (Item::Max(1), 1),
         ] {
-            assert_eq!(rt;
-                total(&rt, alloc, &schema, &item, &before, &after)?,
-                Some(i128::from(expected)),
-                "{earlier}, {later}, {item:?}"
-            );
+            let expected = Some(i128::from(expected));
+            assert_total(&rt, SCHEMA, item, groups, expected)?;
         }
     }
     Ok(())
 }
 
 /// A table with the widest codes, and a column of negative numbers alone.
-const WIDE: &str = "TABLE g\nCOLUMN x 0 9223372036854775807\nCOLUMN y -9223372036854775807 -1\n";
+const WIDE: &[u8] = b"TABLE g\nCOLUMN x 0 9223372036854775807\nCOLUMN y -9223372036854775807 -1\n";
 
 #[test]
 fn widest_codes_are_totalled(rt: HostRuntime) -> Result<(), Fail> {
-    let alloc = rt.alloc();
-    let schema = Schema::parse(alloc, WIDE.as_bytes())?;
     let greatest = 9223372036854775807;
     let table = [
         [Some(greatest), Some(-greatest)],
@@ -159,6 +129,7 @@ fn widest_codes_are_totalled(rt: HostRuntime) -> Result<(), Fail> {
         [None, Some(-greatest)],
     ];
     let other = [[None, None]];
+    let groups = [(table.as_slice(), mask(3)), (other.as_slice(), mask(1))];
     for (item, expected) in [
         (Item::Count(0), Some(2)),
         (Item::Sum(0), Some(18446744073709551614)),
@@ -168,30 +139,16 @@ fn widest_codes_are_totalled(rt: HostRuntime) -> Result<(), Fail> {
         (Item::Min(1), Some(-9223372036854775807)),
         (Item::Max(1), Some(-1)),
     ] {
-        let all = Selected {
-            rows: &table,
-            plane: mask(3),
-        };
-        let none = Selected {
-            rows: &other,
-            plane: mask(1),
-        };
-        assert_eq!(rt;
-            total(&rt, alloc, &schema, &item, &all, &none)?,
-            expected,
-            "{item:?}"
-        );
+        assert_total(&rt, WIDE, item, groups, expected)?;
     }
     Ok(())
 }
 
 /// A table with codes of four bytes and of one.
-const FOUR: &str = "TABLE f\nCOLUMN a 0 4294967295\nCOLUMN b 0 9 NOT NULL\n";
+const FOUR: &[u8] = b"TABLE f\nCOLUMN a 0 4294967295\nCOLUMN b 0 9 NOT NULL\n";
 
 #[test]
 fn least_and_greatest_are_found_among_ties(rt: HostRuntime) -> Result<(), Fail> {
-    let alloc = rt.alloc();
-    let schema = Schema::parse(alloc, FOUR.as_bytes())?;
     // rows that agree in their first bytes, twice the same ones, and rows with a greater byte
     // further down
     let table = [
@@ -222,19 +179,11 @@ fn least_and_greatest_are_found_among_ties(rt: HostRuntime) -> Result<(), Fail> 
         (0b0111_1011, Item::Max(1), Some(1)),
         (0, Item::Max(1), None),
     ] {
-        let selected = Selected {
-            rows: &table,
-            plane: lanes(word),
-        };
-        let none = Selected {
-            rows: &other,
-            plane: lanes(0),
-        };
-        assert_eq!(rt;
-            total(&rt, alloc, &schema, &item, &selected, &none)?,
-            expected,
-            "{word:b}, {item:?}"
-        );
+        let groups = [
+            (table.as_slice(), lanes(word)),
+            (other.as_slice(), lanes(0)),
+        ];
+        assert_total(&rt, FOUR, item, groups, expected)?;
     }
     Ok(())
 }
@@ -245,6 +194,20 @@ fn next_number(state: &mut u64) -> u64 {
         .wrapping_mul(6364136223846793005)
         .wrapping_add(1442695040888963407);
     *state >> 32
+}
+
+/// Returns a pseudo-random word.
+fn next_word(state: &mut u64) -> u64 {
+    next_number(state) << 32 | next_number(state)
+}
+
+/// Returns a value, or null about once in eight.
+fn or_null(state: &mut u64, value: i64) -> Value {
+    if next_number(state) % 8 == 0 {
+        None
+    } else {
+        Some(value)
+    }
 }
 
 /// Returns an aggregate of a column over the rows whose lane is 1, row by row.
@@ -273,33 +236,20 @@ fn row_by_row(item: &Item, table: &[[Value; 2]], plane: &Plane) -> Option<i128> 
 
 #[test]
 fn drawn_rows_are_totalled_as_row_by_row(rt: HostRuntime) -> Result<(), Fail> {
-    let alloc = rt.alloc();
-    let schema = Schema::parse(alloc, WIDE.as_bytes())?;
     let mut state = 7;
     let mut table = [[None; 2]; 512];
     for row in 0..512usize {
-        let drawn_whole = next_number(&mut state) << 32 | next_number(&mut state);
-        let x = i64::try_from(drawn_whole >> 1).unwrap_or(0);
+        let x = i64::try_from(next_word(&mut state) >> 1).unwrap_or(0);
         let y = !i64::try_from(next_number(&mut state) >> 16).unwrap_or(0);
-        table[row] = [
-            if next_number(&mut state) % 8 == 0 {
-                None
-            } else {
-                Some(x)
-            },
-            if next_number(&mut state) % 8 == 0 {
-                None
-            } else {
-                Some(y)
-            },
-        ];
+        table[row] = [or_null(&mut state, x), or_null(&mut state, y)];
     }
     let mut half = mask(0);
     for word in 0..8usize {
-        half[word] = next_number(&mut state) << 32 | next_number(&mut state);
+        half[word] = next_word(&mut state);
     }
     let other = [[None, None]];
     for plane in [mask(512), half, lanes(1), mask(65), mask(0)] {
+        let groups = [(table.as_slice(), plane), (other.as_slice(), mask(1))];
         for item in [
             Item::Sum(0),
             Item::Min(0),
@@ -308,19 +258,8 @@ fn drawn_rows_are_totalled_as_row_by_row(rt: HostRuntime) -> Result<(), Fail> {
             Item::Min(1),
             Item::Max(1),
         ] {
-            let selected = Selected {
-                rows: &table,
-                plane,
-            };
-            let none = Selected {
-                rows: &other,
-                plane: mask(1),
-            };
-            assert_eq!(rt;
-                total(&rt, alloc, &schema, &item, &selected, &none)?,
-                row_by_row(&item, &table, &plane),
-                "{item:?}, {plane:?}"
-            );
+            let expected = row_by_row(&item, &table, &plane);
+            assert_total(&rt, WIDE, item, groups, expected)?;
         }
     }
     Ok(())
