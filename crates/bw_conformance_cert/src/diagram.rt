@@ -1,10 +1,8 @@
 //! Lines of nodes that a diagram rejects: none of them changes it.
+use crate::files::SCHEMA;
 use bw_diagram::Diagram;
 use bw_model::{Fault, Schema};
 use std::test::Fail;
-
-/// `a` has eight bits, variables 0 to 7, and `b` five, variables 9 to 13, after its null variable.
-const TABLE: &str = "TABLE t\nCOLUMN a 0 255 NOT NULL\nCOLUMN b -10 10\n";
 
 const fn refusal(code: u16) -> Result<(), Fault> {
     Err(Fault::new(code))
@@ -12,7 +10,7 @@ const fn refusal(code: u16) -> Result<(), Fault> {
 
 #[test]
 fn nodes_are_refused(rt: HostRuntime) -> Result<(), Fail> {
-    let table = Schema::parse(rt.alloc(), TABLE.as_bytes())?;
+    let table = Schema::parse(rt.alloc(), SCHEMA)?;
     let mut diagram = Diagram::new(rt.alloc(), &table);
     for (n, v, low, high) in [
         (2, 14, 0, 1),

@@ -1,13 +1,11 @@
 //! Whatever a diagram contains, if there is memory it accepts each line that satisfies its rule,
 //! and rejects any other by that line's own number. No clause can say so, since all exempt running
 //! out of memory.
+use crate::files::SCHEMA;
 use bw_diagram::{ChainColumns, ChainKind, Connective, Diagram, Reason};
 use bw_model::{Fault, Schema};
 use std::process::Abort;
 use std::test::Fail;
-
-/// `a` has eight bits, variables 0 to 7, and `b` five, variables 9 to 13, after its null variable.
-const TABLE: &str = "TABLE t\nCOLUMN a 0 255 NOT NULL\nCOLUMN b -10 10\n";
 
 /// A kind of lines.
 #[derive(Clone, Copy, Debug)]
@@ -88,7 +86,7 @@ fn check_next(
 
 #[test]
 fn each_line_has_its_own_answer_whatever_is_held(rt: HostRuntime) -> Result<(), Fail> {
-    let table = Schema::parse(rt.alloc(), TABLE.as_bytes())?;
+    let table = Schema::parse(rt.alloc(), SCHEMA)?;
     for number in 0..216 {
         let held = Held {
             nodes: number % 6,
@@ -110,7 +108,7 @@ fn each_line_has_its_own_answer_whatever_is_held(rt: HostRuntime) -> Result<(), 
 
 #[test]
 fn lines_of_each_kind_come_by_turns(rt: HostRuntime) -> Result<(), Fail> {
-    let table = Schema::parse(rt.alloc(), TABLE.as_bytes())?;
+    let table = Schema::parse(rt.alloc(), SCHEMA)?;
     let mut diagram = Diagram::new(rt.alloc(), &table);
     for before in 0..2000 {
         let held = Held {

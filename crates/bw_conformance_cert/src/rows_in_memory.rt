@@ -6,14 +6,13 @@ ghost use Rattle.bw_model.specs.Cond.{names_within};
 ghost use Rattle.bw_model.specs.Row.{values_of};
 ghost use Rattle.bw_model.specs.Total.{item_within};
 
+use crate::files::SCHEMA;
 use bw_model::{Item, Query, Row, Schema, Truth, Value};
 use bw_rowwise::{aggregate, select, truth};
 use bw_sql::parse;
 use std::alloc::Global;
 use std::process::Abort;
 use std::test::Fail;
-
-const SCHEMA: &str = "TABLE t\nCOLUMN a 0 255 NOT NULL\nCOLUMN b -10 10\n";
 
 /// The columns `a` and `b` of five rows.
 const TABLE: [[Value; 2]; 5] = [
@@ -41,7 +40,7 @@ fn query(rt: &(impl Abort + AllocGlobal), sql: &str) -> Result<Query, Fail>
     ensures cond { IfOk result (λ query. IsTrue (names_within 2 query.cond)) }
     ensures items { IfOk result (λ query. IsTrue (list_all (item_within 2) query.items.items)) }
 {
-    let schema = Schema::parse(rt.alloc(), SCHEMA.as_bytes())?;
+    let schema = Schema::parse(rt.alloc(), SCHEMA)?;
     assert!(rt; schema.columns.len() == 2);
     Ok(parse(rt.alloc(), &schema, sql.as_bytes())?)
 }
@@ -129,7 +128,7 @@ fn totals_drop_nulls(rt: HostRuntime) -> Result<(), Fail> {
 /// five bits.
 #[test]
 fn variables_are_numbered_over_the_schema(rt: HostRuntime) -> Result<(), Fail> {
-    let schema = Schema::parse(rt.alloc(), SCHEMA.as_bytes())?;
+    let schema = Schema::parse(rt.alloc(), SCHEMA)?;
     assert!(rt; schema.columns.len() == 2);
     assert_eq!(rt; schema.var_count(), 14);
     assert_eq!(rt; schema.var_null(0), None);

@@ -53,7 +53,7 @@ fn run(
     file: &str,
     values: &[u8],
 ) -> Result<Counts, Fail> {
-    let schema = Schema::parse(alloc, SCHEMA.as_bytes())?;
+    let schema = Schema::parse(alloc, SCHEMA)?;
     let sql = format!(in alloc; "SELECT COUNT(*) FROM t WHERE {condition}")?;
     let query = parse(alloc, &schema, sql.as_bytes())?;
     let certified = certify(alloc, &schema, &query.cond, file.as_bytes())?.certified;
@@ -70,47 +70,53 @@ fn run(
     Ok(counts)
 }
 
-#[test]
-fn every_value_in_one_segment(rt: HostRuntime) -> Result<(), Fail> {
-    let alloc = rt.alloc();
-    let mut values = Vec::new(alloc);
-    for a in 0..=255 {
-        values.push(a)?;
-    }
-    for (condition, file, loads, skips) in [
-        ("a >= 192", TOP_BITS, 2, 0),
-        ("a >= 192", SAME_SKIP_TWICE, 2, 0),
-        ("a >= 224", TWO_SKIPS, 3, 0),
-        ("a < 8", BELOW_EIGHT, 1, 0),
-    ] {
-        let counts = run(&rt, alloc, condition, file, &values)?;
-        assert_eq!(rt; counts.loads, loads, "{condition}");
-        assert_eq!(rt; counts.skips, skips, "{condition}");
+/// Conditions and their program files.
+const FILES: [(&str, &str); 4] = [
+    ("a >= 192", TOP_BITS),
+    ("a >= 192", SAME_SKIP_TWICE),
+    ("a >= 224", TWO_SKIPS),
+    ("a < 8", BELOW_EIGHT),
+];
+
+/// Ends the test unless the files have these loads and skips over rows.
+fn assert_counts(
+    rt: &impl Abort,
+    alloc: Global,
+    values: &[u8],
+    expected: [(usize, usize); 4],
+) -> Result<(), Fail> {
+    for ((condition, file), (loads, skips)) in FILES.iter().zip(expected) {
+        let counts = run(rt, alloc, condition, file, values)?;
+        assert_eq!(rt; counts.loads, loads, "{condition} on {values:?}");
+        assert_eq!(rt; counts.skips, skips, "{condition} on {values:?}");
     }
     Ok(())
 }
 
 #[test]
+fn every_value_in_one_segment(rt: HostRuntime) -> Result<(), Fail> {
+    let mut values = Vec::new(rt.alloc());
+    for a in 0..=255 {
+        values.push(a)?;
+    }
+    assert_counts(&rt, rt.alloc(), &values, [(2, 0), (2, 0), (3, 0), (1, 0)])
+}
+
+#[test]
 fn every_value_in_a_segment_of_its_own(rt: HostRuntime) -> Result<(), Fail> {
-    let alloc = rt.alloc();
     for a in 0..=255u8 {
         // of two skips into one place, segments of different values take another one
-        let (two_loads, two_skips) = match a {
-            0..128 => (1, 1),
-            128..192 => (2, 1),
-            192.. => (3, 0),
+        let (one_skip, two_skips) = match a {
+            0..128 => ((1, 1), (1, 1)),
+            128..192 => ((2, 0), (2, 1)),
+            192.. => ((2, 0), (3, 0)),
         };
-        let (loads, skips) = if a < 128 { (1, 1) } else { (2, 0) };
-        for (condition, file, loads, skips) in [
-            ("a >= 192", TOP_BITS, loads, skips),
-            ("a >= 192", SAME_SKIP_TWICE, loads, skips),
-            ("a >= 224", TWO_SKIPS, two_loads, two_skips),
-            ("a < 8", BELOW_EIGHT, 1, 0),
-        ] {
-            let counts = run(&rt, alloc, condition, file, &[a])?;
-            assert_eq!(rt; counts.loads, loads, "{condition} on {a}");
-            assert_eq!(rt; counts.skips, skips, "{condition} on {a}");
-        }
+        assert_counts(
+            &rt,
+            rt.alloc(),
+            &[a],
+            [one_skip, one_skip, two_skips, (1, 0)],
+        )?;
     }
     Ok(())
 }
