@@ -13,6 +13,14 @@ use std::alloc::Global;
 /// The number of planes of the first column, one for each bit, the top one first.
 pub(crate) const PLANES: u32 = 8;
 
+/// Distinct segments: a number of which 10,000 is a multiple.
+pub(crate) const CASES: u16 = 8;
+
+/// Passes over all segments in a round of 10,000 segments.
+pub(crate) const PASSES: usize = 1_250;
+
+pub(crate) const ROUNDS: usize = 30;
+
 /// A segment and a program over it. The segment's first planes are those of a column of eight bits.
 #[derive(Drop)]
 pub(crate) struct Case {

@@ -2,15 +2,14 @@
 //! Standard output has, for each, a number to which each call added.
 ghost use Rattle.std.specs.Prelude.{◌≤◌};
 ghost use Rattle.bw_model.specs.Groups.{group_size};
-ghost use Rattle.bw_segment.specs.Meaning.{meaning_of, IsGroup};
 
 use crate::failure::Failure;
 use crate::random::{next_number, or_null};
 use bw_lanes::{Plane, bytes_bit, bytes_eq, bytes_lt};
 use bw_model::{Row, Schema};
-use bw_planes::{PlaneSegment, Planes};
+use bw_planes::Planes;
 use bw_segment::{CodeLayout, PackedSegment, Placement, Segment, is_group};
-use bw_slices::{SliceSegment, Slices};
+use bw_slices::Slices;
 use std::alloc::Global;
 use std::rc::Rc;
 use std::rt::Clock;
@@ -26,13 +25,15 @@ pub(crate) fn time_calls(rt: &HostRuntime, calls: &str) -> Result<(), Failure> {
         return Err(Failure::Word);
     };
     time_kernels(rt, calls)?;
-    time_segments(rt, rt.alloc(), calls)?;
-    time_judging(rt, rt.alloc(), calls)
+    time_builds::<Planes>(rt, calls / 64, "build planes")?;
+    time_builds::<Slices>(rt, calls / 64, "build slices")?;
+    time_judging::<Planes>(rt, calls / 4, "judge planes")?;
+    time_judging::<Slices>(rt, calls / 4, "judge slices")
 }
 
 /// Writes how long each call took, and a number to which each call added.
-fn tell<R: Print + Eprint + Clock>(
-    rt: &R,
+fn tell(
+    rt: &(impl Print + Eprint + Clock),
     name: &str,
     calls: u32,
     start: Instant,
@@ -54,32 +55,37 @@ fn byte_of(bytes: &[u8], call: u32) -> u64 {
     u64::from(bytes.get((call & 7) as usize).copied().unwrap_or(0))
 }
 
-fn time_kernels<R: Print + Eprint + Clock>(rt: &R, calls: u32) -> Result<(), Failure> {
+fn time_kernels(rt: &(impl Print + Eprint + Clock), calls: u32) -> Result<(), Failure> {
+    let seen = time_kernel(rt, "bytes_lt", calls, 0, |bytes, c| bytes_lt(bytes, c))?;
+    let seen = time_kernel(rt, "bytes_eq", calls, seen, |bytes, c| bytes_eq(bytes, c))?;
+    time_kernel(rt, "bytes_bit", calls, seen, |bytes, c| {
+        bytes_bit(bytes, u32::from(c & 7))
+    })?;
+    Ok(())
+}
+
+/// Times a kernel over bytes, and returns what was seen, to which each call added.
+fn time_kernel<F: Fn(&[u8; 512], u8) -> Plane>(
+    rt: &(impl Print + Eprint + Clock),
+    name: &str,
+    calls: u32,
+    mut seen: u64,
+    kernel: F,
+) -> Result<u64, Failure>
+    requires { F.IsAlwaysCallable kernel }
+{
     let mut bytes = [0; 512];
     for lane in 0..512usize {
         bytes[lane] = (lane * 7 % 256) as u8;
     }
     let start = Instant::now(rt)?;
-    let mut seen = 0;
     for call in 0..calls {
         let c = (call & 0xFF) as u8;
         bytes[0] = c;
-        seen ^= word_of(&bytes_lt(&bytes, c), call);
+        seen ^= word_of(&kernel(&bytes, c), call);
     }
-    tell(rt, "bytes_lt", calls, start, seen)?;
-    let start = Instant::now(rt)?;
-    for call in 0..calls {
-        let c = (call & 0xFF) as u8;
-        bytes[0] = c;
-        seen ^= word_of(&bytes_eq(&bytes, c), call);
-    }
-    tell(rt, "bytes_eq", calls, start, seen)?;
-    let start = Instant::now(rt)?;
-    for call in 0..calls {
-        bytes[0] = (call & 0xFF) as u8;
-        seen ^= word_of(&bytes_bit(&bytes, call & 7), call);
-    }
-    tell(rt, "bytes_bit", calls, start, seen)
+    tell(rt, name, calls, start, seen)?;
+    Ok(seen)
 }
 
 /// Returns a group of 512 rows, with a null in every eighth.
@@ -95,37 +101,27 @@ fn rows_of(alloc: Global) -> Result<Vec<Row>, Failure> {
     Ok(rows)
 }
 
-fn time_segments<R: Print + Eprint + Clock>(
-    rt: &R,
-    alloc: Global,
-    calls: u32,
-) -> Result<(), Failure> {
-    time_builds::<R, Planes>(rt, alloc, calls, "build planes")?;
-    time_builds::<R, Slices>(rt, alloc, calls, "build slices")
-}
-
 /// Times the building of a segment in a layout.
-fn time_builds<R: Print + Eprint + Clock, L: CodeLayout>(
-    rt: &R,
-    alloc: Global,
+fn time_builds<L: CodeLayout>(
+    rt: &(impl AllocGlobal + Print + Eprint + Clock),
     calls: u32,
     name: &str,
 ) -> Result<(), Failure> {
+    let alloc = rt.alloc();
     let schema = Schema::parse(alloc, SCHEMA)?;
     let rows = rows_of(alloc)?;
     let placement = Rc::new(alloc, Placement::of::<L>(alloc, &schema)?)?;
     if !is_group(&placement.schema, &rows) {
         return Err(Failure::Rows);
     }
-    let builds = calls / 64;
     let mut seen = 0;
     let start = Instant::now(rt)?;
-    for call in 0..builds {
+    for call in 0..calls {
         if let Ok(segment) = PackedSegment::<L>::build_shared(alloc, &placement, &rows) {
             seen ^= byte_of(segment.bytes(), call);
         }
     }
-    tell(rt, name, builds, start, seen)
+    tell(rt, name, calls, start, seen)
 }
 
 /// Four columns whose blocks are validated: 8 bits, 5 nullable bits, 20 bits, and 32 nullable bits.
@@ -150,96 +146,46 @@ fn drawn_rows(alloc: Global) -> Result<Vec<Row>, Failure> {
     Ok(rows)
 }
 
-/// Returns the errors of all blocks in planes, combined by OR; 0 is none.
-fn judged_planes(placement: &Placement, rows: u32, bytes: &[u8]) -> u64
+/// Returns the errors of all blocks, combined by OR; 0 is none.
+fn judged<L: CodeLayout>(placement: &Placement, rows: u32, bytes: &[u8]) -> u64
     requires { rows ≤ group_size }
 {
     let mut faults = 0;
     let mut rest = bytes;
     for col in 0..placement.schema.columns.len() {
-        let size = PlaneSegment::block_size(placement, col);
+        let size = PackedSegment::<L>::block_size(placement, col);
         if rest.len() < size {
             return 1;
         }
         let (block, others) = rest.split_at(size);
-        faults |= u64::from(PlaneSegment::find_fault(placement, col, rows, block).unwrap_or(0));
+        let fault = PackedSegment::<L>::find_fault(placement, col, rows, block);
+        faults |= u64::from(fault.unwrap_or(0));
         rest = others;
     }
     faults
 }
 
-/// Returns the errors of all blocks in slices, combined by OR; 0 is none.
-fn judged_slices(placement: &Placement, rows: u32, bytes: &[u8]) -> u64
-    requires { rows ≤ group_size }
-{
-    let mut faults = 0;
-    let mut rest = bytes;
-    for col in 0..placement.schema.columns.len() {
-        let size = SliceSegment::block_size(placement, col);
-        if rest.len() < size {
-            return 1;
-        }
-        let (block, others) = rest.split_at(size);
-        faults |= u64::from(SliceSegment::find_fault(placement, col, rows, block).unwrap_or(0));
-        rest = others;
-    }
-    faults
-}
-
-fn time_judging<R: Print + Eprint + Clock>(
-    rt: &R,
-    alloc: Global,
+/// Times the validation of a segment's blocks in a layout.
+fn time_judging<L: CodeLayout>(
+    rt: &(impl AllocGlobal + Print + Eprint + Clock),
     calls: u32,
+    name: &str,
 ) -> Result<(), Failure> {
+    let alloc = rt.alloc();
     let schema = Schema::parse(alloc, JUDGED)?;
     let rows = drawn_rows(alloc)?;
     if !is_group(&schema, &rows) {
         return Err(Failure::Rows);
     }
-    time_judging_planes(rt, alloc, &schema, &rows, calls / 4)?;
-    time_judging_slices(rt, alloc, &schema, &rows, calls / 4)
-}
-
-fn time_judging_planes<R: Print + Eprint + Clock>(
-    rt: &R,
-    alloc: Global,
-    schema: &Schema,
-    rows: &[Row],
-    judgings: u32,
-) -> Result<(), Failure>
-    requires { IsGroup (meaning_of schema.now rows.now) }
-{
-    let segment = PlaneSegment::build(alloc, schema, rows)?;
+    let segment = PackedSegment::<L>::build(alloc, &schema, &rows)?;
     let mut bytes = Vec::from_slice(alloc, segment.bytes())?;
     let start = Instant::now(rt)?;
     let mut seen = 0;
-    for call in 0..judgings {
+    for call in 0..calls {
         if let Some(first) = bytes.first_mut() {
             *first = (call & 0xFF) as u8;
         }
-        seen ^= judged_planes(&segment.placement, segment.rows_in(), &bytes) ^ u64::from(call);
+        seen ^= judged::<L>(&segment.placement, segment.rows_in(), &bytes) ^ u64::from(call);
     }
-    tell(rt, "judge planes", judgings, start, seen)
-}
-
-fn time_judging_slices<R: Print + Eprint + Clock>(
-    rt: &R,
-    alloc: Global,
-    schema: &Schema,
-    rows: &[Row],
-    judgings: u32,
-) -> Result<(), Failure>
-    requires { IsGroup (meaning_of schema.now rows.now) }
-{
-    let segment = SliceSegment::build(alloc, schema, rows)?;
-    let mut bytes = Vec::from_slice(alloc, segment.bytes())?;
-    let start = Instant::now(rt)?;
-    let mut seen = 0;
-    for call in 0..judgings {
-        if let Some(first) = bytes.first_mut() {
-            *first = (call & 0xFF) as u8;
-        }
-        seen ^= judged_slices(&segment.placement, segment.rows_in(), &bytes) ^ u64::from(call);
-    }
-    tell(rt, "judge slices", judgings, start, seen)
+    tell(rt, name, calls, start, seen)
 }

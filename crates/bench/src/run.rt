@@ -4,13 +4,11 @@
 //! minimal times.
 //!
 //! `ways.rt` has what is timed; read it first.
-use crate::case::Case;
+use crate::case::{CASES, Case, PASSES, ROUNDS};
 use crate::failure::Failure;
+use crate::kernels::{Called, Fused};
 use crate::random::nanos;
-use crate::ways::{
-    ByProgram, CalledAnds, CalledBytes, CalledComparison, CalledLoads, CalledTopBits,
-    FusedComparison, FusedTopBits, Way,
-};
+use crate::ways::{ByProgram, CalledAnds, CalledBytes, CalledLoads, Comparison, TopBits, Way};
 use bw_lanes::{count, or};
 use bw_model::{Row, Schema};
 use bw_program::Program;
@@ -36,14 +34,6 @@ const COMPARISON: &[u8] = b"FILL r0 0\nFILL r1 1\n\
     LOAD r2 a 0\nNOT r2 r2\nAND r1 r1 r2\nSKIP r1 36\n\
     RESULT r0\n";
 
-/// Distinct segments: a number of which 10,000 is a multiple.
-const CASES: u16 = 8;
-
-/// Passes over all cases in a round of 10,000 segments.
-const PASSES: usize = 1_250;
-
-const ROUNDS: usize = 30;
-
 const LINES: usize = 4_096;
 
 pub(crate) fn time_all(rt: &(impl AllocGlobal + Print + Eprint + Clock)) -> Result<(), Failure> {
@@ -62,12 +52,12 @@ fn time_conditions(
     values: &str,
 ) -> Result<(), Failure> {
     let cases = cases_of(rt.alloc(), schema, TOP_BITS, spread)?;
-    time_way::<FusedTopBits>(rt, &cases, values, "a >= 192, fused")?;
-    time_way::<CalledTopBits>(rt, &cases, values, "a >= 192, called")?;
+    time_way::<TopBits<Fused>>(rt, &cases, values, "a >= 192, fused")?;
+    time_way::<TopBits<Called>>(rt, &cases, values, "a >= 192, called")?;
     time_way::<ByProgram>(rt, &cases, values, "a >= 192, program")?;
     let cases = cases_of(rt.alloc(), schema, COMPARISON, spread)?;
-    time_way::<FusedComparison>(rt, &cases, values, "a < 8, fused")?;
-    time_way::<CalledComparison>(rt, &cases, values, "a < 8, called")?;
+    time_way::<Comparison<Fused>>(rt, &cases, values, "a < 8, fused")?;
+    time_way::<Comparison<Called>>(rt, &cases, values, "a < 8, called")?;
     time_way::<ByProgram>(rt, &cases, values, "a < 8, program")
 }
 

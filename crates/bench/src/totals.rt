@@ -3,98 +3,65 @@
 //! totals, and standard error the minimal times.
 //!
 //! `total_ways.rt` has what is timed; read it first.
+use crate::case::{CASES, PASSES, ROUNDS};
 use crate::failure::Failure;
 use crate::random::{nanos, next_number, or_null};
 use crate::total_ways::{Greatest, Least, Sum, Way};
 use bw_lanes::Plane;
 use bw_model::{Row, Schema};
-use bw_planes::PlaneSegment;
-use bw_segment::{Segment, is_group};
-use bw_slices::SliceSegment;
+use bw_planes::Planes;
+use bw_segment::{CodeLayout, PackedSegment, Segment, is_group};
+use bw_slices::Slices;
 use std::alloc::Global;
 use std::rt::Clock;
 use std::time::Instant;
 
 const SCHEMA: &[u8] = b"TABLE t\nCOLUMN a 0 4294967295\n";
 
-/// Distinct segments: a number of which 10,000 is a multiple.
-const CASES: usize = 8;
-
-/// Passes over all segments in a round of 10,000 segments.
-const PASSES: usize = 1_250;
-
-const ROUNDS: usize = 30;
-
-/// The same segments in both layouts.
-#[derive(Drop)]
-struct Cases {
-    planes: Vec<PlaneSegment>,
-    slices: Vec<SliceSegment>,
-}
-
+/// Times totals over half of the rows, and over one in 64.
 pub(crate) fn time_all(rt: &(impl AllocGlobal + Print + Eprint + Clock)) -> Result<(), Failure> {
     let mut state = 1;
-    let cases = drawn_cases(rt.alloc(), &mut state)?;
-    time_cases(rt, &cases, &mut state)
-}
-
-/// Times totals over half of the rows, and over one in 64.
-fn time_cases(
-    rt: &(impl Print + Eprint + Clock),
-    cases: &Cases,
-    state: &mut u64,
-) -> Result<(), Failure> {
-    let half = drawn_plane(state, 1);
-    let few = drawn_plane(state, 6);
-    for (selected, name) in [(half, "half the rows"), (few, "one row in 64")] {
-        time_layout(rt, &cases.planes, &selected, "planes", name)?;
-        time_layout(rt, &cases.slices, &selected, "slices", name)?;
-    }
-    Ok(())
-}
-
-fn drawn_cases(alloc: Global, state: &mut u64) -> Result<Cases, Failure> {
-    let schema = Schema::parse(alloc, SCHEMA)?;
-    let mut cases = Cases {
-        planes: Vec::new(alloc),
-        slices: Vec::new(alloc),
-    };
+    let mut groups = Vec::new(rt.alloc());
     for _ in 0..CASES {
-        add_case(alloc, &schema, state, &mut cases)?;
+        groups.push(drawn_rows(rt.alloc(), &mut state)?)?;
     }
-    Ok(cases)
+    let half = drawn_plane(&mut state, 1);
+    let few = drawn_plane(&mut state, 6);
+    for (selected, name) in [(half, "half the rows"), (few, "one row in 64")] {
+        time_layout::<Planes>(rt, &groups, &selected, "planes", name)?;
+        time_layout::<Slices>(rt, &groups, &selected, "slices", name)?;
+    }
+    Ok(())
 }
 
-fn add_case(
+/// Returns the segments of groups of rows in a layout.
+fn segments_of<L: CodeLayout>(
     alloc: Global,
-    schema: &Schema,
-    state: &mut u64,
-    cases: &mut Cases,
-) -> Result<(), Failure> {
-    let rows = drawn_rows(alloc, state)?;
-    if !is_group(schema, &rows) {
-        return Err(Failure::Rows);
+    groups: &[Vec<Row>],
+) -> Result<Vec<PackedSegment<L>>, Failure> {
+    let schema = Schema::parse(alloc, SCHEMA)?;
+    let mut segments = Vec::new(alloc);
+    for rows in groups {
+        if !is_group(&schema, rows) {
+            return Err(Failure::Rows);
+        }
+        segments.push(PackedSegment::build(alloc, &schema, rows)?)?;
     }
-    cases
-        .planes
-        .push(PlaneSegment::build(alloc, schema, &rows)?)?;
-    cases
-        .slices
-        .push(SliceSegment::build(alloc, schema, &rows)?)?;
-    Ok(())
+    Ok(segments)
 }
 
 /// Times the three totals in one layout.
-fn time_layout<S: Segment>(
-    rt: &(impl Print + Eprint + Clock),
-    segments: &[S],
+fn time_layout<L: CodeLayout>(
+    rt: &(impl AllocGlobal + Print + Eprint + Clock),
+    groups: &[Vec<Row>],
     selected: &Plane,
     layout: &str,
     name: &str,
 ) -> Result<(), Failure> {
-    time_way::<Sum, S>(rt, segments, selected, "SUM", layout, name)?;
-    time_way::<Least, S>(rt, segments, selected, "MIN", layout, name)?;
-    time_way::<Greatest, S>(rt, segments, selected, "MAX", layout, name)
+    let segments = segments_of::<L>(rt.alloc(), groups)?;
+    time_way::<Sum, PackedSegment<L>>(rt, &segments, selected, "SUM", layout, name)?;
+    time_way::<Least, PackedSegment<L>>(rt, &segments, selected, "MIN", layout, name)?;
+    time_way::<Greatest, PackedSegment<L>>(rt, &segments, selected, "MAX", layout, name)
 }
 
 /// Prints the minimal time of a total, in tenths of nanoseconds a segment.

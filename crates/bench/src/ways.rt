@@ -2,10 +2,11 @@
 //! call the same kernels over the same segment, skip where the program skips, and mask the rows as
 //! a run does.
 use crate::case::{Case, PLANES};
-use crate::kernels::{Called, Fused, Kernels};
+use crate::kernels::{Called, Kernels};
 use bw_lanes::{Plane, and, mask, or};
 use bw_run::run_segment;
 use bw_segment::Segment;
+use std::marker::PhantomData;
 
 /// A way to select rows.
 pub(crate) trait Way {
@@ -24,69 +25,45 @@ impl Way for ByProgram {
 }
 
 /// `a >= 192`, by the top two planes.
-pub(crate) struct FusedTopBits;
+pub(crate) struct TopBits<K>(PhantomData<K>);
 
-impl Way for FusedTopBits {
+impl<K: Kernels> Way for TopBits<K> {
     fn select(case: &Case) -> (Plane, usize) {
-        top_bits::<Fused>(case)
-    }
-}
-
-pub(crate) struct CalledTopBits;
-
-impl Way for CalledTopBits {
-    fn select(case: &Case) -> (Plane, usize) {
-        top_bits::<Called>(case)
-    }
-}
-
-fn top_bits<K: Kernels>(case: &Case) -> (Plane, usize) {
-    let first = K::plane(case, 0);
-    if K::is_zero(&first) {
-        return (in_rows(case, &first), 1);
-    }
-    let both = K::and(&first, &K::plane(case, 1));
-    (in_rows(case, &both), 2)
-}
-
-/// `a < 8`, by two planes, the rows that are less so far and those that are equal so far, from the
-/// top plane down to the first after which none is equal. The count of loads keeps the compiler
-/// from omitting the last planes.
-pub(crate) struct FusedComparison;
-
-impl Way for FusedComparison {
-    fn select(case: &Case) -> (Plane, usize) {
-        comparison::<Fused>(case)
-    }
-}
-
-pub(crate) struct CalledComparison;
-
-impl Way for CalledComparison {
-    fn select(case: &Case) -> (Plane, usize) {
-        comparison::<Called>(case)
+        let first = K::plane(case, 0);
+        if K::is_zero(&first) {
+            return (in_rows(case, &first), 1);
+        }
+        let both = K::and(&first, &K::plane(case, 1));
+        (in_rows(case, &both), 2)
     }
 }
 
 /// The plane, from the top one, in which 8 has its one bit.
 const PLACE_OF_EIGHT: u32 = 4;
 
-fn comparison<K: Kernels>(case: &Case) -> (Plane, usize) {
-    let mut less = mask(0);
-    let mut equal = mask(512);
-    for place in 0..PLANES {
-        let plane = K::plane(case, place);
-        if place == PLACE_OF_EIGHT {
-            less = K::or(&less, &K::and(&equal, &K::not(&plane)));
-            equal = K::and(&equal, &plane);
-        } else {
-            equal = K::and(&equal, &K::not(&plane));
+/// `a < 8`, by two planes, the rows that are less so far and those that are equal so far, from the
+/// top plane down to the first after which none is equal. The count of loads keeps the compiler
+/// from omitting the last planes.
+pub(crate) struct Comparison<K>(PhantomData<K>);
+
+impl<K: Kernels> Way for Comparison<K> {
+    fn select(case: &Case) -> (Plane, usize) {
+        let mut less = mask(0);
+        let mut equal = mask(512);
+        for place in 0..PLANES {
+            let plane = K::plane(case, place);
+            if place == PLACE_OF_EIGHT {
+                less = K::or(&less, &K::and(&equal, &K::not(&plane)));
+                equal = K::and(&equal, &plane);
+            } else {
+                equal = K::and(&equal, &K::not(&plane));
+            }
+            if K::is_zero(&equal) {
+                return (in_rows(case, &less), place as usize + 1);
+            }
         }
-        if K::is_zero(&equal) {
-            return (in_rows(case, &less), place as usize + 1);
-        }
+        (in_rows(case, &less), PLANES as usize)
     }
-    (in_rows(case, &less), PLANES as usize)
 }
 
 /// Returns a plane masked to the segment's rows; a full segment needs no mask.
