@@ -1,5 +1,6 @@
 //! Damaged table files.
 use crate::files::{again, planes_file, put, slices_file, wide_file, worked_files};
+use crate::read_ahead::assert_ahead;
 use bw_file::{Layout, TableReader, decode};
 use bw_io::Source;
 use bw_model::{Fault, Place};
@@ -7,22 +8,16 @@ use std::alloc::Global;
 use std::process::Abort;
 use std::test::Fail;
 
-/// Returns the first error of a file, if it has one.
-fn fault_of(alloc: Global, file: &[u8]) -> Option<Fault> {
-    decode(alloc, file).err()
-}
-
 #[test]
 fn each_front_of_a_file_is_truncated(rt: HostRuntime) -> Result<(), Fail> {
     let alloc = rt.alloc();
-    for (number, file) in worked_files(&rt, alloc)?.iter().enumerate() {
+    for (number, file) in worked_files(&rt)?.iter().enumerate() {
         for len in 0..file.len() {
-            let place = len as u64;
-            assert_eq!(rt;
-                fault_of(alloc, &file[..len]),
-                Some(Fault::at_byte(305, place)),
-                "file {number}, length {len}"
-            );
+            let front = &file[..len];
+            let fault = Some(Fault::at_byte(305, len as u64));
+            let found = decode(alloc, front).err();
+            assert_eq!(rt; found, fault, "file {number}, length {len}");
+            assert_ahead(&rt, alloc, front, len, fault);
         }
     }
     Ok(())
@@ -76,7 +71,7 @@ fn each_bit_is_reported(rt: HostRuntime) -> Result<(), Fail> {
 #[test]
 fn each_bit_of_a_wide_column_is_reported(rt: HostRuntime) -> Result<(), Fail> {
     for layout in [Layout::Planes, Layout::Slices] {
-        check_bits(&rt, rt.alloc(), wide_file(&rt, rt.alloc(), layout)?)?;
+        check_bits(&rt, rt.alloc(), wide_file(&rt, layout)?)?;
     }
     Ok(())
 }

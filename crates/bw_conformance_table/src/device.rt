@@ -5,18 +5,37 @@ use std::io;
 use std::io::{Read, Write};
 use std::test::Fail;
 
-/// Is interrupted once, and then at its end.
+/// Is interrupted once; then its end is read, and it accepts everything.
 struct Interrupted {
     once: bool,
 }
 
-impl Read for Interrupted {
-    fn read(&mut self, _buffer: &mut [u8]) -> io::Result<usize> {
+impl Interrupted {
+    /// Fails the first time.
+    fn interrupt(&mut self) -> io::Result<()> {
         if self.once {
-            return Ok(0);
+            return Ok(());
         }
         self.once = true;
         Err(io::ErrorKind::Interrupted.into())
+    }
+}
+
+impl Read for Interrupted {
+    fn read(&mut self, _buffer: &mut [u8]) -> io::Result<usize> {
+        self.interrupt()?;
+        Ok(0)
+    }
+}
+
+impl Write for Interrupted {
+    fn write(&mut self, bytes: &[u8]) -> io::Result<usize> {
+        self.interrupt()?;
+        Ok(bytes.len())
+    }
+
+    fn flush(&mut self) -> io::Result<()> {
+        Ok(())
     }
 }
 
@@ -43,33 +62,14 @@ fn an_interrupted_read_counts(rt: HostRuntime) {
     assert!(rt; once);
 }
 
-/// Is interrupted once, and then accepts everything.
-struct InterruptedWriter {
-    once: bool,
-}
-
-impl Write for InterruptedWriter {
-    fn write(&mut self, bytes: &[u8]) -> io::Result<usize> {
-        if self.once {
-            return Ok(bytes.len());
-        }
-        self.once = true;
-        Err(io::ErrorKind::Interrupted.into())
-    }
-
-    fn flush(&mut self) -> io::Result<()> {
-        Ok(())
-    }
-}
-
 #[test]
 fn an_interrupted_write_counts(rt: HostRuntime) {
-    let mut sink = ToWrite::new(InterruptedWriter { once: false });
+    let mut sink = ToWrite::new(Interrupted { once: false });
     assert_eq!(rt; sink.write(b"bytes"), Err(Failed));
     assert_eq!(rt; sink.failures(), 1);
     assert_eq!(rt; sink.write(b"bytes"), Ok(5));
     assert_eq!(rt; sink.failures(), 1);
-    let InterruptedWriter { once } = sink.into_inner();
+    let Interrupted { once } = sink.into_inner();
     assert!(rt; once);
 }
 

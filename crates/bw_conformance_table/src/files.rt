@@ -1,5 +1,5 @@
 //! Table files worked out byte by byte, and their tables.
-ghost use Rattle.std.specs.Prelude.{◌≡◌, All, IfOk, length, map};
+ghost use Rattle.std.specs.Prelude.{map};
 ghost use Rattle.bw_file.specs.FileBytes.{AreRows};
 ghost use Rattle.bw_model.specs.Row.{values_of};
 
@@ -76,56 +76,38 @@ pub(crate) fn slices_file(alloc: Global) -> Result<Vec<u8>, Fail> {
 }
 
 /// Returns the file of a nullable column of 63 bits, with its maximum twice and a null.
-pub(crate) fn wide_file(rt: &impl Abort, alloc: Global, layout: Layout) -> Result<Vec<u8>, Fail> {
-    let schema = Schema::parse(alloc, b"TABLE g\nCOLUMN x 0 9223372036854775807\n")?;
-    let mut rows = Vec::new(alloc);
-    for value in [Some(i64::MAX), Some(i64::MAX), None] {
-        rows.push(Row {
-            values: vec![in alloc; value]?,
-        })?;
-    }
-    Ok(file_of(rt, alloc, layout, &schema, &rows)?)
+pub(crate) fn wide_file(rt: &(impl Abort + AllocGlobal), layout: Layout) -> Result<Vec<u8>, Fail> {
+    let schema = b"TABLE g\nCOLUMN x 0 9223372036854775807\n";
+    file_of(
+        rt,
+        layout,
+        schema,
+        &[[Some(i64::MAX)], [Some(i64::MAX)], [None]],
+    )
 }
 
 /// Returns the file of a column of 11 bits, in which row i has i, of this many rows.
 pub(crate) fn long_file(
-    rt: &impl Abort,
-    alloc: Global,
+    rt: &(impl Abort + AllocGlobal),
     layout: Layout,
     count: i64,
 ) -> Result<Vec<u8>, Fail> {
-    let schema = Schema::parse(alloc, b"TABLE l\nCOLUMN x 0 2000 NOT NULL\n")?;
-    let mut rows = Vec::new(alloc);
+    let mut table = Vec::new(rt.alloc());
     for number in 0..count {
-        rows.push(Row {
-            values: vec![in alloc; Some(number)]?,
-        })?;
+        table.push([Some(number)])?;
     }
-    Ok(file_of(rt, alloc, layout, &schema, &rows)?)
+    file_of(rt, layout, b"TABLE l\nCOLUMN x 0 2000 NOT NULL\n", &table)
 }
 
 /// Returns the five rows' files and the wide column's, in planes and in slices.
-pub(crate) fn worked_files(rt: &impl Abort, alloc: Global) -> Result<Vec<Vec<u8>>, Fail> {
-    let files = vec![in alloc;
-        planes_file(alloc)?,
-        slices_file(alloc)?,
-        wide_file(rt, alloc, Layout::Planes)?,
-        wide_file(rt, alloc, Layout::Slices)?,
+pub(crate) fn worked_files(rt: &(impl Abort + AllocGlobal)) -> Result<Vec<Vec<u8>>, Fail> {
+    let files = vec![in rt.alloc();
+        planes_file(rt.alloc())?,
+        slices_file(rt.alloc())?,
+        wide_file(rt, Layout::Planes)?,
+        wide_file(rt, Layout::Slices)?,
     ]?;
     Ok(files)
-}
-
-/// Returns rows of these values.
-fn rows_of(alloc: Global, table: &[[Value; 2]]) -> Result<Vec<Row>, Fault>
-    ensures { IfOk result (λ rows. All (λ row. length (values_of row) ≡ 2) rows.items) }
-{
-    let mut rows = Vec::new(alloc);
-    for [a, b] in table {
-        rows.push(Row {
-            values: vec![in alloc; *a, *b]?,
-        })?;
-    }
-    Ok(rows)
 }
 
 /// Ends the test if the schema doesn't admit the rows, or if there are too many.
@@ -138,45 +120,44 @@ fn assert_rows(rt: &impl Abort, schema: &Schema, rows: &[Row])
     }
 }
 
-/// Returns the file of a table.
-fn file_of(
-    rt: &impl Abort,
-    alloc: Global,
+/// Returns the file of a table with rows of these values.
+fn file_of<const N: usize>(
+    rt: &(impl Abort + AllocGlobal),
     layout: Layout,
-    schema: &Schema,
-    rows: &[Row],
-) -> Result<Vec<u8>, Fault> {
-    assert_rows(rt, schema, rows);
-    encode(alloc, layout, schema, rows)
+    schema: &[u8],
+    table: &[[Value; N]],
+) -> Result<Vec<u8>, Fail> {
+    let schema = Schema::parse(rt.alloc(), schema)?;
+    let mut rows = Vec::new(rt.alloc());
+    for values in table {
+        let values = Vec::from_slice(rt.alloc(), values.as_slice())?;
+        rows.push(Row { values })?;
+    }
+    assert_rows(rt, &schema, &rows);
+    Ok(encode(rt.alloc(), layout, &schema, &rows)?)
 }
 
 /// Returns the same file again for a table that was read.
 pub(crate) fn again(rt: &impl Abort, alloc: Global, table: &Table) -> Result<Vec<u8>, Fault> {
-    file_of(rt, alloc, table.layout, &table.schema, &table.rows)
+    assert_rows(rt, &table.schema, &table.rows);
+    encode(alloc, table.layout, &table.schema, &table.rows)
 }
 
 #[test]
 fn five_rows_are_written_and_read(rt: HostRuntime) -> Result<(), Fail> {
     let alloc = rt.alloc();
-    let schema = Schema::parse(alloc, SCHEMA)?;
-    let rows = rows_of(alloc, &ROWS)?;
-    let planes = planes_file(alloc)?;
-    let slices = slices_file(alloc)?;
-    assert_eq!(rt;
-        file_of(&rt, alloc, Layout::Planes, &schema, &rows)?.as_slice(),
-        planes.as_slice()
-    );
-    assert_eq!(rt;
-        file_of(&rt, alloc, Layout::Slices, &schema, &rows)?.as_slice(),
-        slices.as_slice()
-    );
-    for file in [planes.as_slice(), slices.as_slice()] {
-        let table = decode(alloc, file)?;
+    for (layout, file) in [
+        (Layout::Planes, planes_file(alloc)?),
+        (Layout::Slices, slices_file(alloc)?),
+    ] {
+        let written = file_of(&rt, layout, SCHEMA, &ROWS)?;
+        assert_eq!(rt; written.as_slice(), file.as_slice());
+        let table = decode(alloc, &file)?;
         assert_eq!(rt; table.rows.len(), 5);
         for (row, values) in table.rows.iter().zip(&ROWS) {
             assert_eq!(rt; row.values.as_slice(), values.as_slice());
         }
-        assert_eq!(rt; again(&rt, alloc, &table)?.as_slice(), file);
+        assert_eq!(rt; again(&rt, alloc, &table)?.as_slice(), file.as_slice());
     }
     Ok(())
 }

@@ -10,63 +10,11 @@ use bw_segment::Segment;
 use std::alloc::Global;
 use std::io;
 use std::io::Read;
+use std::process::Abort;
 use std::test::Fail;
 
-/// Returns the first error of a file of at most two segments, if it has one, from a source that
-/// requests this many bytes at a time.
-fn fault_ahead(alloc: Global, file: &[u8], piece: usize) -> Result<(), Fault>
-    requires { 0 < piece }
-{
-    let mut source = ReadAhead::new(alloc, file, piece)?;
-    let mut reader = TableReader::begin(alloc, &mut source)?;
-    for _ in 0..3 {
-        if source.failures() > 0 {
-            break;
-        }
-        reader.next_segment(&mut source)?;
-    }
-    Ok(())
-}
-
-#[test]
-fn each_bit_is_reported_the_same(rt: HostRuntime) -> Result<(), Fail> {
-    let alloc = rt.alloc();
-    for file in &mut worked_files(&rt, alloc)? {
-        for at in 0..file.len() {
-            flip(file, at, 1);
-            let fault = decode(alloc, file).err();
-            for piece in [700, 8192] {
-                assert_eq!(rt;
-                    fault_ahead(alloc, file, piece).err(),
-                    fault,
-                    "byte {at}, pieces of {piece}"
-                );
-            }
-            flip(file, at, 1);
-        }
-    }
-    Ok(())
-}
-
-#[test]
-fn each_front_of_a_file_is_truncated(rt: HostRuntime) -> Result<(), Fail> {
-    let alloc = rt.alloc();
-    for file in &worked_files(&rt, alloc)? {
-        for len in 0..file.len() {
-            for piece in [700, 8192] {
-                let fault = Some(Fault::at_byte(305, len as u64));
-                assert_eq!(rt;
-                    fault_ahead(alloc, &file[..len], piece).err(),
-                    fault,
-                    "length {len}, pieces of {piece}"
-                );
-            }
-        }
-    }
-    Ok(())
-}
-
-/// Returns the first value of each segment of a file, while all of them are borrowed.
+/// Returns the first value of each segment of a file, while all of them are borrowed, or the file's
+/// first error. The source requests this many bytes at a time.
 fn first_values(alloc: Global, file: &[u8], piece: usize) -> Result<Vec<Value>, Fault>
     requires { 0 < piece }
 {
@@ -90,13 +38,40 @@ fn first_values(alloc: Global, file: &[u8], piece: usize) -> Result<Vec<Value>, 
     Ok(values)
 }
 
+/// Ends the test unless this is a file's first error, if it has one; `at` says where it was changed.
+pub(crate) fn assert_ahead(
+    rt: &impl Abort,
+    alloc: Global,
+    file: &[u8],
+    at: usize,
+    fault: Option<Fault>,
+) {
+    for piece in [700, 8192] {
+        let found = first_values(alloc, file, piece).err();
+        assert_eq!(rt; found, fault, "byte {at}, pieces of {piece}");
+    }
+}
+
+#[test]
+fn each_bit_is_reported_the_same(rt: HostRuntime) -> Result<(), Fail> {
+    let alloc = rt.alloc();
+    for file in &mut worked_files(&rt)? {
+        for at in 0..file.len() {
+            flip(file, at, 1);
+            assert_ahead(&rt, alloc, file, at, decode(alloc, file).err());
+            flip(file, at, 1);
+        }
+    }
+    Ok(())
+}
+
 /// Rows 0, 1, 2 and so on to 1,199, in three segments: whatever is read after a segment leaves its
 /// bytes as they are.
 #[test]
 fn segments_that_are_held_keep_their_bytes(rt: HostRuntime) -> Result<(), Fail> {
     let alloc = rt.alloc();
     for layout in [Layout::Planes, Layout::Slices] {
-        let file = long_file(&rt, alloc, layout, 1_200)?;
+        let file = long_file(&rt, layout, 1_200)?;
         for piece in [1, 100, 1_500, 3_000, 100_000] {
             let values = first_values(alloc, &file, piece)?;
             assert_eq!(rt;

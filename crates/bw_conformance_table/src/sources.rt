@@ -1,11 +1,11 @@
 //! Table files from sources that yield little, or fail.
-ghost use Rattle.std.specs.Prelude.{None, []};
-
 use crate::files::worked_files;
 use bw_file::TableReader;
-use bw_io::{Failed, SharedBytes, Source};
+use bw_io::{FromRead, Source};
 use bw_model::{Fault, code};
 use std::alloc::Global;
+use std::io;
+use std::io::Read;
 use std::test::Fail;
 
 /// Yields a byte a read, and fails at one of the reads.
@@ -13,20 +13,12 @@ use std::test::Fail;
 struct Drops<'a> {
     rest: &'a [u8],
     left: usize,
-    failures: u64,
 }
 
-impl Source for Drops<'_> {
-    ghost to_come = { λ _. None };
-
-    ghost failures = { λ drops. drops.failures };
-
-    ghost kept = { λ _. [] };
-
-    fn read(&mut self, buffer: &mut [u8]) -> Result<usize, Failed> {
+impl Read for Drops<'_> {
+    fn read(&mut self, buffer: &mut [u8]) -> io::Result<usize> {
         if self.left == 0 {
-            self.failures += 1;
-            return Err(Failed);
+            return Err(io::ErrorKind::Interrupted.into());
         }
         self.left -= 1;
         match self.rest {
@@ -38,26 +30,15 @@ impl Source for Drops<'_> {
             _ => Ok(0),
         }
     }
-
-    fn share(&self, _count: usize) -> Option<SharedBytes> {
-        None
-    }
-
-    fn pass(&mut self, _count: usize) {}
-
-    fn failures(&self) -> u64 {
-        self.failures
-    }
 }
 
 /// Returns how many rows a file has, read from a source that fails after this many reads: each is
 /// one byte's, and one is the end's.
 fn rows_after(alloc: Global, file: &[u8], reads: usize) -> Result<u32, Fault> {
-    let mut source = Drops {
+    let mut source = FromRead::new(Drops {
         rest: file,
         left: reads,
-        failures: 0,
-    };
+    });
     let mut reader = TableReader::begin(alloc, &mut source)?;
     for _ in 0..2 {
         if source.failures() > 0 {
@@ -71,7 +52,7 @@ fn rows_after(alloc: Global, file: &[u8], reads: usize) -> Result<u32, Fault> {
 #[test]
 fn a_read_that_fails_is_reported(rt: HostRuntime) -> Result<(), Fail> {
     let alloc = rt.alloc();
-    for (file, rows) in worked_files(&rt, alloc)?.iter().zip([5, 5, 3, 3]) {
+    for (file, rows) in worked_files(&rt)?.iter().zip([5, 5, 3, 3]) {
         for reads in 0..=file.len() {
             let failed = rows_after(alloc, file, reads).err();
             assert_eq!(rt;
@@ -91,47 +72,30 @@ struct Endless<'a> {
     rest: &'a [u8],
 }
 
-impl Source for Endless<'_> {
-    ghost to_come = { λ _. None };
-
-    ghost failures = { λ _. 0 };
-
-    ghost kept = { λ _. [] };
-
-    fn read(&mut self, buffer: &mut [u8]) -> Result<usize, Failed> {
+impl Read for Endless<'_> {
+    fn read(&mut self, buffer: &mut [u8]) -> io::Result<usize> {
         let n = buffer.len().min(self.rest.len());
         buffer[..n].copy_from_slice(&self.rest[..n]);
+        buffer[n..].fill(0);
         self.rest = &self.rest[n..];
-        for byte in buffer[n..].iter_mut() {
-            *byte = 0;
-        }
         Ok(buffer.len())
-    }
-
-    fn share(&self, _count: usize) -> Option<SharedBytes> {
-        None
-    }
-
-    fn pass(&mut self, _count: usize) {}
-
-    fn failures(&self) -> u64 {
-        0
     }
 }
 
 #[test]
 fn what_never_ends_is_refused_after_the_last_block(rt: HostRuntime) -> Result<(), Fail> {
     let alloc = rt.alloc();
-    for file in &worked_files(&rt, alloc)? {
-        let mut source = Endless { rest: file };
+    for file in &worked_files(&rt)? {
+        let mut source = FromRead::new(Endless { rest: file });
         let mut reader = TableReader::begin(alloc, &mut source)?;
         assert!(rt; reader.next_segment(&mut source)?.is_some());
         let end = Fault::at_byte(309, file.len() as u64);
         for _ in 0..2 {
+            assert_eq!(rt; source.failures(), 0);
             assert_eq!(rt; reader.next_segment(&mut source).err(), Some(end));
         }
     }
-    let mut source = Endless { rest: &[] };
+    let mut source = FromRead::new(Endless { rest: &[] });
     let magic = TableReader::begin(alloc, &mut source).err();
     assert_eq!(rt; magic, Some(Fault::at_byte(301, 0)));
     Ok(())
