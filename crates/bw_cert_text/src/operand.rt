@@ -1,6 +1,6 @@
 //! The words after the first one of a line: numbers, and numbers that may be `-`.
 ghost use Rattle.std.specs.Prelude.{◌≡◌, map};
-ghost use Rattle.bw_cert_text.specs.Operand.{optional_of, nothing_in, number_in, two_in};
+ghost use Rattle.bw_cert_text.specs.Operand.{optional_of, number_in};
 
 use bw_text::natural_number;
 
@@ -16,13 +16,6 @@ pub(crate) fn optional_of(word: &[u8]) -> Option<Option<u64>>
     }
 }
 
-/// Returns a value if there is no word.
-pub(crate) fn nothing_in(words: &[&[u8]]) -> Option<()>
-    ensures { result ≡ nothing_in (map (λ word. word.now) words.now) }
-{
-    if words.is_empty() { Some(()) } else { None }
-}
-
 /// Returns one number.
 pub(crate) fn number_in(words: &[&[u8]]) -> Option<u64>
     ensures { result ≡ number_in (map (λ word. word.now) words.now) }
@@ -31,16 +24,4 @@ pub(crate) fn number_in(words: &[&[u8]]) -> Option<u64>
         return None;
     };
     natural_number(n)
-}
-
-/// Returns two numbers.
-pub(crate) fn two_in(words: &[&[u8]]) -> Option<(u64, u64)>
-    ensures { result ≡ two_in (map (λ word. word.now) words.now) }
-{
-    let [i, j] = words else {
-        return None;
-    };
-    let first = natural_number(i)?;
-    let second = natural_number(j)?;
-    Some((first, second))
 }
