@@ -88,6 +88,9 @@ fit-all p xs i le before = ap (list_all p) (sym (take_all i xs le)) ∙ before
 abbrev pub is_small_edge : EdgeProducts → Bool
 is_small_edge edge = are_small (Number edge.differs ∷ Number edge.within ∷ [])
 
+pub edge-fits : (a b : ℕ) → nat_lt a (2 ^ 64) ≡ true → nat_lt b (2 ^ 64) ≡ true → are_small (Number a ∷ Number b ∷ []) ≡ true
+edge-fits a b differs within = rw (differs, within) refl
+
 edges_fit-by : (a b r : Bool) → ((a && (b && true)) && r) ≡ (a && (b && r))
 edges_fit-by true true r = refl
 edges_fit-by _ _ r = refl
@@ -99,7 +102,7 @@ edges_fit (edge ∷ edges) = rw (edges_fit edges) (edges_fit-by (nat_lt edge.dif
 
 -- all lines of a certificate, as a program holds them
 pub shape_fits : (shape : CertificateShape) → list_all (λ node. are_small (node_tokens node)) shape.nodes ≡ true → list_all (λ chain. are_small (chain_tokens (chain_fields chain))) shape.chains ≡ true →
-    list_all (λ row. are_small (row_tokens row)) shape.products ≡ true → list_all (λ line. are_small (body_tokens (body_fields line))) shape.body ≡ true → are_small (end_tokens shape.end) ≡ true →
+    list_all (λ row. are_small (row_tokens row)) shape.products ≡ true → list_all (λ line. are_small (body_tokens (body_fields line))) shape.body ≡ true → nat_lt shape.end.row (2 ^ 64) ≡ true →
     numbers_fit (certificate_fields shape) ≡ true
 shape_fits shape nodes chains rows body end =
     rw (
@@ -109,4 +112,5 @@ shape_fits shape nodes chains rows body end =
       rows,
       list_all-map (λ (line : BodyFields). are_small (body_tokens line)) body_fields shape.body,
       body,
-    ) end
+      end,
+    ) refl

@@ -1,8 +1,7 @@
 //! The lines after the product rows, stored in little memory.
 ghost use Rattle.std.specs.Prelude.{◌≡◌, ◌++◌, ◌∷◌, [], length, MatchOption, OnOk, OnErr, is_ok};
-ghost use Rattle.std.specs.Prelude.{is_some, if◌then◌else◌};
+ghost use Rattle.std.specs.Prelude.{if◌then◌else◌};
 ghost use Rattle.bw_cert_text.specs.StoredLines.{line_of, entry_of, condition_of, pairs_of};
-ghost use Rattle.bw_cert_text.specs.StoredLines.{number_if};
 ghost use Rattle.bw_cert_text.specs.declared.lines.Entry.TheVariants as said;
 
 use crate::edge_pairs::EdgePairs;
@@ -101,7 +100,8 @@ impl Body {
                     chain: chain.is_some(),
                     value: value.is_some(),
                 };
-                self.put(kind, &[line, or_0(chain), or_0(value), yes, no], &[])
+                let (chain, value) = (chain.unwrap_or(0), value.unwrap_or(0));
+                self.put(kind, &[line, chain, value, yes, no], &[])
             }
             ConditionEntry::CompareColumns {
                 chain,
@@ -116,7 +116,8 @@ impl Body {
                     left: left.is_some(),
                     right: right.is_some(),
                 };
-                let (chain, left, right) = (or_0(chain), or_0(left), or_0(right));
+                let chain = chain.unwrap_or(0);
+                let (left, right) = (left.unwrap_or(0), right.unwrap_or(0));
                 self.put(kind, &[line, chain, left, right, both, yes, no], &[])
             }
             ConditionEntry::Fixed => self.put(Kind::Fixed, &[line], &[]),
@@ -142,7 +143,7 @@ impl Body {
                 let kind = Kind::Byte {
                     chain: chain.is_some(),
                 };
-                self.put(kind, &[line, or_0(chain)], &[])
+                self.put(kind, &[line, chain.unwrap_or(0)], &[])
             }
             InstructionEntry::Skip => self.put(Kind::Skip, &[line], &[]),
         }
@@ -174,16 +175,6 @@ impl Body {
         self.numbers.extend_from_slice(numbers)?;
         self.kinds.push(kind)?;
         Ok(())
-    }
-}
-
-/// Returns the number, or 0 if there is none.
-fn or_0(number: Option<u64>) -> u64
-    ensures { number_if (is_some number) result ≡ number }
-{
-    match number {
-        Some(number) => number,
-        None => 0,
     }
 }
 
@@ -270,7 +261,7 @@ fn entry_in<'a>(kind: Kind, numbers: &[u64], pairs: &'a [EdgeProducts]) -> Entry
         (Kind::Fill, []) => Entry::Instruction(InstructionEntry::Fill),
         (Kind::Op, [i]) => Entry::Instruction(InstructionEntry::Op(*i)),
         (Kind::Byte { chain: c }, [chain]) => {
-            Entry::Instruction(InstructionEntry::Byte(number_if(c, *chain)))
+            Entry::Instruction(InstructionEntry::Byte(c.then_some(*chain)))
         }
         (Kind::Skip, []) => Entry::Instruction(InstructionEntry::Skip),
         _ => Entry::Condition(condition_in(kind, numbers)),
@@ -284,8 +275,8 @@ fn condition_in(kind: Kind, numbers: &[u64]) -> ConditionEntry
     match (kind, numbers) {
         (Kind::Compare { chain: c, value: v }, [chain, value, yes, no]) => {
             ConditionEntry::Compare {
-                chain: number_if(c, *chain),
-                value: number_if(v, *value),
+                chain: c.then_some(*chain),
+                value: v.then_some(*value),
                 yes: *yes,
                 no: *no,
             }
@@ -298,9 +289,9 @@ fn condition_in(kind: Kind, numbers: &[u64]) -> ConditionEntry
             },
             [chain, left, right, both, yes, no],
         ) => ConditionEntry::CompareColumns {
-            chain: number_if(c, *chain),
-            left: number_if(l, *left),
-            right: number_if(r, *right),
+            chain: c.then_some(*chain),
+            left: l.then_some(*left),
+            right: r.then_some(*right),
             both: *both,
             yes: *yes,
             no: *no,
@@ -313,11 +304,4 @@ fn condition_in(kind: Kind, numbers: &[u64]) -> ConditionEntry
         (Kind::IsUnknown, [i, j]) => ConditionEntry::IsUnknown(*i, *j),
         _ => ConditionEntry::Fixed,
     }
-}
-
-/// Returns the number, if there is one.
-fn number_if(is_there: bool, number: u64) -> Option<u64>
-    ensures { result ≡ number_if is_there number }
-{
-    if is_there { Some(number) } else { None }
 }

@@ -1,13 +1,13 @@
 //! Certificate texts, read line by line: nodes, chains and product rows, the lines after them, and
 //! `END`.
-ghost use Rattle.std.specs.Prelude.{◌≡◌, ◌≤◌, ◌^◌, ℕ, List, Ok, Err, false, option_map, IfOk};
+ghost use Rattle.std.specs.Prelude.{◌≡◌, ◌≤◌, ◌^◌, ℕ, List, Ok, Err, false, IfOk};
 ghost use Rattle.std.specs.Prelude.{IfErr, OnOk, IsTrue};
 ghost use Rattle.bw_model.specs.Fault.{MatchesUnlessOom, is_memory};
 ghost use Rattle.bw_text.specs.Lines.{lines_in, end_in, line_of};
 ghost use Rattle.bw_cert_text.specs.CertificateFields.{CertificateFields, certificate_fields};
 ghost use Rattle.bw_cert_text.specs.CertificateText.{certificate_of, certificate_from};
 ghost use Rattle.bw_cert_text.specs.CertificateText.{parse_line_on, section_of, with_part};
-ghost use Rattle.bw_cert_text.specs.CertificateText.{end_alone, last_line, is_before};
+ghost use Rattle.bw_cert_text.specs.CertificateText.{end_alone, last_line};
 ghost use Rattle.bw_cert_text.specs.CertificateText.{IsCertificateText, IsCertificateFault};
 ghost use Rattle.bw_cert_text.specs.Parts.{append_fields};
 ghost use Rattle.bw_cert_text.specs.Reprint.{numbers_fit};
@@ -113,13 +113,7 @@ fn read_certificate(alloc: Global, first_line: u64, text: &[u8]) -> Result<Certi
     };
     let end = read_parts(alloc, &mut lines, &mut parts)?;
     refuse_more(alloc, lines)?;
-    let Parts {
-        nodes,
-        chains,
-        products,
-        body,
-    } = parts;
-    Ok(Certificate::new(nodes, chains, products, body, end))
+    Ok(Certificate::new(parts.nodes, parts.chains, parts.products, parts.body, end))
 }
 
 /// Reads the lines up to `END`, and returns that.
@@ -164,20 +158,10 @@ fn parse_line_on<'a, 'b>(
     let Some(said) = parse_line_in(alloc, line, pairs)? else {
         return Err(Fault::at_line(code::CERTIFICATE_FORM, line.number));
     };
-    if is_before(section, &said) {
+    if matches!(&said, ParsedLine::Before(part) if section_of(part) < section) {
         return Err(Fault::at_line(code::CERTIFICATE_FORM, line.number));
     }
     Ok(said)
-}
-
-/// Returns whether a line is of a section before this one.
-fn is_before(section: u8, said: &ParsedLine<'_, '_>) -> bool
-    ensures { result ≡ is_before section (parsed_fields said.now) }
-{
-    match said {
-        ParsedLine::Before(part) => section_of(part) < section,
-        ParsedLine::End(_) => false,
-    }
 }
 
 /// Fails if a line follows `END`.
@@ -189,15 +173,8 @@ fn refuse_more(alloc: Global, mut lines: Lines<'_>) -> Result<(), Fault>
     ensures code { IfErr result IsCertificateFault }
 {
     let more = lines.next_line(alloc)?;
-    match number_of(&more) {
+    match &more {
         None => Ok(()),
-        Some(number) => Err(Fault::at_line(code::CERTIFICATE_FORM, number)),
+        Some(line) => Err(Fault::at_line(code::CERTIFICATE_FORM, line.number)),
     }
-}
-
-/// Returns the number of a line, if there is one.
-fn number_of(line: &Option<Line<'_>>) -> Option<u64>
-    ensures { result ≡ option_map (λ line. line.number) line.now }
-{
-    line.as_ref().map(|line| line.number)
 }

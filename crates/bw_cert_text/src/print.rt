@@ -33,7 +33,8 @@ use crate::lines::{
 };
 use bw_diagram::{ChainColumns, ChainKind, Reason};
 use bw_model::{Fault, Schema};
-use bw_text::{Piece, push_line, push_spaced};
+use bw_text::Piece::{self, Word};
+use bw_text::{push_line, push_spaced};
 use std::alloc::{AllocError, Global};
 
 impl Certificate<'_> {
@@ -57,7 +58,8 @@ impl Certificate<'_> {
         put_lines(alloc, schema, self.chain_lines(), &mut text)?;
         put_lines(alloc, schema, self.product_lines(), &mut text)?;
         put_body(alloc, self.body(), &mut text)?;
-        put_end(alloc, self.end(), &mut text)?;
+        let pieces = [Word(b"END"), number(self.end().row)];
+        push_line(alloc, &pieces, &mut text)?;
         Ok(text)
     }
 
@@ -146,14 +148,9 @@ impl SectionLine for NodeLine {
     ghost own_tokens = { node_tokens };
 
     fn put(&self, alloc: Global, _schema: &Schema, text: &mut Vec<u8>) -> Result<(), AllocError> {
-        let pieces = [
-            Piece::Word(b"NODE"),
-            number(self.n),
-            number(self.v),
-            number(self.low),
-            number(self.high),
-        ];
-        push_line(alloc, &pieces, text)
+        let (n, v) = (number(self.n), number(self.v));
+        let (low, high) = (number(self.low), number(self.high));
+        push_line(alloc, &[Word(b"NODE"), n, v, low, high], text)
     }
 }
 
@@ -173,33 +170,14 @@ impl SectionLine for ProductLine {
     ghost own_tokens = { row_tokens };
 
     fn put(&self, alloc: Global, _schema: &Schema, text: &mut Vec<u8>) -> Result<(), AllocError> {
-        let op = connective_spelling(self.op);
+        let (row, n) = (Word(b"ROW"), number(self.n));
+        let op = Word(connective_spelling(self.op));
+        let (a, b, c) = (number(self.a), number(self.b), number(self.c));
         match self.reason {
-            Reason::Shortcut => {
-                let pieces = [
-                    Piece::Word(b"ROW"),
-                    number(self.n),
-                    Piece::Word(op),
-                    number(self.a),
-                    number(self.b),
-                    number(self.c),
-                    Piece::Word(b"S"),
-                ];
-                push_line(alloc, &pieces, text)
-            }
+            Reason::Shortcut => push_line(alloc, &[row, n, op, a, b, c, Word(b"S")], text),
             Reason::Cofactors { v, i, j } => {
-                let pieces = [
-                    Piece::Word(b"ROW"),
-                    number(self.n),
-                    Piece::Word(op),
-                    number(self.a),
-                    number(self.b),
-                    number(self.c),
-                    Piece::Word(b"V"),
-                    number(v),
-                    number(i),
-                    number(j),
-                ];
+                let (v, i, j) = (number(v), number(i), number(j));
+                let pieces = [row, n, op, a, b, c, Word(b"V"), v, i, j];
                 push_line(alloc, &pieces, text)
             }
         }
@@ -218,6 +196,7 @@ fn put_chain<'a>(
         (respelled_chain schema.now.columns.items (chain_fields chain.now)))) }
     ensures fit { IsTrue (are_small (chain_tokens (chain_fields chain.now))) }
 {
+    let (key, n) = (Word(b"CHAIN"), number(chain.n));
     match chain.columns {
         ChainColumns::One {
             kind,
@@ -228,17 +207,10 @@ fn put_chain<'a>(
             node,
             prev,
         } => {
-            let pieces = [
-                Piece::Word(b"CHAIN"),
-                number(chain.n),
-                Piece::Word(one_key(kind)),
-                Piece::Word(name_of(schema, column)),
-                number(start),
-                number(len),
-                number(bound),
-                number(node),
-                perhaps(prev),
-            ];
+            let (form, column) = (Word(one_key(kind)), Word(name_of(schema, column)));
+            let (start, len, bound) = (number(start), number(len), number(bound));
+            let (node, prev) = (number(node), perhaps(prev));
+            let pieces = [key, n, form, column, start, len, bound, node, prev];
             push_line(alloc, &pieces, text)
         }
         ChainColumns::Two {
@@ -249,16 +221,10 @@ fn put_chain<'a>(
             node,
             prev,
         } => {
-            let pieces = [
-                Piece::Word(b"CHAIN"),
-                number(chain.n),
-                Piece::Word(two_key(kind)),
-                Piece::Word(name_of(schema, left)),
-                Piece::Word(name_of(schema, right)),
-                number(len),
-                number(node),
-                perhaps(prev),
-            ];
+            let form = Word(two_key(kind));
+            let (left, right) = (name_of(schema, left), name_of(schema, right));
+            let (len, node, prev) = (number(len), number(node), perhaps(prev));
+            let pieces = [key, n, form, Word(left), Word(right), len, node, prev];
             push_line(alloc, &pieces, text)
         }
     }
@@ -320,11 +286,7 @@ fn put_entry(alloc: Global, entry: &Entry<'_>, text: &mut Vec<u8>) -> Result<(),
     match entry {
         Entry::Condition(entry) => put_condition(alloc, *entry, text),
         Entry::Instruction(entry) => put_instruction(alloc, *entry, text),
-        Entry::Join(target) => push_line(
-            alloc,
-            &[Piece::Word(b"JOIN"), Piece::Number(*target)],
-            text,
-        ),
+        Entry::Join(target) => push_line(alloc, &[Word(b"JOIN"), number(*target)], text),
         Entry::Keep(keep) => put_keep(alloc, keep, text),
     }
 }
@@ -335,7 +297,6 @@ fn put_condition(alloc: Global, entry: ConditionEntry, text: &mut Vec<u8>) -> Re
         ++ token_line (condition_tokens entry)) }
     ensures fit { IsTrue (are_small (condition_tokens entry)) }
 {
-    use Piece::{Number, Word};
     match entry {
         ConditionEntry::Compare {
             chain,
@@ -344,7 +305,7 @@ fn put_condition(alloc: Global, entry: ConditionEntry, text: &mut Vec<u8>) -> Re
             no,
         } => {
             let (chain, value) = (perhaps(chain), perhaps(value));
-            let pieces = [Word(b"CMP"), chain, value, Number(yes), Number(no)];
+            let pieces = [Word(b"CMP"), chain, value, number(yes), number(no)];
             push_line(alloc, &pieces, text)
         }
         ConditionEntry::CompareColumns {
@@ -355,28 +316,20 @@ fn put_condition(alloc: Global, entry: ConditionEntry, text: &mut Vec<u8>) -> Re
             yes,
             no,
         } => {
-            let pieces = [
-                Piece::Word(b"CMP2"),
-                perhaps(chain),
-                perhaps(left),
-                perhaps(right),
-                Number(both),
-                Number(yes),
-                Number(no),
-            ];
+            let (chain, left, right) = (perhaps(chain), perhaps(left), perhaps(right));
+            let (both, yes, no) = (number(both), number(yes), number(no));
+            let pieces = [Word(b"CMP2"), chain, left, right, both, yes, no];
             push_line(alloc, &pieces, text)
         }
         ConditionEntry::Fixed => push_line(alloc, &[Word(b"FIXED")], text),
-        ConditionEntry::NullTest(i) => push_line(alloc, &[Word(b"NULLTEST"), Number(i)], text),
-        ConditionEntry::And(i, j) => push_line(alloc, &[Word(b"AND"), Number(i), Number(j)], text),
-        ConditionEntry::Or(i, j) => push_line(alloc, &[Word(b"OR"), Number(i), Number(j)], text),
+        ConditionEntry::NullTest(i) => push_line(alloc, &[Word(b"NULLTEST"), number(i)], text),
+        ConditionEntry::And(i, j) => push_line(alloc, &[Word(b"AND"), number(i), number(j)], text),
+        ConditionEntry::Or(i, j) => push_line(alloc, &[Word(b"OR"), number(i), number(j)], text),
         ConditionEntry::Not => push_line(alloc, &[Word(b"NOT")], text),
-        ConditionEntry::Is(i) => push_line(alloc, &[Word(b"IS"), Number(i)], text),
-        ConditionEntry::IsUnknown(i, j) => push_line(
-            alloc,
-            &[Word(b"IS"), Number(i), Number(j)],
-            text,
-        ),
+        ConditionEntry::Is(i) => push_line(alloc, &[Word(b"IS"), number(i)], text),
+        ConditionEntry::IsUnknown(i, j) => {
+            push_line(alloc, &[Word(b"IS"), number(i), number(j)], text)
+        }
     }
 }
 
@@ -390,11 +343,10 @@ fn put_instruction(
         ++ token_line (instruction_tokens entry)) }
     ensures fit { IsTrue (are_small (instruction_tokens entry)) }
 {
-    use Piece::{Number, Word};
     match entry {
-        InstructionEntry::Load(node) => push_line(alloc, &[Word(b"LOAD"), Number(node)], text),
+        InstructionEntry::Load(node) => push_line(alloc, &[Word(b"LOAD"), number(node)], text),
         InstructionEntry::Fill => push_line(alloc, &[Word(b"FILL")], text),
-        InstructionEntry::Op(i) => push_line(alloc, &[Word(b"OP"), Number(i)], text),
+        InstructionEntry::Op(i) => push_line(alloc, &[Word(b"OP"), number(i)], text),
         InstructionEntry::Byte(chain) => push_line(alloc, &[Word(b"BYTE"), perhaps(chain)], text),
         InstructionEntry::Skip => push_line(alloc, &[Word(b"SKIP")], text),
     }
@@ -425,19 +377,10 @@ fn put_edges(alloc: Global, edges: &[EdgeProducts], text: &mut Vec<u8>) -> Resul
     ensures fit { OnOk result (IsTrue (are_small (edge_tokens edges.now))) }
 {
     for edge in edges {
-        put_edge(alloc, *edge, text)?;
+        let pieces = [number(edge.differs), number(edge.within)];
+        push_spaced(alloc, &pieces, text)?;
     }
     Ok(())
-}
-
-/// Appends a pair of numbers, each after a blank.
-fn put_edge(alloc: Global, edge: EdgeProducts, text: &mut Vec<u8>) -> Result<(), AllocError>
-    ensures text { OnOk result (text.new.items ≡ text.old.items
-        ++ spaced_words (token_words (Number edge.differs ∷ Number edge.within ∷ []))) }
-    ensures fit { IsTrue (are_small (Number edge.differs ∷ Number edge.within ∷ [])) }
-{
-    let pieces = [Piece::Number(edge.differs), Piece::Number(edge.within)];
-    push_spaced(alloc, &pieces, text)
 }
 
 /// Returns a number as a piece of a line.
@@ -448,15 +391,6 @@ fn number(number: u64) -> Piece<'static>
     Piece::Number(number)
 }
 
-/// Appends the last line.
-fn put_end(alloc: Global, end: EndLine, text: &mut Vec<u8>) -> Result<(), AllocError>
-    ensures text { OnOk result (text.new.items ≡ text.old.items ++ token_line (end_tokens end)) }
-    ensures fit { IsTrue (are_small (end_tokens end)) }
-{
-    let pieces = [Piece::Word(b"END"), Piece::Number(end.row)];
-    push_line(alloc, &pieces, text)
-}
-
 /// Returns a number, or `-` for none, as a piece of a line.
 fn perhaps(number: Option<u64>) -> Piece<'static>
     ensures text { piece_text result ≡ token_text (Perhaps number) }
@@ -464,6 +398,6 @@ fn perhaps(number: Option<u64>) -> Piece<'static>
 {
     match number {
         Some(number) => Piece::Number(number),
-        None => Piece::Word(b"-"),
+        None => Word(b"-"),
     }
 }

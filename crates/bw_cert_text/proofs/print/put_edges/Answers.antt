@@ -1,16 +1,16 @@
 -- Each line that is written goes over from what is left, and its numbers are below 2^64.
 use Rattle.std.proofs.Common.{◌∙◌, sym, arith}
 use Rattle.bw_cert_text.proofs.PrintLemmas.{edges-next, edges-end, fit-next, fit-all, is_small_edge}
-use Rattle.bw_cert_text.proofs.PrintLemmas.{edges_fit}
+use Rattle.bw_cert_text.proofs.PrintLemmas.{edges_fit, edge-fits}
 use Rattle.bw_text.proofs.PieceLemmas.{written, all_written}
 use Rattle.bw_cert_text.proofs.print.put_edges.Goals as goal
 
 pub loop-edge-preserved : goal.loop-edge-preserved
 loop-edge-preserved c =
     record {
-      text = written c.loop-edge.text.items _ _ _ _ c.put_edge.new.text.items c.in_ok-put_edge.ensures.text
+      text = written c.loop-edge.text.items _ _ _ _ c.push_spaced.new.text.items (rw (c.number.ensures.text, c.number-in-loop-edge.ensures.text) at c.in_ok-push_spaced.ensures)
           (edges-next c.args.edges.now c.loop-edge.edge-index _ (omega (arith, c.loop-edge-test.true))) c.loop-edge.invariant.text;
-      fit = fit-next is_small_edge c.args.edges.now c.loop-edge.edge-index _ (omega (arith, c.loop-edge-test.true)) c.loop-edge.invariant.fit c.put_edge.ensures.fit;
+      fit = fit-next is_small_edge c.args.edges.now c.loop-edge.edge-index _ (omega (arith, c.loop-edge-test.true)) c.loop-edge.invariant.fit (edge-fits _ _ c.number.ensures.fit c.number-in-loop-edge.ensures.fit);
     }
 
 pub returns-clause-text : goal.returns-clause-text

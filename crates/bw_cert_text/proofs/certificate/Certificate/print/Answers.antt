@@ -17,8 +17,8 @@ returns-clause-text c =
     let chains = rw c.chain_lines.ensures at c.in_ok-put_lines-2.ensures.text in
     let products = rw c.product_lines.ensures at c.in_ok-put_lines-3.ensures.text in
     let body = rw c.body.ensures at c.in_ok-put_body.ensures.text in
-    let last = rw c.end.ensures at c.in_ok-put_end.ensures.text in
-    text_written _ _ _ _ _ c.put_end.new.text.items _ _ _ _ _ c.new-text.ensures.items nodes chains products body last
+    let last = rw c.end.ensures at (rw c.number.ensures.text at c.in_ok-push_line.ensures) in
+    text_written _ _ _ _ _ c.push_line.new.text.items _ _ _ _ _ c.new-text.ensures.items nodes chains products body last
     ∙ sym (shape_text columns shape)
 
 pub returns-clause-spelled : goal.returns-clause-spelled
@@ -29,7 +29,7 @@ returns-clause-spelled c = λ first.
     let chains = rw c.chain_lines.ensures at c.in_ok-put_lines-2.ensures.fit in
     let products = rw c.product_lines.ensures at c.in_ok-put_lines-3.ensures.fit in
     let body = rw c.body.ensures at c.in_ok-put_body.ensures.fit in
-    let last = rw c.end.ensures at c.put_end.ensures.fit in
+    let last = rw c.end.ensures at c.number.ensures.fit in
     let small = shape_fits shape nodes chains products body last in
     subst (λ (text : List ℕ). IsCertificateText first text (renumber first (respell columns (certificate_fields shape)))) (sym (returns-clause-text c))
     (text_spells columns first (certificate_fields shape) c.has_names_and_bounds.ensures.names small c.requires)
