@@ -1,5 +1,5 @@
 -- The words of connectives, and numbers that may be a hyphen.
-use Rattle.std.proofs.Common.{◌≡◌, ◌∙◌, refl, ℕ, Bool, true, false, List, Option, Some, None, codes}
+use Rattle.std.proofs.Common.{◌≡◌, ◌∙◌, refl, subst, ℕ, Bool, true, false, List, Option, Some, None, codes}
 use Rattle.std.specs.Str.{bytes_eq}
 use Rattle.std.proofs.lemmas.Slice.Eq.{bytes_eq-Decides}
 use Rattle.bw_diagram.specs.declared.product.Connective.{Connective}
@@ -11,10 +11,22 @@ use Rattle.bw_cert_text.specs.Token.{IsSpelled, Perhaps}
 use Rattle.bw_cert_text.specs.Connective.{connective_spelling, connectives, connective_of}
 use Rattle.bw_text.proofs.WordSpelling.{found, same_found}
 
--- what was found, and what was found with it
-pub opened : {A B P : Type 0} (o : Option A) (f : A → Option B) (y : B) → (o >? f) ≡ Some y → ((x : A) → o ≡ Some x → f x ≡ Some y → P) → P
-opened None f y e k = absurd (cc e)
-opened (Some x) f y e k = k x refl e
+-- a value, if there is one, has a property
+pub data IfFound {A : Type 0} (P : A → Type 0) : Option A → Type 0 where
+  absent : IfFound P None
+  present : {x : A} → P x → IfFound P (Some x)
+
+pub if_found : {A : Type 0} {P : A → Type 0} (o : Option A) → ((x : A) → o ≡ Some x → P x) → IfFound P o
+if_found None k = absent
+if_found (Some x) k = present (k x refl)
+
+pub and_then : {A B : Type 0} {Q : A → Type 0} {P : B → Type 0} {o : Option A} {f : A → Option B} → IfFound Q o → ((x : A) → Q x → IfFound P (f x)) → IfFound P (o >? f)
+and_then absent k = absent
+and_then (present {x = x} q) k = k x q
+
+pub what_is_found : {A : Type 0} {P : A → Type 0} {o : Option A} (y : A) → IfFound P o → o ≡ Some y → P y
+what_is_found y absent e = absurd (cc e)
+what_is_found {A} {P} y (present {x = x} q) e = let same : x ≡ y = cc e in subst P same q
 
 pub connective_is : (word : List ℕ) (o : Connective) → connective_of word ≡ Some o → same_text (connective_spelling o) word ≡ true
 unfolding connective_of

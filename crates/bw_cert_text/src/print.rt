@@ -1,7 +1,6 @@
 //! Certificates in their canonical form.
-ghost use Rattle.std.specs.Prelude.{ℕ, List, IsTrue, ◌≡◌, ◌++◌, ◌∷◌, [], map, IfOk, OnOk};
+ghost use Rattle.std.specs.Prelude.{ℕ, List, IsTrue, ◌≡◌, ◌++◌, map, IfOk, OnOk};
 ghost use Rattle.std.specs.Prelude.{IsOkUnless};
-ghost use Rattle.bw_diagram.specs.declared.chain.ChainKind.TheVariants as compared;
 ghost use Rattle.std.specs.List.{list_all};
 ghost use Rattle.bw_model.specs.declared.column.Column.{Column};
 ghost use Rattle.bw_model.specs.Column.{names_of};
@@ -22,14 +21,13 @@ ghost use Rattle.bw_cert_text.specs.Token.{Token, Key, Number, Perhaps, one_key,
 ghost use Rattle.bw_cert_text.specs.Token.{node_tokens};
 ghost use Rattle.bw_cert_text.specs.Token.{chain_tokens, row_tokens, condition_tokens};
 ghost use Rattle.bw_cert_text.specs.Token.{instruction_tokens, edge_tokens, keep_tokens};
-ghost use Rattle.bw_cert_text.specs.Token.{entry_tokens, end_tokens};
+ghost use Rattle.bw_cert_text.specs.Token.{entry_tokens};
 
 use crate::body::BodyLines;
 use crate::certificate::Certificate;
 use crate::connective::connective_spelling;
 use crate::lines::{
-    ChainLine, ConditionEntry, EdgeProducts, EndLine, Entry, InstructionEntry, Keep, NodeLine,
-    ProductLine,
+    ChainLine, ConditionEntry, EdgeProducts, Entry, InstructionEntry, Keep, NodeLine, ProductLine,
 };
 use bw_diagram::{ChainColumns, ChainKind, Reason};
 use bw_model::{Fault, Schema};
@@ -358,11 +356,8 @@ fn put_keep(alloc: Global, keep: &Keep<'_>, text: &mut Vec<u8>) -> Result<(), Al
         ++ token_line (keep_tokens (keep_fields keep.now))) }
     ensures fit { OnOk result (IsTrue (are_small (keep_tokens (keep_fields keep.now)))) }
 {
-    let pieces = [
-        Piece::Register(keep.register),
-        number(keep.node),
-        number(keep.through),
-    ];
+    let (node, through) = (number(keep.node), number(keep.through));
+    let pieces = [Piece::Register(keep.register), node, through];
     text.extend_from_slice(b"KEEP")?;
     push_spaced(alloc, &pieces, text)?;
     put_edges(alloc, keep.edges.as_slice(), text)?;
