@@ -3,11 +3,9 @@ use Rattle.std.proofs.Common.{◌≡◌, ◌∙◌, refl, ap, ℕ, List, [], ◌
 use Rattle.bw_diagram.specs.declared.chain.ChainKind.TheVariants as compared
 use Rattle.bw_diagram.specs.declared.product.Reason.{Reason}
 use Rattle.bw_diagram.specs.declared.product.Reason.TheVariants.{Shortcut, Cofactors}
-use Rattle.bw_text.specs.Number.{natural_of}
 use Rattle.bw_text.specs.declared.line_kind.LineKind.TheVariants as kind
 use Rattle.bw_text.specs.declared.line_kind.ConditionKind.TheVariants as condition
 use Rattle.bw_text.specs.declared.line_kind.InstructionKind.TheVariants as instruction
-use Rattle.bw_text.specs.declared.form.Form.{Form}
 use Rattle.bw_text.specs.declared.form.Form.TheVariants as form
 use Rattle.bw_cert_text.specs.declared.lines.NodeLine.{NodeLine}
 use Rattle.bw_cert_text.specs.declared.lines.ProductLine.{ProductLine}
@@ -22,12 +20,10 @@ use Rattle.bw_cert_text.specs.declared.lines.EdgeProducts.{EdgeProducts}
 use Rattle.bw_cert_text.specs.CertificateFields.{ColumnFields, One, Two, ChainFields, EntryFields}
 use Rattle.bw_cert_text.specs.CertificateFields.{Condition, Instruction, Join, Kept}
 use Rattle.bw_cert_text.specs.LineText.{Node, Chain, Row, Body, ParsedLine, Before, End}
-use Rattle.bw_cert_text.specs.LineText.{columns_after, reason_in, edges_in, parse_line_by}
-use Rattle.bw_cert_text.specs.Token.{AreSpelled, none, next, node_tokens, column_tokens}
+use Rattle.bw_cert_text.specs.LineText.{reason_in, edges_in, parse_line_by}
+use Rattle.bw_cert_text.specs.Token.{AreSpelled, none, next, node_tokens}
 use Rattle.bw_cert_text.specs.Token.{chain_tokens, reason_tokens, row_tokens, condition_tokens}
 use Rattle.bw_cert_text.specs.Token.{instruction_tokens, edge_tokens, end_tokens, entry_tokens}
-use Rattle.bw_text.specs.LineKind.{kind_of}
-use Rattle.bw_text.specs.Form.{form_of}
 use Rattle.bw_cert_text.proofs.WordSpelling.{is_connective, read_optional}
 use Rattle.bw_text.proofs.WordSpelling.{is_kind, is_form}
 use Rattle.bw_cert_text.proofs.LineRead.{IsSaid}
@@ -38,38 +34,18 @@ body line entry = Before (Body (record { line = line; entry = entry }))
 spelled_node : (line : ℕ) (node : NodeLine) (words : List (List ℕ)) → line ≡ node.line → AreSpelled (node_tokens node) words → parse_line_by line words ≡ Some (Before (Node node))
 spelled_node line node _ same (next {word = word} key (next p0 (next p1 (next p2 (next p3 none))))) = rw (same, is_kind kind.Node word key, p0, p1, p2, p3) refl
 
--- the form of a chain, and what it compares
-record Compared (word : List ℕ) (words : List (List ℕ)) (x : ColumnFields) : Type 0 where
-  form : Form
-  form_is : form_of word ≡ Some form
-  columns_are : columns_after form words ≡ Some x
-
-spelled_columns : (x : ColumnFields) (word : List ℕ) (words : List (List ℕ)) → AreSpelled (column_tokens x) (word ∷ words) → Compared word words x
-spelled_columns (One compared.Less column start len bound node prev) word _ (next key (next p0 (next p1 (next p2 (next p3 (next p4 (next {word = last} p5 none))))))) =
-    record { form = form.Less; form_is = is_form form.Less word key; columns_are = rw (p0, p1, p2, p3, p4, read_optional last prev p5) refl }
-spelled_columns (One compared.Equal column start len bound node prev) word _ (next key (next p0 (next p1 (next p2 (next p3 (next p4 (next {word = last} p5 none))))))) =
-    record { form = form.Equal; form_is = is_form form.Equal word key; columns_are = rw (p0, p1, p2, p3, p4, read_optional last prev p5) refl }
-spelled_columns (Two compared.Less left right len node prev) word _ (next key (next p0 (next p1 (next p2 (next p3 (next {word = last} p4 none)))))) =
-    record { form = form.LessTwo; form_is = is_form form.LessTwo word key; columns_are = rw (p0, p1, p2, p3, read_optional last prev p4) refl }
-spelled_columns (Two compared.Equal left right len node prev) word _ (next key (next p0 (next p1 (next p2 (next p3 (next {word = last} p4 none)))))) =
-    record { form = form.EqualTwo; form_is = is_form form.EqualTwo word key; columns_are = rw (p0, p1, p2, p3, read_optional last prev p4) refl }
-
-chain_from : (line : ℕ) (chain : ChainFields) (word : List ℕ) (w0 w1 : List ℕ) (words : List (List ℕ)) → line ≡ chain.line → kind_of word ≡ Some kind.Chain → natural_of w0 ≡ Some chain.n →
-    Compared w1 words chain.columns → parse_line_by line (word ∷ w0 ∷ w1 ∷ words) ≡ Some (Before (Chain chain))
-chain_from line chain word w0 w1 words same is p0 found = rw (same, is, p0, found.form_is, found.columns_are) refl
-
-no_columns : (x : ColumnFields) → AreSpelled (column_tokens x) [] → ⊥
-no_columns (One k column start len bound node prev) rest = elim rest [ ]
-no_columns (Two k left right len node prev) rest = elim rest [ ]
-
-chain_after : (line : ℕ) (chain : ChainFields) (word w0 : List ℕ) (words : List (List ℕ)) → line ≡ chain.line → kind_of word ≡ Some kind.Chain → natural_of w0 ≡ Some chain.n →
-    AreSpelled (column_tokens chain.columns) words → parse_line_by line (word ∷ w0 ∷ words) ≡ Some (Before (Chain chain))
-chain_after line chain word w0 [] same is p0 rest = absurd (no_columns chain.columns rest)
-chain_after line chain word w0 (w1 ∷ words) same is p0 rest = chain_from line chain word w0 w1 words same is p0 (spelled_columns chain.columns w1 words rest)
-
 spelled_chain : (line : ℕ) (chain : ChainFields) (words : List (List ℕ)) → line ≡ chain.line → AreSpelled (chain_tokens chain) words → parse_line_by line words ≡ Some (Before (Chain chain))
-spelled_chain line chain _ same (next {word = word} key (next {word = w0} {words = words} p0 rest)) =
-    chain_after line chain word w0 words same (is_kind kind.Chain word key) p0 rest
+spelled_chain line chain words same is = rw same (by_form chain.columns words is)
+  where
+    by_form : (x : ColumnFields) (words : List (List ℕ)) → AreSpelled (chain_tokens (record chain { columns = x })) words → parse_line_by chain.line words ≡ Some (Before (Chain (record chain { columns = x })))
+    by_form (One compared.Less column start len bound node prev) _ (next {word = word} key (next p (next {word = w} f (next p0 (next p1 (next p2 (next p3 (next p4 (next {word = last} p5 none))))))))) =
+        rw (is_kind kind.Chain word key, p, is_form form.Less w f, p0, p1, p2, p3, p4, read_optional last prev p5) refl
+    by_form (One compared.Equal column start len bound node prev) _ (next {word = word} key (next p (next {word = w} f (next p0 (next p1 (next p2 (next p3 (next p4 (next {word = last} p5 none))))))))) =
+        rw (is_kind kind.Chain word key, p, is_form form.Equal w f, p0, p1, p2, p3, p4, read_optional last prev p5) refl
+    by_form (Two compared.Less left right len node prev) _ (next {word = word} key (next p (next {word = w} f (next p0 (next p1 (next p2 (next p3 (next {word = last} p4 none)))))))) =
+        rw (is_kind kind.Chain word key, p, is_form form.LessTwo w f, p0, p1, p2, p3, read_optional last prev p4) refl
+    by_form (Two compared.Equal left right len node prev) _ (next {word = word} key (next p (next {word = w} f (next p0 (next p1 (next p2 (next p3 (next {word = last} p4 none)))))))) =
+        rw (is_kind kind.Chain word key, p, is_form form.EqualTwo w f, p0, p1, p2, p3, read_optional last prev p4) refl
 
 spelled_reason : (r : Reason) (words : List (List ℕ)) → AreSpelled (reason_tokens r) words → reason_in words ≡ Some r
 spelled_reason Shortcut _ (next key none) = rw key refl

@@ -219,44 +219,26 @@ end_spelled n end h =
     ap (λ (t : List ℕ). numbered_from n (cut_lines t)) (sym (append-nil (token_line (end_tokens end)))) ∙ said in
     rw whole (at_end (record { line = n; row = end.row }) (refl, tokens_spelled (end_tokens end) h))
 
-nodes_after : (first : ℕ) (xs : List NodeLine) (c : CertificateFields) →
-    with_section Node node_at first xs c ≡ record { nodes = numbered_on node_at first xs ++ c.nodes; chains = c.chains; products = c.products; body = c.body; end = c.end }
+section_after : {A : Type 0} (part : A → Part) (at : ℕ → A → A) (whole : List A → CertificateFields) → ((x : A) (xs : List A) → with_part (part x) (whole xs) ≡ whole (x ∷ xs)) →
+    (first : ℕ) (xs : List A) → with_section part at first xs (whole []) ≡ whole (numbered_on at first xs)
 unfolding numbered_on with_section
-nodes_after first [] c = refl
-nodes_after first (x ∷ xs) c = ap (with_part (Node (node_at first x))) (nodes_after (first + 1) xs c)
-
-chains_after : (first : ℕ) (xs : List ChainFields) (c : CertificateFields) →
-    with_section Chain chain_at first xs c ≡ record { nodes = c.nodes; chains = numbered_on chain_at first xs ++ c.chains; products = c.products; body = c.body; end = c.end }
-unfolding numbered_on with_section
-chains_after first [] c = refl
-chains_after first (x ∷ xs) c = ap (with_part (Chain (chain_at first x))) (chains_after (first + 1) xs c)
-
-rows_after : (first : ℕ) (xs : List ProductLine) (c : CertificateFields) →
-    with_section Row row_at first xs c ≡ record { nodes = c.nodes; chains = c.chains; products = numbered_on row_at first xs ++ c.products; body = c.body; end = c.end }
-unfolding numbered_on with_section
-rows_after first [] c = refl
-rows_after first (x ∷ xs) c = ap (with_part (Row (row_at first x))) (rows_after (first + 1) xs c)
-
-body_after : (first : ℕ) (xs : List BodyFields) (c : CertificateFields) →
-    with_section Body body_at first xs c ≡ record { nodes = c.nodes; chains = c.chains; products = c.products; body = numbered_on body_at first xs ++ c.body; end = c.end }
-unfolding numbered_on with_section
-body_after first [] c = refl
-body_after first (x ∷ xs) c = ap (with_part (Body (body_at first x))) (body_after (first + 1) xs c)
+section_after part at whole step first [] = refl
+section_after part at whole step first (x ∷ xs) =
+    ap (with_part (part (at first x))) (section_after part at whole step (first + 1) xs) ∙ step (at first x) (numbered_on at (first + 1) xs)
 
 -- a certificate without its end, put in front of that of which this is the end
 put_together : (nodes : List NodeLine) (chains : List ChainFields) (rows : List ProductLine) (body : List BodyFields) (a b r y : ℕ) (end : EndLine) →
     with_section Node node_at a nodes (with_section Chain chain_at b chains (with_section Row row_at r rows (with_section Body body_at y body (end_alone end))))
     ≡ record { nodes = numbered_on node_at a nodes; chains = numbered_on chain_at b chains; products = numbered_on row_at r rows; body = numbered_on body_at y body; end = end }
 put_together nodes chains rows body a b r y end =
+    let its_body : List BodyFields = numbered_on body_at y body in
+    let its_rows : List ProductLine = numbered_on row_at r rows in
+    let its_chains : List ChainFields = numbered_on chain_at b chains in
     rw (
-      body_after y body (end_alone end),
-      append-nil (numbered_on body_at y body),
-      rows_after r rows (record { nodes = []; chains = []; products = []; body = numbered_on body_at y body; end = end }),
-      append-nil (numbered_on row_at r rows),
-      chains_after b chains (record { nodes = []; chains = []; products = numbered_on row_at r rows; body = numbered_on body_at y body; end = end }),
-      append-nil (numbered_on chain_at b chains),
-      nodes_after a nodes (record { nodes = []; chains = numbered_on chain_at b chains; products = numbered_on row_at r rows; body = numbered_on body_at y body; end = end }),
-      append-nil (numbered_on node_at a nodes),
+      section_after Body body_at (λ xs. record { nodes = []; chains = []; products = []; body = xs; end = end }) (λ x xs. refl) y body,
+      section_after Row row_at (λ xs. record { nodes = []; chains = []; products = xs; body = its_body; end = end }) (λ x xs. refl) r rows,
+      section_after Chain chain_at (λ xs. record { nodes = []; chains = xs; products = its_rows; body = its_body; end = end }) (λ x xs. refl) b chains,
+      section_after Node node_at (λ xs. record { nodes = xs; chains = its_chains; products = its_rows; body = its_body; end = end }) (λ x xs. refl) a nodes,
     ) refl
 
 certificate_spelled : (first : ℕ) (c : CertificateFields) →
