@@ -204,14 +204,8 @@ impl<'a> BodyLines<'a> {
         ensures cases { MatchOption result (body_lines self.entry ≡ [])
             (λ next. body_lines self.entry ≡ next.0 ∷ body_lines next.1) }
     {
-        let Some((kind, kinds)) = self.kinds.split_first() else {
-            return None;
-        };
-        let size = kind.size();
-        if size > self.numbers.len() {
-            return None;
-        }
-        let (own, numbers) = self.numbers.split_at(size);
+        let (kind, kinds) = self.kinds.split_first()?;
+        let (own, numbers) = self.numbers.split_at_checked(kind.size())?;
         let count = pairs_in(*kind, own);
         if count > self.pairs.len() as u64 {
             return None;
