@@ -1,9 +1,10 @@
 -- The values of a column in selected rows, by its codes and its nulls.
 use Rattle.std.proofs.Common.{◌≡◌, ◌∙◌, refl, sym, ap, ap₂, ℕ, suc, ℤ, pos, ◌-◌, ◌<◌, Bool, true}
 use Rattle.std.proofs.Common.{false, not, cond, ◌&&◌, ◌||◌, List, [], ◌∷◌, ◌++◌, map, count_by, length}
-use Rattle.std.proofs.Common.{replicate, Some, None, unwrap_or, arith}
+use Rattle.std.proofs.Common.{replicate, Option, Some, None, subst, ◌+ℤ◌, unwrap_or, arith}
 use Rattle.std.proofs.lemmas.List.{length-map}
-use Rattle.std.specs.List.{list_all, list_any, cons_option}
+use Rattle.std.specs.Int.{int_max, int_min}
+use Rattle.std.specs.List.{list_all, list_any, cons_option, reduce}
 use Rattle.std.proofs.lemmas.List.Sums.{sum_by-cons}
 use lib.Lanes.{zip2}
 use Rattle.bw_lanes.specs.Lanes.{lanes_of_words}
@@ -14,15 +15,16 @@ use Rattle.bw_model.specs.Column.{admits_values}
 use Rattle.bw_model.specs.Groups.{group_size}
 use Rattle.bw_model.specs.Selection.{selected_items}
 use Rattle.bw_model.specs.StoredCodes.{stored_at}
-use Rattle.bw_model.specs.Total.{present}
+use Rattle.bw_model.specs.Total.{combine_totals, present, total}
+use Rattle.bw_model.specs.declared.query.Item.TheVariants.{Max, Min}
 use Rattle.bw_model.specs.Truth.{is_null}
 use Rattle.bw_model.proofs.BitsLemmas.{both}
 use Rattle.bw_segment.specs.Packing.{value_held}
 use Rattle.bw_segment.specs.Meaning.{Meaning, IsGroup, code_lanes, null_bits, stored_codes}
 use Rattle.bw_segment.proofs.ValueLemmas.{held_admitted}
-use Rattle.bw_segment.specs.Selected.{codes_in}
+use Rattle.bw_segment.specs.Selected.{codes_in, is_beyond}
 use Rattle.bw_segment.proofs.SelectedCodes.{codes_counted}
-use Rattle.bw_aggregate.proofs.ValueLemmas.{neither}
+use Rattle.bw_aggregate.proofs.ValueLemmas.{greatest_kept, least_kept, neither}
 use Rattle.bw_aggregate.specs.Selected.{IsWithin, present_lanes, values_in, selected_rows}
 
 -- nothing is selected past the rows
@@ -95,3 +97,19 @@ none_in_both test (true ∷ lanes) (false ∷ others) (code ∷ codes) none = no
 pub none_in_present : (test : ℕ → Bool) (meaning : Meaning) (col : ℕ) (lanes : List Bool) → list_any test (codes_in meaning col lanes) ≡ false → list_any test (codes_in meaning col (present_lanes meaning col lanes)) ≡ false
 unfolding present_lanes codes_in
 none_in_present test meaning col lanes none = none_in_both test lanes (map not (null_bits meaning.rows col)) (code_lanes meaning col) none
+
+-- rows whose codes aren't beyond that of a total leave the total as it is
+pub minimum_left : (meaning : Meaning) (col code : ℕ) (lo : ℤ) (so_far : Option ℤ) (lanes : List Bool) → IsGroup meaning → col < length meaning.columns → IsWithin (length meaning.rows) lanes
+    → ((other : ℕ) → value_at meaning.columns col other ≡ lo +ℤ pos other) → so_far ≡ Some (lo +ℤ pos code) → list_any (is_beyond false code) (codes_in meaning col (present_lanes meaning col lanes)) ≡ false
+    → combine_totals (Min col) so_far None ≡ combine_totals (Min col) so_far (total (Min col) (selected_rows meaning lanes))
+minimum_left meaning col code lo so_far lanes group lt within values is none =
+    subst (λ a. combine_totals (Min col) a None ≡ combine_totals (Min col) a (reduce int_min (present col (selected_rows meaning lanes)))) (sym is)
+    (least_kept lo (value_at meaning.columns col) col code (codes_in meaning col (present_lanes meaning col lanes)) values none ∙ ap (λ vs. combine_totals (Min col) (Some (lo +ℤ pos code)) (reduce int_min vs)) (sym (values_are_codes meaning col lanes group lt within)))
+
+pub maximum_left : (meaning : Meaning) (col code : ℕ) (lo : ℤ) (so_far : Option ℤ) (lanes : List Bool) → IsGroup meaning → col < length meaning.columns → IsWithin (length meaning.rows) lanes
+    → ((other : ℕ) → value_at meaning.columns col other ≡ lo +ℤ pos other) → so_far ≡ Some (lo +ℤ pos code) → list_any (is_beyond true code) (codes_in meaning col lanes) ≡ false
+    → combine_totals (Max col) so_far None ≡ combine_totals (Max col) so_far (total (Max col) (selected_rows meaning lanes))
+maximum_left meaning col code lo so_far lanes group lt within values is none =
+    subst (λ a. combine_totals (Max col) a None ≡ combine_totals (Max col) a (reduce int_max (present col (selected_rows meaning lanes)))) (sym is)
+    (greatest_kept lo (value_at meaning.columns col) col code (codes_in meaning col (present_lanes meaning col lanes)) values (none_in_present (is_beyond true code) meaning col lanes none)
+    ∙ ap (λ vs. combine_totals (Max col) (Some (lo +ℤ pos code)) (reduce int_max vs)) (sym (values_are_codes meaning col lanes group lt within)))

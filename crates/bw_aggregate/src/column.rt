@@ -5,8 +5,6 @@ ghost use Rattle.std.specs.List.{list_any, reduce};
 ghost use Rattle.std.specs.Int.{int_min, int_max};
 ghost use Rattle.bw_lanes.specs.Lanes.{lanes_of_words};
 ghost use Rattle.bw_model.specs.Code.{value_at};
-ghost use Rattle.bw_model.specs.Total.{combine_totals};
-ghost use Rattle.bw_model.specs.declared.query.Item.TheVariants.{Max, Min};
 ghost use Rattle.bw_segment.specs.Selected.{codes_in, is_beyond};
 ghost use Rattle.bw_rowwise.specs.Accumulator.{IsTotalOfRows};
 ghost use Rattle.bw_aggregate.specs.Selected.{present_lanes, values_in};
@@ -47,47 +45,25 @@ pub(crate) fn sum<S: Segment>(segment: &S, col: usize, rows: &Selection) -> Opti
     Some(sum_of_values(lowest(segment, col), number, codes))
 }
 
-/// Returns the minimum value of the codes in these rows, or None if there are no rows, or none that
-/// changes the minimum so far. `number` rows were selected, nulls among them.
-pub(crate) fn least<S: Segment>(
-    segment: &S,
-    col: usize,
-    rows: &Selection,
-    number: u32,
-    so_far: Option<i128>,
-) -> Option<i128>
+/// Returns the minimum value of the codes in these rows, or None if there are no rows.
+pub(crate) fn least<S: Segment>(segment: &S, col: usize, rows: &Selection) -> Option<i128>
     requires { col < length (S.meaning segment.now).columns }
-    ensures least { combine_totals (Min col) so_far result ≡ combine_totals (Min col) so_far
-        (reduce int_min (values_in (S.meaning segment.now) col (lanes_of_words rows.now))) }
+    ensures least { result ≡ reduce int_min
+        (values_in (S.meaning segment.now) col (lanes_of_words rows.now)) }
     ensures small { IsTotalOfRows 1 result }
 {
-    if none_beyond(segment, col, rows, number, so_far, false) {
-        return None;
-    }
     let code = segment.min_code(col, rows)?;
     Some(value_of_code(lowest(segment, col), code))
 }
 
-/// Returns the maximum value of a column in these rows, or None if it has none there, or none that
-/// changes the maximum so far. `number` rows were selected. The code of a null is 0, which is above
-/// no other, so nulls are looked at last, and mostly not at all.
-pub(crate) fn greatest<S: Segment>(
-    segment: &S,
-    col: usize,
-    rows: &Selection,
-    number: u32,
-    so_far: Option<i128>,
-) -> Option<i128>
+/// Returns the maximum value of the codes in these rows, or None if there are no rows.
+pub(crate) fn greatest<S: Segment>(segment: &S, col: usize, rows: &Selection) -> Option<i128>
     requires { col < length (S.meaning segment.now).columns }
-    ensures greatest { combine_totals (Max col) so_far result ≡ combine_totals (Max col) so_far
-        (reduce int_max (values_in (S.meaning segment.now) col
-        (present_lanes (S.meaning segment.now) col (lanes_of_words rows.now)))) }
+    ensures greatest { result ≡ reduce int_max
+        (values_in (S.meaning segment.now) col (lanes_of_words rows.now)) }
     ensures small { IsTotalOfRows 1 result }
 {
-    if none_beyond(segment, col, rows, number, so_far, true) {
-        return None;
-    }
-    let code = segment.max_code(col, &present(segment, col, rows))?;
+    let code = segment.max_code(col, rows)?;
     Some(value_of_code(lowest(segment, col), code))
 }
 
@@ -98,7 +74,7 @@ const SOME: u32 = 16;
 /// Returns true only if no value of the codes in these rows is above a total or, unless `greatest`,
 /// below it. If more than a few rows were selected, `number` of them, the digits aren't looked at.
 #[inline(always)]
-fn none_beyond<S: Segment>(
+pub(crate) fn none_beyond<S: Segment>(
     segment: &S,
     col: usize,
     rows: &Selection,
@@ -123,6 +99,33 @@ fn none_beyond<S: Segment>(
         Some(code) => segment.none_beyond(col, rows, code, greatest),
         None => false,
     }
+}
+
+/// Returns true only if no value of a column in these rows is below a total. It isn't compiled into
+/// its caller, which would then clear a plane each time.
+#[inline(never)]
+pub(crate) fn no_value_below<S: Segment>(
+    segment: &S,
+    col: usize,
+    rows: &Selection,
+    number: u32,
+    so_far: Option<i128>,
+) -> bool
+    requires { col < length (S.meaning segment.now).columns }
+    ensures { result ≡ true → (lo : ℤ) × (code : ℕ)
+        × ((other : ℕ) → value_at (S.meaning segment.now).columns col other ≡ lo +ℤ pos other)
+        × (so_far ≡ Some (lo +ℤ pos code))
+        × (list_any (is_beyond false code) (codes_in (S.meaning segment.now) col
+        (present_lanes (S.meaning segment.now) col (lanes_of_words rows.now))) ≡ false) }
+{
+    none_beyond(
+        segment,
+        col,
+        &present(segment, col, rows),
+        number,
+        so_far,
+        false,
+    )
 }
 
 /// Returns the code of a value, if `lowest` is that of the code 0, or None if it has none of 63

@@ -1,5 +1,6 @@
 //! The totals of the selected rows of a segment.
-ghost use Rattle.std.specs.Prelude.{◌≡◌, ◌+◌, ◌≤◌, ◌++◌, List, count_by, length, IsTrue};
+ghost use Rattle.std.specs.Prelude.{◌≡◌, ◌+◌, ◌≤◌, ◌++◌, List, None, count_by, length, IsTrue};
+ghost use Rattle.std.specs.Prelude.{true};
 ghost use Rattle.bw_lanes.specs.Lanes.{lanes_of_words};
 ghost use Rattle.bw_model.specs.Limits.{most_rows};
 ghost use Rattle.bw_model.specs.Row.{Value};
@@ -7,7 +8,7 @@ ghost use Rattle.bw_model.specs.Total.{combine_totals, item_within, total};
 ghost use Rattle.bw_rowwise.specs.Accumulator.{tally_of, IsTotalOfRows};
 ghost use Rattle.bw_aggregate.specs.Selected.{IsWithin, selected_rows, with_selected};
 
-use crate::column::{greatest, least, present, sum};
+use crate::column::{greatest, least, no_value_below, none_beyond, present, sum};
 use bw_lanes::{Selection, count};
 use bw_model::{Item, totals_join};
 use bw_rowwise::Accumulator;
@@ -64,13 +65,46 @@ fn total_of<S: Segment>(
         (selected_rows (S.meaning segment.now) (lanes_of_words selection.now))) }
     ensures small { IsTotalOfRows 1 result }
 {
-    match so_far.item() {
+    let item = so_far.item();
+    if leaves_total(item, segment, selection, number, so_far.finish()) {
+        return None;
+    }
+    match item {
         Item::CountAll => Some(i128::from(number)),
-        item => total_by_columns(item, segment, selection, number, so_far.finish()),
+        item => total_by_columns(item, segment, selection, number),
     }
 }
 
-/// Returns the same for any item, if `so_far` is the total of earlier rows. It isn't compiled into
+/// Returns true only if the selected rows of a segment, `number` of them, leave a total so far as
+/// it is. The code of a null is 0, which is above no other, so a maximum needn't look at nulls, and
+/// a minimum only if a code is below its own.
+#[inline(always)]
+fn leaves_total<S: Segment>(
+    item: Item,
+    segment: &S,
+    selection: &Selection,
+    number: u32,
+    so_far: Option<i128>,
+) -> bool
+    requires column { IsTrue (item_within (length (S.meaning segment.now).columns) item) }
+    requires selection { IsWithin (length (S.meaning segment.now).rows)
+        (lanes_of_words selection.now) }
+    ensures { result ≡ true
+        → combine_totals item so_far None ≡ combine_totals item so_far
+        (total item (selected_rows (S.meaning segment.now) (lanes_of_words selection.now))) }
+{
+    match item {
+        Item::Min(col) => {
+            none_beyond(segment, col, selection, number, so_far, false)
+                || segment.schema().columns[col].nullable
+                    && no_value_below(segment, col, selection, number, so_far)
+        }
+        Item::Max(col) => none_beyond(segment, col, selection, number, so_far, true),
+        Item::Plain(_) | Item::CountAll | Item::Count(_) | Item::Sum(_) => false,
+    }
+}
+
+/// Returns the total of the selected rows of a segment, `number` of them. It isn't compiled into
 /// its caller, which would then clear planes for a count of rows too.
 #[inline(never)]
 fn total_by_columns<S: Segment>(
@@ -78,15 +112,14 @@ fn total_by_columns<S: Segment>(
     segment: &S,
     selection: &Selection,
     number: u32,
-    so_far: Option<i128>,
 ) -> Option<i128>
     requires column { IsTrue (item_within (length (S.meaning segment.now).columns) item) }
     requires selection { IsWithin (length (S.meaning segment.now).rows)
         (lanes_of_words selection.now) }
     requires number { number
         ≡ length (selected_rows (S.meaning segment.now) (lanes_of_words selection.now)) }
-    ensures total { combine_totals item so_far result ≡ combine_totals item so_far
-        (total item (selected_rows (S.meaning segment.now) (lanes_of_words selection.now))) }
+    ensures total { result ≡ total item
+        (selected_rows (S.meaning segment.now) (lanes_of_words selection.now)) }
     ensures small { IsTotalOfRows 1 result }
 {
     match item {
@@ -94,10 +127,7 @@ fn total_by_columns<S: Segment>(
         Item::CountAll => Some(i128::from(number)),
         Item::Count(col) => Some(i128::from(count(&present(segment, col, selection)))),
         Item::Sum(col) => sum(segment, col, &present(segment, col, selection)),
-        Item::Min(col) => {
-            let rows = present(segment, col, selection);
-            least(segment, col, &rows, number, so_far)
-        }
-        Item::Max(col) => greatest(segment, col, selection, number, so_far),
+        Item::Min(col) => least(segment, col, &present(segment, col, selection)),
+        Item::Max(col) => greatest(segment, col, &present(segment, col, selection)),
     }
 }

@@ -1,30 +1,15 @@
-use Rattle.std.proofs.Common.{◌≡◌, ◌∙◌, sym, ap, subst, pos, ◌+ℤ◌, Some, None, arith}
+use Rattle.std.proofs.Common.{◌∙◌, sym, ap, pos, ◌+ℤ◌, Some, arith}
 use Rattle.std.specs.Option.{option_map}
-use Rattle.std.specs.List.{reduce}
-use Rattle.std.specs.Int.{int_min}
 use Rattle.std.proofs.lemmas.Int.{ints}
 use Rattle.bw_lanes.specs.Lanes.{lanes_of_words}
 use Rattle.bw_model.specs.Code.{value_at}
 use Rattle.bw_segment.specs.Selected.{codes_in}
-use Rattle.bw_aggregate.specs.Selected.{values_in}
-use Rattle.bw_model.specs.Total.{combine_totals}
-use Rattle.bw_model.specs.declared.query.Item.TheVariants.{Min}
-use Rattle.bw_aggregate.proofs.ValueLemmas.{least_kept, least_value}
+use Rattle.bw_aggregate.proofs.ValueLemmas.{least_value}
 use Rattle.bw_aggregate.proofs.column.least.Goals as goal
 
 pub returns-clause-least : goal.returns-clause-least
 returns-clause-least g c =
     let meaning = g.S.Segment.meaning c.args.segment.now in
-    let rows = lanes_of_words c.args.rows.now in
     let lo = c.lowest.result in
-    let value : Some (lo +ℤ pos c.in_ok-code.code) ≡ reduce int_min (values_in meaning c.args.col rows) =
-    ap (option_map (λ code. lo +ℤ pos code)) c.in_ok-code.ensures.least ∙ sym (least_value lo (value_at meaning.columns c.args.col) (codes_in meaning c.args.col rows) c.lowest.ensures) in
-    ap (combine_totals (Min c.args.col) c.args.so_far) (ap Some (omega (arith, ints)) ∙ value)
-
-pub returns-then-none_beyond-clause-least : goal.returns-then-none_beyond-clause-least
-returns-then-none_beyond-clause-least g c =
-    let meaning = g.S.Segment.meaning c.args.segment.now in
-    let rows = lanes_of_words c.args.rows.now in
-    let found = c.none_beyond.ensures c.if-none_beyond.true in
-    subst (λ so_far. combine_totals (Min c.args.col) so_far None ≡ combine_totals (Min c.args.col) so_far (reduce int_min (values_in meaning c.args.col rows))) (sym found.3)
-    (least_kept found.0 (value_at meaning.columns c.args.col) c.args.col found.1 (codes_in meaning c.args.col rows) found.2 found.4)
+    ap Some (omega (arith, ints)) ∙ ap (option_map (λ code. lo +ℤ pos code)) c.in_ok-code.ensures.least
+    ∙ sym (least_value lo (value_at meaning.columns c.args.col) (codes_in meaning c.args.col (lanes_of_words c.args.rows.now)) c.lowest.ensures)

@@ -5,28 +5,20 @@ use Rattle.std.proofs.lemmas.Int.{ints}
 use Rattle.std.proofs.lemmas.Bool.{ltb-true}
 use Rattle.bw_lanes.specs.Lanes.{lanes_of_words}
 use Rattle.bw_model.specs.declared.query.Item.{Item}
-use Rattle.bw_model.specs.Total.{combine_totals, total, present, item_within}
-use Rattle.bw_model.specs.declared.query.Item.TheVariants.{Max, Min}
+use Rattle.bw_model.specs.Total.{total, present, item_within}
 use Rattle.bw_aggregate.specs.Selected.{values_in, selected_rows}
-use Rattle.bw_aggregate.proofs.ColumnLemmas.{rows_counted, values_counted, values_are_codes}
+use Rattle.bw_aggregate.proofs.ColumnLemmas.{values_counted, values_are_codes}
 use Rattle.bw_aggregate.proofs.selected.total_by_columns.Goals as goal
-
-pub returns-in-CountAll-clause-total : goal.returns-in-CountAll-clause-total
-returns-in-CountAll-clause-total g c =
-    let meaning = g.S.Segment.meaning c.args.segment.now in
-    let rows = selected_rows meaning (lanes_of_words c.args.selection.now) in
-    ap (combine_totals c.args.item c.args.so_far) (ap Some (omega (arith, ints, c.from.ensures)) ∙ ap (λ k. Some (pos k)) c.requires.number ∙ ap (λ (item : Item). total item rows) (sym c.in-CountAll.is))
 
 pub returns-in-Count-clause-total : goal.returns-in-Count-clause-total
 returns-in-Count-clause-total g c =
     let meaning = g.S.Segment.meaning c.args.segment.now in
     let group = g.met.S.Segment.is_group c.args.segment.now in
     let lanes = lanes_of_words c.args.selection.now in
-    let rows = selected_rows meaning lanes in
     let there = ltb-true c.in-Count.col (length meaning.columns) (sym (ap (item_within (length meaning.columns)) c.in-Count.is) ∙ c.requires.column) in
     let eight : length c.present.result ≡ 8 = search rules in
-    let number : c.count.result ≡ length (present c.in-Count.col rows) = c.count.ensures.ones ∙ values_counted meaning c.in-Count.col lanes c.present.result group there c.requires.selection eight c.present.ensures in
-    ap (combine_totals c.args.item c.args.so_far) (ap Some (omega (arith, ints, c.from-in-Count.ensures)) ∙ ap (λ k. Some (pos k)) number ∙ ap (λ (item : Item). total item rows) (sym c.in-Count.is))
+    let number : c.count.result ≡ length (present c.in-Count.col (selected_rows meaning lanes)) = c.count.ensures.ones ∙ values_counted meaning c.in-Count.col lanes c.present.result group there c.requires.selection eight c.present.ensures in
+    ap Some (omega (arith, ints, c.from-in-Count.ensures)) ∙ ap (λ k. Some (pos k)) number ∙ ap (λ (item : Item). total item (selected_rows meaning lanes)) (sym c.in-Count.is)
 
 pub returns-in-Sum-clause-total : goal.returns-in-Sum-clause-total
 returns-in-Sum-clause-total g c =
@@ -34,9 +26,8 @@ returns-in-Sum-clause-total g c =
     let group = g.met.S.Segment.is_group c.args.segment.now in
     let lanes = lanes_of_words c.args.selection.now in
     let there = ltb-true c.in-Sum.col (length meaning.columns) (sym (ap (item_within (length meaning.columns)) c.in-Sum.is) ∙ c.requires.column) in
-    ap (combine_totals c.args.item c.args.so_far)
-    (c.sum.ensures.sum ∙ ap (λ l. reduce (λ a b. a +ℤ b) (values_in meaning c.in-Sum.col l)) c.present-in-Sum.ensures ∙ ap (reduce (λ a b. a +ℤ b)) (sym (values_are_codes meaning c.in-Sum.col lanes group there c.requires.selection))
-    ∙ ap (λ (item : Item). total item (selected_rows meaning lanes)) (sym c.in-Sum.is))
+    c.sum.ensures.sum ∙ ap (λ l. reduce (λ a b. a +ℤ b) (values_in meaning c.in-Sum.col l)) c.present-in-Sum.ensures
+    ∙ ap (reduce (λ a b. a +ℤ b)) (sym (values_are_codes meaning c.in-Sum.col lanes group there c.requires.selection)) ∙ ap (λ (item : Item). total item (selected_rows meaning lanes)) (sym c.in-Sum.is)
 
 pub returns-in-Min-clause-total : goal.returns-in-Min-clause-total
 returns-in-Min-clause-total g c =
@@ -44,9 +35,8 @@ returns-in-Min-clause-total g c =
     let group = g.met.S.Segment.is_group c.args.segment.now in
     let lanes = lanes_of_words c.args.selection.now in
     let there = ltb-true c.in-Min.col (length meaning.columns) (sym (ap (item_within (length meaning.columns)) c.in-Min.is) ∙ c.requires.column) in
-    let values = ap (λ l. reduce int_min (values_in meaning c.in-Min.col l)) c.present-rows.ensures ∙ ap (reduce int_min) (sym (values_are_codes meaning c.in-Min.col lanes group there c.requires.selection)) in
-    ap (λ (item : Item). combine_totals item c.args.so_far c.least.result) c.in-Min.is ∙ c.least.ensures.least ∙ ap (combine_totals (Min c.in-Min.col) c.args.so_far) values
-    ∙ ap (λ (item : Item). combine_totals item c.args.so_far (total item (selected_rows meaning lanes))) (sym c.in-Min.is)
+    c.least.ensures.least ∙ ap (λ l. reduce int_min (values_in meaning c.in-Min.col l)) c.present-in-Min.ensures
+    ∙ ap (reduce int_min) (sym (values_are_codes meaning c.in-Min.col lanes group there c.requires.selection)) ∙ ap (λ (item : Item). total item (selected_rows meaning lanes)) (sym c.in-Min.is)
 
 pub returns-in-Max-clause-total : goal.returns-in-Max-clause-total
 returns-in-Max-clause-total g c =
@@ -54,6 +44,5 @@ returns-in-Max-clause-total g c =
     let group = g.met.S.Segment.is_group c.args.segment.now in
     let lanes = lanes_of_words c.args.selection.now in
     let there = ltb-true c.in-Max.col (length meaning.columns) (sym (ap (item_within (length meaning.columns)) c.in-Max.is) ∙ c.requires.column) in
-    let values = ap (reduce int_max) (sym (values_are_codes meaning c.in-Max.col lanes group there c.requires.selection)) in
-    ap (λ (item : Item). combine_totals item c.args.so_far c.greatest.result) c.in-Max.is ∙ c.greatest.ensures.greatest ∙ ap (combine_totals (Max c.in-Max.col) c.args.so_far) values
-    ∙ ap (λ (item : Item). combine_totals item c.args.so_far (total item (selected_rows meaning lanes))) (sym c.in-Max.is)
+    c.greatest.ensures.greatest ∙ ap (λ l. reduce int_max (values_in meaning c.in-Max.col l)) c.present-in-Max.ensures
+    ∙ ap (reduce int_max) (sym (values_are_codes meaning c.in-Max.col lanes group there c.requires.selection)) ∙ ap (λ (item : Item). total item (selected_rows meaning lanes)) (sym c.in-Max.is)
