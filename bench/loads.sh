@@ -9,12 +9,8 @@ top=$(cd "$(dirname "$0")/.." && pwd)
 folder=${1:-$(mktemp -d)}
 mkdir -p "$folder"
 bw=${BW:-$("$top/bw" --where)}
-if [ -n "${READER:-}" ]; then
-    reader=("$READER")
-else
-    built bench
-    reader=("$top/crates/bench/out/bench")
-fi
+[ -n "${READER:-}" ] || built bench
+reader=${READER:-$top/crates/bench/out/bench}
 
 # the minimum and the maximum of each column, and the number of rows
 declare -A spans rows
@@ -67,11 +63,7 @@ for columns in 1 4 30; do
     [ -s "$csv" ] || kept "$csv" table "${rows[$columns]}" "${spans[$columns]}"
     least=()
     for _ in 1 2 3 4 5 6 7 8 9 10 11 12 13 14 15; do
-        if [ -n "${READER:-}" ]; then
-            run reader "${reader[@]}" "$csv"
-        else
-            run reader "${reader[@]}" "reader=$csv"
-        fi
+        run reader "$reader" "$csv"
         for layout in planes slices; do
             run "load, $layout" "$bw" load --layout $layout "$folder/$columns.schema" "$csv" "$folder/loaded.bw"
             rm "$folder/loaded.bw"

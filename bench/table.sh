@@ -1,8 +1,7 @@
 #!/usr/bin/env bash
 # Times `bw load`, `bw query`, `bw dump` and `bw direct` over a table of four columns: a from 0 to 255, b from -10 to 10 with
-# nulls, c from 0 to 1,000,000, d from 0 to 4,294,967,295 with nulls. A count without condition is compared with a plain C loop
-# that reads the same file in pieces of 64 KiB and validates every block (bench/table.c), and with dd, which only reads it. The
-# load is compared with the CSV reader, and `bw direct` with mawk.
+# nulls, c from 0 to 1,000,000, d from 0 to 4,294,967,295 with nulls. A count without condition is compared with dd, which only
+# reads the same file, and `bw direct` with mawk. bench/loads.sh compares loads with the CSV reader, bench/compare queries with C.
 # Run by hand on an idle machine: bench/table.sh [ROWS [FOLDER]] (default: ten million rows, and a new folder). FOLDER gets the
 # CSV of ROWS rows (23 bytes per row) and a table file of each layout.
 # Each line has the minimum wall time of five runs, those of all lines in turn; the peak memory; and MB per second: of the CSV or
@@ -20,9 +19,6 @@ printf 'TABLE m\nCOLUMN a 0 255 NOT NULL\nCOLUMN b -10 10\nCOLUMN c 0 1000000 NO
 [ -s "$csv" ] || kept "$csv" four_columns "$rows"
 
 bw=${BW:-$("$top/bw" --where)}
-reader=$top/crates/bench/out/bench
-built bench
-gcc -O2 -o "$folder/table" "$top/bench/table.c"
 
 declare -A least most size
 names=()
@@ -50,7 +46,6 @@ listed=$("$bw" query "$folder/planes-$rows.bw" "$half" | wc -c)
 echo "CSV $text bytes, planes $(stat -c %s "$folder/planes-$rows.bw"), slices $(stat -c %s "$folder/slices-$rows.bw"), dump $dumped"
 echo "load of the machine before: $(cut -d ' ' -f 1-3 /proc/loadavg)"
 for _ in 1 2 3 4 5; do
-    run 'csv reader alone' "$text" "$reader" "reader=$csv"
     run 'direct, COUNT(*)' "$text" "$bw" direct "$schema" "$csv" 'SELECT COUNT(*) FROM m'
     run 'direct, COUNT(*) WHERE a < 8' "$text" "$bw" direct "$schema" "$csv" 'SELECT COUNT(*) FROM m WHERE a < 8'
     if command -v mawk > /dev/null; then
@@ -64,7 +59,6 @@ for _ in 1 2 3 4 5; do
         # short calls run more often, since they take hundredths of a second
         for _ in 1 2 3 4; do
             run "$layout: dd" "$bytes" dd if="$file" of=/dev/null bs=64K status=none
-            run "$layout: read and judged in C" "$bytes" "$folder/table" "$file"
             run "$layout: COUNT(*)" "$bytes" "$bw" query "$file" 'SELECT COUNT(*) FROM m'
         done
         run "$layout: COUNT(*) WHERE a < 8" "$bytes" "$bw" query "$file" 'SELECT COUNT(*) FROM m WHERE a < 8'

@@ -1,36 +1,34 @@
-//! Benchmarks run by hand, one after another: `bench WORD ..`, where a word is
-//!
-//! - `lanes=CALLS`: the kernels over bytes, and building and validating segments, with this many
-//! calls;
-//! - `run`: runs of scan programs over segments, beside straight loops over the same kernels;
-//! - `totals`: SUM, MIN and MAX of selected rows, in both layouts;
-//! - `diagram`: a diagram that is filled;
-//! - `cert`: a certificate of a million product rows, read and checked;
-//! - `reader=FILE`: the records of a file, counted by the `csv` crate alone.
-//!
-//! Standard output has the results, which are the same in every run, and standard error the times.
-//! The scripts of `bench/` run it, beside plain C if there is the same in C.
+//! Counts the records of a CSV file by the `csv` crate alone: `bench FILE`. `bench/loads.sh` times it
+//! beside `bw load` of the same file.
 #![tactic(auto)]
 
-mod case;
-mod cert;
-mod diagram;
-mod failure;
-mod kernels;
-mod lanes;
-mod random;
-mod reader;
-mod run;
-mod total_ways;
-mod totals;
-mod ways;
-
-use failure::Failure;
-use std::env;
+use csv::{ByteRecord, ReaderBuilder};
+use std::alloc::{AllocError, AllocFailed, Global};
 use std::process::ExitCode;
+use std::{env, fs, io};
+use thiserror::Error;
+
+/// Why the records weren't counted.
+#[derive(Debug, Drop, Error)]
+enum Failure {
+    #[error("{0}")]
+    Device(#[from] io::Error),
+    #[error("{0}")]
+    Memory(#[from] AllocError),
+    #[error("the file isn't read as records")]
+    Records,
+    #[error("usage: bench FILE")]
+    Usage,
+}
+
+impl<T: Drop> From<AllocFailed<T>> for Failure {
+    fn from(error: AllocFailed<T>) -> Self {
+        Failure::Memory(error.into())
+    }
+}
 
 fn main(rt: HostRuntime) -> ExitCode {
-    match time_words(&rt) {
+    match print_count(&rt) {
         Ok(()) => ExitCode::SUCCESS,
         Err(failure) => {
             let _ = eprintln!(rt; "{failure}");
@@ -39,30 +37,31 @@ fn main(rt: HostRuntime) -> ExitCode {
     }
 }
 
-/// Runs the benchmarks that the arguments name, in their order.
-fn time_words(rt: &HostRuntime) -> Result<(), Failure> {
+/// Prints how many records the file has that the argument names.
+fn print_count(rt: &HostRuntime) -> Result<(), Failure> {
     let words: Vec<String> = env::args(rt)?.collect(rt.alloc())?;
-    for word in words.iter().skip(1) {
-        time_word(rt, word.as_str())?;
+    let Some(path) = words.get(1) else {
+        return Err(Failure::Usage);
+    };
+    let text = fs::read(rt, path.as_str())?;
+    match records_in(rt.alloc(), &text) {
+        Ok(count) => println!(rt; "{count}")?,
+        Err(_) => return Err(Failure::Records),
     }
     Ok(())
 }
 
-fn time_word(rt: &HostRuntime, word: &str) -> Result<(), Failure> {
-    match word.split_once('=') {
-        Some(("lanes", calls)) => lanes::time_calls(rt, calls),
-        Some(("reader", path)) => reader::count_records(rt, path),
-        Some(_) => Err(Failure::Word),
-        None => time_named(rt, word),
+/// Returns the number of records of a text.
+fn records_in(alloc: Global, text: &[u8]) -> Result<u64, csv::Error> {
+    let mut reader = ReaderBuilder::new()
+        .has_headers(false)
+        .flexible(true)
+        .from_reader(alloc, text);
+    let mut fields = ByteRecord::new(alloc);
+    for count in 0..u64::MAX {
+        if !reader.read_byte_record(&mut fields)? {
+            return Ok(count);
+        }
     }
-}
-
-fn time_named(rt: &HostRuntime, word: &str) -> Result<(), Failure> {
-    match word {
-        "run" => run::time_all(rt),
-        "totals" => totals::time_all(rt),
-        "diagram" => diagram::fill(rt),
-        "cert" => cert::measure(rt),
-        _ => Err(Failure::Word),
-    }
+    Ok(u64::MAX)
 }

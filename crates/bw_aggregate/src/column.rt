@@ -134,11 +134,9 @@ pub(crate) fn no_value_below<S: Segment>(
 fn code_of_value(lowest: i64, value: i128) -> Option<u64>
     ensures { IfSome result (λ code. (value ≡ lowest +ℤ pos code) × (code < 2 ^ 63)) }
 {
-    let code = value.checked_sub(i128::from(lowest))?;
-    if code < 0 || code >= 1 << 63 {
-        return None;
-    }
-    Some(code as u64)
+    let value = i64::try_from(value).ok()?;
+    let code = value.checked_sub(lowest)?;
+    u64::try_from(code).ok()
 }
 
 /// Returns the value of a code, if `lowest` is that of the code 0.

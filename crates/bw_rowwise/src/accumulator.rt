@@ -66,11 +66,8 @@ impl Accumulator {
         ensures total { (rows : List (List Value)) → self.old ≡ tally_of self.old.item rows
             → self.new ≡ tally_of self.old.item (rows ++ values_of row.now ∷ []) }
     {
-        *self = Accumulator {
-            item: self.item,
-            rows: self.rows + 1,
-            total: answer_with(self.item, self.total, row),
-        };
+        self.total = answer_with(self.item, self.total, row);
+        self.rows += 1;
     }
 
     /// Adds `count` rows, whatever their values, to a count of rows. Makes any other total such a
@@ -81,12 +78,8 @@ impl Accumulator {
             → self.old ≡ tally_of CountAll rows → self.new ≡ tally_of CountAll (rows ++ more) }
         ensures step { self.new ≡ count_rows self.old count }
     {
-        let rows = self.rows + count;
-        *self = Accumulator {
-            item: self.item,
-            rows,
-            total: Some(i128::from(rows)),
-        };
+        self.rows += count;
+        self.total = Some(i128::from(self.rows));
     }
 
     /// Adds `count` rows, whose total is known. There must be at most 2^24 rows in all, and the
@@ -102,11 +95,8 @@ impl Accumulator {
             → self.new ≡ tally_of self.old.item (rows ++ more) }
     {
         totals_join();
-        *self = Accumulator {
-            item: self.item,
-            rows: self.rows + count,
-            total: combine_totals(self.item, self.total, others),
-        };
+        self.total = combine_totals(self.item, self.total, others);
+        self.rows += count;
     }
 
     /// Returns the total of the rows so far.
