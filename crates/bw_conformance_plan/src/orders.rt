@@ -1,5 +1,5 @@
 //! Programs that take a condition's parts in another order than they are written in.
-use crate::rows::{Numbers, judged_in_order, rows_of};
+use crate::rows::{Numbers, cost_in_order, rows_of};
 use bw_model::{Row, Schema, code};
 use std::process::Abort;
 use std::test::Fail;
@@ -51,8 +51,8 @@ fn parts_in_another_order_select_the_same_rows(rt: HostRuntime) -> Result<(), Fa
     let schema = Schema::parse(rt.alloc(), TABLE.as_bytes())?;
     let rows = rows(&rt, &schema)?;
     for (text, order) in ORDERS {
-        let written = judged_in_order(&rt, rt.alloc(), &schema, text, text, &rows)?;
-        let other = judged_in_order(&rt, rt.alloc(), &schema, text, order, &rows)?;
+        let written = cost_in_order(&rt, rt.alloc(), &schema, text, text, &rows)?;
+        let other = cost_in_order(&rt, rt.alloc(), &schema, text, order, &rows)?;
         let (Ok(written), Ok(other)) = (written, other) else {
             panic!(rt; "{text}: no program");
         };
@@ -68,8 +68,8 @@ fn a_selective_part_that_comes_first_saves_loads(rt: HostRuntime) -> Result<(), 
     let rows = rows(&rt, &schema)?;
     let text = "x < 900000 AND z < 999 AND y = 12345";
     let order = "y = 12345 AND x < 900000 AND z < 999";
-    let written = judged_in_order(&rt, rt.alloc(), &schema, text, text, &rows)?;
-    let other = judged_in_order(&rt, rt.alloc(), &schema, text, order, &rows)?;
+    let written = cost_in_order(&rt, rt.alloc(), &schema, text, text, &rows)?;
+    let other = cost_in_order(&rt, rt.alloc(), &schema, text, order, &rows)?;
     let (Ok(written), Ok(other)) = (written, other) else {
         panic!(rt; "{text}: no program");
     };
@@ -87,7 +87,7 @@ fn parts_of_another_condition_have_no_program(rt: HostRuntime) -> Result<(), Fai
         ("a < 8 AND x = 7", "x = 7"),
         ("a < 8 AND x = 7", "a < 8 OR x = 7"),
     ] {
-        match judged_in_order(&rt, rt.alloc(), &schema, text, order, &rows)? {
+        match cost_in_order(&rt, rt.alloc(), &schema, text, order, &rows)? {
             Ok(_) => panic!(rt; "{text} by {order}: a program"),
             Err(fault) => assert_eq!(rt; fault.code, code::NO_PROGRAM, "{order}"),
         }

@@ -193,11 +193,11 @@ pub(crate) fn cost_of_rows(
     text: &str,
     rows: &[Row],
 ) -> Result<Result<Cost, Fault>, Fail> {
-    judged_in_order(rt, alloc, schema, text, text, rows)
+    cost_in_order(rt, alloc, schema, text, text, rows)
 }
 
 /// Returns the same of a condition whose parts are taken in the order of another text.
-pub(crate) fn judged_in_order(
+pub(crate) fn cost_in_order(
     rt: &impl Abort,
     alloc: Global,
     schema: &Schema,

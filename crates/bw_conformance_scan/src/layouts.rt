@@ -10,7 +10,9 @@ use std::process::Abort;
 use std::test::Fail;
 
 /// Returns the segment of the worked table.
-fn worked<L: CodeLayout>(rt: &(impl Abort + AllocGlobal)) -> Result<PackedSegment<L>, Fail> {
+fn worked_segment<L: CodeLayout>(
+    rt: &(impl Abort + AllocGlobal),
+) -> Result<PackedSegment<L>, Fail> {
     let schema = Schema::parse(rt.alloc(), SCHEMA)?;
     segment_of(rt, &schema, &TABLE)
 }
@@ -63,7 +65,7 @@ fn assert_bytes<L: CodeLayout>(
     let mut bytes = Vec::new(rt.alloc());
     bytes.resize(len, 0)?;
     put(rt, &mut bytes, nonzero);
-    assert_eq!(rt; worked::<L>(rt)?.bytes(), bytes.as_slice());
+    assert_eq!(rt; worked_segment::<L>(rt)?.bytes(), bytes.as_slice());
     Ok(())
 }
 
@@ -75,7 +77,7 @@ fn bytes_stand_in_order(rt: HostRuntime) -> Result<(), Fail> {
 
 /// Ends the test unless the segment answers as the table does.
 fn assert_answers<L: CodeLayout>(rt: &(impl Abort + AllocGlobal)) -> Result<(), Fail> {
-    let segment = worked::<L>(rt)?;
+    let segment = worked_segment::<L>(rt)?;
     assert_eq!(rt; segment.rows_in(), 5);
     assert_eq!(rt; segment.schema().columns.len(), 2);
     assert_eq!(rt; segment.value(0, 4), Some(8));
@@ -135,7 +137,7 @@ fn assert_faults<L: CodeLayout>(
     rt: &(impl Abort + AllocGlobal),
     changes: &[Change],
 ) -> Result<(), Fail> {
-    let segment = worked::<L>(rt)?;
+    let segment = worked_segment::<L>(rt)?;
     let placement: &Placement = &segment.placement;
     let bytes = segment.bytes();
     assert_eq!(rt; PackedSegment::<L>::segment_size(placement), bytes.len());
@@ -166,7 +168,7 @@ fn blocks_are_judged(rt: HostRuntime) -> Result<(), Fail> {
 /// Ends the test unless the appended bytes are those of the segment.
 fn assert_appended<L: CodeLayout>(rt: &(impl Abort + AllocGlobal)) -> Result<(), Fail> {
     let alloc = rt.alloc();
-    let segment = worked::<L>(rt)?;
+    let segment = worked_segment::<L>(rt)?;
     let rows = rows_of(alloc, &TABLE)?;
     let placement = Placement::of::<L>(alloc, segment.schema())?;
     assert!(rt; is_group(&placement.schema, &rows));
