@@ -16,9 +16,9 @@ pub fn direct<S: Source, C: Source, K: Sink>(
     sql: &str,
     out: &mut K,
 ) -> Result<(), Fault>
-    requires schema { S.failures schema.old < 2 ^ 64 - 1 }
-    requires csv { C.failures csv.old < 2 ^ 64 - 1 }
-    requires out { K.failures out.old < 2 ^ 64 - 1 }
+    requires schema { (S.state schema.old).failures < 2 ^ 64 - 1 }
+    requires csv { (C.state csv.old).failures < 2 ^ 64 - 1 }
+    requires out { (K.state out.old).failures < 2 ^ 64 - 1 }
 {
     bw_shell::direct(alloc, schema, csv, sql.as_bytes(), out)
 }
@@ -29,8 +29,8 @@ pub fn infer<C: Source, K: Sink>(
     csv: &mut C,
     out: &mut K,
 ) -> Result<(), Fault>
-    requires csv { C.failures csv.old < 2 ^ 64 - 1 }
-    requires out { K.failures out.old < 2 ^ 64 - 1 }
+    requires csv { (C.state csv.old).failures < 2 ^ 64 - 1 }
+    requires out { (K.state out.old).failures < 2 ^ 64 - 1 }
 {
     bw_shell::infer(alloc, name.as_bytes(), csv, out)
 }
@@ -42,9 +42,9 @@ pub fn load<S: Source, C: Source, K: Sink>(
     layout: Layout,
     out: &mut K,
 ) -> Result<(), Fault>
-    requires schema { S.failures schema.old < 2 ^ 64 - 1 }
-    requires csv { C.failures csv.old < 2 ^ 64 - 1 }
-    requires out { K.failures out.old < 2 ^ 64 - 1 }
+    requires schema { (S.state schema.old).failures < 2 ^ 64 - 1 }
+    requires csv { (C.state csv.old).failures < 2 ^ 64 - 1 }
+    requires out { (K.state out.old).failures < 2 ^ 64 - 1 }
 {
     bw_shell::load(alloc, schema, csv, layout, out)
 }
@@ -56,14 +56,14 @@ pub fn answer<S: Source, K: Sink>(
     program: Option<&[u8]>,
     out: &mut K,
 ) -> Result<Served, Fault>
-    requires table { S.failures table.old < 2 ^ 64 - 1 }
-    requires out { K.failures out.old < 2 ^ 64 - 1 }
+    requires table { (S.state table.old).failures < 2 ^ 64 - 1 }
+    requires out { (K.state out.old).failures < 2 ^ 64 - 1 }
 {
     bw_shell::answer(alloc, table, sql.as_bytes(), program, out)
 }
 
 pub fn read_table<S: Source>(alloc: Global, table: &mut S) -> Result<MemoryTable, Fault>
-    requires { S.failures table.old < 2 ^ 64 - 1 }
+    requires { (S.state table.old).failures < 2 ^ 64 - 1 }
 {
     MemoryTable::read(alloc, table)
 }
@@ -77,28 +77,28 @@ pub fn answer_all<S: Source, K: Sink, L: Listener>(
     listener: &mut L,
 ) -> Result<Option<Fault>, Fault>
     requires serves { Serves (schema_of table.now).columns.items programs.old }
-    requires statements { S.failures statements.old < 2 ^ 64 - 1 }
-    requires out { K.failures out.old < 2 ^ 64 - 1 }
+    requires statements { (S.state statements.old).failures < 2 ^ 64 - 1 }
+    requires out { (K.state out.old).failures < 2 ^ 64 - 1 }
 {
     bw_shell::answer_statements(alloc, table, programs, statements, out, listener)
 }
 
 pub fn info<S: Source, K: Sink>(alloc: Global, table: &mut S, out: &mut K) -> Result<(), Fault>
-    requires table { S.failures table.old < 2 ^ 64 - 1 }
-    requires out { K.failures out.old < 2 ^ 64 - 1 }
+    requires table { (S.state table.old).failures < 2 ^ 64 - 1 }
+    requires out { (K.state out.old).failures < 2 ^ 64 - 1 }
 {
     bw_shell::info(alloc, table, out)
 }
 
 pub fn dump<S: Source, K: Sink>(alloc: Global, table: &mut S, out: &mut K) -> Result<(), Fault>
-    requires table { S.failures table.old < 2 ^ 64 - 1 }
-    requires out { K.failures out.old < 2 ^ 64 - 1 }
+    requires table { (S.state table.old).failures < 2 ^ 64 - 1 }
+    requires out { (K.state out.old).failures < 2 ^ 64 - 1 }
 {
     bw_shell::dump(alloc, table, out)
 }
 
 pub fn plan<K: Sink>(alloc: Global, schema: &[u8], sql: &str, out: &mut K) -> Result<(), Fault>
-    requires { K.failures out.old < 2 ^ 64 - 1 }
+    requires { (K.state out.old).failures < 2 ^ 64 - 1 }
 {
     bw_shell::plan_text(alloc, schema, sql.as_bytes(), out)
 }

@@ -1,5 +1,6 @@
 //! A file that is created by the first write.
 ghost use Rattle.std.specs.Prelude.{◌≡◌, None};
+ghost use Rattle.bw_io.specs.Sink.{sink_state};
 
 use bw_file::{Failed, Sink};
 use std::fs::{self, File};
@@ -48,9 +49,7 @@ pub fn is_same_file(rt: &HostRuntime, one: &str, other: &str) -> bool {
 }
 
 impl Sink for OutFile<'_> {
-    ghost taken = { λ _. None };
-
-    ghost failures = { λ out. out.failures };
+    ghost state = { λ out. sink_state None out.failures };
 
     fn write(&mut self, bytes: &[u8]) -> Result<usize, Failed> {
         if self.file.is_none() {

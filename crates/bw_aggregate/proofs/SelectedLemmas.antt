@@ -41,12 +41,6 @@ none_selected rows (row ∷ more) e = absurd (omega (arith, e))
 pub small_for_more : (count : ℕ) (others : Option ℤ) → 1 ≤ count → IsTotalOfRows 1 others → IsTotalOfRows count others
 small_for_more count others some small x is = let s = small x is in (omega (arith, ints, some), omega (arith, ints, some))
 
--- what joins a total as others do joins it so in a tally of this total
-pub joined_alike : (tally : Tally) (item : Item) (answer others : Option ℤ) (rows : List (List Value)) → item ≡ tally.item → answer ≡ tally.answer
-    → combine_totals item answer others ≡ combine_totals item answer (total item rows) → combine_totals tally.item tally.answer others ≡ combine_totals tally.item tally.answer (total tally.item rows)
-joined_alike tally item answer others rows same told is =
-    subst (λ a. combine_totals tally.item a others ≡ combine_totals tally.item a (total tally.item rows)) told (subst (λ i. combine_totals i answer others ≡ combine_totals i answer (total i rows)) same is)
-
 -- a tally with what was selected
 pub joined_selected : (tally : Tally) (rows : List (List Value)) (number : ℕ) (others : Option ℤ) → number ≡ length rows → 1 ≤ number
     → combine_totals tally.item tally.answer others ≡ combine_totals tally.item tally.answer (total tally.item rows) → tally_joined tally number others ≡ with_selected tally rows

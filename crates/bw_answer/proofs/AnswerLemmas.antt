@@ -16,9 +16,8 @@ use Rattle.bw_answer.specs.Answer.{record_text, value_text, totals_record}
 use Rattle.bw_answer.specs.Aggregates.{aggregates_of, answer_for, each_once}
 use Rattle.bw_answer.specs.TextAndTotals.{text_over}
 use Rattle.bw_answer.proofs.AggregateLemmas.{answers_for}
-use Rattle.bw_answer.proofs.Rows.{listed_more}
+use Rattle.bw_answer.proofs.Rows.{listed_more, one_record}
 use Rattle.bw_model.proofs.BitsLemmas.{both}
-use Rattle.bw_answer.proofs.Rows.{one_record}
 
 -- the heading's record and then those of the rows
 pub meaning_with_rows : (names : List (List ℕ)) (query : Query) (rows : List (List Value)) → lists_rows query.items.items ≡ true

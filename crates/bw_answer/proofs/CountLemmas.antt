@@ -2,7 +2,7 @@
 use Rattle.std.proofs.Common.{◌≡◌, ℕ, ◌+◌, ◌≤◌, List, [], ◌∷◌, true, false}
 use Rattle.std.proofs.Common.{map, length, refl, ap, arith, nat_le}
 use Rattle.std.specs.List.{list_all}
-use Rattle.std.proofs.lemmas.Bool.{leb-true, le-leb}
+use Rattle.std.proofs.lemmas.Bool.{leb-true, le-leb, and_from}
 use Rattle.bw_model.specs.declared.cond.Cond.{Cond}
 use Rattle.bw_model.specs.declared.query.Item.{Item}
 use Rattle.bw_model.specs.declared.query.Item.TheVariants.{Plain, CountAll}
@@ -14,7 +14,6 @@ use Rattle.bw_rowwise.specs.Accumulator.{Tally, tally_of, count_rows}
 use Rattle.bw_answer.specs.Answer.{is_count_all, lists_rows}
 use Rattle.bw_answer.specs.Totals.{is_of}
 use Rattle.bw_model.proofs.BitsLemmas.{both}
-use Rattle.std.proofs.lemmas.Bool.{and_from}
 
 -- if a condition matches every row, all match
 pub every_kept : (cond : Cond) (rows : List (List Value)) → ((row : List Value) → is_match cond row ≡ true) → matching_rows cond rows ≡ rows

@@ -4,7 +4,7 @@ use Rattle.std.proofs.Common.{not, List, [], ◌∷◌, ◌++◌, map, length, r
 use Rattle.std.proofs.Common.{length-append, cond, arith, nat_le, Result, Ok, Err}
 use Rattle.std.specs.Prelude.{OnOk}
 use Rattle.std.specs.List.{list_all}
-use Rattle.std.proofs.lemmas.Bool.{leb-true, le-leb}
+use Rattle.std.proofs.lemmas.Bool.{leb-true, le-leb, and_from}
 use Rattle.std.proofs.lemmas.List.Sums.{count_by-le-length, length-filter}
 use Rattle.bw_model.specs.declared.cond.Cond.{Cond}
 use Rattle.bw_model.specs.declared.query.Item.{Item}
@@ -20,7 +20,6 @@ use Rattle.bw_model.specs.declared.cond.Truth.TheVariants.{Yes}
 use Rattle.bw_aggregate.specs.Selected.{with_selected}
 use Rattle.bw_answer.specs.Totals.{is_of}
 use Rattle.bw_model.proofs.BitsLemmas.{both}
-use Rattle.std.proofs.lemmas.Bool.{and_from}
 
 -- the lanes of a selection, and zeros, pick what is kept
 zeros_pick_none : (n : ℕ) (rows : List (List Value)) → selected_items (replicate n false) rows ≡ []

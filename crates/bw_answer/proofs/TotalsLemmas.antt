@@ -13,9 +13,8 @@ use Rattle.bw_model.specs.Selection.{matching_rows}
 use Rattle.bw_answer.specs.Totals.{is_of, has_room}
 use Rattle.std.proofs.lemmas.List.{append-nil, drop_all, get_or_default, take_all}
 use Rattle.std.proofs.lemmas.List.Elements.{filter-append}
-use Rattle.std.proofs.lemmas.Bool.{leb-true, ltb-true, le-leb, lt-ltb}
+use Rattle.std.proofs.lemmas.Bool.{leb-true, ltb-true, le-leb, lt-ltb, and_from}
 use Rattle.bw_model.proofs.BitsLemmas.{both}
-use Rattle.std.proofs.lemmas.Bool.{and_from}
 
 -- if the total is that of some rows, one more row makes it the total of those and that row
 abbrev pub AddsRow : List Value → Tally → Type 0

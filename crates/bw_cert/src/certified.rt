@@ -1,6 +1,6 @@
 //! Certified programs.
 ghost use Rattle.std.specs.Prelude.{◌≡◌, ◌+◌, ◌-◌, ◌≤◌, ◌++◌, true, false, IfOk, IfErr, List};
-ghost use Rattle.std.specs.Prelude.{length, replicate};
+ghost use Rattle.std.specs.Prelude.{length, replicate, IsTrue};
 ghost use Rattle.std.specs.List.{list_all};
 ghost use Rattle.bw_lanes.specs.Lanes.{lanes_of_words};
 ghost use Rattle.bw_model.specs.Column.{admits_values};
@@ -11,7 +11,6 @@ ghost use Rattle.bw_model.specs.Selection.{selection};
 ghost use Rattle.bw_run.specs.Run.{run_of};
 ghost use Rattle.bw_model.specs.CondTree.{tree_of};
 ghost use Rattle.bw_model.specs.Fault.{is_memory};
-ghost use Rattle.std.specs.Prelude.{IsTrue};
 ghost use Rattle.bw_program.specs.Program.{fits};
 ghost use Rattle.bw_cert.specs.Selects.{Selects, selection_by};
 

@@ -1,6 +1,5 @@
 //! Certificates in their canonical form.
-ghost use Rattle.std.specs.Prelude.{ℕ, List, IsTrue, ◌≡◌, ◌++◌, map, IfOk, OnOk};
-ghost use Rattle.std.specs.Prelude.{IsOkUnless};
+ghost use Rattle.std.specs.Prelude.{ℕ, List, IsTrue, ◌≡◌, ◌++◌, map, IfOk, OnOk, IsOkUnless};
 ghost use Rattle.std.specs.List.{list_all};
 ghost use Rattle.bw_model.specs.declared.column.Column.{Column};
 ghost use Rattle.bw_model.specs.Column.{names_of};
@@ -18,8 +17,7 @@ ghost use Rattle.bw_cert_text.specs.PrintText.{body_tokens, schema_spelling, res
 ghost use Rattle.bw_cert_text.specs.PrintText.{respell, print_text};
 ghost use Rattle.bw_text.specs.Printing.{piece_text, spaced_words};
 ghost use Rattle.bw_cert_text.specs.Token.{Token, Key, Number, Perhaps, one_key, two_key};
-ghost use Rattle.bw_cert_text.specs.Token.{node_tokens};
-ghost use Rattle.bw_cert_text.specs.Token.{chain_tokens, row_tokens, condition_tokens};
+ghost use Rattle.bw_cert_text.specs.Token.{node_tokens, chain_tokens, row_tokens, condition_tokens};
 ghost use Rattle.bw_cert_text.specs.Token.{instruction_tokens, edge_tokens, keep_tokens};
 ghost use Rattle.bw_cert_text.specs.Token.{entry_tokens};
 

@@ -1,5 +1,7 @@
 //! Sources and sinks that move few bytes at a time, fail at a given call, or never end.
 ghost use Rattle.std.specs.Prelude.{◌≡◌, None, []};
+ghost use Rattle.bw_io.specs.Sink.{sink_state};
+ghost use Rattle.bw_io.specs.Source.{source_state};
 
 use bw_io::{Failed, SharedBytes, Sink, Source};
 
@@ -45,9 +47,7 @@ impl<'a> Pieces<'a> {
 }
 
 impl Source for Pieces<'_> {
-    ghost to_come = { λ _. None };
-
-    ghost failures = { λ s. s.calls.failures };
+    ghost state = { λ s. source_state None s.calls.failures };
 
     ghost kept = { λ _. [] };
 
@@ -84,9 +84,7 @@ pub struct Endless<'a> {
 }
 
 impl Source for Endless<'_> {
-    ghost to_come = { λ _. None };
-
-    ghost failures = { λ _. 0 };
+    ghost state = { λ _. source_state None 0 };
 
     ghost kept = { λ _. [] };
 
@@ -122,9 +120,7 @@ pub struct Repeated<'a> {
 }
 
 impl Source for Repeated<'_> {
-    ghost to_come = { λ _. None };
-
-    ghost failures = { λ _. 0 };
+    ghost state = { λ _. source_state None 0 };
 
     ghost kept = { λ _. [] };
 
@@ -180,9 +176,7 @@ impl Taker {
 }
 
 impl Sink for Taker {
-    ghost taken = { λ _. None };
-
-    ghost failures = { λ s. s.calls.failures };
+    ghost state = { λ s. sink_state None s.calls.failures };
 
     fn write(&mut self, bytes: &[u8]) -> Result<usize, Failed> {
         self.calls.made = self.calls.made.saturating_add(1);

@@ -61,7 +61,7 @@ fn run_session<S: Source>(
     sink: &mut Taker,
     counter: &mut Counter,
 ) -> Result<Option<Fault>, Fault>
-    requires input { S.failures input.old < 2 ^ 64 - 1 }
+    requires input { (S.state input.old).failures < 2 ^ 64 - 1 }
     requires sink { sink.old.calls.failures < 2 ^ 64 - 1 }
 {
     let mut bytes = FromRead::new(file);
@@ -80,7 +80,7 @@ fn run_over<S: Source>(
     sink: &mut Taker,
     counter: &mut Counter,
 ) -> Result<Option<Fault>, Fault>
-    requires input { S.failures input.old < 2 ^ 64 - 1 }
+    requires input { (S.state input.old).failures < 2 ^ 64 - 1 }
     requires sink { sink.old.calls.failures < 2 ^ 64 - 1 }
 {
     match ProgramCache::new(alloc, table.schema(), files) {

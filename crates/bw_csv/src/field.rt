@@ -3,9 +3,8 @@ ghost use Rattle.std.specs.Prelude.{◌≡◌, ℕ, ◌<◌, ◌≤◌, length, 
 ghost use Rattle.bw_model.specs.Row.{Value};
 ghost use Rattle.bw_csv.specs.Rows.{is_blank, without_front_blanks, without_end_blanks};
 ghost use Rattle.bw_csv.specs.Rows.{without_blanks, is_null_text, is_minus, after_minus};
-ghost use Rattle.bw_csv.specs.Rows.{without_sign};
-ghost use Rattle.bw_csv.specs.Rows.{number_value, text_value, within_bounds, value_of_field};
-ghost use Rattle.bw_csv.specs.Rows.{MatchesUnlessExempt, IsRowsFault, located_at};
+ghost use Rattle.bw_csv.specs.Rows.{without_sign, number_value, text_value, within_bounds};
+ghost use Rattle.bw_csv.specs.Rows.{value_of_field, MatchesUnlessExempt, IsRowsFault, located_at};
 
 use bw_model::{Column, Fault, Value, code};
 use bw_text::{is_same_text, number_in};

@@ -16,13 +16,11 @@ use std::alloc::Global;
 /// Errors: 701 if a read fails; 208 if the text is longer, of which one byte more is read; 801 if
 /// memory is refused.
 pub fn read_csv<C: Source>(alloc: Global, source: &mut C) -> Result<Vec<u8>, Fault>
-    requires { C.failures source.old < 2 ^ 64 - 1 }
-    ensures answered { (came : Arrival)
-        × ReadOutcome longest_csv (C.to_come source.old) (C.to_come source.new)
-        (C.failures source.old) (C.failures source.new) came
-        × IsCsvResult came result }
-    ensures source { SourceEffect (longest_csv + 1) (C.to_come source.old) (C.to_come source.new)
-        (C.failures source.old) (C.failures source.new) result }
+    requires { (C.state source.old).failures < 2 ^ 64 - 1 }
+    ensures answered { (came : Arrival) × ReadOutcome longest_csv (C.state source.old)
+        (C.state source.new) came × IsCsvResult came result }
+    ensures source { SourceEffect (longest_csv + 1) (C.state source.old)
+        (C.state source.new) result }
     ensures fault { IfErr result (λ fault. is_write_fault fault ≡ false) }
     ensures not_reader { IfErr result (λ fault. is_reader_fault fault ≡ false) }
     ensures input { IfErr result (λ fault. IsTrue (is_csv_input_fault fault)) }

@@ -1,6 +1,6 @@
 -- Where a call that reads a schema and a CSV and writes a text ends: at the schema, at the CSV, at
 -- what is made of it, or when the text is written.
-use Rattle.std.proofs.Common.{◌≡◌, ℕ, List, true, false, ◌==◌, Option, Result, Ok, Err, refl, subst}
+use Rattle.std.proofs.Common.{◌≡◌, ℕ, List, true, false, ◌==◌, Result, Ok, Err, refl, subst}
 use Rattle.std.proofs.Common.{ap, eqb-true}
 use Rattle.bw_model.specs.declared.fault.Fault.{Fault}
 use Rattle.bw_model.specs.declared.fault.Place.{Place}
@@ -10,9 +10,10 @@ use Rattle.bw_model.specs.Fault.{no_memory, nowhere, is_memory}
 use Rattle.bw_model.proofs.BitsLemmas.{both}
 use Rattle.bw_csv.specs.Bare.{records_of}
 use Rattle.bw_csv.specs.Rows.{StopsUnder, is_exempt}
-use Rattle.bw_io.specs.Sink.{is_write_fault, GoesOut, WriteOutcome}
+use Rattle.bw_io.specs.Sink.{is_write_fault, GoesOut, SinkState, WriteOutcome}
 use Rattle.bw_io.proofs.SinkLemmas.{wrote_nothing, wrote_text}
 use Rattle.bw_io.specs.Source.{Arrival, NotReached, Whole, TooLong, Failed, ReadOutcome}
+use Rattle.bw_io.specs.Source.{SourceState}
 use Rattle.bw_csv_calls.specs.ReadInputs.{StopsInCsv, HasReadSchema, IsSchemaFrom}
 
 -- the text that is written, or an error
@@ -36,18 +37,18 @@ pub memory_is : (fault : Fault) → is_memory fault ≡ true → fault ≡ no_me
 memory_is fault is = memory_at fault.code fault.place is
 
 -- a source that gave its bytes has failed no more than one that found no memory
-pub none_understood : (limit : ℕ) (old new : Option (List ℕ)) (before after : ℕ) (came : Arrival) (schema : Schema)
-    → ReadOutcome limit old new before after came → IsSchemaFrom came (Ok schema) → ReadOutcome limit old new before after (Failed no_memory)
-none_understood limit old new before after NotReached schema came from = absurd from
-none_understood limit old new before after (Whole text) schema came from =
+pub none_understood : (limit : ℕ) (old new : SourceState) (came : Arrival) (schema : Schema)
+    → ReadOutcome limit old new came → IsSchemaFrom came (Ok schema) → ReadOutcome limit old new (Failed no_memory)
+none_understood limit old new NotReached schema came from = absurd from
+none_understood limit old new (Whole text) schema came from =
     let same : no_memory ≡ no_memory = refl in
     (same, came.1)
-none_understood limit old new before after _ schema came from = absurd (cc from)
+none_understood limit old new _ schema came from = absurd (cc from)
 
-pub not_reached : (limit : ℕ) (old : Option (List ℕ)) (count : ℕ) → ReadOutcome limit old old count count NotReached
-not_reached limit old count =
-    let same : old ≡ old = refl in
-    let kept : count ≡ count = refl in
+pub not_reached : (limit : ℕ) (old : SourceState) → ReadOutcome limit old old NotReached
+not_reached limit old =
+    let same : old.known ≡ old.known = refl in
+    let kept : old.failures ≡ old.failures = refl in
     (same, kept)
 
 -- the call was rejected, by the error that was to be
@@ -64,13 +65,13 @@ pub text_exit : (P Q : Arrival → Type 0) (Is : Arrival → Arrival → Given �
 text_exit P Q Is W came csv make bytes is p q told w = (came, Whole bytes, make bytes, p, subst Q told q, is, w)
 
 -- what was given was written, or an error was, and nothing went
-pub went_on : (P Q : Arrival → Type 0) (Is : Arrival → Arrival → Given → Type 0) (old new : Option (List ℕ)) (before after : ℕ) (text : List ℕ) (result : Result (Unit {0}) Fault)
-    → Ends P Q Is (λ given. given ≡ Ok text) → GoesOut old new before after text result → Ends P Q Is (λ given. WriteOutcome is_exempt old new before after given result)
-went_on P Q Is old new before after text result e goes = (e.0, e.1, e.2, e.3, e.4, e.5, wrote_text (Unit {0}) is_exempt old new before after text e.2 result e.6 goes)
+pub went_on : (P Q : Arrival → Type 0) (Is : Arrival → Arrival → Given → Type 0) (old new : SinkState) (text : List ℕ) (result : Result (Unit {0}) Fault)
+    → Ends P Q Is (λ given. given ≡ Ok text) → GoesOut old new text result → Ends P Q Is (λ given. WriteOutcome is_exempt old new given result)
+went_on P Q Is old new text result e goes = (e.0, e.1, e.2, e.3, e.4, e.5, wrote_text (Unit {0}) is_exempt old new text e.2 result e.6 goes)
 
-pub went_nowhere : (P Q : Arrival → Type 0) (Is : Arrival → Arrival → Given → Type 0) (old : Option (List ℕ)) (count : ℕ) (fault : Fault) → is_write_fault fault ≡ false
-    → Ends P Q Is (IsFaultOf fault) → Ends P Q Is (λ given. WriteOutcome {T = Unit {0}} is_exempt old old count count given (Err fault))
-went_nowhere P Q Is old count fault other e = (e.0, e.1, e.2, e.3, e.4, e.5, wrote_nothing (Unit {0}) is_exempt old count fault e.2 other e.6)
+pub went_nowhere : (P Q : Arrival → Type 0) (Is : Arrival → Arrival → Given → Type 0) (old : SinkState) (fault : Fault) → is_write_fault fault ≡ false
+    → Ends P Q Is (IsFaultOf fault) → Ends P Q Is (λ given. WriteOutcome {T = Unit {0}} is_exempt old old given (Err fault))
+went_nowhere P Q Is old fault other e = (e.0, e.1, e.2, e.3, e.4, e.5, wrote_nothing (Unit {0}) is_exempt old fault e.2 other e.6)
 
 -- a schema that was read came of a text that was read completely
 pub came_of : (came : Arrival → Type 0) (schema : Schema) → ((arrived : Arrival) × came arrived × IsSchemaFrom arrived (Ok schema)) → HasReadSchema came schema

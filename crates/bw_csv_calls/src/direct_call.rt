@@ -1,5 +1,5 @@
 //! The result of a query straight from a CSV text.
-ghost use Rattle.std.specs.Prelude.{◌≡◌, ◌+◌, ◌-◌, ◌^◌, ◌<◌, ◌≤◌, ℕ, List, Result, Ok, false, true};
+ghost use Rattle.std.specs.Prelude.{◌≡◌, ◌+◌, ◌-◌, ◌^◌, ◌<◌, ◌≤◌, ℕ, List, Result, Ok, true};
 ghost use Rattle.std.specs.Prelude.{length, vec_len, IfErr, IsTrue};
 ghost use Rattle.std.specs.List.{list_all};
 ghost use Rattle.bw_model.specs.declared.fault.Fault.{Fault};
@@ -40,48 +40,40 @@ pub fn direct<S: Source, C: Source, K: Sink>(
     sql: &[u8],
     sink: &mut K,
 ) -> Result<(), Fault>
-    requires schema { S.failures schema_source.old < 2 ^ 64 - 1 }
-    requires csv { C.failures csv_source.old < 2 ^ 64 - 1 }
-    requires sink { K.failures sink.old < 2 ^ 64 - 1 }
+    requires schema { (S.state schema_source.old).failures < 2 ^ 64 - 1 }
+    requires csv { (C.state csv_source.old).failures < 2 ^ 64 - 1 }
+    requires sink { (K.state sink.old).failures < 2 ^ 64 - 1 }
 
     // The bytes written are the text of the result, by what the sources yielded, or none if that is
     // an error. If memory runs out while the schema or the statement is read, the schema's source
     // counts as one that found no memory, and the CSV's as not reached.
     ensures answer { (schema csv : Arrival) × (given : Result (List ℕ) Fault)
-        × ReadOutcome longest_schema (S.to_come schema_source.old) (S.to_come schema_source.new)
-        (S.failures schema_source.old) (S.failures schema_source.new) schema
-        × ReadOutcome longest_csv (C.to_come csv_source.old) (C.to_come csv_source.new)
-        (C.failures csv_source.old) (C.failures csv_source.new) csv
+        × ReadOutcome longest_schema (S.state schema_source.old) (S.state schema_source.new) schema
+        × ReadOutcome longest_csv (C.state csv_source.old) (C.state csv_source.new) csv
         × IsAnswer schema sql.now csv given
-        × WriteOutcome is_exempt (K.taken sink.old) (K.taken sink.new) (K.failures sink.old)
-        (K.failures sink.new) given result }
+        × WriteOutcome is_exempt (K.state sink.old) (K.state sink.new) given result }
 
     // If the CSV's reader has an error of its own, the schema and the statement were accepted, the
     // CSV was read completely, and the error is at the heading, or at the record after those that
     // have rows.
     ensures reader { IfErr result (λ fault. is_reader_fault fault ≡ true → (schema : Schema)
-        × (query : Query)
-        × HasReadSchema (ReadOutcome longest_schema (S.to_come schema_source.old)
-        (S.to_come schema_source.new)
-        (S.failures schema_source.old) (S.failures schema_source.new)) schema
-        × IsReadAs schema sql.now (Ok query)
-        × StopsInCsv (ReadOutcome longest_csv (C.to_come csv_source.old) (C.to_come csv_source.new)
-        (C.failures csv_source.old) (C.failures csv_source.new)) schema fault) }
+        × (query : Query) × HasReadSchema (ReadOutcome longest_schema (S.state schema_source.old)
+        (S.state schema_source.new)) schema × IsReadAs schema sql.now (Ok query)
+        × StopsInCsv (ReadOutcome longest_csv (C.state csv_source.old) (C.state csv_source.new))
+        schema fault) }
 
     // Of a source at most one byte past its limit is read. The call fails by a failed read if and
     // only if the count of one source rose.
-    ensures schema { TookAtMost (longest_schema + 1) (S.to_come schema_source.old)
-        (S.to_come schema_source.new) }
-    ensures csv { TookAtMost (longest_csv + 1) (C.to_come csv_source.old)
-        (C.to_come csv_source.new) }
-    ensures failed { TellsFailureOfEither (S.failures schema_source.old)
-        (S.failures schema_source.new)
-        (C.failures csv_source.old) (C.failures csv_source.new) result }
+    ensures schema { TookAtMost (longest_schema + 1) (S.state schema_source.old)
+        (S.state schema_source.new) }
+    ensures csv { TookAtMost (longest_csv + 1) (C.state csv_source.old) (C.state csv_source.new) }
+    ensures failed { TellsFailureOfEither (S.state schema_source.old) (S.state schema_source.new)
+        (C.state csv_source.old) (C.state csv_source.new) result }
 
     // If the schema's source failed, or the schema or the statement is rejected, the CSV's source
     // is as it was.
-    ensures unread { S.failures schema_source.old < S.failures schema_source.new → csv_source.new
-        ≡ csv_source.old }
+    ensures unread { (S.state schema_source.old).failures < (S.state schema_source.new).failures
+        → csv_source.new ≡ csv_source.old }
     ensures unneeded { IfErr result (λ fault. IsTrue (is_before_csv fault) → csv_source.new
         ≡ csv_source.old) }
 {

@@ -13,13 +13,11 @@ use std::alloc::Global;
 /// Reads the schema of a schema text. Errors: the source's (701), and then the text's (106, 101 to
 /// 105); 801 if memory is refused.
 pub(crate) fn read_schema<S: Source>(alloc: Global, source: &mut S) -> Result<Schema, Fault>
-    requires { S.failures source.old < 2 ^ 64 - 1 }
-    ensures answered { (came : Arrival)
-        × ReadOutcome longest_schema (S.to_come source.old) (S.to_come source.new)
-        (S.failures source.old) (S.failures source.new) came
-        × IsSchemaFrom came result }
-    ensures source { SourceEffect (longest_schema + 1) (S.to_come source.old) (S.to_come source.new)
-        (S.failures source.old) (S.failures source.new) result }
+    requires { (S.state source.old).failures < 2 ^ 64 - 1 }
+    ensures answered { (came : Arrival) × ReadOutcome longest_schema (S.state source.old)
+        (S.state source.new) came × IsSchemaFrom came result }
+    ensures source { SourceEffect (longest_schema + 1) (S.state source.old)
+        (S.state source.new) result }
     ensures fault { IfErr result (λ fault. is_write_fault fault ≡ false) }
     ensures not_reader { IfErr result (λ fault. is_reader_fault fault ≡ false) }
 {

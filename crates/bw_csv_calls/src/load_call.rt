@@ -1,6 +1,5 @@
 //! A table file written from a CSV text.
-ghost use Rattle.std.specs.Prelude.{◌≡◌, ◌+◌, ◌-◌, ◌^◌, ◌<◌, ℕ, List, Result, false, true, IfErr};
-ghost use Rattle.std.specs.Prelude.{IsTrue};
+ghost use Rattle.std.specs.Prelude.{◌≡◌, ◌+◌, ◌-◌, ◌^◌, ◌<◌, ℕ, List, Result, true, IfErr, IsTrue};
 ghost use Rattle.bw_model.specs.declared.fault.Fault.{Fault};
 ghost use Rattle.bw_model.specs.declared.schema.Schema.{Schema};
 ghost use Rattle.bw_model.specs.Limits.{longest_schema, longest_csv};
@@ -33,44 +32,37 @@ pub fn load<S: Source, C: Source, K: Sink>(
     layout: Layout,
     sink: &mut K,
 ) -> Result<(), Fault>
-    requires schema { S.failures schema_source.old < 2 ^ 64 - 1 }
-    requires csv { C.failures csv_source.old < 2 ^ 64 - 1 }
-    requires sink { K.failures sink.old < 2 ^ 64 - 1 }
+    requires schema { (S.state schema_source.old).failures < 2 ^ 64 - 1 }
+    requires csv { (C.state csv_source.old).failures < 2 ^ 64 - 1 }
+    requires sink { (K.state sink.old).failures < 2 ^ 64 - 1 }
 
     // The bytes written are the table file, by what the sources yielded, or none if that is an
     // error. If memory runs out while the schema is read, its source counts as one that found no
     // memory, and the CSV's as not reached.
     ensures file { (schema csv : Arrival) × (given : Result (List ℕ) Fault)
-        × ReadOutcome longest_schema (S.to_come schema_source.old) (S.to_come schema_source.new)
-        (S.failures schema_source.old) (S.failures schema_source.new) schema
-        × ReadOutcome longest_csv (C.to_come csv_source.old) (C.to_come csv_source.new)
-        (C.failures csv_source.old) (C.failures csv_source.new) csv
+        × ReadOutcome longest_schema (S.state schema_source.old) (S.state schema_source.new) schema
+        × ReadOutcome longest_csv (C.state csv_source.old) (C.state csv_source.new) csv
         × IsFile layout schema csv given
-        × WriteOutcome is_exempt (K.taken sink.old) (K.taken sink.new) (K.failures sink.old)
-        (K.failures sink.new) given result }
+        × WriteOutcome is_exempt (K.state sink.old) (K.state sink.new) given result }
 
     // If the CSV's reader has an error of its own, the schema was accepted, the CSV was read
     // completely, and the error is at the heading, or at the record after those that have rows.
     ensures reader { IfErr result (λ fault. is_reader_fault fault ≡ true → (schema : Schema)
-        × HasReadSchema (ReadOutcome longest_schema (S.to_come schema_source.old)
-        (S.to_come schema_source.new)
-        (S.failures schema_source.old) (S.failures schema_source.new)) schema
-        × StopsInCsv (ReadOutcome longest_csv (C.to_come csv_source.old) (C.to_come csv_source.new)
-        (C.failures csv_source.old) (C.failures csv_source.new)) schema fault) }
+        × HasReadSchema (ReadOutcome longest_schema (S.state schema_source.old)
+        (S.state schema_source.new)) schema × StopsInCsv
+        (ReadOutcome longest_csv (C.state csv_source.old) (C.state csv_source.new)) schema fault) }
 
     // Of a source at most one byte past its limit is read. The call fails by a failed read if and
     // only if the count of one source rose.
-    ensures schema { TookAtMost (longest_schema + 1) (S.to_come schema_source.old)
-        (S.to_come schema_source.new) }
-    ensures csv { TookAtMost (longest_csv + 1) (C.to_come csv_source.old)
-        (C.to_come csv_source.new) }
-    ensures failed { TellsFailureOfEither (S.failures schema_source.old)
-        (S.failures schema_source.new)
-        (C.failures csv_source.old) (C.failures csv_source.new) result }
+    ensures schema { TookAtMost (longest_schema + 1) (S.state schema_source.old)
+        (S.state schema_source.new) }
+    ensures csv { TookAtMost (longest_csv + 1) (C.state csv_source.old) (C.state csv_source.new) }
+    ensures failed { TellsFailureOfEither (S.state schema_source.old) (S.state schema_source.new)
+        (C.state csv_source.old) (C.state csv_source.new) result }
 
     // If the schema's source failed, or the schema is rejected, the CSV's source is as it was.
-    ensures unread { S.failures schema_source.old < S.failures schema_source.new → csv_source.new
-        ≡ csv_source.old }
+    ensures unread { (S.state schema_source.old).failures < (S.state schema_source.new).failures
+        → csv_source.new ≡ csv_source.old }
     ensures unneeded { IfErr result (λ fault. IsTrue (is_before_csv fault) → csv_source.new
         ≡ csv_source.old) }
 {

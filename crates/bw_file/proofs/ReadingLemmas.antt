@@ -11,9 +11,9 @@ use Rattle.std.specs.Io.KnownBytes.{IsAtEnd}
 use Rattle.std.proofs.KnownBytes.{Consumes-trans}
 use Rattle.bw_model.specs.declared.fault.Fault.{Fault}
 use Rattle.bw_model.specs.Fault.{at_byte, no_memory, nowhere}
-use Rattle.bw_io.specs.Source.{is_read_fault}
+use Rattle.bw_io.specs.Source.{is_read_fault, source_state}
 use Rattle.bw_file.specs.Reading.{AreBytes, Tail, tail, Reading, and_then, at_offset, ◌>>=◌, give}
-use Rattle.bw_file.specs.Reading.{field, parsed_at, read_field, State, state, HasConsumed, GoesOn}
+use Rattle.bw_file.specs.Reading.{field, parsed_at, read_field, State, state_at, HasConsumed, GoesOn}
 use Rattle.bw_file.specs.Reading.{NeedsEach, NeedsMore, HasFault, Fails, Reads}
 
 -- the bytes of a buffer are bytes, and so are those in front, and those of several buffers
@@ -33,7 +33,7 @@ both_bytes [] ys p q = q
 both_bytes (x ∷ xs) ys p q = one_byte_more x (xs ++ ys) (p 0) (both_bytes xs ys (λ k. p (suc k)) q)
 
 -- nothing was taken
-pub took_nothing : (known : Option (List ℕ)) (offset failures : ℕ) → HasConsumed (state known offset failures) (state known offset failures) []
+pub took_nothing : (known : Option (List ℕ)) (offset failures : ℕ) → HasConsumed (state_at (source_state known failures) offset) (state_at (source_state known failures) offset) []
 took_nothing None offset failures = record { consumed = tt; advanced = sym (omega arith); each = no_bytes }
 took_nothing (Some bytes) offset failures = record { consumed = refl; advanced = omega arith; each = no_bytes }
 
@@ -194,9 +194,9 @@ nothing_comes None ended = tt
 nothing_comes (Some bytes) ended = ended
 
 -- the source ended before a field was whole
-pub field_ended : (size : ℕ) (old : State) (known : Option (List ℕ)) (offset failures : ℕ) (bytes : List ℕ) → HasConsumed old (state known offset failures) bytes
+pub field_ended : (size : ℕ) (old : State) (known : Option (List ℕ)) (offset failures : ℕ) (bytes : List ℕ) → HasConsumed old (state_at (source_state known failures) offset) bytes
     → failures ≡ old.failures → length bytes < size → IsAtEnd known
-    → Fails (field size) old (state known offset failures) (at_byte 305 offset)
+    → Fails (field size) old (state_at (source_state known failures) offset) (at_byte 305 offset)
 unfolding field
 field_ended size old known offset failures bytes took same short ended = record {
   bytes = bytes;
@@ -207,7 +207,7 @@ field_ended size old known offset failures bytes took same short ended = record 
   refused = λ _.
       let few : nat_lt (length (bytes ++ [])) size ≡ true = lt-ltb _ _ (omega (arith, length-append {A = ℕ} bytes [])) in
       let e : old.offset + length (bytes ++ []) ≡ offset = omega (arith, took.advanced, length-append {A = ℕ} bytes []) in
-      let found : HasFault (field size) old (state known offset failures) bytes (at_byte 305 offset) = record {
+      let found : HasFault (field size) old (state_at (source_state known failures) offset) bytes (at_byte 305 offset) = record {
         rest = [];
         coming = nothing_comes known ended;
         gives = rw (few, e) refl;

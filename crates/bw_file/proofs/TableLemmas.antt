@@ -19,8 +19,8 @@ use Rattle.bw_model.specs.declared.fault.Fault.{Fault}
 use Rattle.bw_model.specs.Fault.{is_memory}
 use Rattle.bw_model.specs.SchemaText.{schema_shape}
 use Rattle.bw_file.specs.declared.table_reader.TableReader.{TableReader}
-use Rattle.bw_io.specs.Source.{is_read_fault}
-use Rattle.bw_file.specs.Reading.{State, state}
+use Rattle.bw_io.specs.Source.{is_read_fault, source_state}
+use Rattle.bw_file.specs.Reading.{State, state_at}
 use Rattle.bw_file.specs.TableReader.{AnswersFault, ReadWhole, found_so_far}
 use Rattle.bw_file.specs.TableReading.{Found, IsReadAs}
 use Rattle.bw_file.specs.FileBytes.{file_bytes}
@@ -59,14 +59,14 @@ no_read_failed true e = absurd (omega (arith, e))
 no_read_failed false e = refl
 
 pub fault_seen : (bytes last : List ℕ) (before : State) (offset : ℕ) (fault : Fault) → before.failures ≡ 0
-    → AnswersFault (state (Some bytes) 0 0) before (state (Some last) offset 0) fault → is_memory fault ≡ false → IsReadAs bytes (Err fault)
+    → AnswersFault (state_at (source_state (Some bytes) 0) 0) before (state_at (source_state (Some last) 0) offset) fault → is_memory fault ≡ false → IsReadAs bytes (Err fault)
 fault_seen bytes last before offset fault none p kept =
     let own : is_read_fault fault ≡ false = no_read_failed (is_read_fault fault) (rw none at p.failures) in
     let has = p.first (rw (kept, own) refl) in
     let all : bytes ≡ p.bytes ++ has.rest = p.took.consumed ∙ ap (λ (more : List ℕ). p.bytes ++ more) has.coming in
     rw all has.read
 
-pub whole_seen : (bytes last : List ℕ) (offset : ℕ) (found : Found) → ReadWhole (state (Some bytes) 0 0) (state (Some last) offset 0) found → IsReadAs bytes (Ok found)
+pub whole_seen : (bytes last : List ℕ) (offset : ℕ) (found : Found) → ReadWhole (state_at (source_state (Some bytes) 0) 0) (state_at (source_state (Some last) 0) offset) found → IsReadAs bytes (Ok found)
 whole_seen bytes last offset found p =
     let all : bytes ≡ p.bytes = p.took.consumed ∙ ap (λ (more : List ℕ). p.bytes ++ more) p.ended ∙ append-nil p.bytes in
     rw all p.read

@@ -5,7 +5,7 @@ use Rattle.std.specs.Io.KnownBytes.{Consumes}
 use Rattle.bw_model.specs.FaultTable.{TRUNCATED, BYTES_AFTER_END}
 use Rattle.bw_model.specs.declared.fault.Fault.{Fault}
 use Rattle.bw_model.specs.Fault.{at_byte, refused_if}
-use Rattle.bw_io.specs.Source.{is_read_fault, is_input_fault, failed_reads}
+use Rattle.bw_io.specs.Source.{SourceState, is_read_fault, is_input_fault, failed_reads}
 
 -- the bytes of a file, from this place on
 pub record Tail : Type 0 where
@@ -59,8 +59,9 @@ pub record State : Type 0 where
   pub offset : ℕ
   pub failures : ℕ
 
-abbrev pub state : Option (List ℕ) → ℕ → ℕ → State
-state known offset failures = record { known = known; offset = offset; failures = failures }
+abbrev pub state_at : SourceState → ℕ → State
+state_at source offset =
+    record { known = source.known; offset = offset; failures = source.failures }
 
 -- each number is a byte
 abbrev pub AreBytes : List ℕ → Type 0

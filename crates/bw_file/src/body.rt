@@ -8,7 +8,7 @@ ghost use Rattle.bw_file.specs.AnySegment.{any_layout, any_meaning};
 ghost use Rattle.bw_file.specs.Blocks.{block_size, block_fault, block_from, bytes_before};
 ghost use Rattle.bw_file.specs.Blocks.{segment_size, IsPlaced, IsSound};
 ghost use Rattle.bw_file.specs.SegmentBytes.{bytes_held, AreNext};
-ghost use Rattle.bw_file.specs.Reading.{Reads, HasByteMore, HasConsumed, state};
+ghost use Rattle.bw_file.specs.Reading.{Reads, HasByteMore, HasConsumed, state_at};
 ghost use Rattle.bw_file.specs.TableReading.{plane_has_padding, has_padding, padding_from};
 ghost use Rattle.bw_file.specs.TableReading.{fault_place, one_block, blocks, segment};
 
@@ -36,15 +36,15 @@ pub(crate) fn read_segment<S: Source>(
     placement: &Rc<Placement>,
     rows: u32,
 ) -> Result<AnySegment, Fault>
-    requires counter_fits { S.failures source.old < 2 ^ 64 - 1 }
+    requires counter_fits { (S.state source.old).failures < 2 ^ 64 - 1 }
     requires capacity { offset.old < 2 ^ 62 }
     requires placed { IsPlaced layout placement.now.value }
     requires nonempty { 1 ≤ rows }
     requires within_limit { rows ≤ group_size }
     ensures reads { Reads (λ found. (any_meaning found).rows)
         (segment layout placement.now.value.schema.columns.items rows)
-        (state (S.to_come source.old) offset.old (S.failures source.old))
-        (state (S.to_come source.new) offset.new (S.failures source.new)) result }
+        (state_at (S.state source.old) offset.old)
+        (state_at (S.state source.new) offset.new) result }
     ensures advanced { OnOk result (offset.new ≤ offset.old + 2 ^ 19) }
     ensures layout { IfOk result (λ found. any_layout found ≡ layout) }
     ensures name { IfOk result (λ found. (any_meaning found).name
@@ -69,7 +69,7 @@ fn read_blocks<S: Source>(
     rows: u32,
     bytes: &mut SegmentBytes,
 ) -> Result<(), Fault>
-    requires counter_fits { S.failures source.old < 2 ^ 64 - 1 }
+    requires counter_fits { (S.state source.old).failures < 2 ^ 64 - 1 }
     requires capacity { offset.old < 2 ^ 62 }
     requires rows { rows ≤ group_size }
     requires size { length (bytes_held bytes.old)
@@ -77,9 +77,8 @@ fn read_blocks<S: Source>(
     requires next { AreNext bytes.old 0 (S.kept source.old) }
     ensures reads { Reads (λ _. bytes_held bytes.new)
         (blocks layout placement.now.schema.columns.items rows 0
-        (length placement.now.schema.columns.items) [])
-        (state (S.to_come source.old) offset.old (S.failures source.old))
-        (state (S.to_come source.new) offset.new (S.failures source.new)) result }
+        (length placement.now.schema.columns.items) []) (state_at (S.state source.old) offset.old)
+        (state_at (S.state source.new) offset.new) result }
     ensures advanced { OnOk result (offset.new ≤ offset.old + 2 ^ 19) }
     ensures sound { OnOk result
         (IsSound layout placement.now.schema.columns.items rows (bytes_held bytes.new)) }
@@ -112,17 +111,17 @@ fn read_block<S: Source>(
     bytes: &mut SegmentBytes,
     start: usize,
 ) -> Result<(), Fault>
-    requires counter_fits { S.failures source.old < 2 ^ 64 - 1 }
+    requires counter_fits { (S.state source.old).failures < 2 ^ 64 - 1 }
     requires capacity { offset.old < 2 ^ 63 }
     requires column { col < length placement.now.schema.columns.items }
     requires rows { rows ≤ group_size }
     requires within { start + block_size layout placement.now.schema.columns.items col
         ≤ length (bytes_held bytes.old) }
     requires next { AreNext bytes.old start (S.kept source.old) }
-    ensures reads { Reads (λ _. block_from layout placement.now.schema.columns.items col start
-        (bytes_held bytes.new)) (one_block layout placement.now.schema.columns.items rows col)
-        (state (S.to_come source.old) offset.old (S.failures source.old))
-        (state (S.to_come source.new) offset.new (S.failures source.new)) result }
+    ensures reads { Reads (λ _. block_from layout placement.now.schema.columns.items col
+        start (bytes_held bytes.new)) (one_block layout placement.now.schema.columns.items
+        rows col) (state_at (S.state source.old) offset.old)
+        (state_at (S.state source.new) offset.new) result }
     ensures advanced { OnOk result
         (offset.new ≡ offset.old + block_size layout placement.now.schema.columns.items col) }
     ensures good { OnOk result (block_fault layout placement.now.schema.columns.items col rows
@@ -235,16 +234,14 @@ fn plane_has_padding(rows: u32, at: usize, byte: u8) -> bool
 /// Checks that the source ends after the last block. Errors: 309 if another byte follows, 701 if a
 /// read fails.
 pub(crate) fn read_end<S: Source>(source: &mut S, offset: &mut u64) -> Result<(), Fault>
-    requires counter_fits { S.failures source.old < 2 ^ 64 - 1 }
+    requires counter_fits { (S.state source.old).failures < 2 ^ 64 - 1 }
     requires capacity { offset.old < 2 ^ 63 }
-    ensures ended { OnOk result (IsAtEnd (S.to_come source.new)) }
-    ensures took { OnOk result (HasConsumed
-        (state (S.to_come source.old) offset.old (S.failures source.old))
-        (state (S.to_come source.new) offset.new (S.failures source.new)) []) }
-    ensures failures { OnOk result (S.failures source.new ≡ S.failures source.old) }
-    ensures refused { IfErr result (λ fault. HasByteMore
-        (state (S.to_come source.old) offset.old (S.failures source.old))
-        (state (S.to_come source.new) offset.new (S.failures source.new)) fault) }
+    ensures ended { OnOk result (IsAtEnd (S.state source.new).known) }
+    ensures took { OnOk result (HasConsumed (state_at (S.state source.old) offset.old)
+        (state_at (S.state source.new) offset.new) []) }
+    ensures failures { OnOk result ((S.state source.new).failures ≡ (S.state source.old).failures) }
+    ensures refused { IfErr result (λ fault. HasByteMore (state_at (S.state source.old) offset.old)
+        (state_at (S.state source.new) offset.new) fault) }
 {
     let at = *offset;
     let mut byte = [0; 1];

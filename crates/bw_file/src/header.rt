@@ -1,7 +1,6 @@
 //! A table file's header, read field by field from a source.
-ghost use Rattle.std.specs.Prelude.{◌≡◌, ◌+◌, ◌-◌, ◌*◌, ◌^◌, ◌<◌, ◌≤◌, []};
-ghost use Rattle.std.specs.Prelude.{map, length, false, true, Ok, Err, if◌then◌else◌, OnOk, IfOk};
-ghost use Rattle.std.specs.Prelude.{IsTrue};
+ghost use Rattle.std.specs.Prelude.{◌≡◌, ◌+◌, ◌-◌, ◌*◌, ◌^◌, ◌<◌, ◌≤◌, [], map, length, false};
+ghost use Rattle.std.specs.Prelude.{true, Ok, Err, if◌then◌else◌, OnOk, IfOk, IsTrue};
 ghost use Rattle.std.specs.List.{list_any};
 ghost use Rattle.bw_model.specs.FaultTable.{HEADER};
 ghost use Rattle.bw_model.specs.Column.{names_of};
@@ -10,9 +9,9 @@ ghost use Rattle.bw_model.specs.Name.{is_name, are_apart};
 ghost use Rattle.bw_model.specs.SchemaText.{column_shape};
 ghost use Rattle.bw_text.specs.Text.{same_text};
 ghost use Rattle.bw_file.specs.Header.{header_shape};
-ghost use Rattle.bw_file.specs.Reading.{Reads, state, read_field};
+ghost use Rattle.bw_file.specs.Reading.{Reads, state_at, read_field};
 ghost use Rattle.bw_file.specs.TableReading.{parse_name, name, column, columns, front_of, front};
-ghost use Rattle.bw_file.specs.TableReading.{header_of, header};
+ghost use Rattle.bw_file.specs.TableReading.{header};
 
 use crate::fields::{
     ColumnBounds, ColumnCount, Field, LayoutByte, Magic, Nullable, RowCount, Version, at_offset,
@@ -29,12 +28,12 @@ fn read_field<F: Field<N>, S: Source, const N: usize>(
     source: &mut S,
     offset: &mut u64,
 ) -> Result<F::Value, Fault>
-    requires counter_fits { S.failures source.old < 2 ^ 64 - 1 }
+    requires counter_fits { (S.state source.old).failures < 2 ^ 64 - 1 }
     requires capacity { offset.old < 2 ^ 63 }
     requires small { N ≤ 16 }
     ensures reads { Reads (λ x. x) (read_field N (F.value_of field.now))
-        (state (S.to_come source.old) offset.old (S.failures source.old))
-        (state (S.to_come source.new) offset.new (S.failures source.new)) result }
+        (state_at (S.state source.old) offset.old)
+        (state_at (S.state source.new) offset.new) result }
     ensures advanced { OnOk result (offset.new ≡ offset.old + N) }
     ensures valid { IfOk result F.valid }
 {
@@ -53,11 +52,11 @@ fn read_name<S: Source>(
     source: &mut S,
     offset: &mut u64,
 ) -> Result<Name, Fault>
-    requires counter_fits { S.failures source.old < 2 ^ 64 - 1 }
+    requires counter_fits { (S.state source.old).failures < 2 ^ 64 - 1 }
     requires capacity { offset.old < 2 ^ 63 }
     ensures reads { Reads (λ x. x) (name (names_of before.now))
-        (state (S.to_come source.old) offset.old (S.failures source.old))
-        (state (S.to_come source.new) offset.new (S.failures source.new)) result }
+        (state_at (S.state source.old) offset.old)
+        (state_at (S.state source.new) offset.new) result }
     ensures advanced { OnOk result (offset.new ≤ offset.old + 256) }
     ensures apart { IfOk result
         (λ text. list_any (λ other. same_text other text) (names_of before.now) ≡ false) }
@@ -102,11 +101,11 @@ fn read_column<S: Source>(
     source: &mut S,
     offset: &mut u64,
 ) -> Result<Column, Fault>
-    requires counter_fits { S.failures source.old < 2 ^ 64 - 1 }
+    requires counter_fits { (S.state source.old).failures < 2 ^ 64 - 1 }
     requires capacity { offset.old < 2 ^ 62 }
     ensures reads { Reads column_shape (column version (names_of before.now))
-        (state (S.to_come source.old) offset.old (S.failures source.old))
-        (state (S.to_come source.new) offset.new (S.failures source.new)) result }
+        (state_at (S.state source.old) offset.old)
+        (state_at (S.state source.new) offset.new) result }
     ensures advanced { OnOk result (offset.new ≤ offset.old + 273) }
     ensures apart { IfOk result
         (λ found. list_any (λ other. same_text other found.name) (names_of before.now) ≡ false) }
@@ -129,11 +128,11 @@ fn read_columns<S: Source>(
     source: &mut S,
     offset: &mut u64,
 ) -> Result<Vec<Column>, Fault>
-    requires counter_fits { S.failures source.old < 2 ^ 64 - 1 }
+    requires counter_fits { (S.state source.old).failures < 2 ^ 64 - 1 }
     requires capacity { offset.old < 2 ^ 32 }
     ensures reads { Reads (λ found. map column_shape found.items) (columns version [] count)
-        (state (S.to_come source.old) offset.old (S.failures source.old))
-        (state (S.to_come source.new) offset.new (S.failures source.new)) result }
+        (state_at (S.state source.old) offset.old)
+        (state_at (S.state source.new) offset.new) result }
     ensures advanced { OnOk result (offset.new ≤ offset.old + 273 * count) }
     ensures many { IfOk result (λ found. length found.items ≡ count) }
     ensures apart { IfOk result (λ found. are_apart (names_of found.items) ≡ true) }
@@ -156,12 +155,11 @@ struct Front {
 }
 
 fn read_front<S: Source>(source: &mut S, offset: &mut u64) -> Result<Front, Fault>
-    requires counter_fits { S.failures source.old < 2 ^ 64 - 1 }
+    requires counter_fits { (S.state source.old).failures < 2 ^ 64 - 1 }
     requires capacity { offset.old < 2 ^ 32 }
     ensures reads { Reads (λ found. front_of found.version found.layout found.columns found.rows)
-        front
-        (state (S.to_come source.old) offset.old (S.failures source.old))
-        (state (S.to_come source.new) offset.new (S.failures source.new)) result }
+        front (state_at (S.state source.old) offset.old)
+        (state_at (S.state source.new) offset.new) result }
     ensures advanced { OnOk result (offset.new ≡ offset.old + 16) }
     ensures bounds { IfOk result (λ found. (1 ≤ found.columns) × (found.columns ≤ 64)) }
     ensures within_limit { IfOk result (λ found. found.rows ≤ most_rows) }
@@ -196,11 +194,10 @@ pub(crate) fn read_header<S: Source>(
     source: &mut S,
     offset: &mut u64,
 ) -> Result<Header, Fault>
-    requires counter_fits { S.failures source.old < 2 ^ 64 - 1 }
+    requires counter_fits { (S.state source.old).failures < 2 ^ 64 - 1 }
     requires capacity { offset.old < 2 ^ 31 }
-    ensures reads { Reads header_shape header
-        (state (S.to_come source.old) offset.old (S.failures source.old))
-        (state (S.to_come source.new) offset.new (S.failures source.new)) result }
+    ensures reads { Reads header_shape header (state_at (S.state source.old) offset.old)
+        (state_at (S.state source.new) offset.new) result }
     ensures advanced { OnOk result (offset.new ≤ offset.old + 20000) }
     ensures within_limit { IfOk result (λ found. found.rows ≤ most_rows) }
 {

@@ -1,5 +1,6 @@
 //! Bytes in memory as a source that never fails.
 ghost use Rattle.std.specs.Prelude.{Some, []};
+ghost use Rattle.bw_io.specs.Source.{source_state};
 
 use bw_io::{Failed, SharedBytes, Source};
 
@@ -10,9 +11,7 @@ pub(crate) struct Memory<'a> {
 }
 
 impl Source for Memory<'_> {
-    ghost to_come = { λ memory. Some memory.rest.now };
-
-    ghost failures = { λ _. 0 };
+    ghost state = { λ memory. source_state (Some memory.rest.now) 0 };
 
     ghost kept = { λ _. [] };
 

@@ -3,7 +3,7 @@ ghost use Rattle.std.specs.Prelude.{◌≡◌, ◌+◌, ◌-◌, ◌^◌, ◌<�
 ghost use Rattle.std.specs.Prelude.{slice_range, take};
 ghost use Rattle.bw_model.specs.Fault.{no_memory};
 ghost use Rattle.bw_io.specs.Shared.{bytes_in};
-ghost use Rattle.bw_file.specs.Reading.{Reads, state, field};
+ghost use Rattle.bw_file.specs.Reading.{Reads, state_at, field};
 ghost use Rattle.bw_file.specs.SegmentBytes.{bytes_held, AreNext};
 
 use crate::take::{are_bytes, take};
@@ -44,13 +44,13 @@ impl SegmentBytes {
         start: usize,
         size: usize,
     ) -> Result<(), Fault>
-        requires counter_fits { S.failures source.old < 2 ^ 64 - 1 }
+        requires counter_fits { (S.state source.old).failures < 2 ^ 64 - 1 }
         requires capacity { offset.old + size < 2 ^ 64 }
         requires within { start + size ≤ length (bytes_held self.old) }
         requires next { AreNext self.old start (S.kept source.old) }
         ensures reads { Reads (λ _. slice_range (bytes_held self.new) start (start + size))
-            (field size) (state (S.to_come source.old) offset.old (S.failures source.old))
-            (state (S.to_come source.new) offset.new (S.failures source.new)) result }
+            (field size) (state_at (S.state source.old) offset.old)
+            (state_at (S.state source.new) offset.new) result }
         ensures advanced { OnOk result (offset.new ≡ offset.old + size) }
         ensures next { OnOk result (AreNext self.new (start + size) (S.kept source.new)) }
         ensures before { take start (bytes_held self.new) ≡ take start (bytes_held self.old) }

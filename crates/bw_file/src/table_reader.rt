@@ -40,7 +40,7 @@ pub struct TableReader {
 
 impl TableReader {
     ghost use Rattle.bw_file.specs.Blocks.{segment_size};
-    ghost use Rattle.bw_file.specs.Reading.{Fails, GoesOn, give, state};
+    ghost use Rattle.bw_file.specs.Reading.{Fails, GoesOn, give, state_at};
     ghost use Rattle.bw_file.specs.TableReading.{header};
     ghost use Rattle.bw_file.specs.TableReader.{schema_in, version_in, layout_in, header_stated};
     ghost use Rattle.bw_file.specs.TableReader.{rows_stated, rows_given, bytes_taken, final_result};
@@ -52,24 +52,21 @@ impl TableReader {
     /// Errors: 301 to 304 and 310, each at the first byte of its field; 305 at the end of a file
     /// that ends before; 701 if a read fails; 801 if memory is refused.
     pub fn begin<S: Source>(alloc: Global, source: &mut S) -> Result<Self, Fault>
-        requires { S.failures source.old < 2 ^ 64 - 1 }
-        ensures began { IfOk result (λ reader. ReadProgress
-            (state (S.to_come source.old) 0 (S.failures source.old))
-            (state (S.to_come source.new) (bytes_taken reader) (S.failures source.new)) reader []) }
-        ensures stated { IfOk result (λ reader. GoesOn header
-            (state (S.to_come source.old) 0 (S.failures source.old))
+        requires { (S.state source.old).failures < 2 ^ 64 - 1 }
+        ensures began { IfOk result (λ reader. ReadProgress (state_at (S.state source.old) 0)
+            (state_at (S.state source.new) (bytes_taken reader)) reader []) }
+        ensures stated { IfOk result (λ reader. GoesOn header (state_at (S.state source.old) 0)
             (give (header_stated (version_in reader) reader))
-            (state (S.to_come source.new) (bytes_taken reader) (S.failures source.new))) }
+            (state_at (S.state source.new) (bytes_taken reader))) }
         ensures short { IfOk result (λ reader. bytes_taken reader ≤ 20000) }
         ensures fresh { IfOk result (λ reader. (rows_given reader ≡ 0)
             × (final_result reader ≡ None)) }
-        ensures head { IfErr result (λ fault. (offset : ℕ) × Fails header
-            (state (S.to_come source.old) 0 (S.failures source.old))
-            (state (S.to_come source.new) offset (S.failures source.new)) fault) }
-        ensures refused { IfErr result (λ fault. (offset : ℕ) × AnswersFault
-            (state (S.to_come source.old) 0 (S.failures source.old))
-            (state (S.to_come source.old) 0 (S.failures source.old))
-            (state (S.to_come source.new) offset (S.failures source.new)) fault) }
+        ensures head { IfErr result (λ fault. (offset : ℕ)
+            × Fails header (state_at (S.state source.old) 0)
+            (state_at (S.state source.new) offset) fault) }
+        ensures refused { IfErr result (λ fault. (offset : ℕ)
+            × AnswersFault (state_at (S.state source.old) 0) (state_at (S.state source.old) 0)
+            (state_at (S.state source.new) offset) fault) }
         ensures fault { IfErr result IsTableFault }
     {
         let mut offset = 0;
@@ -103,11 +100,10 @@ impl TableReader {
     /// a read fails; 801 if memory is refused. After None or an error, each call returns the same
     /// again and reads nothing.
     pub fn next_segment<S: Source>(&mut self, source: &mut S) -> Result<Option<AnySegment>, Fault>
-        requires { S.failures source.old < 2 ^ 64 - 1 }
+        requires { (S.state source.old).failures < 2 ^ 64 - 1 }
         ensures { GivesNext source.old source.new
-            (state (S.to_come source.old) (bytes_taken self.old) (S.failures source.old))
-            (state (S.to_come source.new) (bytes_taken self.new) (S.failures source.new))
-            self.old self.new result }
+            (state_at (S.state source.old) (bytes_taken self.old))
+            (state_at (S.state source.new) (bytes_taken self.new)) self.old self.new result }
     {
         match self.phase {
             Phase::Ended => Ok(None),
@@ -119,13 +115,12 @@ impl TableReader {
 
     /// Checks that the source has ended.
     fn see_end<S: Source>(&mut self, source: &mut S) -> Result<Option<AnySegment>, Fault>
-        requires counter_fits { S.failures source.old < 2 ^ 64 - 1 }
+        requires counter_fits { (S.state source.old).failures < 2 ^ 64 - 1 }
         requires open { self.old.phase ≡ Reading }
         requires all { self.old.given ≡ self.old.rows }
         ensures { GivesNext source.old source.new
-            (state (S.to_come source.old) (bytes_taken self.old) (S.failures source.old))
-            (state (S.to_come source.new) (bytes_taken self.new) (S.failures source.new))
-            self.old self.new result }
+            (state_at (S.state source.old) (bytes_taken self.old))
+            (state_at (S.state source.new) (bytes_taken self.new)) self.old self.new result }
     {
         let mut offset = self.offset;
         let answer = read_end(source, &mut offset);
@@ -144,13 +139,12 @@ impl TableReader {
 
     /// Reads a segment of the remaining rows.
     fn give_segment<S: Source>(&mut self, source: &mut S) -> Result<Option<AnySegment>, Fault>
-        requires counter_fits { S.failures source.old < 2 ^ 64 - 1 }
+        requires counter_fits { (S.state source.old).failures < 2 ^ 64 - 1 }
         requires open { self.old.phase ≡ Reading }
         requires left { self.old.given < self.old.rows }
         ensures { GivesNext source.old source.new
-            (state (S.to_come source.old) (bytes_taken self.old) (S.failures source.old))
-            (state (S.to_come source.new) (bytes_taken self.new) (S.failures source.new))
-            self.old self.new result }
+            (state_at (S.state source.old) (bytes_taken self.old))
+            (state_at (S.state source.new) (bytes_taken self.new)) self.old self.new result }
     {
         let rows = (self.rows - self.given).min(LANES as u32);
         let mut offset = self.offset;

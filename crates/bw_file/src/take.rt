@@ -1,6 +1,6 @@
 //! Reads that fill a buffer.
 ghost use Rattle.std.specs.Prelude.{◌≡◌, ◌-◌, ◌+◌, ◌^◌, ◌<◌, length, OnOk};
-ghost use Rattle.bw_file.specs.Reading.{AreBytes, Reads, state, field};
+ghost use Rattle.bw_file.specs.Reading.{AreBytes, Reads, state_at, field};
 
 use bw_io::{Failed, Source};
 use bw_model::{Fault, code};
@@ -12,11 +12,11 @@ pub(crate) fn take<S: Source>(
     offset: &mut u64,
     buffer: &mut [u8],
 ) -> Result<(), Fault>
-    requires counter_fits { S.failures source.old < 2 ^ 64 - 1 }
+    requires counter_fits { (S.state source.old).failures < 2 ^ 64 - 1 }
     requires capacity { offset.old + length buffer.old < 2 ^ 64 }
     ensures reads { Reads (λ _. buffer.new) (field (length buffer.old))
-        (state (S.to_come source.old) offset.old (S.failures source.old))
-        (state (S.to_come source.new) offset.new (S.failures source.new)) result }
+        (state_at (S.state source.old) offset.old)
+        (state_at (S.state source.new) offset.new) result }
     ensures advanced { OnOk result (offset.new ≡ offset.old + length buffer.old) }
 {
     let mut filled = 0;

@@ -4,7 +4,6 @@ use Rattle.std.proofs.Common.{length, take, drop, length-append, length-drop}
 use Rattle.std.proofs.Math.Seq.{take-add, take-length}
 use Rattle.std.specs.Io.KnownBytes.{Appends, Consumes}
 use Rattle.std.proofs.KnownBytes.{Appends-trans, Consumes-trans}
-use Rattle.bw_io.specs.Source.{TookAtMost}
 
 -- what stands from m on is the rest
 take-drop_rest : (m : ℕ) (text : List ℕ) → take (length text - m) (drop m text) ≡ drop m text
@@ -19,5 +18,5 @@ more_taken a b c text m n p q =
 
 -- what came in two steps was taken
 pub took_more : (most : ℕ) (a b c : Option (List ℕ)) (bs cs : List ℕ) → Consumes a b bs → Consumes b c cs
-    → length bs + length cs ≤ most → TookAtMost most a c
+    → length bs + length cs ≤ most → (bytes : List ℕ) × Consumes a c bytes × (length bytes ≤ most)
 took_more most a b c bs cs p q h = (bs ++ cs, Consumes-trans a b c bs cs p q, simp length-append h)

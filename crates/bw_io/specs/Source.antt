@@ -6,6 +6,15 @@ use Rattle.bw_model.specs.FaultTable.{READ_FAILED}
 use Rattle.bw_model.specs.declared.fault.Fault.{Fault}
 use Rattle.bw_model.specs.Fault.{nowhere, no_memory, is_memory, stands_nowhere}
 
+-- A source before or after a call: the unread bytes, if it states them, and how many reads have
+-- failed.
+pub record SourceState : Type 0 where
+  pub known : Option (List ℕ)
+  pub failures : ℕ
+
+abbrev pub source_state : Option (List ℕ) → ℕ → SourceState
+source_state known failures = record { known = known; failures = failures }
+
 -- What a source yielded to a call that reads it completely, up to a limit: the call ended before it
 -- read the source; it yielded all its bytes; they were more than the limit; or a read failed or
 -- memory ran out, which is this error.
@@ -35,43 +44,45 @@ failed_by (Err fault) = failed_reads fault
 
 -- The call failed by a failed read if and only if its source's count of failures rose, and then it
 -- rose by one.
-abbrev pub TellsFailure : {T : Type 0} → ℕ → ℕ → Result T Fault → Type 0
-TellsFailure before after result = after ≡ before + failed_by result
+abbrev pub TellsFailure : {T : Type 0} → SourceState → SourceState → Result T Fault → Type 0
+TellsFailure old new result = new.failures ≡ old.failures + failed_by result
 
 -- A call with two sources failed by a failed read if and only if the count of one of them rose, by
 -- one; the other's stayed.
-abbrev pub TellsFailureOfEither : {T : Type 0} → ℕ → ℕ → ℕ → ℕ → Result T Fault → Type 0
-TellsFailureOfEither before after second_before second_after result =
-    (TellsFailure before after result × (second_after ≡ second_before))
-    ⊎ ((after ≡ before) × TellsFailure second_before second_after result)
+abbrev pub TellsFailureOfEither : {T : Type 0} → SourceState → SourceState → SourceState
+    → SourceState → Result T Fault → Type 0
+TellsFailureOfEither old new second_old second_new result =
+    (TellsFailure old new result × (second_new.failures ≡ second_old.failures))
+    ⊎ ((new.failures ≡ old.failures) × TellsFailure second_old second_new result)
 
 -- all unread bytes, if they are known, were yielded, and they were no more than the limit
-abbrev pub GaveAll : ℕ → Option (List ℕ) → Option (List ℕ) → List ℕ → Type 0
-GaveAll limit old new bytes = (length bytes ≤ limit) × IfSome old (λ xs. bytes ≡ xs) × IsAtEnd new
+abbrev pub GaveAll : ℕ → SourceState → SourceState → List ℕ → Type 0
+GaveAll limit old new bytes =
+    (length bytes ≤ limit) × IfSome old.known (λ xs. bytes ≡ xs) × IsAtEnd new.known
 
 -- one byte more than the limit was consumed, of the unread bytes if they are known
-abbrev pub PassedLimit : ℕ → Option (List ℕ) → Option (List ℕ) → Type 0
-PassedLimit limit old new = (bytes : List ℕ) × Consumes old new bytes × (length bytes ≡ limit + 1)
+abbrev pub PassedLimit : ℕ → SourceState → SourceState → Type 0
+PassedLimit limit old new =
+    (bytes : List ℕ) × Consumes old.known new.known bytes × (length bytes ≡ limit + 1)
 
 -- at most `most` of the unread bytes were consumed, if they are known
-abbrev pub TookAtMost : ℕ → Option (List ℕ) → Option (List ℕ) → Type 0
-TookAtMost most old new = (bytes : List ℕ) × Consumes old new bytes × (length bytes ≤ most)
+abbrev pub TookAtMost : ℕ → SourceState → SourceState → Type 0
+TookAtMost most old new =
+    (bytes : List ℕ) × Consumes old.known new.known bytes × (length bytes ≤ most)
 
 -- How a call leaves its source: it consumed at most `most` of the unread bytes, and failed by a
 -- failed read if and only if the count of failures rose.
-abbrev pub SourceEffect : {T : Type 0} → ℕ → Option (List ℕ) → Option (List ℕ) → ℕ → ℕ
-    → Result T Fault → Type 0
-SourceEffect most old new before after result = TookAtMost most old new
-    × TellsFailure before after result
+abbrev pub SourceEffect : {T : Type 0} → ℕ → SourceState → SourceState → Result T Fault → Type 0
+SourceEffect most old new result = TookAtMost most old new × TellsFailure old new result
 
--- A source's count of failures rises from `before` to `after`: by one if it yielded a failed read,
--- else by none. A source that wasn't reached is as it was, as far as its unread bytes and its count
--- state.
-abbrev pub ReadOutcome : ℕ → Option (List ℕ) → Option (List ℕ) → ℕ → ℕ → Arrival → Type 0
-ReadOutcome limit old new before after NotReached = (new ≡ old) × (after ≡ before)
-ReadOutcome limit old new before after (Whole bytes) = GaveAll limit old new bytes
-    × (after ≡ before)
-ReadOutcome limit old new before after TooLong = PassedLimit limit old new × (after ≡ before)
-ReadOutcome limit old new before after (Failed fault) =
-    MatchBool (is_memory fault) ((fault ≡ no_memory) × (after ≡ before))
-    ((fault ≡ nowhere READ_FAILED) × (after ≡ before + 1))
+-- A source's count of failures rises by one if it yielded a failed read, else by none. A source
+-- that wasn't reached is as it was, as far as its state tells.
+abbrev pub ReadOutcome : ℕ → SourceState → SourceState → Arrival → Type 0
+ReadOutcome limit old new NotReached =
+    (new.known ≡ old.known) × (new.failures ≡ old.failures)
+ReadOutcome limit old new (Whole bytes) = GaveAll limit old new bytes
+    × (new.failures ≡ old.failures)
+ReadOutcome limit old new TooLong = PassedLimit limit old new × (new.failures ≡ old.failures)
+ReadOutcome limit old new (Failed fault) =
+    MatchBool (is_memory fault) ((fault ≡ no_memory) × (new.failures ≡ old.failures))
+    ((fault ≡ nowhere READ_FAILED) × (new.failures ≡ old.failures + 1))

@@ -1,6 +1,7 @@
 //! A source over any reader of std.
 ghost use Rattle.std.specs.Prelude.{◌≡◌, []};
 ghost use Rattle.bw_io.specs.FromRead.{reader_of, read_failures};
+ghost use Rattle.bw_io.specs.Source.{source_state};
 
 use crate::failed::Failed;
 use crate::shared::SharedBytes;
@@ -32,9 +33,7 @@ impl<R> FromRead<R> {
 }
 
 impl<R: Read> Source for FromRead<R> {
-    ghost to_come = { λ s. R.remaining (reader_of s) };
-
-    ghost failures = { read_failures };
+    ghost state = { λ s. source_state (R.remaining (reader_of s)) (read_failures s) };
 
     ghost kept = { λ _. [] };
 

@@ -24,12 +24,11 @@ pub enum Input {
 /// be less than 2^63, and the source's count of failures less than 2^64 - 1. Errors: 701 at the
 /// first read that fails; 801 if memory is refused.
 pub fn read_limited<S: Source>(alloc: Global, source: &mut S, limit: u64) -> Result<Input, Fault>
-    requires counter_fits { S.failures source.old < 2 ^ 64 - 1 }
+    requires counter_fits { (S.state source.old).failures < 2 ^ 64 - 1 }
     requires limited { limit < 2 ^ 63 }
-    ensures came { ReadOutcome limit (S.to_come source.old) (S.to_come source.new)
-        (S.failures source.old) (S.failures source.new) (arrival result) }
-    ensures took { TookAtMost (limit + 1) (S.to_come source.old) (S.to_come source.new) }
-    ensures failed { TellsFailure (S.failures source.old) (S.failures source.new) result }
+    ensures came { ReadOutcome limit (S.state source.old) (S.state source.new) (arrival result) }
+    ensures took { TookAtMost (limit + 1) (S.state source.old) (S.state source.new) }
+    ensures failed { TellsFailure (S.state source.old) (S.state source.new) result }
     ensures fault { IfErr result (λ fault. IsTrue (is_input_fault fault)) }
 {
     let most = limit as usize + 1;

@@ -10,9 +10,8 @@ use bw_model::{Fault, code};
 /// the first write that fails; a part from the text's front has then been written.
 #[tactic(auto, using(crate::proofs::TakenBytes::more_taken))]
 pub fn write_whole<K: Sink>(sink: &mut K, text: &[u8]) -> Result<(), Fault>
-    requires { K.failures sink.old < 2 ^ 64 - 1 }
-    ensures { GoesOut (K.taken sink.old) (K.taken sink.new)
-        (K.failures sink.old) (K.failures sink.new) text.now result }
+    requires { (K.state sink.old).failures < 2 ^ 64 - 1 }
+    ensures { GoesOut (K.state sink.old) (K.state sink.new) text.now result }
 {
     let mut written = 0;
     while written < text.len() {

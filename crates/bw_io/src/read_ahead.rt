@@ -137,10 +137,9 @@ impl<R> ReadAhead<R> {
 
 impl<R: Read> Source for ReadAhead<R> {
     ghost use Rattle.bw_io.specs.ReadAhead.{unread_bytes, buffered_bytes, read_failures};
+    ghost use Rattle.bw_io.specs.Source.{source_state};
 
-    ghost to_come = { unread_bytes R.remaining };
-
-    ghost failures = { read_failures };
+    ghost state = { λ s. source_state (unread_bytes R.remaining s) (read_failures s) };
 
     ghost kept = { buffered_bytes };
 

@@ -1,5 +1,6 @@
 //! A sink over any writer of std.
 ghost use Rattle.std.specs.Prelude.{◌≡◌};
+ghost use Rattle.bw_io.specs.Sink.{sink_state};
 ghost use Rattle.bw_io.specs.ToWrite.{writer_of, write_failures};
 
 use crate::failed::Failed;
@@ -31,9 +32,7 @@ impl<W> ToWrite<W> {
 }
 
 impl<W: Write> Sink for ToWrite<W> {
-    ghost taken = { λ s. W.contents (writer_of s) };
-
-    ghost failures = { write_failures };
+    ghost state = { λ s. sink_state (W.contents (writer_of s)) (write_failures s) };
 
     fn write(&mut self, bytes: &[u8]) -> Result<usize, Failed> {
         match self.inner.write(bytes) {

@@ -32,7 +32,7 @@ use Rattle.bw_csv.proofs.RowLemmas.{rows_after-rows}
 use Rattle.bw_csv_calls.specs.ReadInputs.{IsSchemaFrom}
 use Rattle.bw_csv_calls.specs.Load.{file_of}
 use Rattle.bw_io.specs.Source.{Arrival, NotReached, Whole, TooLong, Failed, PassedLimit}
-use Rattle.bw_io.specs.Source.{is_input_fault}
+use Rattle.bw_io.specs.Source.{source_state, is_input_fault}
 use Rattle.bw_file.specs.declared.layout.Layout.{Layout}
 use Rattle.bw_file.specs.FileBytes.{IsFileBytes, bytes_of_version, file_bytes, file_bytes2}
 use Rattle.bw_file.specs.FileBytes.{front_bytes, header_bytes, magic}
@@ -216,14 +216,15 @@ input_is fault true before after e came = rw e refl
 input_is fault false before after e came = rw (came.0) refl
 
 failed_input : (limit : ℕ) (bytes : List ℕ) (fault : Fault) → IsArrivalOf limit bytes (Failed fault) → is_input_fault fault ≡ true
-failed_input limit bytes fault of = input_is fault (is_memory fault) of.before of.after refl of.is
+failed_input limit bytes fault of = input_is fault (is_memory fault) of.before of.now.failures refl of.is
 
 not_past : (bytes left taken : List ℕ) (limit : ℕ) → length bytes ≤ limit → bytes ≡ taken ++ left → length taken ≡ limit + 1 → ⊥
 not_past bytes left taken limit short e long = omega (arith, short, ap length e, length-append taken left, long)
 
-never_past : (limit : ℕ) (bytes : List ℕ) (left : Option (List ℕ)) → length bytes ≤ limit → PassedLimit limit (Some bytes) left → ⊥
-never_past limit bytes None short past = past.1
-never_past limit bytes (Some left) short past = not_past bytes left past.0 limit short past.1 past.2
+never_past : (limit : ℕ) (bytes : List ℕ) (before after : ℕ) (left : Option (List ℕ)) → length bytes ≤ limit
+    → PassedLimit limit (source_state (Some bytes) before) (source_state left after) → ⊥
+never_past limit bytes before after None short past = past.1
+never_past limit bytes before after (Some left) short past = not_past bytes left past.0 limit short past.1 past.2
 
 -- a load of a text that spells the rows, and is no longer than a CSV text may be
 module _ (layout : Layout) (schema : Schema) (rows : Rows) (csv : List ℕ) (spelled : rows_of schema.columns.items csv ≡ Ok rows) where
@@ -240,7 +241,7 @@ module _ (layout : Layout) (schema : Schema) (rows : Rows) (csv : List ℕ) (spe
       let file : given ≡ Ok (file_bytes layout schema rows) =
       made ∙ ap (file_of layout under) of.is.0.1 ∙ file_alike layout under schema csv alike ∙ text_loads layout schema rows csv spelled in
       rw file refl
-  with_csv under TooLong given alike short of made = absurd (never_past longest_csv csv of.left short of.is.0)
+  with_csv under TooLong given alike short of made = absurd (never_past longest_csv csv of.before of.now.failures of.now.known short of.is.0)
   with_csv under (Failed fault) given alike short of made = failed_is_given given fault (failed_input longest_csv csv fault of) made
 
   with_schema : (text : List ℕ) (under : Result Schema Fault) (came : Arrival) (given : Result (List ℕ) Fault) → IsSchemaText text (schema_shape schema)
@@ -255,7 +256,7 @@ module _ (layout : Layout) (schema : Schema) (rows : Rows) (csv : List ℕ) (spe
   by_schema text NotReached came under given is source from short of made = absurd from
   by_schema text (Whole all) came under given is source from short of made =
       with_schema text under came given is (subst (λ (bytes : List ℕ). IsSchemaFrom (Whole bytes) under) source.is.0.1 from) short of made
-  by_schema text TooLong came under given is source from short of made = absurd (never_past longest_schema text source.left (is.0) source.is.0)
+  by_schema text TooLong came under given is source from short of made = absurd (never_past longest_schema text source.before source.now.failures source.now.known (is.0) source.is.0)
   by_schema text (Failed fault) came under given is source from short of made =
       let refused = subst (λ (under : Result Schema Fault). IsMadeAfter under (file_of layout) came given) from made in
       failed_is_given given fault (failed_input longest_schema text fault source) refused.1

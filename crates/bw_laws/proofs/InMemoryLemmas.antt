@@ -22,8 +22,8 @@ use Rattle.bw_cert.specs.FileVerdict.{Certifies, IsFileFault}
 use Rattle.bw_answer.specs.Answer.{csv_text}
 use Rattle.bw_file.specs.declared.layout.Layout.{Layout}
 use Rattle.bw_file.specs.FileBytes.{IsFileBytes}
-use Rattle.bw_io.specs.Source.{is_input_fault}
-use Rattle.bw_file.specs.Reading.{State, Fails, state, tail}
+use Rattle.bw_io.specs.Source.{is_input_fault, source_state}
+use Rattle.bw_file.specs.Reading.{State, Fails, state_at, tail}
 use Rattle.bw_file.specs.TableReading.{Found, IsReadAfter, body, found_as, group_sizes, header}
 use Rattle.bw_file.proofs.FileSpelling.{body_found}
 use Rattle.bw_file.proofs.ReaderLemmas.{head_at, header_refused}
@@ -135,15 +135,15 @@ err_is : (fault second : Fault) → query_asked_in (Err fault) ≡ query_asked_i
 err_is fault second e = cc
 
 pub one_refusal : (verdict : OneVerdict) (bytes sql : List ℕ) (layout : Layout) (schema : Schema) (rows : List (List Value)) (program : Option (List ℕ)) (failures : ℕ) (now : State) (fault second : Fault)
-    → IsFileBytes bytes layout schema rows → by_statement program sql schema (Err fault) → IsTableResult (by_statement program sql) (state (Some bytes) 0 failures) now (Err second)
+    → IsFileBytes bytes layout schema rows → by_statement program sql schema (Err fault) → IsTableResult (by_statement program sql) (state_at (source_state (Some bytes) failures) 0) now (Err second)
     → is_no_verdict second ≡ false → fault ≡ second
 one_refusal verdict bytes sql layout schema rows program failures now fault second file asks gave none = by_place gave.answer
   where
     start : State
-    start = state (Some bytes) 0 failures
+    start = state_at (source_state (Some bytes) failures) 0
 
-    by_place : Fails header (state (Some bytes) 0 failures) now second ⊎ HasRejectedQuery (by_statement program sql) (state (Some bytes) 0 failures) now second
-        ⊎ HasFailedAtSegment (by_statement program sql) (state (Some bytes) 0 failures) now second → fault ≡ second
+    by_place : Fails header (state_at (source_state (Some bytes) failures) 0) now second ⊎ HasRejectedQuery (by_statement program sql) (state_at (source_state (Some bytes) failures) 0) now second
+        ⊎ HasFailedAtSegment (by_statement program sql) (state_at (source_state (Some bytes) failures) 0) now second → fault ≡ second
     by_place (inl fails) = absurd (input_is_none second (no_fault bytes layout schema rows file _ _ now second refl (header_refused _ now second refl fails)) none)
     by_place (inr (inl refused)) =
         let shape = header_of_table bytes layout schema refused.schema rows _ now file refl refl refused.head in

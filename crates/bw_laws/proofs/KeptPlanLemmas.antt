@@ -4,7 +4,7 @@ use Rattle.std.proofs.Common.{◌≡◌, ℕ, List, [], Some, Result, Ok, sym, s
 use Rattle.bw_model.specs.declared.column.Column.{Column}
 use Rattle.bw_model.specs.declared.cond.Cond.{Cond}
 use Rattle.bw_model.specs.declared.fault.Fault.{Fault}
-use Rattle.bw_io.specs.Sink.{WriteOutcome, everything, none_aside}
+use Rattle.bw_io.specs.Sink.{WriteOutcome, everything, none_aside, sink_state}
 use Rattle.bw_program.specs.Program.{ProgramShape}
 use Rattle.bw_cert_text.specs.CertificateShape.{CertificateShape}
 use Rattle.bw_cert.specs.FileVerdict.{Certifies}
@@ -18,7 +18,7 @@ use Rattle.bw_sql.proofs.SameNames.{columns_too, spells_too}
 use Rattle.bw_laws.proofs.SchemaTextLemmas.{one_schema}
 
 pub plan_written : (text sql plan : List ℕ) (given : Result (List ℕ) Fault) (before after : ℕ) → IsPlanned text sql given
-    → WriteOutcome {T = Unit {0}} none_aside (Some []) (Some plan) before after given (Ok tt) → IsPlan text sql plan
+    → WriteOutcome {T = Unit {0}} none_aside (sink_state (Some []) before) (sink_state (Some plan) after) given (Ok tt) → IsPlan text sql plan
 plan_written text sql plan given before after planned (everything file is took kept) = subst (IsPlan text sql) (sym took) (subst (IsPlanned text sql) is planned)
 
 pub certified_too : (columns : List Column) (cond same : Cond) (file : List ℕ) (program : ProgramShape) (certificate : CertificateShape) → Valid columns same program certificate

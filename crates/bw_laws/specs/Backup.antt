@@ -9,10 +9,10 @@ use Rattle.bw_model.specs.Row.{Value}
 use Rattle.bw_model.specs.SchemaText.{IsSchemaText, schema_shape}
 use Rattle.bw_answer.specs.Answer.{csv_text, value_text}
 use Rattle.bw_csv_calls.specs.Load.{IsFile}
-use Rattle.bw_io.specs.Source.{Arrival, is_input_fault}
+use Rattle.bw_io.specs.Source.{Arrival, is_input_fault, source_state}
 use Rattle.bw_file.specs.declared.layout.Layout.{Layout}
 use Rattle.bw_file.specs.FileBytes.{version_for}
-use Rattle.bw_file.specs.Reading.{State, state}
+use Rattle.bw_file.specs.Reading.{State, state_at}
 use Rattle.bw_schemas.specs.Info.{TellsHeader}
 use Rattle.bw_laws.specs.OneAnswer.{IsArrivalOf}
 
@@ -38,7 +38,7 @@ IsOfNeededVersion bytes schema = (version_told bytes ≡ 1) ⊎ (version_for sch
 pub record IsTold (bytes text : List ℕ) : Type 0 where
   pub failures : ℕ
   pub now : State
-  pub header : TellsHeader (state (Some bytes) 0 failures) now text
+  pub header : TellsHeader (state_at (source_state (Some bytes) failures) 0) now text
 
 -- a call yields this file, unless a read fails or memory runs out
 abbrev pub IsThatFile : List ℕ → Result (List ℕ) Fault → Type 0

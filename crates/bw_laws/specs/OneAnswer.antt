@@ -1,12 +1,12 @@
 -- A schema text, a CSV text and a statement determine the answer.
-use Rattle.std.specs.Prelude.{ℕ, List, Option, Some, Result, Ok}
+use Rattle.std.specs.Prelude.{ℕ, List, Some, Result, Ok}
 use Rattle.bw_model.specs.declared.fault.Fault.{Fault}
 use Rattle.bw_model.specs.declared.query.Query.{Query}
 use Rattle.bw_model.specs.declared.schema.Schema.{Schema}
 use Rattle.bw_model.specs.Fault.{◌>>=◌}
 use Rattle.bw_model.specs.Limits.{longest_schema, longest_csv}
 use Rattle.bw_model.specs.SchemaText.{SchemaShape, schema_shape}
-use Rattle.bw_io.specs.Source.{Arrival, ReadOutcome}
+use Rattle.bw_io.specs.Source.{Arrival, ReadOutcome, SourceState, source_state}
 use Rattle.bw_sql.specs.QueryShape.{QueryShape, query_shape}
 use Rattle.bw_csv_calls.specs.Direct.{IsAnswer}
 
@@ -20,10 +20,9 @@ shape_in reading = reading >>= λ schema. Ok (schema_shape schema)
 
 -- what can be read of a source of this text, up to a limit, whether its reads fail or not
 pub record IsArrivalOf (limit : ℕ) (text : List ℕ) (came : Arrival) : Type 0 where
-  pub left : Option (List ℕ)
   pub before : ℕ
-  pub after : ℕ
-  pub is : ReadOutcome limit (Some text) left before after came
+  pub now : SourceState
+  pub is : ReadOutcome limit (source_state (Some text) before) now came
 
 -- over sources of this schema text and of this CSV text, `direct` may write this answer to the
 -- statement

@@ -7,7 +7,8 @@ ghost use Rattle.bw_model.specs.declared.schema.Schema.{Schema};
 ghost use Rattle.bw_model.specs.Row.{Value};
 ghost use Rattle.bw_file.specs.declared.layout.Layout.{Layout};
 ghost use Rattle.bw_file.specs.FileBytes.{IsFileBytes};
-ghost use Rattle.bw_file.specs.Reading.{State, state};
+ghost use Rattle.bw_io.specs.Source.{source_state};
+ghost use Rattle.bw_file.specs.Reading.{State, state_at};
 ghost use Rattle.bw_query.specs.MemoryAnswer.{RowsText};
 ghost use Rattle.bw_query.specs.TableAnswer.{AnswersFile, IsTableResult, by_statement};
 ghost use Rattle.bw_query.specs.TableAnswer.{is_no_verdict};
@@ -36,11 +37,11 @@ pub fn a_table_in_memory_is_answered_as_its_file()
         → by_statement program sql schema given → by_statement program sql other second
         → query_asked_in given ≡ query_asked_in second }
     ensures refused { (bytes sql : List ℕ) (layout : Layout) (schema : Schema)
-        (rows : List (List Value))
-        (program : Option (List ℕ)) (failures : ℕ) (now : State) (fault second : Fault)
-        → IsFileBytes bytes layout schema rows → by_statement program sql schema (Err fault)
-        → IsTableResult (by_statement program sql) (state (Some bytes) 0 failures) now (Err second)
-        → is_no_verdict second ≡ false → fault ≡ second }
+        (rows : List (List Value)) (program : Option (List ℕ)) (failures : ℕ) (now : State)
+        (fault second : Fault) → IsFileBytes bytes layout schema rows
+        → by_statement program sql schema (Err fault)
+        → IsTableResult (by_statement program sql) (state_at (source_state (Some bytes) failures) 0)
+        now (Err second) → is_no_verdict second ≡ false → fault ≡ second }
 {
     one_verdict();
 }

@@ -1,11 +1,11 @@
 //! Results with a stored plan.
-ghost use Rattle.std.specs.Prelude.{◌≡◌, ℕ, List, [], Option, Some, Result, Ok};
+ghost use Rattle.std.specs.Prelude.{ℕ, List, [], Option, Some, Result, Ok};
 ghost use Rattle.bw_model.specs.declared.fault.Fault.{Fault};
 ghost use Rattle.bw_model.specs.declared.query.Query.{Query};
 ghost use Rattle.bw_model.specs.declared.schema.Schema.{Schema};
 ghost use Rattle.bw_model.specs.Row.{Value};
 ghost use Rattle.bw_model.specs.SchemaText.{IsSchemaText, schema_shape};
-ghost use Rattle.bw_io.specs.Sink.{WriteOutcome, none_aside};
+ghost use Rattle.bw_io.specs.Sink.{WriteOutcome, none_aside, sink_state};
 ghost use Rattle.bw_file.specs.declared.layout.Layout.{Layout};
 ghost use Rattle.bw_file.specs.FileBytes.{IsFileBytes};
 ghost use Rattle.bw_sql.specs.Statement.{IsReadAs};
@@ -26,8 +26,8 @@ use bw_cert::{certificates_are_checked_by_their_fields, one_verdict, valid_exact
 /// and skips of its runs, over any rows, and so over the table of a file.
 pub fn a_kept_plan_is_used()
     ensures written { (text sql plan : List ℕ) (given : Result (List ℕ) Fault) (before after : ℕ)
-        → IsPlanned text sql given
-        → WriteOutcome {T = Unit {0}} none_aside (Some []) (Some plan) before after given (Ok tt)
+        → IsPlanned text sql given → WriteOutcome {T = Unit {0}} none_aside
+        (sink_state (Some []) before) (sink_state (Some plan) after) given (Ok tt)
         → IsPlan text sql plan }
     ensures accepted { (text sql plan : List ℕ) (schema : Schema) → IsPlan text sql plan
         → IsSchemaText text (schema_shape schema)

@@ -8,7 +8,7 @@ ghost use Rattle.bw_io.specs.Source.{TellsFailure, is_input_fault};
 ghost use Rattle.bw_file.specs.declared.layout.Layout.{Layout};
 ghost use Rattle.bw_file.specs.Blocks.{form_of};
 ghost use Rattle.bw_file.specs.FileBytes.{IsFileBytes};
-ghost use Rattle.bw_file.specs.Reading.{State, state};
+ghost use Rattle.bw_file.specs.Reading.{State, state_at};
 ghost use Rattle.bw_file.specs.TableReader.{AnswersFault, ReadProgress, bytes_taken, layout_in};
 ghost use Rattle.bw_file.specs.TableReader.{rows_given, schema_in, final_result};
 ghost use Rattle.bw_file.specs.TableReading.{IsTableFault};
@@ -30,27 +30,25 @@ impl MemoryTable {
     /// Errors are those of [`TableReader`]: 301 to 310, by the file's first error; 701 if a read
     /// fails; 801 if memory is refused. The source's count of errors must be able to rise.
     pub fn read<S: Source>(alloc: Global, source: &mut S) -> Result<Self, Fault>
-        requires { S.failures source.old < 2 ^ 64 - 1 }
-        ensures table { IfOk result (λ table. (offset : ℕ) × HasReadTable
-            (state (S.to_come source.old) 0 (S.failures source.old))
-            (state (S.to_come source.new) offset (S.failures source.new))
+        requires { (S.state source.old).failures < 2 ^ 64 - 1 }
+        ensures table { IfOk result (λ table. (offset : ℕ)
+            × HasReadTable (state_at (S.state source.old) 0) (state_at (S.state source.new) offset)
             (layout_of table) (schema_of table) (rows_of table)) }
-        ensures refused { IfErr result (λ fault. (offset : ℕ) × AnswersFault
-            (state (S.to_come source.old) 0 (S.failures source.old))
-            (state (S.to_come source.old) 0 (S.failures source.old))
-            (state (S.to_come source.new) offset (S.failures source.new)) fault) }
+        ensures refused { IfErr result (λ fault. (offset : ℕ)
+            × AnswersFault (state_at (S.state source.old) 0) (state_at (S.state source.old) 0)
+            (state_at (S.state source.new) offset) fault) }
         ensures fault { IfErr result IsTableFault }
 
         // If the unread bytes are known, a success shows that they are the table's file. If they
         // are a table file's, only a failed read or memory can fail.
-        ensures file { (bytes : List ℕ) → S.to_come source.old ≡ Some bytes
+        ensures file { (bytes : List ℕ) → (S.state source.old).known ≡ Some bytes
             → IfOk result (λ table. IsFileBytes bytes (layout_of table) (schema_of table)
             (rows_of table)) }
         ensures accepted { (bytes : List ℕ) (layout : Layout) (schema : Schema)
-            (rows : List (List Value))
-            → S.to_come source.old ≡ Some bytes → IsFileBytes bytes layout schema rows
+            (rows : List (List Value)) → (S.state source.old).known ≡ Some bytes
+            → IsFileBytes bytes layout schema rows
             → IfErr result (λ fault. IsTrue (is_input_fault fault)) }
-        ensures source { TellsFailure (S.failures source.old) (S.failures source.new) result }
+        ensures source { TellsFailure (S.state source.old) (S.state source.new) result }
     {
         a_file_is_read_whole();
         let mut reader = TableReader::begin(alloc, source)?;
@@ -64,22 +62,18 @@ fn read_table<S: Source>(
     reader: &mut TableReader,
     source: &mut S,
 ) -> Result<MemoryTable, Fault>
-    requires counter_fits { S.failures source.old < 2 ^ 64 - 1 }
+    requires counter_fits { (S.state source.old).failures < 2 ^ 64 - 1 }
     requires fresh { (rows_given reader.old ≡ 0) × (final_result reader.old ≡ None) }
     requires began { (start : State) × ReadProgress start
-        (state (S.to_come source.old) (bytes_taken reader.old) (S.failures source.old)) reader.old
-        [] }
+        (state_at (S.state source.old) (bytes_taken reader.old)) reader.old [] }
     ensures table { IfOk result (λ table. (start : State)
-        → ReadProgress start (state (S.to_come source.old) (bytes_taken reader.old)
-        (S.failures source.old)) reader.old []
-        → HasReadTable start (state (S.to_come source.new) (bytes_taken reader.new)
-        (S.failures source.new)) (layout_of table) (schema_of table) (rows_of table)) }
+        → ReadProgress start (state_at (S.state source.old) (bytes_taken reader.old)) reader.old []
+        → HasReadTable start (state_at (S.state source.new) (bytes_taken reader.new))
+        (layout_of table) (schema_of table) (rows_of table)) }
     ensures refused { IfErr result (λ fault. (start : State)
-        → ReadProgress start (state (S.to_come source.old) (bytes_taken reader.old)
-        (S.failures source.old)) reader.old []
-        → AnswersFault start (state (S.to_come source.old) (bytes_taken reader.old)
-        (S.failures source.old))
-        (state (S.to_come source.new) (bytes_taken reader.new) (S.failures source.new)) fault) }
+        → ReadProgress start (state_at (S.state source.old) (bytes_taken reader.old)) reader.old []
+        → AnswersFault start (state_at (S.state source.old) (bytes_taken reader.old))
+        (state_at (S.state source.new) (bytes_taken reader.new)) fault) }
     ensures fault { IfErr result IsTableFault }
 {
     bytes_were_taken();
@@ -102,21 +96,19 @@ fn read_segments<S: Source>(
     source: &mut S,
     columns: &mut [ColumnBlocks],
 ) -> Result<u32, Fault>
-    requires counter_fits { S.failures source.old < 2 ^ 64 - 1 }
+    requires counter_fits { (S.state source.old).failures < 2 ^ 64 - 1 }
     requires fresh { (rows_given reader.old ≡ 0) × (final_result reader.old ≡ None) }
     requires none { StoresBlocks (form_of (layout_in reader.old))
         (schema_in reader.old).columns.items
         0 columns.old }
     ensures kept { IfOk result (λ count. StoresAllSegments
-        (state (S.to_come source.old) (bytes_taken reader.old) (S.failures source.old))
-        (state (S.to_come source.new) (bytes_taken reader.new) (S.failures source.new))
-        reader.old (rows_given reader.new) count columns.new) }
+        (state_at (S.state source.old) (bytes_taken reader.old))
+        (state_at (S.state source.new) (bytes_taken reader.new)) reader.old (rows_given reader.new)
+        count columns.new) }
     ensures refused { IfErr result (λ fault. (start : State)
-        → ReadProgress start (state (S.to_come source.old) (bytes_taken reader.old)
-        (S.failures source.old)) reader.old []
-        → AnswersFault start (state (S.to_come source.old) (bytes_taken reader.old)
-        (S.failures source.old))
-        (state (S.to_come source.new) (bytes_taken reader.new) (S.failures source.new)) fault) }
+        → ReadProgress start (state_at (S.state source.old) (bytes_taken reader.old)) reader.old []
+        → AnswersFault start (state_at (S.state source.old) (bytes_taken reader.old))
+        (state_at (S.state source.new) (bytes_taken reader.new)) fault) }
     ensures fault { IfErr result IsTableFault }
 {
     bytes_were_taken();

@@ -5,9 +5,8 @@ ghost use Rattle.bw_model.specs.Fault.{MatchesUnlessOom, is_memory};
 ghost use Rattle.bw_text.specs.Lines.{lines_in, end_in};
 ghost use Rattle.bw_program.specs.Program.{ProgramShape, fits, most_instructions};
 ghost use Rattle.bw_program.specs.ProgramText.{program_of, program_on, last_line};
-ghost use Rattle.bw_program.specs.ProgramText.{program_with_result};
-ghost use Rattle.bw_program.specs.ProgramText.{instrs_of, within_end, goes_past, IsProgramText};
-ghost use Rattle.bw_program.specs.ProgramText.{IsProgramFault};
+ghost use Rattle.bw_program.specs.ProgramText.{program_with_result, instrs_of, within_end};
+ghost use Rattle.bw_program.specs.ProgramText.{goes_past, IsProgramText, IsProgramFault};
 
 use crate::instr::{Instr, Register};
 use crate::line::{instr_of, is_result_line, result_of};

@@ -1,10 +1,10 @@
 -- Where a call over a table file ends: at the header, at the query, at a segment, or when the text
 -- is written.
-use Rattle.std.proofs.Common.{◌≡◌, ◌∙◌, ℕ, ◌+◌, List, ◌++◌, Bool, true, false, ◌||◌, ◌==◌, inl, inr}
+use Rattle.std.proofs.Common.{◌≡◌, ◌∙◌, ℕ, ◌+◌, List, ◌++◌, Bool, true, false, ◌==◌, inl, inr}
 use Rattle.std.proofs.Common.{Option, Some, None, Result, Ok, Err, refl, sym, ap, subst, arith}
 use Rattle.std.specs.Prelude.{OnOk}
 use Rattle.std.specs.Io.KnownBytes.{Appends, Consumes, IsAtEnd}
-use Rattle.std.proofs.lemmas.Bool.{eqb-true}
+use Rattle.std.proofs.lemmas.Bool.{eqb-true, or_left}
 use Rattle.std.proofs.lemmas.List.{append-nil}
 use Rattle.bw_model.specs.declared.fault.Fault.{Fault}
 use Rattle.bw_model.specs.declared.query.Query.{Query}
@@ -15,10 +15,10 @@ use Rattle.bw_sql.specs.Refusal.{IsStatementFault, is_statement_fault}
 use Rattle.bw_cert.specs.FileVerdict.{is_file_fault}
 use Rattle.bw_model.specs.Groups.{groups_of, together}
 use Rattle.bw_model.specs.Row.{Value}
-use Rattle.bw_io.specs.Sink.{GoesOut, WriteOutcome, beginning, everything, is_write_fault}
-use Rattle.bw_io.specs.Sink.{none_aside, nothing}
+use Rattle.bw_io.specs.Sink.{GoesOut, SinkState, WriteOutcome, beginning, everything}
+use Rattle.bw_io.specs.Sink.{is_write_fault, none_aside, nothing}
 use Rattle.bw_io.proofs.SinkLemmas.{no_write_fault, wrote_nothing, wrote_text}
-use Rattle.bw_io.specs.Source.{TellsFailure, failed_by, failed_reads, is_input_fault, is_read_fault}
+use Rattle.bw_io.specs.Source.{failed_by, failed_reads, is_input_fault, is_read_fault}
 use Rattle.bw_file.specs.FileBytes.{IsFileBytes}
 use Rattle.bw_file.specs.Reading.{State, Fails, GoesOn, give}
 use Rattle.bw_file.specs.TableReading.{IsTableFault, header, is_table_fault}
@@ -142,11 +142,11 @@ table_answered asks start now text found Told told bytes known old new appends =
 
 -- and so if it was written at all
 pub answered_or_not : (asks : Schema → Result Query Fault → Type 0) (start now : State) (text : List ℕ) → TableText asks start now text → (bytes : List ℕ) → start.known ≡ Some bytes
-    → (old new : Option (List ℕ)) (before after : ℕ) (result : Result (Unit {0}) Fault) → GoesOut old new before after text result
-    → OnOk result (AnswersFile asks bytes old new)
-answered_or_not asks start now text found bytes known old new before after (Ok x) goes =
-    (table_answered asks start now text found (λ s q r. Unit {0}) tt bytes known old new goes.0).0
-answered_or_not asks start now text found bytes known old new before after (Err fault) goes = tt
+    → (old new : SinkState) (result : Result (Unit {0}) Fault) → GoesOut old new text result
+    → OnOk result (AnswersFile asks bytes old.taken new.taken)
+answered_or_not asks start now text found bytes known old new (Ok x) goes =
+    (table_answered asks start now text found (λ s q r. Unit {0}) tt bytes known old.taken new.taken goes.0).0
+answered_or_not asks start now text found bytes known old new (Err fault) goes = tt
 
 -- the file was read completely
 pub text_gave : (asks : Schema → Result Query Fault → Type 0) (start now : State) (schema : Schema) (query : Query) (scan : Scan) (text : List ℕ) (scanned : Scanned)
@@ -156,24 +156,24 @@ text_gave asks start now schema query scan text scanned asked over =
     record { failures = omega (arith, over.read.failures); answer = found.0 }
 
 -- an error was answered that is no failed write, and nothing was written
-pub refused : (T : Type 0) (old : Option (List ℕ)) (count : ℕ) (fault : Fault) → is_write_fault fault ≡ false → WriteOutcome {T = T} none_aside old old count count (Err fault) (Err fault)
-refused T old count fault other = wrote_nothing T none_aside old count fault (Err fault) other (λ _. refl)
+pub refused : (T : Type 0) (old : SinkState) (fault : Fault) → is_write_fault fault ≡ false → WriteOutcome {T = T} none_aside old old (Err fault) (Err fault)
+refused T old fault other = wrote_nothing T none_aside old fault (Err fault) other (λ _. refl)
 
 -- the text was written whole, or up to a failed write
-pub went : (T : Type 0) (old new : Option (List ℕ)) (before after : ℕ) (text : List ℕ) (result : Result T Fault) → GoesOut {T = T} old new before after text result
-    → WriteOutcome {T = T} none_aside old new before after (Ok text) result
-went T old new before after text result goes = wrote_text T none_aside old new before after text (Ok text) result refl goes
+pub went : (T : Type 0) (old new : SinkState) (text : List ℕ) (result : Result T Fault) → GoesOut {T = T} old new text result
+    → WriteOutcome {T = T} none_aside old new (Ok text) result
+went T old new text result goes = wrote_text T none_aside old new text (Ok text) result refl goes
 
 -- the result has as many failed reads as what was returned before the write: a failed write is no
 -- failed read
-tells_as : (T : Type 0) (old new : Option (List ℕ)) (before after : ℕ) (given : Given) (result : Result T Fault) → WriteOutcome none_aside old new before after given result → failed_by given ≡ failed_by result
-tells_as T old new before after given _ (everything text is _ _) = ap failed_by is
-tells_as T old new before after given _ (beginning text is _ _) = ap failed_by is
-tells_as T old new before after given _ (nothing _ is _ _) = ap failed_by (is refl)
+tells_as : (T : Type 0) (old new : SinkState) (given : Given) (result : Result T Fault) → WriteOutcome none_aside old new given result → failed_by given ≡ failed_by result
+tells_as T old new given _ (everything text is _ _) = ap failed_by is
+tells_as T old new given _ (beginning text is _ _) = ap failed_by is
+tells_as T old new given _ (nothing _ is _ _) = ap failed_by (is refl)
 
-pub tells : (T : Type 0) (asks : Schema → Result Query Fault → Type 0) (start : State) (now : ℕ → State) (old new : Option (List ℕ)) (before after : ℕ) (result : Result T Fault)
-    → (told : Ends asks start now (λ given. WriteOutcome none_aside old new before after given result)) → TellsFailure start.failures (now told.0).failures result
-tells T asks start now old new before after result told = told.2.failures ∙ ap (λ (n : ℕ). start.failures + n) (tells_as T old new before after told.1 result told.3)
+pub tells : (T : Type 0) (asks : Schema → Result Query Fault → Type 0) (start : State) (now : ℕ → State) (old new : SinkState) (result : Result T Fault)
+    → (told : Ends asks start now (λ given. WriteOutcome none_aside old new given result)) → (now told.0).failures ≡ start.failures + failed_by result
+tells T asks start now old new result told = told.2.failures ∙ ap (λ (n : ℕ). start.failures + n) (tells_as T old new told.1 result told.3)
 
 -- errors of a schema, of a statement, of a table file and of a program file, and out of memory, are
 -- no failed writes
@@ -212,23 +212,11 @@ no_read fault e = rw e refl
 
 -- a failed read and out of memory are no verdicts
 pub input_verdict : (fault : Fault) → is_input_fault fault ≡ true → is_no_verdict fault ≡ true
-input_verdict fault is = either (is_input_fault fault) (is_write_fault fault) is
-  where
-    either : (a b : Bool) → a ≡ true → (a || b) ≡ true
-    either true b e = refl
-    either false b e = absurd (cc e)
+input_verdict fault is = or_left (is_input_fault fault) (is_write_fault fault) is
 
 pub memory_verdict : (fault : Fault) → is_memory fault ≡ true → is_no_verdict fault ≡ true
-memory_verdict fault is = input_verdict fault (either (is_memory fault) (is_read_fault fault) is)
-  where
-    either : (a b : Bool) → a ≡ true → (a || b) ≡ true
-    either true b e = refl
-    either false b e = absurd (cc e)
+memory_verdict fault is = input_verdict fault (or_left (is_memory fault) (is_read_fault fault) is)
 
 -- out of memory is a rejection that no statement calls for
 pub memory_output : (fault : Fault) → is_memory fault ≡ true → is_output_fault fault ≡ true
-memory_output fault is = either (is_memory fault) (is_write_fault fault) is
-  where
-    either : (a b : Bool) → a ≡ true → (a || b) ≡ true
-    either true b e = refl
-    either false b e = absurd (cc e)
+memory_output fault is = or_left (is_memory fault) (is_write_fault fault) is

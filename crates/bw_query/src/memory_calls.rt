@@ -42,17 +42,16 @@ pub fn answer_in_memory<K: Sink>(
     program: Option<&[u8]>,
     sink: &mut K,
 ) -> Result<Served, Fault>
-    requires { K.failures sink.old < 2 ^ 64 - 1 }
+    requires { (K.state sink.old).failures < 2 ^ 64 - 1 }
     ensures answer { (given : Result (List ℕ) Fault)
         × IsMemoryAnswer (by_statement (given_file program.entry) sql.now) (schema_of table.now)
-        (rows_of table.now) given
-        × WriteOutcome none_aside (K.taken sink.old) (K.taken sink.new) (K.failures sink.old)
-        (K.failures sink.new) given result }
+        (rows_of table.now) given × WriteOutcome none_aside (K.state sink.old) (K.state sink.new)
+        given result }
     ensures served { IfOk result (λ served.
-        (found : AnswersRows (by_statement (given_file program.entry) sql.now) (schema_of table.now)
-        (rows_of table.now) (K.taken sink.old) (K.taken sink.new))
-        × IsServed (given_file program.entry) (schema_of table.now) found.query
-        (rows_of table.now) served) }
+        (found : AnswersRows (by_statement (given_file program.entry) sql.now)
+        (schema_of table.now) (rows_of table.now) (K.state sink.old).taken
+        (K.state sink.new).taken) × IsServed (given_file program.entry) (schema_of table.now)
+        found.query (rows_of table.now) served) }
 
     // If the statement spells a query, and the program file is accepted for its condition, only the
     // sink or memory can fail.
@@ -112,14 +111,13 @@ pub fn answer_with_programs<K: Sink>(
     sink: &mut K,
 ) -> Result<Served, Fault>
     requires serves { Serves (schema_of table.now).columns.items programs.old }
-    requires sink { K.failures sink.old < 2 ^ 64 - 1 }
+    requires sink { (K.state sink.old).failures < 2 ^ 64 - 1 }
     ensures answer { (given : Result (List ℕ) Fault)
         × IsMemoryAnswer (by_statement None sql.now) (schema_of table.now) (rows_of table.now) given
-        × WriteOutcome none_aside (K.taken sink.old) (K.taken sink.new) (K.failures sink.old)
-        (K.failures sink.new) given result }
+        × WriteOutcome none_aside (K.state sink.old) (K.state sink.new) given result }
     ensures served { IfOk result (λ served.
         (found : AnswersRows (by_statement None sql.now) (schema_of table.now) (rows_of table.now)
-        (K.taken sink.old) (K.taken sink.new))
+        (K.state sink.old).taken (K.state sink.new).taken)
         × IsServedAmong (files_of programs.old) (schema_of table.now) found.query
         (rows_of table.now) served) }
 

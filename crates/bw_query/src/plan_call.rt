@@ -34,10 +34,9 @@ pub fn plan_text<K: Sink>(
     sql: &[u8],
     sink: &mut K,
 ) -> Result<(), Fault>
-    requires { K.failures sink.old < 2 ^ 64 - 1 }
+    requires { (K.state sink.old).failures < 2 ^ 64 - 1 }
     ensures planned { (given : Result (List ℕ) Fault) × IsPlanned schema.now sql.now given
-        × WriteOutcome none_aside (K.taken sink.old) (K.taken sink.new) (K.failures sink.old)
-        (K.failures sink.new) given result }
+        × WriteOutcome none_aside (K.state sink.old) (K.state sink.new) given result }
 {
     let schema = Schema::parse(alloc, schema)?;
     let query = parse(alloc, &schema, sql)?;

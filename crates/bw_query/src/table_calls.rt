@@ -7,15 +7,13 @@ ghost use Rattle.bw_model.specs.declared.fault.Fault.{Fault};
 ghost use Rattle.bw_model.specs.declared.query.Query.{Query};
 ghost use Rattle.bw_model.specs.declared.schema.Schema.{Schema};
 ghost use Rattle.bw_model.specs.Total.{item_within};
-ghost use Rattle.bw_sql.specs.QueryShape.{QueryShape};
 ghost use Rattle.bw_sql.specs.Items.{AreOfOneKind};
-ghost use Rattle.bw_sql.specs.Statement.{Spells};
 ghost use Rattle.bw_model.specs.Fault.{no_memory, is_memory};
 ghost use Rattle.bw_model.specs.Row.{Value};
 ghost use Rattle.bw_model.specs.SchemaText.{schema_shape};
 ghost use Rattle.bw_file.specs.declared.layout.Layout.{Layout};
 ghost use Rattle.bw_file.specs.FileBytes.{IsFileBytes};
-ghost use Rattle.bw_file.specs.Reading.{State, state};
+ghost use Rattle.bw_file.specs.Reading.{State, state_at};
 ghost use Rattle.bw_file.specs.TableReader.{bytes_taken, rows_given, final_result};
 ghost use Rattle.bw_io.specs.Sink.{WriteOutcome, is_write_fault, none_aside};
 ghost use Rattle.bw_io.specs.Source.{TellsFailure, is_read_fault};
@@ -55,34 +53,31 @@ pub fn answer<S: Source, K: Sink>(
     program: Option<&[u8]>,
     sink: &mut K,
 ) -> Result<Served, Fault>
-    requires table { S.failures table.old < 2 ^ 64 - 1 }
-    requires sink { K.failures sink.old < 2 ^ 64 - 1 }
+    requires table { (S.state table.old).failures < 2 ^ 64 - 1 }
+    requires sink { (K.state sink.old).failures < 2 ^ 64 - 1 }
     ensures answer { (offset : ℕ) × (given : Result (List ℕ) Fault)
         × IsTableResult (by_statement (given_file program.entry) sql.now)
-        (state (S.to_come table.old) 0 (S.failures table.old))
-        (state (S.to_come table.new) offset (S.failures table.new)) given
-        × WriteOutcome none_aside (K.taken sink.old) (K.taken sink.new) (K.failures sink.old)
-        (K.failures sink.new) given result }
+        (state_at (S.state table.old) 0) (state_at (S.state table.new) offset) given
+        × WriteOutcome none_aside (K.state sink.old) (K.state sink.new) given result }
     ensures served { IfOk result (λ served. (offset : ℕ) × (text : List ℕ)
         × (found : TableText (by_statement (given_file program.entry) sql.now)
-        (state (S.to_come table.old) 0 (S.failures table.old))
-        (state (S.to_come table.new) offset (S.failures table.new)) text)
-        × Appends (K.taken sink.old) (K.taken sink.new) text
+        (state_at (S.state table.old) 0) (state_at (S.state table.new) offset) text)
+        × Appends (K.state sink.old).taken (K.state sink.new).taken text
         × IsServed (given_file program.entry) found.schema found.query found.rows served) }
 
     // If the unread bytes are known, a success shows that they are a table file's, and the result
     // is over its rows. If they are one's, the statement spells a query, and the program file is
     // accepted for its condition, only a device or memory can fail.
-    ensures file { (bytes : List ℕ) → S.to_come table.old ≡ Some bytes → IfOk result (λ served.
-        (file : AnswersFile (by_statement (given_file program.entry) sql.now) bytes
-        (K.taken sink.old) (K.taken sink.new))
-        × IsServed (given_file program.entry) file.schema file.query file.rows served) }
+    ensures file { (bytes : List ℕ) → (S.state table.old).known ≡ Some bytes
+        → IfOk result (λ served. (file : AnswersFile
+        (by_statement (given_file program.entry) sql.now) bytes (K.state sink.old).taken
+        (K.state sink.new).taken) × IsServed (given_file program.entry) file.schema file.query
+        file.rows served) }
     ensures accepted { (bytes : List ℕ) (layout : Layout) (schema : Schema)
-        (rows : List (List Value)) (query : Query)
-        → S.to_come table.old ≡ Some bytes → IsFileBytes bytes layout schema rows
-        → by_statement (given_file program.entry) sql.now schema (Ok query)
-        → IfErr result (λ fault. IsTrue (is_no_verdict fault)) }
-    ensures table { TellsFailure (S.failures table.old) (S.failures table.new) result }
+        (rows : List (List Value)) (query : Query) → (S.state table.old).known ≡ Some bytes
+        → IsFileBytes bytes layout schema rows → by_statement (given_file program.entry) sql.now
+        schema (Ok query) → IfErr result (λ fault. IsTrue (is_no_verdict fault)) }
+    ensures table { TellsFailure (S.state table.old) (S.state table.new) result }
 {
     let answered = run_statement(alloc, table, sql, program)?;
     write_whole(sink, &answered.text)?;
@@ -104,20 +99,17 @@ fn run_statement<S: Source>(
     sql: &[u8],
     program: Option<&[u8]>,
 ) -> Result<AnswerText, Fault>
-    requires { S.failures table.old < 2 ^ 64 - 1 }
+    requires { (S.state table.old).failures < 2 ^ 64 - 1 }
     ensures answer { (offset : ℕ) × IsTableResult (by_statement (given_file program.entry) sql.now)
-        (state (S.to_come table.old) 0 (S.failures table.old))
-        (state (S.to_come table.new) offset (S.failures table.new)) (text_in result) }
+        (state_at (S.state table.old) 0) (state_at (S.state table.new) offset) (text_in result) }
     ensures served { IfOk result (λ answered. (offset : ℕ)
         × (found : TableText (by_statement (given_file program.entry) sql.now)
-        (state (S.to_come table.old) 0 (S.failures table.old))
-        (state (S.to_come table.new) offset (S.failures table.new)) answered.text.items)
+        (state_at (S.state table.old) 0) (state_at (S.state table.new) offset) answered.text.items)
         × IsServed (given_file program.entry) found.schema found.query found.rows answered.served) }
     ensures accepted { (bytes : List ℕ) (layout : Layout) (schema : Schema)
-        (rows : List (List Value)) (query : Query)
-        → S.to_come table.old ≡ Some bytes → IsFileBytes bytes layout schema rows
-        → by_statement (given_file program.entry) sql.now schema (Ok query)
-        → IfErr result (λ fault. IsTrue (is_no_verdict fault)) }
+        (rows : List (List Value)) (query : Query) → (S.state table.old).known ≡ Some bytes
+        → IsFileBytes bytes layout schema rows → by_statement (given_file program.entry) sql.now
+        schema (Ok query) → IfErr result (λ fault. IsTrue (is_no_verdict fault)) }
     ensures fault { IfErr result (λ fault. is_write_fault fault ≡ false) }
 {
     a_file_is_read_whole();
@@ -133,26 +125,21 @@ fn run_after_header<S: Source>(
     sql: &[u8],
     program: Option<&[u8]>,
 ) -> Result<AnswerText, Fault>
-    requires counter_fits { S.failures table.old < 2 ^ 64 - 1 }
+    requires counter_fits { (S.state table.old).failures < 2 ^ 64 - 1 }
     requires fresh { (rows_given reader.old ≡ 0) × (final_result reader.old ≡ None) }
-    ensures answer { (start : State)
-        → HasReadHeader start
-        (state (S.to_come table.old) (bytes_taken reader.old) (S.failures table.old))
-        reader.old → IsTableResult (by_statement (given_file program.entry) sql.now) start
-        (state (S.to_come table.new) (bytes_taken reader.new) (S.failures table.new))
-        (text_in result) }
+    ensures answer { (start : State) → HasReadHeader start
+        (state_at (S.state table.old) (bytes_taken reader.old)) reader.old
+        → IsTableResult (by_statement (given_file program.entry) sql.now) start
+        (state_at (S.state table.new) (bytes_taken reader.new)) (text_in result) }
     ensures served { IfOk result (λ answered. (start : State)
-        → HasReadHeader start
-        (state (S.to_come table.old) (bytes_taken reader.old) (S.failures table.old))
-        reader.old → (found : TableText (by_statement (given_file program.entry) sql.now) start
-        (state (S.to_come table.new) (bytes_taken reader.new) (S.failures table.new))
-        answered.text.items)
+        → HasReadHeader start (state_at (S.state table.old) (bytes_taken reader.old)) reader.old
+        → (found : TableText (by_statement (given_file program.entry) sql.now) start
+        (state_at (S.state table.new) (bytes_taken reader.new)) answered.text.items)
         × IsServed (given_file program.entry) found.schema found.query found.rows answered.served) }
     ensures accepted { (start : State) (bytes : List ℕ) (layout : Layout) (schema : Schema)
         (rows : List (List Value)) (query : Query)
-        → HasReadHeader start
-        (state (S.to_come table.old) (bytes_taken reader.old) (S.failures table.old))
-        reader.old → start.known ≡ Some bytes → IsFileBytes bytes layout schema rows
+        → HasReadHeader start (state_at (S.state table.old) (bytes_taken reader.old)) reader.old
+        → start.known ≡ Some bytes → IsFileBytes bytes layout schema rows
         → by_statement (given_file program.entry) sql.now schema (Ok query)
         → IfErr result (λ fault. IsTrue (is_no_verdict fault)) }
     ensures fault { IfErr result (λ fault. is_write_fault fault ≡ false) }
@@ -218,22 +205,22 @@ pub(crate) fn prepare(
 /// the sink's (702); 701 if a read fails, and 801 at any time, if memory is refused. Nothing is
 /// written before the last segment was validated and the file has ended.
 pub fn dump<S: Source, K: Sink>(alloc: Global, table: &mut S, sink: &mut K) -> Result<(), Fault>
-    requires table { S.failures table.old < 2 ^ 64 - 1 }
-    requires sink { K.failures sink.old < 2 ^ 64 - 1 }
+    requires table { (S.state table.old).failures < 2 ^ 64 - 1 }
+    requires sink { (K.state sink.old).failures < 2 ^ 64 - 1 }
     ensures answer { (offset : ℕ) × (given : Result (List ℕ) Fault)
-        × IsTableResult by_dump (state (S.to_come table.old) 0 (S.failures table.old))
-        (state (S.to_come table.new) offset (S.failures table.new)) given
-        × WriteOutcome none_aside (K.taken sink.old) (K.taken sink.new) (K.failures sink.old)
-        (K.failures sink.new) given result }
+        × IsTableResult by_dump (state_at (S.state table.old) 0)
+        (state_at (S.state table.new) offset) given
+        × WriteOutcome none_aside (K.state sink.old) (K.state sink.new) given result }
 
     // The same of the unread bytes as for [`answer`].
-    ensures file { (bytes : List ℕ) → S.to_come table.old ≡ Some bytes
-        → OnOk result (AnswersFile by_dump bytes (K.taken sink.old) (K.taken sink.new)) }
+    ensures file { (bytes : List ℕ) → (S.state table.old).known ≡ Some bytes
+        → OnOk result (AnswersFile by_dump bytes (K.state sink.old).taken
+        (K.state sink.new).taken) }
     ensures accepted { (bytes : List ℕ) (layout : Layout) (schema : Schema)
-        (rows : List (List Value))
-        → S.to_come table.old ≡ Some bytes → IsFileBytes bytes layout schema rows
+        (rows : List (List Value)) → (S.state table.old).known ≡ Some bytes
+        → IsFileBytes bytes layout schema rows
         → IfErr result (λ fault. IsTrue (is_no_verdict fault)) }
-    ensures table { TellsFailure (S.failures table.old) (S.failures table.new) result }
+    ensures table { TellsFailure (S.state table.old) (S.state table.new) result }
 {
     let text = dump_rows(alloc, table)?;
     write_whole(sink, &text)
@@ -242,16 +229,15 @@ pub fn dump<S: Source, K: Sink>(alloc: Global, table: &mut S, sink: &mut K) -> R
 /// Returns the text of all rows of a table file, once the last segment was validated and the file
 /// has ended. Errors are those of [`dump`], without the sink's.
 fn dump_rows<S: Source>(alloc: Global, table: &mut S) -> Result<Vec<u8>, Fault>
-    requires { S.failures table.old < 2 ^ 64 - 1 }
-    ensures answer { (offset : ℕ)
-        × IsTableResult by_dump (state (S.to_come table.old) 0 (S.failures table.old))
-        (state (S.to_come table.new) offset (S.failures table.new)) (bytes_in result) }
-    ensures text { IfOk result (λ text. (offset : ℕ) × TableText by_dump
-        (state (S.to_come table.old) 0 (S.failures table.old))
-        (state (S.to_come table.new) offset (S.failures table.new)) text.items) }
+    requires { (S.state table.old).failures < 2 ^ 64 - 1 }
+    ensures answer { (offset : ℕ) × IsTableResult by_dump (state_at (S.state table.old) 0)
+        (state_at (S.state table.new) offset) (bytes_in result) }
+    ensures text { IfOk result (λ text. (offset : ℕ)
+        × TableText by_dump (state_at (S.state table.old) 0) (state_at (S.state table.new) offset)
+        text.items) }
     ensures accepted { (bytes : List ℕ) (layout : Layout) (schema : Schema)
-        (rows : List (List Value))
-        → S.to_come table.old ≡ Some bytes → IsFileBytes bytes layout schema rows
+        (rows : List (List Value)) → (S.state table.old).known ≡ Some bytes
+        → IsFileBytes bytes layout schema rows
         → IfErr result (λ fault. IsTrue (is_no_verdict fault)) }
     ensures fault { IfErr result (λ fault. is_write_fault fault ≡ false) }
 {
@@ -266,24 +252,20 @@ fn dump_after_header<S: Source>(
     reader: &mut TableReader,
     table: &mut S,
 ) -> Result<Vec<u8>, Fault>
-    requires counter_fits { S.failures table.old < 2 ^ 64 - 1 }
+    requires counter_fits { (S.state table.old).failures < 2 ^ 64 - 1 }
     requires fresh { (rows_given reader.old ≡ 0) × (final_result reader.old ≡ None) }
-    ensures answer { (start : State)
-        → HasReadHeader start
-        (state (S.to_come table.old) (bytes_taken reader.old) (S.failures table.old))
-        reader.old → IsTableResult by_dump start
-        (state (S.to_come table.new) (bytes_taken reader.new) (S.failures table.new))
+    ensures answer { (start : State) → HasReadHeader start
+        (state_at (S.state table.old) (bytes_taken reader.old)) reader.old
+        → IsTableResult by_dump start (state_at (S.state table.new) (bytes_taken reader.new))
         (bytes_in result) }
     ensures text { IfOk result (λ text. (start : State)
-        → HasReadHeader start
-        (state (S.to_come table.old) (bytes_taken reader.old) (S.failures table.old))
-        reader.old → TableText by_dump start
-        (state (S.to_come table.new) (bytes_taken reader.new) (S.failures table.new)) text.items) }
+        → HasReadHeader start (state_at (S.state table.old) (bytes_taken reader.old)) reader.old
+        → TableText by_dump start (state_at (S.state table.new) (bytes_taken reader.new))
+        text.items) }
     ensures accepted { (start : State) (bytes : List ℕ) (layout : Layout) (schema : Schema)
-        (rows : List (List Value))
-        → HasReadHeader start
-        (state (S.to_come table.old) (bytes_taken reader.old) (S.failures table.old))
-        reader.old → start.known ≡ Some bytes → IsFileBytes bytes layout schema rows
+        (rows : List (List Value)) → HasReadHeader start
+        (state_at (S.state table.old) (bytes_taken reader.old)) reader.old → start.known
+        ≡ Some bytes → IsFileBytes bytes layout schema rows
         → IfErr result (λ fault. IsTrue (is_no_verdict fault)) }
     ensures fault { IfErr result (λ fault. is_write_fault fault ≡ false) }
 {

@@ -1,5 +1,5 @@
 //! The text of a result over a table file, one segment at a time.
-ghost use Rattle.std.specs.Prelude.{◌≡◌, ◌+◌, ◌-◌, ◌^◌, ◌<◌, ◌≤◌, ◌++◌, ℕ, List, [], None, false};
+ghost use Rattle.std.specs.Prelude.{◌≡◌, ◌+◌, ◌-◌, ◌^◌, ◌<◌, ◌≤◌, [], None, false};
 ghost use Rattle.std.specs.Prelude.{true, IsTrue, IfOk, IfErr, OnOk, length, vec_len};
 ghost use Rattle.std.specs.List.{list_all};
 ghost use Rattle.bw_model.specs.Column.{names_of};
@@ -13,7 +13,7 @@ ghost use Rattle.bw_answer.specs.Progress.{GoesOver, IsOver, query_in};
 ghost use Rattle.bw_answer.specs.declared.answer.Answer.{Answer};
 ghost use Rattle.bw_io.specs.Sink.{is_write_fault};
 ghost use Rattle.bw_file.specs.AnySegment.{any_meaning};
-ghost use Rattle.bw_file.specs.Reading.{State, state};
+ghost use Rattle.bw_file.specs.Reading.{State, state_at};
 ghost use Rattle.bw_file.specs.TableReader.{schema_in, bytes_taken, rows_given, final_result};
 ghost use Rattle.bw_file.specs.TableReader.{ReadProgress, AnswersFault};
 ghost use Rattle.bw_query.specs.Scan.{IsFor, loads_in, skips_in};
@@ -45,7 +45,7 @@ pub(crate) fn table_text<S: Source>(
     query: &Query,
     scan: &Scan,
 ) -> Result<TableText, Fault>
-    requires counter_fits { S.failures source.old < 2 ^ 64 - 1 }
+    requires counter_fits { (S.state source.old).failures < 2 ^ 64 - 1 }
     requires fresh { (rows_given reader.old ≡ 0) × (final_result reader.old ≡ None) }
     requires items { IsTrue (list_all (item_within (vec_len (schema_in reader.old).columns))
         query.now.items.items) }
@@ -53,17 +53,13 @@ pub(crate) fn table_text<S: Source>(
     requires kinds { AreOfOneKind query.now.items.items }
     requires scan { IsFor (schema_in reader.old).columns.items query.now.cond scan.now }
     ensures text { IfOk result (λ found. (start : State)
-        → ReadProgress start (state (S.to_come source.old) (bytes_taken reader.old)
-        (S.failures source.old)) reader.old []
-        → TextOver start (state (S.to_come source.new) (bytes_taken reader.new)
-        (S.failures source.new))
+        → ReadProgress start (state_at (S.state source.old) (bytes_taken reader.old)) reader.old []
+        → TextOver start (state_at (S.state source.new) (bytes_taken reader.new))
         (schema_in reader.old) query.now scan.now found.text.items found.scanned) }
     ensures refused { IfErr result (λ fault. (start : State)
-        → ReadProgress start (state (S.to_come source.old) (bytes_taken reader.old)
-        (S.failures source.old)) reader.old []
-        → AnswersFault start (state (S.to_come source.old) (bytes_taken reader.old)
-        (S.failures source.old))
-        (state (S.to_come source.new) (bytes_taken reader.new) (S.failures source.new)) fault) }
+        → ReadProgress start (state_at (S.state source.old) (bytes_taken reader.old)) reader.old []
+        → AnswersFault start (state_at (S.state source.old) (bytes_taken reader.old))
+        (state_at (S.state source.new) (bytes_taken reader.new)) fault) }
     ensures fault { IfErr result (λ fault. is_write_fault fault ≡ false) }
 {
     bytes_were_taken();
@@ -104,21 +100,19 @@ fn take_rows<S: Source>(
     scan: &Scan,
     answer: &mut Answer<'_>,
 ) -> Result<Scanned, Fault>
-    requires counter_fits { S.failures source.old < 2 ^ 64 - 1 }
+    requires counter_fits { (S.state source.old).failures < 2 ^ 64 - 1 }
     requires fresh { (rows_given reader.old ≡ 0) × (final_result reader.old ≡ None) }
     requires none { answer.old.rows ≡ 0 }
     requires width { answer.old.width ≡ length (schema_in reader.old).columns.items }
     requires scan { IsFor (schema_in reader.old).columns.items (query_in answer.old).cond scan.now }
     ensures took { IfOk result (λ scanned. HasConsumedAll
-        (state (S.to_come source.old) (bytes_taken reader.old) (S.failures source.old))
-        (state (S.to_come source.new) (bytes_taken reader.new) (S.failures source.new))
-        reader.old scan.now answer.old answer.new scanned) }
+        (state_at (S.state source.old) (bytes_taken reader.old))
+        (state_at (S.state source.new) (bytes_taken reader.new)) reader.old scan.now answer.old
+        answer.new scanned) }
     ensures refused { IfErr result (λ fault. (start : State)
-        → ReadProgress start (state (S.to_come source.old) (bytes_taken reader.old)
-        (S.failures source.old)) reader.old []
-        → AnswersFault start (state (S.to_come source.old) (bytes_taken reader.old)
-        (S.failures source.old))
-        (state (S.to_come source.new) (bytes_taken reader.new) (S.failures source.new)) fault) }
+        → ReadProgress start (state_at (S.state source.old) (bytes_taken reader.old)) reader.old []
+        → AnswersFault start (state_at (S.state source.old) (bytes_taken reader.old))
+        (state_at (S.state source.new) (bytes_taken reader.new)) fault) }
     ensures fault { IfErr result (λ fault. is_write_fault fault ≡ false) }
 {
     bytes_were_taken();

@@ -1,9 +1,9 @@
 -- The lines that a call prints beside its result, and its exit status.
-use Rattle.std.specs.Prelude.{ℕ, nat_lt, if◌then◌else◌, List, ◌++◌, codes, Option, Result}
+use Rattle.std.specs.Prelude.{ℕ, nat_lt, if◌then◌else◌, List, ◌++◌, codes, Result}
 use Rattle.std.specs.Fmt.{decimal}
 use Rattle.bw_model.specs.declared.fault.Fault.{Fault}
 use Rattle.bw_report.specs.declared.accepted.Accepted.{Accepted}
-use Rattle.bw_io.specs.Sink.{GoesOut}
+use Rattle.bw_io.specs.Sink.{GoesOut, SinkState}
 use Rattle.bw_report.specs.declared.served.By.{By}
 use Rattle.bw_report.specs.declared.served.By.TheVariants.{Program, Rows}
 use Rattle.bw_report.specs.declared.served.Served.{Served}
@@ -16,9 +16,8 @@ status_of fault =
     else (if nat_lt fault.code 700 then 4 else (if nat_lt fault.code 800 then 5 else 6))
 
 -- a text was written to a sink, completely or up to a failed write
-abbrev pub IsWritten : Option (List ℕ) → Option (List ℕ) → ℕ → ℕ → List ℕ → Type 0
-IsWritten old new before after text = (outcome : Result (Unit {0}) Fault)
-    × GoesOut old new before after text outcome
+abbrev pub IsWritten : SinkState → SinkState → List ℕ → Type 0
+IsWritten old new text = (outcome : Result (Unit {0}) Fault) × GoesOut old new text outcome
 
 -- the word for who selected a query's rows
 abbrev pub by_text : By → List ℕ

@@ -64,10 +64,9 @@ fn and_place<const N: usize>(line: InlineText<N>, place: Place) -> InlineText<N>
 /// change it; the sink has then consumed the beginning of the line. The sink's count of failures
 /// must be less than 2^64 - 1.
 pub fn report<K: Sink>(fault: &Fault, sink: &mut K) -> u8
-    requires { K.failures sink.old < 2 ^ 64 - 1 }
+    requires { (K.state sink.old).failures < 2 ^ 64 - 1 }
     ensures status { result ≡ status_of fault.now }
-    ensures line { IsWritten (K.taken sink.old) (K.taken sink.new) (K.failures sink.old)
-        (K.failures sink.new) (fault_line fault.now) }
+    ensures line { IsWritten (K.state sink.old) (K.state sink.new) (fault_line fault.now) }
 {
     let line = line_of(fault);
     let _ = write_whole(sink, line.as_str().as_bytes());
@@ -121,9 +120,8 @@ fn by_text(by: By) -> &'static str
 /// Writes the line of scan statistics, as `served rows segments 1 loads 0 skips 0`. The sink's
 /// count of failures must be less than 2^64 - 1. Errors: 702 if a write fails.
 pub fn stats_line<K: Sink>(served: &Served, sink: &mut K) -> Result<(), Fault>
-    requires { K.failures sink.old < 2 ^ 64 - 1 }
-    ensures { GoesOut (K.taken sink.old) (K.taken sink.new) (K.failures sink.old)
-        (K.failures sink.new) (stats_line served.now) result }
+    requires { (K.state sink.old).failures < 2 ^ 64 - 1 }
+    ensures { GoesOut (K.state sink.old) (K.state sink.new) (stats_line served.now) result }
 {
     let line = line_of_served(served);
     write_whole(sink, line.as_str().as_bytes())
@@ -150,9 +148,8 @@ fn line_of_accepted(accepted: &Accepted) -> InlineText<LONG_LINE>
 /// chains, 17 rows`. The sink's count of failures must be less than 2^64 - 1. Errors: 702 if a
 /// write fails.
 pub fn accepted_line<K: Sink>(accepted: &Accepted, sink: &mut K) -> Result<(), Fault>
-    requires { K.failures sink.old < 2 ^ 64 - 1 }
-    ensures { GoesOut (K.taken sink.old) (K.taken sink.new) (K.failures sink.old)
-        (K.failures sink.new) (accepted_line accepted.now) result }
+    requires { (K.state sink.old).failures < 2 ^ 64 - 1 }
+    ensures { GoesOut (K.state sink.old) (K.state sink.new) (accepted_line accepted.now) result }
 {
     let line = line_of_accepted(accepted);
     write_whole(sink, line.as_str().as_bytes())

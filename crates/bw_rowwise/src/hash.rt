@@ -8,7 +8,7 @@ const HASHED: u32 = 64;
 
 /// Returns a hash of a condition. Equal conditions have equal hashes; so do conditions that differ
 /// only after their first 64 predicates and connectives.
-pub fn hash_of(cond: &Cond) -> u64 {
+pub(crate) fn hash_of(cond: &Cond) -> u64 {
     let mut hasher = FoldHasher::default();
     add_cond(&mut hasher, cond, HASHED);
     hasher.finish()

@@ -1,6 +1,6 @@
 -- Where a call that reports a header ends: at the header, or when the text is written.
 use Rattle.std.proofs.Common.{◌≡◌, ◌∙◌, ◌+◌, refl, sym, ap, subst, ℕ, true, false, List, [], length}
-use Rattle.std.proofs.Common.{Option, Result, Ok, Err, arith, OnOk}
+use Rattle.std.proofs.Common.{Result, Ok, Err, arith, OnOk}
 use Rattle.std.proofs.lemmas.Bool.{or_left}
 use Rattle.std.specs.Io.KnownBytes.{Appends}
 use Rattle.bw_model.specs.declared.fault.Fault.{Fault}
@@ -8,7 +8,7 @@ use Rattle.bw_model.specs.declared.schema.Schema.{Schema}
 use Rattle.bw_model.specs.Fault.{no_memory}
 use Rattle.bw_model.specs.Row.{Value}
 use Rattle.bw_model.specs.SchemaText.{IsSchemaText, SchemaShape, schema_shape}
-use Rattle.bw_io.specs.Sink.{GoesOut, WriteOutcome, is_write_fault, none_aside}
+use Rattle.bw_io.specs.Sink.{GoesOut, SinkState, WriteOutcome, is_write_fault, none_aside}
 use Rattle.bw_io.proofs.SinkLemmas.{no_write_fault, wrote_nothing}
 use Rattle.bw_io.specs.Source.{failed_reads, is_input_fault, is_read_fault}
 use Rattle.bw_file.specs.declared.layout.Layout.{Layout}
@@ -69,12 +69,12 @@ text_exit start now offset W reader text read is spelled w =
     )
 
 -- an error of a table file was answered, or out of memory, and nothing was written
-pub refused_table : (old : Option (List ℕ)) (count : ℕ) (fault : Fault) → IsTableFault fault → WriteOutcome {T = Unit {0}} none_aside old old count count (Err fault) (Err fault)
-refused_table old count fault is =
-    wrote_nothing (Unit {0}) none_aside old count fault (Err fault) (no_write_fault is_table_fault fault is refl) (λ _. refl)
+pub refused_table : (old : SinkState) (fault : Fault) → IsTableFault fault → WriteOutcome {T = Unit {0}} none_aside old old (Err fault) (Err fault)
+refused_table old fault is =
+    wrote_nothing (Unit {0}) none_aside old fault (Err fault) (no_write_fault is_table_fault fault is refl) (λ _. refl)
 
-pub refused_memory : (old : Option (List ℕ)) (count : ℕ) (fault : Fault) → fault ≡ no_memory → WriteOutcome {T = Unit {0}} none_aside old old count count (Err fault) (Err fault)
-refused_memory old count fault is = wrote_nothing (Unit {0}) none_aside old count fault (Err fault) (ap is_write_fault is) (λ _. refl)
+pub refused_memory : (old : SinkState) (fault : Fault) → fault ≡ no_memory → WriteOutcome {T = Unit {0}} none_aside old old (Err fault) (Err fault)
+refused_memory old fault is = wrote_nothing (Unit {0}) none_aside old fault (Err fault) (ap is_write_fault is) (λ _. refl)
 
 -- the text of a schema's header is that of another's with the same name and columns
 text_same : (version : ℕ) (l m : Layout) (s t : Schema) (n o : ℕ) → l ≡ m → schema_shape s ≡ schema_shape t → n ≡ o → info_text version l s n ≡ info_text version m t o
@@ -87,15 +87,15 @@ text_same version l m s t n o p q r =
 -- a table file's header was reported
 pub told_file : (reader : TableReader) (bytes : List ℕ) (layout : Layout) (schema : Schema) (rows : List (List Value)) (text : List ℕ) → IsFileBytes bytes layout schema rows
     → ReturnsFirst reader [] layout schema rows → text ≡ info_text (version_in reader) (layout_in reader) (schema_in reader) (rows_stated reader)
-    → (old new : Option (List ℕ)) (before after : ℕ) (result : Result (Unit {0}) Fault) → GoesOut old new before after text result → OnOk result (TellsFile bytes layout schema rows old new)
-told_file reader bytes layout schema rows text file gave is old new before after (Ok x) goes =
+    → (old new : SinkState) (result : Result (Unit {0}) Fault) → GoesOut old new text result → OnOk result (TellsFile bytes layout schema rows old.taken new.taken)
+told_file reader bytes layout schema rows text file gave is old new (Ok x) goes =
     let version = version_in reader in
     record {
       version = version;
       size = file_sized bytes layout schema rows version file;
-      text = subst (Appends old new) (is ∙ text_same version (layout_in reader) layout (schema_in reader) schema (rows_stated reader) (length rows) gave.layout gave.schema gave.count) goes.0;
+      text = subst (Appends old.taken new.taken) (is ∙ text_same version (layout_in reader) layout (schema_in reader) schema (rows_stated reader) (length rows) gave.layout gave.schema gave.count) goes.0;
     }
-told_file reader bytes layout schema rows text file gave is old new before after (Err fault) goes = tt
+told_file reader bytes layout schema rows text file gave is old new (Err fault) goes = tt
 
 -- a failed read and out of memory are no verdicts
 pub input_verdict : (fault : Fault) → is_input_fault fault ≡ true → is_no_verdict fault ≡ true

@@ -8,7 +8,7 @@ use Rattle.bw_model.specs.declared.schema.Schema.{Schema}
 use Rattle.bw_model.specs.Row.{Value}
 use Rattle.bw_model.specs.SchemaText.{IsSchemaText, schema_shape}
 use Rattle.bw_io.specs.Sink.{is_write_fault}
-use Rattle.bw_io.specs.Source.{TellsFailure, is_input_fault}
+use Rattle.bw_io.specs.Source.{failed_by, is_input_fault}
 use Rattle.bw_file.specs.declared.layout.Layout.{Layout}
 use Rattle.bw_file.specs.declared.layout.Layout.TheVariants.{Planes, Slices}
 use Rattle.bw_file.specs.Blocks.{segment_size}
@@ -68,7 +68,7 @@ IsInfo start now (Err fault) = Fails header start now fault
 
 -- so it is, by what a source yielded, whose failures rose if and only if the error is a failed read
 pub record IsInfoResult (start now : State) (given : Result (List ℕ) Fault) : Type 0 where
-  pub failures : TellsFailure start.failures now.failures given
+  pub failures : now.failures ≡ start.failures + failed_by given
   pub info : IsInfo start now given
 
 -- The bytes are a table file's of these rows, and a sink consumed the text of its header, with the

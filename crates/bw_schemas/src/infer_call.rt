@@ -41,37 +41,33 @@ pub fn infer<C: Source, K: Sink>(
     csv_source: &mut C,
     sink: &mut K,
 ) -> Result<(), Fault>
-    requires csv { C.failures csv_source.old < 2 ^ 64 - 1 }
-    requires sink { K.failures sink.old < 2 ^ 64 - 1 }
+    requires csv { (C.state csv_source.old).failures < 2 ^ 64 - 1 }
+    requires sink { (K.state sink.old).failures < 2 ^ 64 - 1 }
 
     // The bytes written are the text of the schema that is inferred from what the source yielded,
     // or none if that is an error. If the table's name is invalid, the source wasn't reached.
     ensures schema { (csv : Arrival) × (given : Result (List ℕ) Fault)
-        × ReadOutcome longest_csv (C.to_come csv_source.old) (C.to_come csv_source.new)
-        (C.failures csv_source.old) (C.failures csv_source.new) csv
+        × ReadOutcome longest_csv (C.state csv_source.old) (C.state csv_source.new) csv
         × IsTextFrom table.now csv given
-        × WriteOutcome is_exempt (K.taken sink.old) (K.taken sink.new)
-        (K.failures sink.old) (K.failures sink.new) given result }
+        × WriteOutcome is_exempt (K.state sink.old) (K.state sink.new) given result }
 
     // The text that was written spells a schema under which the CSV text has its rows without an
     // error, and no column could be narrower.
     ensures exact { OnOk result ((csv : List ℕ)
-        × ReadOutcome longest_csv (C.to_come csv_source.old) (C.to_come csv_source.new)
-        (C.failures csv_source.old) (C.failures csv_source.new) (Whole csv)
-        × InfersExactly csv (K.taken sink.old) (K.taken sink.new)) }
+        × ReadOutcome longest_csv (C.state csv_source.old) (C.state csv_source.new) (Whole csv)
+        × InfersExactly csv (K.state sink.old).taken (K.state sink.new).taken) }
 
     // If the reader has an error of its own, the CSV was read completely, and the error is at the
     // heading, or at the record after those that have rows.
     ensures reader { IfErr result (λ fault. is_reader_fault fault ≡ true → (csv : List ℕ)
-        × ReadOutcome longest_csv (C.to_come csv_source.old) (C.to_come csv_source.new)
-        (C.failures csv_source.old) (C.failures csv_source.new) (Whole csv)
+        × ReadOutcome longest_csv (C.state csv_source.old) (C.state csv_source.new) (Whole csv)
         × StopsInferring csv fault) }
 
     // Of the source at most one byte past its limit is read. The call fails by a failed read if and
     // only if the source's count of failures rose. If the table's name is invalid, the source is as
     // it was.
-    ensures csv { SourceEffect (longest_csv + 1) (C.to_come csv_source.old)
-        (C.to_come csv_source.new) (C.failures csv_source.old) (C.failures csv_source.new) result }
+    ensures csv { SourceEffect (longest_csv + 1) (C.state csv_source.old)
+        (C.state csv_source.new) result }
     ensures unneeded { is_name table.now ≡ false → csv_source.new ≡ csv_source.old }
 {
     if !is_name(table) {

@@ -9,7 +9,7 @@ ghost use Rattle.bw_io.specs.Sink.{WriteOutcome, none_aside};
 ghost use Rattle.bw_io.specs.Source.{TellsFailure};
 ghost use Rattle.bw_file.specs.declared.layout.Layout.{Layout};
 ghost use Rattle.bw_file.specs.FileBytes.{AreRows, IsFileBytes, bytes_of_version};
-ghost use Rattle.bw_file.specs.Reading.{state};
+ghost use Rattle.bw_file.specs.Reading.{state_at};
 ghost use Rattle.bw_schemas.specs.Info.{IsInfoResult, TellsFile, file_size, is_no_verdict};
 ghost use Rattle.bw_schemas.specs.Info.{segment_count};
 
@@ -29,25 +29,24 @@ use std::alloc::Global;
 /// Errors, in this order: the header (301 to 305, 310) and the sink (702). 701 if a read fails, and
 /// 801 at any time if memory is refused.
 pub fn info<S: Source, K: Sink>(alloc: Global, table: &mut S, sink: &mut K) -> Result<(), Fault>
-    requires table { S.failures table.old < 2 ^ 64 - 1 }
-    requires sink { K.failures sink.old < 2 ^ 64 - 1 }
+    requires table { (S.state table.old).failures < 2 ^ 64 - 1 }
+    requires sink { (K.state sink.old).failures < 2 ^ 64 - 1 }
     ensures info { (offset : ℕ) × (given : Result (List ℕ) Fault)
-        × IsInfoResult (state (S.to_come table.old) 0 (S.failures table.old))
-        (state (S.to_come table.new) offset (S.failures table.new)) given
-        × WriteOutcome none_aside (K.taken sink.old) (K.taken sink.new) (K.failures sink.old)
-        (K.failures sink.new) given result }
+        × IsInfoResult (state_at (S.state table.old) 0) (state_at (S.state table.new) offset) given
+        × WriteOutcome none_aside (K.state sink.old) (K.state sink.new) given result }
 
     // If the unread bytes are a table file's, its schema, its rows and its length are reported, and
     // only a device or memory can fail.
     ensures file { (bytes : List ℕ) (layout : Layout) (schema : Schema) (rows : List (List Value))
-        → S.to_come table.old ≡ Some bytes → IsFileBytes bytes layout schema rows
-        → OnOk result (TellsFile bytes layout schema rows (K.taken sink.old) (K.taken sink.new)) }
+        → (S.state table.old).known ≡ Some bytes → IsFileBytes bytes layout schema rows
+        → OnOk result (TellsFile bytes layout schema rows (K.state sink.old).taken
+        (K.state sink.new).taken) }
     ensures accepted { (bytes : List ℕ) (layout : Layout) (schema : Schema)
-        (rows : List (List Value))
-        → S.to_come table.old ≡ Some bytes → IsFileBytes bytes layout schema rows
+        (rows : List (List Value)) → (S.state table.old).known ≡ Some bytes
+        → IsFileBytes bytes layout schema rows
         → IfErr result (λ fault. IsTrue (is_no_verdict fault)) }
     // The call fails by a failed read if and only if the table's count of failures rose.
-    ensures table { TellsFailure (S.failures table.old) (S.failures table.new) result }
+    ensures table { TellsFailure (S.state table.old) (S.state table.new) result }
 {
     a_file_is_read_whole();
     let reader = TableReader::begin(alloc, table)?;

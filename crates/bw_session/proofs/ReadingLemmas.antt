@@ -5,9 +5,8 @@ use Rattle.std.proofs.Common.{take, arith, append-nil, length-append, length-tak
 use Rattle.std.proofs.lemmas.List.{take-append-le}
 use Rattle.std.proofs.lemmas.Bool.{ltb-true, ltb-false}
 use Rattle.std.proofs.KnownBytes.{Consumes-nil, Consumes-trans}
-use Rattle.std.specs.Io.KnownBytes.{Keeps}
+use Rattle.std.specs.Io.KnownBytes.{Keeps, Consumes, IsAtEnd}
 use Rattle.std.specs.Prelude.{IfErr, ltb, if◌then◌else◌}
-use Rattle.std.specs.Io.KnownBytes.{Consumes, IsAtEnd}
 use Rattle.bw_session.specs.declared.statement_state.StatementState.{StatementState}
 use Rattle.bw_session.specs.declared.statement_state.StatementState.TheVariants.{Blank}
 use Rattle.bw_session.specs.StatementState.{after, is_ended, statement_state_after}

@@ -1,7 +1,6 @@
 -- One statement more of a session, and how it ends.
 use Rattle.std.proofs.Common.{◌≡◌, refl, sym, ap, ◌∙◌, subst, ℕ, ◌+◌, Bool, true, false, List, []}
-use Rattle.std.proofs.Common.{◌++◌, Option, None, arith, append-nil, IsTrue}
-use Rattle.std.proofs.Common.{inl, inr}
+use Rattle.std.proofs.Common.{◌++◌, Option, None, arith, append-nil, IsTrue, inl, inr}
 use Rattle.std.proofs.KnownBytes.{Appends-nil, Appends-trans, Consumes-nil, Consumes-trans}
 use Rattle.std.specs.Io.KnownBytes.{Consumes}
 use Rattle.bw_model.specs.FaultTable.{WRITE_FAILED}
@@ -16,8 +15,7 @@ use Rattle.bw_session.specs.Reading.{HasReadBeginning, HasReadStatement}
 use Rattle.std.specs.Prelude.{if◌then◌else◌}
 use Rattle.bw_session.specs.Session.{IsComplete, Ended, IsOutput, RanSoFar, IsStopped}
 use Rattle.bw_session.specs.Session.{HasWrittenOutput, HasWrittenPart, begun, failed_writes}
-use Rattle.bw_session.specs.Session.{first_of, more}
-use Rattle.bw_session.specs.Session.{reading, whole, writing}
+use Rattle.bw_session.specs.Session.{first_of, more, reading, whole, writing}
 use Rattle.bw_session.proofs.CutLemmas.{none_opened}
 use Rattle.bw_session.proofs.KeptLemmas.{kept_output}
 use Rattle.bw_session.proofs.WriteLemmas.{part_after}

@@ -11,8 +11,8 @@ use Rattle.std.specs.Io.KnownBytes.{Appends}
 use Rattle.bw_model.specs.declared.fault.Fault.{Fault}
 use Rattle.bw_model.specs.declared.schema.Schema.{Schema}
 use Rattle.bw_model.specs.Row.{Value}
-use Rattle.bw_io.specs.Sink.{TookPart, WriteOutcome, beginning, everything, is_write_fault}
-use Rattle.bw_io.specs.Sink.{none_aside, nothing}
+use Rattle.bw_io.specs.Sink.{SinkState, TookPart, WriteOutcome, beginning, everything}
+use Rattle.bw_io.specs.Sink.{is_write_fault, none_aside, nothing}
 use Rattle.bw_query.specs.MemoryAnswer.{IsMemoryAnswer, RowsText}
 use Rattle.bw_query.specs.TableAnswer.{by_statement}
 use Rattle.bw_sql.specs.Statement.{IsReadAs}
@@ -53,80 +53,80 @@ statement_fault schema sql fault (inl refused) = refused
 statement_fault schema sql fault (inr program) = absurd program.refused
 
 -- an LF follows what was written
-line_ends : (schema : Schema) (rows : List (List Value)) (sql text : List ℕ) (old mid new : Option (List ℕ))
-    (before between after : ℕ) (fault : Option Fault) (result : Result (Option Fault) Fault)
-    → IsOutput schema rows sql fault (text ++ 10 ∷ []) → Appends old mid text → between ≡ before
-    → EndsLine mid new between after fault result → AnswersOne schema rows sql old new before after result
-line_ends schema rows sql text old mid new before between after fault (Ok found) is went count line = (
+line_ends : (schema : Schema) (rows : List (List Value)) (sql text : List ℕ) (old mid new : SinkState)
+    (fault : Option Fault) (result : Result (Option Fault) Fault)
+    → IsOutput schema rows sql fault (text ++ 10 ∷ []) → Appends old.taken mid.taken text → mid.failures ≡ old.failures
+    → EndsLine mid new fault result → AnswersOne schema rows sql old new result
+line_ends schema rows sql text old mid new fault (Ok found) is went count line = (
   record {
     out = text ++ 10 ∷ [];
     is = subst (λ f. IsOutput schema rows sql f (text ++ 10 ∷ [])) (sym line.0) is;
-    appends = Appends-trans old mid new text (10 ∷ []) went line.1;
+    appends = Appends-trans old.taken mid.taken new.taken text (10 ∷ []) went line.1;
   },
   line.2 ∙ count,
 )
-line_ends schema rows sql text old mid new before between after fault (Err failed) is went count line = (
+line_ends schema rows sql text old mid new fault (Err failed) is went count line = (
   line.0,
-  record { out = text ++ 10 ∷ []; fault = fault; is = is; appends = part_after old mid new text (10 ∷ []) went line.1 },
+  record { out = text ++ 10 ∷ []; fault = fault; is = is; appends = part_after old.taken mid.taken new.taken text (10 ∷ []) went line.1 },
   line.2 ∙ ap (λ n. n + 1) count,
 )
 
 -- an LF follows an answer
 pub answered : (T : Type 0) (schema : Schema) (rows : List (List Value)) (sql : List ℕ)
-    (old mid new : Option (List ℕ)) (before between after : ℕ) (given : Result (List ℕ) Fault) (served : T)
+    (old mid new : SinkState) (given : Result (List ℕ) Fault) (served : T)
     (result : Result (Option Fault) Fault)
-    → IsMemoryAnswer (by_statement None sql) schema rows given → WriteOutcome none_aside old mid before between given (Ok served)
-    → EndsLine mid new between after None result → AnswersOne schema rows sql old new before after result
-answered T schema rows sql old mid new before between after given served result is (everything text gave went count) =
-    line_ends schema rows sql text old mid new before between after None result
+    → IsMemoryAnswer (by_statement None sql) schema rows given → WriteOutcome none_aside old mid given (Ok served)
+    → EndsLine mid new None result → AnswersOne schema rows sql old new result
+answered T schema rows sql old mid new given served result is (everything text gave went count) =
+    line_ends schema rows sql text old mid new None result
     (answer_line schema rows sql text (subst (IsMemoryAnswer (by_statement None sql) schema rows) gave is)) went count
 
 -- a write of an answer failed
 pub answer_failed : (T : Type 0) (schema : Schema) (rows : List (List Value)) (sql : List ℕ)
-    (old new : Option (List ℕ)) (before after : ℕ) (given : Result (List ℕ) Fault) (fault : Fault)
+    (old new : SinkState) (given : Result (List ℕ) Fault) (fault : Fault)
     → IsMemoryAnswer (by_statement None sql) schema rows given
-    → WriteOutcome {T = T} none_aside old new before after given (Err fault) → is_write_fault fault ≡ true
-    → AnswersOne schema rows sql old new before after (Err fault)
-answer_failed T schema rows sql old new before after given _ is (beginning text gave part count) write = (
+    → WriteOutcome {T = T} none_aside old new given (Err fault) → is_write_fault fault ≡ true
+    → AnswersOne schema rows sql old new (Err fault)
+answer_failed T schema rows sql old new given _ is (beginning text gave part count) write = (
   refl,
   record {
     out = text ++ 10 ∷ [];
     fault = None;
     is = answer_line schema rows sql text (subst (IsMemoryAnswer (by_statement None sql) schema rows) gave is);
-    appends = part_before old new text (10 ∷ []) part;
+    appends = part_before old.taken new.taken text (10 ∷ []) part;
   },
   count,
 )
-answer_failed T schema rows sql old new before after given fault is (nothing other gave same count) write =
+answer_failed T schema rows sql old new given fault is (nothing other gave same count) write =
     absurd (both_ways (is_write_fault fault) other write)
 
 -- an LF follows a rejection
 pub refused : (T : Type 0) (schema : Schema) (rows : List (List Value)) (sql : List ℕ)
-    (old mid new : Option (List ℕ)) (before between after : ℕ) (given : Result (List ℕ) Fault) (fault : Fault)
+    (old mid new : SinkState) (given : Result (List ℕ) Fault) (fault : Fault)
     (result : Result (Option Fault) Fault) → (AsksNothing sql → ⊥)
     → IsMemoryAnswer (by_statement None sql) schema rows given
-    → WriteOutcome {T = T} none_aside old mid before between given (Err fault) → is_write_fault fault ≡ false
-    → EndsLine mid new between after (Some fault) result → AnswersOne schema rows sql old new before after result
-refused T schema rows sql old mid new before between after given _ result asks is (beginning text gave part count) other line =
+    → WriteOutcome {T = T} none_aside old mid given (Err fault) → is_write_fault fault ≡ false
+    → EndsLine mid new (Some fault) result → AnswersOne schema rows sql old new result
+refused T schema rows sql old mid new given _ result asks is (beginning text gave part count) other line =
     absurd (cc other)
-refused T schema rows sql old mid new before between after given fault result asks is (nothing _ gave same count) other line =
-    line_ends schema rows sql [] old mid new before between after (Some fault) result
+refused T schema rows sql old mid new given fault result asks is (nothing _ gave same count) other line =
+    line_ends schema rows sql [] old mid new (Some fault) result
     (refusal asks (λ no_memory. statement_fault schema sql fault (subst (IsMemoryAnswer (by_statement None sql) schema rows) (gave refl) is no_memory)))
-    (subst (λ known. Appends old known []) (sym same) (Appends-nil old)) count line
+    (subst (λ known. Appends old.taken known []) (sym same) (Appends-nil old.taken)) count line
 
 -- nothing is asked
-pub silent : (schema : Schema) (rows : List (List Value)) (sql : List ℕ) (known : Option (List ℕ)) (count : ℕ)
-    → AsksNothing sql → AnswersOne schema rows sql known known count count (Ok None)
-silent schema rows sql known count asks =
-    (record { out = []; is = none asks; appends = Appends-nil known }, refl)
+pub silent : (schema : Schema) (rows : List (List Value)) (sql : List ℕ) (old : SinkState) → AsksNothing sql
+    → AnswersOne schema rows sql old old (Ok None)
+silent schema rows sql old asks =
+    (record { out = []; is = none asks; appends = Appends-nil old.taken }, refl)
 
 -- no write failed
-pub count_kept : (T : Type 0) (old new : Option (List ℕ)) (before after : ℕ) (given : Result (List ℕ) Fault)
-    (fault : Fault) → WriteOutcome {T = T} none_aside old new before after given (Err fault) → is_write_fault fault ≡ false
-    → after ≡ before
-count_kept T old new before after given _ (beginning text gave part count) other = cc
-count_kept T old new before after given fault (nothing _ gave same count) other = count
+pub count_kept : (T : Type 0) (old new : SinkState) (given : Result (List ℕ) Fault)
+    (fault : Fault) → WriteOutcome {T = T} none_aside old new given (Err fault) → is_write_fault fault ≡ false
+    → new.failures ≡ old.failures
+count_kept T old new given _ (beginning text gave part count) other = cc
+count_kept T old new given fault (nothing _ gave same count) other = count
 
-pub count_same : (T : Type 0) (old new : Option (List ℕ)) (before after : ℕ) (given : Result (List ℕ) Fault) (x : T)
-    → WriteOutcome {T = T} none_aside old new before after given (Ok x) → after ≡ before
-count_same T old new before after given x (everything text gave went count) = count
+pub count_same : (T : Type 0) (old new : SinkState) (given : Result (List ℕ) Fault) (x : T)
+    → WriteOutcome {T = T} none_aside old new given (Ok x) → new.failures ≡ old.failures
+count_same T old new given x (everything text gave went count) = count

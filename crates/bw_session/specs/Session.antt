@@ -13,8 +13,8 @@ use Rattle.bw_sql.specs.Cut.{HasNoToken}
 use Rattle.bw_sql.specs.Limits.{longest_statement}
 use Rattle.bw_sql.specs.Statement.{IsReadAs}
 use Rattle.bw_answer.specs.Answer.{csv_text, meaning}
-use Rattle.bw_io.specs.Sink.{TookPart, is_write_fault}
-use Rattle.bw_io.specs.Source.{failed_reads, is_input_fault}
+use Rattle.bw_io.specs.Sink.{SinkState, TookPart, is_write_fault}
+use Rattle.bw_io.specs.Source.{SourceState, failed_reads, is_input_fault}
 use Rattle.bw_session.specs.Statements.{IsBegun, IsOpen, IsWhole}
 
 -- a statement is empty: it isn't too long, and has only spaces, tabs, line ends and comments
@@ -119,31 +119,29 @@ pub data IsStopped (schema : Schema) (rows : List (List Value))
 
 -- A session ran all statements of its source, and returned the first of their errors; or it ended
 -- early. The counts of failures rise by one if a failed read or write ended it, and else stay.
-abbrev pub Answers : Schema → List (List Value) → (old new taken_old taken_new : Option (List ℕ))
-    → (reads_before reads_after writes_before writes_after : ℕ) → Result (Option Fault) Fault
-    → Type 0
-Answers schema rows old new taken_old taken_new reads_before reads_after writes_before writes_after
-    (Ok first) =
-    Ended schema rows old new taken_old taken_new first
-    × (reads_after ≡ reads_before) × (writes_after ≡ writes_before)
-Answers schema rows old new taken_old taken_new reads_before reads_after writes_before writes_after
-    (Err fault) =
-    IsStopped schema rows old new taken_old taken_new fault
-    × (reads_after ≡ reads_before + failed_reads fault)
-    × (writes_after ≡ writes_before + failed_writes fault)
+abbrev pub Answers : Schema → List (List Value) → SourceState → SourceState → SinkState → SinkState
+    → Result (Option Fault) Fault → Type 0
+Answers schema rows from to old new (Ok first) =
+    Ended schema rows from.known to.known old.taken new.taken first
+    × (to.failures ≡ from.failures) × (new.failures ≡ old.failures)
+Answers schema rows from to old new (Err fault) =
+    IsStopped schema rows from.known to.known old.taken new.taken fault
+    × (to.failures ≡ from.failures + failed_reads fault)
+    × (new.failures ≡ old.failures + failed_writes fault)
 
 -- one statement was run, or a write failed
-abbrev pub AnswersOne : Schema → List (List Value) → List ℕ → (old new : Option (List ℕ))
-    → (before after : ℕ) → Result (Option Fault) Fault → Type 0
-AnswersOne schema rows sql old new before after (Ok fault) =
-    HasWrittenOutput schema rows sql old new fault × (after ≡ before)
-AnswersOne schema rows sql old new before after (Err fault) =
-    (fault ≡ nowhere WRITE_FAILED) × HasWrittenPart schema rows sql old new × (after ≡ before + 1)
+abbrev pub AnswersOne : Schema → List (List Value) → List ℕ → SinkState → SinkState
+    → Result (Option Fault) Fault → Type 0
+AnswersOne schema rows sql old new (Ok fault) =
+    HasWrittenOutput schema rows sql old.taken new.taken fault × (new.failures ≡ old.failures)
+AnswersOne schema rows sql old new (Err fault) =
+    (fault ≡ nowhere WRITE_FAILED) × HasWrittenPart schema rows sql old.taken new.taken
+    × (new.failures ≡ old.failures + 1)
 
 -- an LF was written, and this is returned; or a write failed
-abbrev pub EndsLine : (old new : Option (List ℕ)) → (before after : ℕ) → Option Fault
-    → Result (Option Fault) Fault → Type 0
-EndsLine old new before after refused (Ok fault) =
-    (fault ≡ refused) × Appends old new (10 ∷ []) × (after ≡ before)
-EndsLine old new before after refused (Err fault) =
-    (fault ≡ nowhere WRITE_FAILED) × TookPart old new (10 ∷ []) × (after ≡ before + 1)
+abbrev pub EndsLine : SinkState → SinkState → Option Fault → Result (Option Fault) Fault → Type 0
+EndsLine old new refused (Ok fault) =
+    (fault ≡ refused) × Appends old.taken new.taken (10 ∷ []) × (new.failures ≡ old.failures)
+EndsLine old new refused (Err fault) =
+    (fault ≡ nowhere WRITE_FAILED) × TookPart old.taken new.taken (10 ∷ [])
+    × (new.failures ≡ old.failures + 1)

@@ -25,13 +25,13 @@ pub(crate) fn next_statement<S: Source>(
     source: &mut S,
     statement: &mut Vec<u8>,
 ) -> Result<bool, Fault>
-    requires { S.failures source.old < 2 ^ 64 - 1 }
-    ensures statement { IfOk result
-        (HasReadStatement (S.to_come source.old) (S.to_come source.new) statement.new.items) }
-    ensures failed { TellsFailure (S.failures source.old) (S.failures source.new) result }
+    requires { (S.state source.old).failures < 2 ^ 64 - 1 }
+    ensures statement { IfOk result (HasReadStatement (S.state source.old).known
+        (S.state source.new).known statement.new.items) }
+    ensures failed { TellsFailure (S.state source.old) (S.state source.new) result }
     ensures fault { IfErr result (λ fault. IsTrue (is_input_fault fault)) }
-    ensures begun { IfErr result
-        (λ _. HasReadBeginning (S.to_come source.old) (S.to_come source.new)) }
+    ensures begun { IfErr result (λ _. HasReadBeginning (S.state source.old).known
+        (S.state source.new).known) }
 {
     statement.clear();
     let mut standing = StatementState::Blank;
@@ -50,11 +50,11 @@ pub(crate) fn next_statement<S: Source>(
 
 /// Reads one byte. Returns None at the end of the source.
 fn read_byte<S: Source>(source: &mut S) -> Result<Option<u8>, Fault>
-    requires { S.failures source.old < 2 ^ 64 - 1 }
-    ensures byte { IfOk result (HasReadByte (S.to_come source.old) (S.to_come source.new)) }
-    ensures failed { TellsFailure (S.failures source.old) (S.failures source.new) result }
+    requires { (S.state source.old).failures < 2 ^ 64 - 1 }
+    ensures byte { IfOk result (HasReadByte (S.state source.old).known (S.state source.new).known) }
+    ensures failed { TellsFailure (S.state source.old) (S.state source.new) result }
     ensures fault { IfErr result (λ fault. fault ≡ nowhere READ_FAILED) }
-    ensures same { IfErr result (λ _. Keeps (S.to_come source.old) (S.to_come source.new)) }
+    ensures same { IfErr result (λ _. Keeps (S.state source.old).known (S.state source.new).known) }
 {
     let mut byte = [0u8; 1];
     match source.read(&mut byte) {

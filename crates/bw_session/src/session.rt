@@ -33,12 +33,10 @@ pub fn answer_statements<S: Source, K: Sink, L: Listener>(
     listener: &mut L,
 ) -> Result<Option<Fault>, Fault>
     requires serves { Serves (schema_of table.now).columns.items programs.old }
-    requires input { S.failures input.old < 2 ^ 64 - 1 }
-    requires sink { K.failures sink.old < 2 ^ 64 - 1 }
-    ensures { Answers (schema_of table.now) (rows_of table.now) (S.to_come input.old)
-        (S.to_come input.new)
-        (K.taken sink.old) (K.taken sink.new) (S.failures input.old) (S.failures input.new)
-        (K.failures sink.old) (K.failures sink.new) result }
+    requires input { (S.state input.old).failures < 2 ^ 64 - 1 }
+    requires sink { (K.state sink.old).failures < 2 ^ 64 - 1 }
+    ensures { Answers (schema_of table.now) (rows_of table.now) (S.state input.old)
+        (S.state input.new) (K.state sink.old) (K.state sink.new) result }
 {
     let mut statement = Vec::new(alloc);
     let mut first = None;
@@ -72,9 +70,9 @@ fn answer_one<K: Sink, L: Listener>(
     listener: &mut L,
 ) -> Result<Option<Fault>, Fault>
     requires serves { Serves (schema_of table.now).columns.items programs.old }
-    requires sink { K.failures sink.old < 2 ^ 64 - 1 }
+    requires sink { (K.state sink.old).failures < 2 ^ 64 - 1 }
     ensures answers { AnswersOne (schema_of table.now) (rows_of table.now) sql.now
-        (K.taken sink.old) (K.taken sink.new) (K.failures sink.old) (K.failures sink.new) result }
+        (K.state sink.old) (K.state sink.new) result }
     ensures serves { Serves (schema_of table.now).columns.items programs.new }
 {
     if asks_nothing(sql) {
@@ -97,9 +95,8 @@ fn answer_one<K: Sink, L: Listener>(
 
 /// Writes an LF, and returns the error of the statement before it. Errors: 702.
 fn end_line<K: Sink>(sink: &mut K, fault: Option<Fault>) -> Result<Option<Fault>, Fault>
-    requires { K.failures sink.old < 2 ^ 64 - 1 }
-    ensures { EndsLine (K.taken sink.old) (K.taken sink.new) (K.failures sink.old)
-        (K.failures sink.new) fault result }
+    requires { (K.state sink.old).failures < 2 ^ 64 - 1 }
+    ensures { EndsLine (K.state sink.old) (K.state sink.new) fault result }
 {
     match write_whole(sink, b"\n") {
         Ok(()) => Ok(fault),

@@ -14,9 +14,8 @@ ghost use Rattle.std.specs.Prelude.{◌≡◌, ◌<◌, ◌≤◌, length, map, 
 ghost use Rattle.bw_model.specs.CondTree.{Test, tree_of, trees_of};
 ghost use Rattle.bw_sql.specs.Reader.{ReadsFrom};
 ghost use Rattle.bw_sql.specs.Reading.{condition_in, factor_in, joined_in, more_parts_in};
-ghost use Rattle.bw_sql.specs.Reading.{nested_readers};
-ghost use Rattle.bw_sql.specs.Reading.{part_in, primary_in, test_in, truth_test_at, truth_value_at};
-ghost use Rattle.bw_sql.specs.Reading.{value_test_at, with_front};
+ghost use Rattle.bw_sql.specs.Reading.{nested_readers, part_in, primary_in, test_in, truth_test_at};
+ghost use Rattle.bw_sql.specs.Reading.{truth_value_at, value_test_at, with_front};
 ghost use Rattle.bw_sql.specs.Token.{lexemes};
 ghost use Rattle.bw_sql.specs.Words.{join_of, word_of};
 

@@ -17,7 +17,7 @@ pub fn makes_failed() -> Failed {
 }
 
 pub fn calls_read<S: Source>(source: &mut S, buffer: &mut [u8]) -> Result<usize, Failed>
-    requires { S.failures source.old < 2 ^ 64 - 1 }
+    requires { (S.state source.old).failures < 2 ^ 64 - 1 }
 {
     source.read(buffer)
 }
@@ -27,7 +27,7 @@ pub fn calls_failures<S: Source>(source: &S) -> u64 {
 }
 
 pub fn calls_write<K: Sink>(sink: &mut K, bytes: &[u8]) -> Result<usize, Failed>
-    requires { K.failures sink.old < 2 ^ 64 - 1 }
+    requires { (K.state sink.old).failures < 2 ^ 64 - 1 }
 {
     sink.write(bytes)
 }
@@ -103,7 +103,7 @@ pub fn calls_decode(alloc: Global, bytes: &[u8]) -> Result<Table, Fault> {
 }
 
 pub fn calls_begin<S: Source>(alloc: Global, source: &mut S) -> Result<TableReader, Fault>
-    requires { S.failures source.old < 2 ^ 64 - 1 }
+    requires { (S.state source.old).failures < 2 ^ 64 - 1 }
 {
     TableReader::begin(alloc, source)
 }
@@ -112,7 +112,7 @@ pub fn calls_next_segment<S: Source>(
     reader: &mut TableReader,
     source: &mut S,
 ) -> Result<Option<AnySegment>, Fault>
-    requires { S.failures source.old < 2 ^ 64 - 1 }
+    requires { (S.state source.old).failures < 2 ^ 64 - 1 }
 {
     reader.next_segment(source)
 }

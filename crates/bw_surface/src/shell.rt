@@ -26,14 +26,14 @@ pub fn calls_read_limited<S: Source>(
     source: &mut S,
     limit: u64,
 ) -> Result<Input, Fault>
-    requires source { S.failures source.old < 2 ^ 64 - 1 }
+    requires source { (S.state source.old).failures < 2 ^ 64 - 1 }
     requires limit { limit < 2 ^ 63 }
 {
     bw_shell::read_limited(alloc, source, limit)
 }
 
 pub fn calls_report<K: Sink>(fault: &Fault, sink: &mut K) -> u8
-    requires { K.failures sink.old < 2 ^ 64 - 1 }
+    requires { (K.state sink.old).failures < 2 ^ 64 - 1 }
 {
     bw_shell::report(fault, sink)
 }
@@ -55,7 +55,7 @@ pub fn makes_accepted(
 }
 
 pub fn calls_accepted_line<K: Sink>(accepted: &Accepted, sink: &mut K) -> Result<(), Fault>
-    requires { K.failures sink.old < 2 ^ 64 - 1 }
+    requires { (K.state sink.old).failures < 2 ^ 64 - 1 }
 {
     bw_shell::accepted_line(accepted, sink)
 }
@@ -77,7 +77,7 @@ pub fn makes_served(by: By, segments: u32, loads: u64, skips: u64) -> Served {
 }
 
 pub fn calls_stats_line<K: Sink>(served: &Served, sink: &mut K) -> Result<(), Fault>
-    requires { K.failures sink.old < 2 ^ 64 - 1 }
+    requires { (K.state sink.old).failures < 2 ^ 64 - 1 }
 {
     bw_shell::stats_line(served, sink)
 }
@@ -98,9 +98,9 @@ pub fn calls_load<S: Source, C: Source, K: Sink>(
     layout: Layout,
     sink: &mut K,
 ) -> Result<(), Fault>
-    requires schema { S.failures schema.old < 2 ^ 64 - 1 }
-    requires csv { C.failures csv.old < 2 ^ 64 - 1 }
-    requires sink { K.failures sink.old < 2 ^ 64 - 1 }
+    requires schema { (S.state schema.old).failures < 2 ^ 64 - 1 }
+    requires csv { (C.state csv.old).failures < 2 ^ 64 - 1 }
+    requires sink { (K.state sink.old).failures < 2 ^ 64 - 1 }
 {
     bw_shell::load(alloc, schema, csv, layout, sink)
 }
@@ -112,9 +112,9 @@ pub fn calls_direct<S: Source, C: Source, K: Sink>(
     sql: &[u8],
     sink: &mut K,
 ) -> Result<(), Fault>
-    requires schema { S.failures schema.old < 2 ^ 64 - 1 }
-    requires csv { C.failures csv.old < 2 ^ 64 - 1 }
-    requires sink { K.failures sink.old < 2 ^ 64 - 1 }
+    requires schema { (S.state schema.old).failures < 2 ^ 64 - 1 }
+    requires csv { (C.state csv.old).failures < 2 ^ 64 - 1 }
+    requires sink { (K.state sink.old).failures < 2 ^ 64 - 1 }
 {
     bw_shell::direct(alloc, schema, csv, sql, sink)
 }
@@ -126,8 +126,8 @@ pub fn calls_answer<S: Source, K: Sink>(
     program: Option<&[u8]>,
     sink: &mut K,
 ) -> Result<Served, Fault>
-    requires table { S.failures table.old < 2 ^ 64 - 1 }
-    requires sink { K.failures sink.old < 2 ^ 64 - 1 }
+    requires table { (S.state table.old).failures < 2 ^ 64 - 1 }
+    requires sink { (K.state sink.old).failures < 2 ^ 64 - 1 }
 {
     bw_shell::answer(alloc, table, sql, program, sink)
 }
@@ -137,8 +137,8 @@ pub fn calls_dump<S: Source, K: Sink>(
     table: &mut S,
     sink: &mut K,
 ) -> Result<(), Fault>
-    requires table { S.failures table.old < 2 ^ 64 - 1 }
-    requires sink { K.failures sink.old < 2 ^ 64 - 1 }
+    requires table { (S.state table.old).failures < 2 ^ 64 - 1 }
+    requires sink { (K.state sink.old).failures < 2 ^ 64 - 1 }
 {
     bw_shell::dump(alloc, table, sink)
 }
@@ -158,13 +158,13 @@ pub fn calls_plan_text<K: Sink>(
     sql: &[u8],
     sink: &mut K,
 ) -> Result<(), Fault>
-    requires { K.failures sink.old < 2 ^ 64 - 1 }
+    requires { (K.state sink.old).failures < 2 ^ 64 - 1 }
 {
     bw_shell::plan_text(alloc, schema, sql, sink)
 }
 
 pub fn calls_read_table<S: Source>(alloc: Global, table: &mut S) -> Result<MemoryTable, Fault>
-    requires { S.failures table.old < 2 ^ 64 - 1 }
+    requires { (S.state table.old).failures < 2 ^ 64 - 1 }
 {
     MemoryTable::read(alloc, table)
 }
@@ -176,7 +176,7 @@ pub fn calls_answer_in_memory<K: Sink>(
     program: Option<&[u8]>,
     sink: &mut K,
 ) -> Result<Served, Fault>
-    requires { K.failures sink.old < 2 ^ 64 - 1 }
+    requires { (K.state sink.old).failures < 2 ^ 64 - 1 }
 {
     bw_shell::answer_in_memory(alloc, table, sql, program, sink)
 }
@@ -189,7 +189,7 @@ pub fn calls_answer_with_programs<K: Sink>(
     sink: &mut K,
 ) -> Result<Served, Fault>
     requires serves { Serves (schema_of table.now).columns.items programs.old }
-    requires sink { K.failures sink.old < 2 ^ 64 - 1 }
+    requires sink { (K.state sink.old).failures < 2 ^ 64 - 1 }
 {
     bw_shell::answer_with_programs(alloc, table, sql, programs, sink)
 }
@@ -219,8 +219,8 @@ pub fn calls_answer_statements<S: Source, K: Sink, L: Listener>(
     listener: &mut L,
 ) -> Result<Option<Fault>, Fault>
     requires serves { Serves (schema_of table.now).columns.items programs.old }
-    requires input { S.failures input.old < 2 ^ 64 - 1 }
-    requires sink { K.failures sink.old < 2 ^ 64 - 1 }
+    requires input { (S.state input.old).failures < 2 ^ 64 - 1 }
+    requires sink { (K.state sink.old).failures < 2 ^ 64 - 1 }
 {
     bw_shell::answer_statements(alloc, table, programs, input, sink, listener)
 }

@@ -5,9 +5,8 @@ use Rattle.bw_model.specs.Row.{Value}
 use Rattle.bw_rowwise.specs.Accumulator.{Tally, tally_of}
 use Rattle.bw_aggregate.specs.Selected.{selected_rows}
 use Rattle.bw_aggregate.proofs.ColumnLemmas.{rows_counted}
-use Rattle.bw_aggregate.proofs.SelectedLemmas.{few_selected, joined_selected}
-use Rattle.bw_aggregate.proofs.SelectedLemmas.{joined_rows, none_selected, small_for_more}
-use Rattle.bw_aggregate.proofs.SelectedLemmas.{unselected}
+use Rattle.bw_aggregate.proofs.SelectedLemmas.{few_selected, joined_selected, joined_rows}
+use Rattle.bw_aggregate.proofs.SelectedLemmas.{none_selected, small_for_more, unselected}
 use Rattle.bw_aggregate.proofs.selected.add_selected.Goals as goal
 
 pub add_total-requires-clause-capacity : goal.add_total-requires-clause-capacity

@@ -35,8 +35,8 @@ returns-in_err-schema-clause-file g c =
     let told = c.in_err-schema.ensures.answered in
     let fault = c.in_err-schema.field-0.0 in
     let layout = c.args.layout in
-    rw (err_passed_on _ c.from_residual.ensures.1) (went_nowhere _ _ (IsFile layout) _ _ fault c.in_err-schema.ensures.fault
-    (refused_exit _ _ (IsFile layout) told.0 NotReached fault (refused_schema layout told.0 fault told.2) told.1 (not_reached longest_csv (g.C.Source.to_come c.args.csv_source.now) _)))
+    rw (err_passed_on _ c.from_residual.ensures.1) (went_nowhere _ _ (IsFile layout) _ fault c.in_err-schema.ensures.fault
+    (refused_exit _ _ (IsFile layout) told.0 NotReached fault (refused_schema layout told.0 fault told.2) told.1 (not_reached longest_csv (g.C.Source.state c.args.csv_source.now))))
 
 pub returns-in_err-csv-clause-file : goal.returns-in_err-csv-clause-file
 returns-in_err-csv-clause-file g c =
@@ -45,7 +45,7 @@ returns-in_err-csv-clause-file g c =
     let fault = c.in_err-csv.field-0.0 in
     let schema = c.in_ok-schema.schema in
     let layout = c.args.layout in
-    rw (err_passed_on _ c.from_residual-in_err-csv.ensures.1) (went_nowhere _ _ (IsFile layout) _ _ fault c.in_err-csv.ensures.fault
+    rw (err_passed_on _ c.from_residual-in_err-csv.ensures.1) (went_nowhere _ _ (IsFile layout) _ fault c.in_err-csv.ensures.fault
     (refused_exit _ _ (IsFile layout) told.0 csv.0 fault (read_schema layout told.0 csv.0 schema (Err fault) told.2 (made_of_none (file_of layout schema) csv.0 fault csv.2)) told.1 csv.1))
 
 pub returns-in_err-file-clause-file : goal.returns-in_err-file-clause-file
@@ -56,7 +56,7 @@ returns-in_err-file-clause-file g c =
     let schema = c.in_ok-schema.schema in
     let layout = c.args.layout in
     let bytes = c.deref.result.now in
-    rw (err_passed_on _ c.from_residual-in_err-file.ensures.1) (went_nowhere _ _ (IsFile layout) _ _ fault (no_write_fault is_rows_fault fault c.in_err-file.ensures.fault refl)
+    rw (err_passed_on _ c.from_residual-in_err-file.ensures.1) (went_nowhere _ _ (IsFile layout) _ fault (no_write_fault is_rows_fault fault c.in_err-file.ensures.fault refl)
     (text_exit _ _ (IsFile layout) (IsFaultOf fault) told.0 csv.0 (file_of layout schema) bytes (read_schema layout told.0 (Whole bytes) schema (file_of layout schema bytes) told.2 refl)
     told.1 csv.1 (rw c.deref.ensures.value csv.2) c.in_err-file.ensures.bytes))
 
@@ -77,6 +77,6 @@ returns-clause-file g c =
     let layout = c.args.layout in
     let bytes = c.deref.result.now in
     let text = c.in_ok-file.file.items in
-    went_on _ _ (IsFile layout) _ _ _ _ text c.write_whole.result
+    went_on _ _ (IsFile layout) _ _ text c.write_whole.result
     (text_exit _ _ (IsFile layout) (λ (given : Given). given ≡ Ok text) told.0 csv.0 (file_of layout schema) bytes (read_schema layout told.0 (Whole bytes) schema (file_of layout schema bytes) told.2 refl)
     told.1 csv.1 (rw c.deref.ensures.value csv.2) c.in_ok-file.ensures.bytes) (rw c.deref-2.ensures.value at c.write_whole.ensures)

@@ -1,6 +1,6 @@
 use Rattle.std.proofs.Common.{◌≡◌, ◌+◌, ◌-◌, ◌*◌, ◌≤◌, [], length, take}
 use Rattle.bw_file.specs.Blocks.{bytes_before, AreSound}
-use Rattle.bw_file.specs.Reading.{state, GoesOn}
+use Rattle.bw_file.specs.Reading.{state_at, GoesOn}
 use Rattle.bw_file.specs.SegmentBytes.{bytes_held, AreNext}
 use Rattle.bw_file.specs.TableReading.{blocks}
 use Rattle.bw_file.proofs.body.read_blocks.Given as goal
@@ -10,10 +10,10 @@ use Rattle.bw_file.proofs.body.read_blocks.Given as goal
 abbrev pub invariant-loop-col : goal.invariant-loop-col
 invariant-loop-col g l = record {
   on : GoesOn (blocks l.layout l.placement.schema.columns.items l.rows 0 (length l.placement.schema.columns.items) [])
-      (state (g.S.Source.to_come l.initial.source) l.initial.offset (g.S.Source.failures l.initial.source))
+      (state_at (g.S.Source.state l.initial.source) l.initial.offset)
       (blocks l.layout l.placement.schema.columns.items l.rows l.col (length l.placement.schema.columns.items - l.col) (take l.start (bytes_held l.bytes)))
-      (state (g.S.Source.to_come l.source) l.offset (g.S.Source.failures l.source));
-  failures : g.S.Source.failures l.source ≡ g.S.Source.failures l.initial.source;
+      (state_at (g.S.Source.state l.source) l.offset);
+  failures : (g.S.Source.state l.source).failures ≡ (g.S.Source.state l.initial.source).failures;
   room : l.offset ≤ l.initial.offset + 4160 * l.col;
   start : l.start ≡ bytes_before l.layout l.placement.schema.columns.items l.col;
   sound : AreSound l.layout l.placement.schema.columns.items l.rows l.col (take l.start (bytes_held l.bytes));

@@ -6,8 +6,8 @@ use Rattle.bw_io.proofs.input.read_limited.Given as goal
 abbrev pub invariant-loop-piece : goal.invariant-loop-piece
 invariant-loop-piece g l = record {
   within : vec_len l.bytes ≤ l.most;
-  came : Consumes (g.S.Source.to_come l.initial.source) (g.S.Source.to_come l.source) l.bytes.items;
-  count : g.S.Source.failures l.source ≡ g.S.Source.failures l.initial.source;
+  came : Consumes (g.S.Source.state l.initial.source).known (g.S.Source.state l.source).known l.bytes.items;
+  count : (g.S.Source.state l.source).failures ≡ (g.S.Source.state l.initial.source).failures;
   room : length l.piece ≡ length l.initial.piece;
 }
 

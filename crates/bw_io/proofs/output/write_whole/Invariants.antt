@@ -6,8 +6,8 @@ use Rattle.bw_io.proofs.output.write_whole.Given as goal
 abbrev pub invariant-loop-written : goal.invariant-loop-written
 invariant-loop-written g l = record {
   within : l.written ≤ length l.text;
-  taken : Appends (g.K.Sink.taken l.initial.sink) (g.K.Sink.taken l.sink) (take l.written l.text);
-  count : g.K.Sink.failures l.sink ≡ g.K.Sink.failures l.initial.sink;
+  taken : Appends (g.K.Sink.state l.initial.sink).taken (g.K.Sink.state l.sink).taken (take l.written l.text);
+  count : (g.K.Sink.state l.sink).failures ≡ (g.K.Sink.state l.initial.sink).failures;
 }
 
 abbrev pub decreases-loop-written : goal.decreases-loop-written

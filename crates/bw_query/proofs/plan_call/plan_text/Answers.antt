@@ -10,12 +10,12 @@ use Rattle.bw_query.proofs.plan_call.plan_text.Goals as goal
 pub returns-in_err-schema : goal.returns-in_err-schema
 returns-in_err-schema g c =
     let given : Result (List ℕ) Fault = Err c.in_err-schema.field-0.0 in
-    rw (err_passed_on _ c.from_residual.ensures.1) (record { planned = (given, λ own. schema_refused (c.in_err-schema.ensures.fault own), refused (Unit {0}) _ _ _ (schema_writes_nothing _ c.in_err-schema.ensures.code)) })
+    rw (err_passed_on _ c.from_residual.ensures.1) (record { planned = (given, λ own. schema_refused (c.in_err-schema.ensures.fault own), refused (Unit {0}) _ _ (schema_writes_nothing _ c.in_err-schema.ensures.code)) })
 
 pub returns-in_err-query : goal.returns-in_err-query
 returns-in_err-query g c =
     let given : Result (List ℕ) Fault = Err c.in_err-query.field-0.0 in
-    rw (err_passed_on _ c.from_residual-in_err-query.ensures.1) (record { planned = (given, λ own. statement_refused c.in_ok-schema.ensures.spelled (c.in_err-query.ensures.read own), refused (Unit {0}) _ _ _ (statement_writes_nothing _ c.in_err-query.ensures.fault)) })
+    rw (err_passed_on _ c.from_residual-in_err-query.ensures.1) (record { planned = (given, λ own. statement_refused c.in_ok-schema.ensures.spelled (c.in_err-query.ensures.read own), refused (Unit {0}) _ _ (statement_writes_nothing _ c.in_err-query.ensures.fault)) })
 
 pub returns-in_err-file : goal.returns-in_err-file
 returns-in_err-file g c =
@@ -26,7 +26,7 @@ returns-in_err-file g c =
       planned = (
         given,
         λ own. subst F (sym (c.in_err-file.ensures.fault own)) (unplanned c.in_ok-query.query c.in_ok-schema.ensures.spelled c.in_ok-query.ensures.read),
-        refused (Unit {0}) _ _ _ (unplanned_writes_nothing fault c.in_err-file.ensures.fault),
+        refused (Unit {0}) _ _ (unplanned_writes_nothing fault c.in_err-file.ensures.fault),
       );
     })
 
@@ -48,6 +48,6 @@ returns g c =
           printed = c.in_ok-file.ensures.printed;
           certifies = certifies.2;
         },
-        went (Unit {0}) _ _ _ _ _ c.write_whole.result goes,
+        went (Unit {0}) _ _ _ c.write_whole.result goes,
       );
     }

@@ -11,29 +11,28 @@ use Rattle.bw_query.proofs.table_calls.answer.Goals as goal
 pub returns-in_err-answered-clause-answer : goal.returns-in_err-answered-clause-answer
 returns-in_err-answered-clause-answer g c =
     let gave = c.in_err-answered.ensures.answer in
-    rw (err_passed_on _ c.from_residual.ensures.1) (ends _ _ _ _ _ gave (refused Served _ _ _ c.in_err-answered.ensures.fault))
+    rw (err_passed_on _ c.from_residual.ensures.1) (ends _ _ _ _ _ gave (refused Served _ _ c.in_err-answered.ensures.fault))
 
 pub returns-in_err-write_whole-clause-answer : goal.returns-in_err-write_whole-clause-answer
 returns-in_err-write_whole-clause-answer g c =
     let goes = rw c.deref.ensures.value at c.in_err-write_whole.ensures in
-    rw (err_passed_on _ c.from_residual-in_err-write_whole.ensures.1) (ends _ _ _ _ _ c.in_ok-answered.ensures.answer (went Served (g.K.Sink.taken c.args.sink.now) (g.K.Sink.taken c.write_whole.new.sink) (g.K.Sink.failures c.args.sink.now) (g.K.Sink.failures c.write_whole.new.sink)
-    c.in_ok-answered.answered.text.items (Err c.in_err-write_whole.field-0.0) goes))
+    rw (err_passed_on _ c.from_residual-in_err-write_whole.ensures.1) (ends _ _ _ _ _ c.in_ok-answered.ensures.answer (went Served (g.K.Sink.state c.args.sink.now) (g.K.Sink.state c.write_whole.new.sink) c.in_ok-answered.answered.text.items (Err c.in_err-write_whole.field-0.0) goes))
 
 pub returns-clause-answer : goal.returns-clause-answer
 returns-clause-answer g c =
     let goes = rw c.deref.ensures.value at c.in_ok-write_whole.ensures in
     let served = Ok c.in_ok-answered.answered.served in
-    ends _ _ _ _ _ c.in_ok-answered.ensures.answer (went Served _ _ _ _ c.in_ok-answered.answered.text.items served goes)
+    ends _ _ _ _ _ c.in_ok-answered.ensures.answer (went Served _ _ c.in_ok-answered.answered.text.items served goes)
 
 -- a failed read is told as the clause above says
 pub returns-in_err-answered-clause-table : goal.returns-in_err-answered-clause-table
-returns-in_err-answered-clause-table g c = tells Served _ _ _ _ _ _ _ _ (returns-in_err-answered-clause-answer g c)
+returns-in_err-answered-clause-table g c = tells Served _ _ _ _ _ _ (returns-in_err-answered-clause-answer g c)
 
 pub returns-in_err-write_whole-clause-table : goal.returns-in_err-write_whole-clause-table
-returns-in_err-write_whole-clause-table g c = tells Served _ _ _ _ _ _ _ _ (returns-in_err-write_whole-clause-answer g c)
+returns-in_err-write_whole-clause-table g c = tells Served _ _ _ _ _ _ (returns-in_err-write_whole-clause-answer g c)
 
 pub returns-clause-table : goal.returns-clause-table
-returns-clause-table g c = tells Served _ _ _ _ _ _ _ _ (returns-clause-answer g c)
+returns-clause-table g c = tells Served _ _ _ _ _ _ (returns-clause-answer g c)
 
 pub returns-clause-served : goal.returns-clause-served
 returns-clause-served g c =

@@ -1,9 +1,8 @@
 use Rattle.std.proofs.Common.{◌≡◌, refl, ap, ◌∙◌, ◌+◌, false, arith, IsTrue}
 use Rattle.bw_io.specs.Sink.{is_write_fault}
 use Rattle.bw_io.specs.Source.{failed_reads, is_input_fault}
-use Rattle.bw_session.proofs.SessionLemmas.{begins, ends, goes_on, input_alone, no_reads}
-use Rattle.bw_session.proofs.SessionLemmas.{no_writes, one_write, stops, stops_reading}
-use Rattle.bw_session.proofs.SessionLemmas.{stops_writing}
+use Rattle.bw_session.proofs.SessionLemmas.{begins, ends, goes_on, input_alone, no_reads, no_writes}
+use Rattle.bw_session.proofs.SessionLemmas.{one_write, stops, stops_reading, stops_writing}
 use Rattle.bw_session.proofs.session.answer_statements.Goals as goal
 
 pub loop-init : goal.loop-init

@@ -7,9 +7,9 @@ use Rattle.bw_session.proofs.session.answer_statements.Given as goal
 -- the statements so far came and are answered, and nothing failed
 abbrev pub invariant-loop : goal.invariant-loop
 invariant-loop g l = record {
-  so_far : RanSoFar (schema_of l.fn.table) (rows_of l.fn.table) (g.S.Source.to_come l.initial.input)
-      (g.S.Source.to_come l.input) (g.K.Sink.taken l.initial.sink) (g.K.Sink.taken l.sink) l.first;
-  reads : g.S.Source.failures l.input ≡ g.S.Source.failures l.initial.input;
-  writes : g.K.Sink.failures l.sink ≡ g.K.Sink.failures l.initial.sink;
+  so_far : RanSoFar (schema_of l.fn.table) (rows_of l.fn.table) (g.S.Source.state l.initial.input).known
+      (g.S.Source.state l.input).known (g.K.Sink.state l.initial.sink).taken (g.K.Sink.state l.sink).taken l.first;
+  reads : (g.S.Source.state l.input).failures ≡ (g.S.Source.state l.initial.input).failures;
+  writes : (g.K.Sink.state l.sink).failures ≡ (g.K.Sink.state l.initial.sink).failures;
   serves : Serves (schema_of l.fn.table).columns.items l.programs;
 }
