@@ -6,7 +6,7 @@
 //!
 //! The layout is BitWeaving's vertical one (Li and Patel), with words of 64 bits, and ByteSlice's
 //! (Feng, Lo, Kao and Xu) for bytes. Read `plane.rt` first, then `bytes.rt`, `selected.rt` and
-//! `shifted.rt`.
+//! `row_bits.rt`.
 #![tactic(auto)]
 
 mod bytes;

@@ -5,8 +5,8 @@
 //! The contract that the crates above use: [`Planes`] is a [`bw_segment::CodeLayout`]. The result
 //! of each of its methods depends only on the codes that the bytes spell, and the bytes of codes
 //! spell these codes again. [`PlaneSegment::build`] returns a segment of the given rows, and
-//! [`PlaneSegment::of_blocks`] one of bytes whose blocks [`PlaneSegment::judge`] finds valid. Both
-//! are a [`bw_segment::Segment`].
+//! [`PlaneSegment::of_blocks`] one of bytes in whose blocks [`PlaneSegment::find_fault`] finds no
+//! error. Both are a [`bw_segment::Segment`].
 //!
 //! Read `specs/Planes.antt` first, then `planes.rt`, `compare.rt` and `sum.rt`.
 //!

@@ -5,7 +5,8 @@
 //! The contract that the crates above use: [`Slices`] is a [`bw_segment::CodeLayout`]. The result
 //! of each of its kernels depends only on the codes that its bytes spell by `slices_codes`.
 //! [`SliceSegment::build`] returns a segment of the given rows, and [`SliceSegment::of_blocks`] one
-//! of bytes whose blocks [`SliceSegment::judge`] finds valid. Both are a [`bw_segment::Segment`].
+//! of bytes in whose blocks [`SliceSegment::find_fault`] finds no error. Both are a
+//! [`bw_segment::Segment`].
 //!
 //! Read `specs/Slices.antt` first, then `layout.rt`.
 //!
