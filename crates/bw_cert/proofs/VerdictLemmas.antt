@@ -22,7 +22,7 @@ use Rattle.bw_cert.specs.Valid.{Valid, check_certificate}
 use Rattle.bw_report.specs.declared.accepted.Accepted.{Accepted}
 use Rattle.bw_cert.specs.declared.certified_file.CertifiedFile.{CertifiedFile}
 use Rattle.bw_cert.specs.FileVerdict.{Certifies, IsFileFault, too_long, program_refused}
-use Rattle.bw_cert.specs.FileVerdict.{certificate_refused, line_refused, counts_of}
+use Rattle.bw_cert.specs.FileVerdict.{certificate_refused, line_refused, text_refused, counts_of}
 use Rattle.bw_cert.specs.FileVerdict.{program_and_counts, told_of}
 use Rattle.bw_cert.specs.ProgramFile.{IsCut, after_divider, before_divider, longest_program_file}
 use Rattle.bw_cert.specs.ProgramFile.{number_after}
@@ -73,9 +73,9 @@ module _ (columns : List Column) (file : List ℕ) where
       ⊎ ((program : ProgramShape) × (certificate : CertificateShape) × (parts ≡ Ok (program, certificate_fields certificate)) × (check_certificate columns cond program certificate ≡ Err fault))
 
   stops : (cond : Cond) (fault : Fault) → IsFileFault columns cond file fault → Stops cond fault
-  stops cond _ (too_long long) = inl (ap parts_if (lt-ltb longest_program_file (length file) long))
-  stops cond _ (program_refused {stated = stated} {first = first} {fault = fault} short cut refused) = inl (read_by short cut (Err fault) (certificate_of first stated) refused refl)
-  stops cond _ (certificate_refused {text = text} {program = program} {fault = fault} short cut spelled refused) =
+  stops cond _ (text_refused (too_long long)) = inl (ap parts_if (lt-ltb longest_program_file (length file) long))
+  stops cond _ (text_refused (program_refused {stated = stated} {first = first} {fault = fault} short cut refused)) = inl (read_by short cut (Err fault) (certificate_of first stated) refused refl)
+  stops cond _ (text_refused (certificate_refused {text = text} {program = program} {fault = fault} short cut spelled refused)) =
       inl (read_by short cut (Ok program) (Err fault) (program_read columns text program spelled) refused)
   stops cond _ (line_refused {text = text} {stated = stated} {first = first} {program = program} certificate short cut spelled says refused) =
       inr (program, certificate, read_by short cut (Ok program) (Ok (certificate_fields certificate)) (program_read columns text program spelled) (certificate_read first stated _ says), refused)

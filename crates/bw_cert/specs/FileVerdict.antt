@@ -45,20 +45,26 @@ told_of program certificate = (program, counts_of program certificate)
 abbrev pub program_and_counts : CertifiedFile → ProgramShape × Accepted
 program_and_counts found = (found.certified.program, found.accepted)
 
--- The error of a file: that it is too long; else the first error of its program text; else the
--- first of its certificate text; else the first line of the certificate that breaks a rule.
-pub data IsFileFault (columns : List Column) (cond : Cond) (file : List ℕ) : Fault → Type 0 where
+-- An error that a file has for every condition: that it is too long; else the first error of its
+-- program text; else the first of its certificate text.
+pub data IsTextFault (columns : List Column) (file : List ℕ) : Fault → Type 0 where
   too_long : longest_program_file < length file
-      → IsFileFault columns cond file (nowhere PROGRAM_FILE_TOO_LONG)
+      → IsTextFault columns file (nowhere PROGRAM_FILE_TOO_LONG)
   program_refused : {text stated : List ℕ} {first : ℕ} {fault : Fault} →
       length file ≤ longest_program_file →
       IsCut file text stated first → program_of columns text ≡ Err fault
-      → IsFileFault columns cond file fault
+      → IsTextFault columns file fault
   certificate_refused : {text stated : List ℕ} {first : ℕ} {program : ProgramShape}
       {fault : Fault} →
       length file ≤ longest_program_file → IsCut file text stated first →
       IsProgramText columns text program →
-      certificate_of first stated ≡ Err fault → IsFileFault columns cond file fault
+      certificate_of first stated ≡ Err fault → IsTextFault columns file fault
+
+-- The error of a file: that of its texts; else the first line of the certificate that breaks a
+-- rule.
+pub data IsFileFault (columns : List Column) (cond : Cond) (file : List ℕ) : Fault → Type 0 where
+  text_refused : {fault : Fault} → IsTextFault columns file fault
+      → IsFileFault columns cond file fault
   line_refused : {text stated : List ℕ} {first : ℕ} {program : ProgramShape}
       (certificate : CertificateShape) {fault : Fault} →
       length file ≤ longest_program_file → IsCut file text stated first →

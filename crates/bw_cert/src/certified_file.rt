@@ -65,7 +65,7 @@ pub fn certify(
 
 /// Certifies a program file as [`certify`] does, without the law that what can be certified is
 /// never rejected.
-#[tactic(auto, using(crate::specs::FileVerdict::too_long, crate::specs::FileVerdict::program_refused, crate::specs::FileVerdict::certificate_refused, crate::specs::FileVerdict::line_refused))]
+#[tactic(auto, using(crate::specs::FileVerdict::too_long, crate::specs::FileVerdict::program_refused, crate::specs::FileVerdict::certificate_refused, crate::specs::FileVerdict::text_refused, crate::specs::FileVerdict::line_refused))]
 fn check_file(
     alloc: Global,
     schema: &Schema,

@@ -5,7 +5,7 @@ use Rattle.bw_model.specs.declared.column.Column.{Column}
 use Rattle.bw_model.specs.declared.cond.Cond.{Cond}
 use Rattle.bw_model.specs.CondTree.{tree_of}
 use Rattle.bw_model.specs.Fault.{is_memory}
-use Rattle.bw_cert.specs.FileVerdict.{IsFileFault}
+use Rattle.bw_cert.specs.FileVerdict.{IsTextFault}
 use Rattle.bw_query.specs.declared.program_cache.CachedScan.{CachedScan}
 use Rattle.bw_query.specs.declared.program_cache.ProgramCache.{ProgramCache}
 use Rattle.bw_query.specs.declared.program_cache.RejectedFile.{RejectedFile}
@@ -59,5 +59,5 @@ pub record IsAdded (old new : List CachedScan) (cond : Cond) (number : ℕ) : Ty
 abbrev pub IsRejection : List Column → List (List ℕ) → RejectedFile → Type 0
 IsRejection columns files rejected = is_memory rejected.fault ≡ false →
     (file : List ℕ) × (slice_get files rejected.number ≡ Some file)
-    × ((cond : Cond) → IsFileFault columns cond file rejected.fault)
+    × IsTextFault columns file rejected.fault
     × All (IsFileRead columns) (take rejected.number files)

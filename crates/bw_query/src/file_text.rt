@@ -1,8 +1,7 @@
 //! Program files before a condition is asked for.
 ghost use Rattle.std.specs.Prelude.{◌≡◌, false, IfErr, OnOk, IsTrue};
-ghost use Rattle.bw_model.specs.declared.cond.Cond.{Cond};
 ghost use Rattle.bw_model.specs.Fault.{is_memory};
-ghost use Rattle.bw_cert.specs.FileVerdict.{IsFileFault, is_file_fault};
+ghost use Rattle.bw_cert.specs.FileVerdict.{IsTextFault, is_file_fault};
 ghost use Rattle.bw_query.specs.ProgramChoice.{IsFileRead};
 
 use bw_cert::{Certificate, MAX_PROGRAM_FILE_LEN, split_file};
@@ -16,8 +15,8 @@ use std::alloc::Global;
 #[tactic(auto, using(bw_cert::specs::FileVerdict::too_long, bw_cert::specs::FileVerdict::program_refused, bw_cert::specs::FileVerdict::certificate_refused))]
 pub(crate) fn read_file(alloc: Global, schema: &Schema, file: &[u8]) -> Result<(), Fault>
     ensures read { OnOk result (IsFileRead schema.now.columns.items file.now) }
-    ensures fault { IfErr result (λ fault. is_memory fault ≡ false → (cond : Cond)
-        → IsFileFault schema.now.columns.items cond file.now fault) }
+    ensures fault { IfErr result (λ fault. is_memory fault ≡ false
+        → IsTextFault schema.now.columns.items file.now fault) }
     ensures code { IfErr result (λ fault. IsTrue (is_file_fault fault)) }
 {
     if file.len() > MAX_PROGRAM_FILE_LEN {

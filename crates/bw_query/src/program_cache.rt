@@ -36,7 +36,7 @@ pub struct ProgramCache {
 
 impl ProgramCache {
     ghost use Rattle.std.specs.Prelude.{All, ◌≡◌, ◌<◌, ◌⊎◌, IfOk, IfErr, IfSome, IsTrue, List};
-    ghost use Rattle.std.specs.Prelude.{None};
+    ghost use Rattle.std.specs.Prelude.{None, []};
     ghost use Rattle.bw_model.specs.declared.column.Column.{Column};
     ghost use Rattle.bw_model.specs.declared.cond.Cond.{Cond};
     ghost use Rattle.bw_model.specs.Cond.{names_within};
@@ -57,6 +57,7 @@ impl ProgramCache {
         ensures serves { IfOk result (λ programs. (columns : List Column)
             → Serves columns programs) }
         ensures files { IfOk result (λ programs. files_of programs ≡ texts_of files.items) }
+        ensures empty { IfOk result (λ programs. programs.kept.items ≡ []) }
         ensures read { IfOk result (λ programs.
             All (IsFileRead schema.now.columns.items) (texts_of files.items)) }
         ensures rejected { IfErr result
@@ -97,7 +98,8 @@ impl ProgramCache {
         requires serves { Serves (schema_of table.now).columns.items self.old }
         ensures found { IfOk result
             (HasScan (schema_of table.now).columns.items self.new cond.now) }
-        ensures kept { IfOk result (λ number. (self.new ≡ self.old)
+        ensures kept { IfOk result (λ number.
+            ((self.new ≡ self.old) × IsForEqual self.old cond.now number)
             ⊎ IsAdded self.old.kept.items self.new.kept.items cond.now number) }
         ensures serves { Serves (schema_of table.now).columns.items self.new }
         ensures files { files_of self.new ≡ files_of self.old }

@@ -1,5 +1,5 @@
 //! Chooses what finds the rows of a query.
-ghost use Rattle.std.specs.Prelude.{◌≡◌, false, IfOk, IfErr, IsTrue, List, None, Result, length};
+ghost use Rattle.std.specs.Prelude.{◌≡◌, false, IfOk, IfErr, IsTrue, List, None, length};
 ghost use Rattle.bw_model.specs.declared.column.Column.{Column};
 ghost use Rattle.bw_model.specs.declared.cond.Cond.{Cond};
 ghost use Rattle.bw_model.specs.Cond.{names_within};
@@ -10,8 +10,6 @@ ghost use Rattle.bw_cert_text.specs.CertificateShape.{CertificateShape};
 ghost use Rattle.bw_cert.specs.FileVerdict.{is_file_fault};
 ghost use Rattle.bw_cert.specs.Valid.{Valid};
 ghost use Rattle.bw_memory.specs.MemoryTable.{schema_of};
-ghost use Rattle.bw_cert.specs.declared.certified.Certified.{Certified};
-ghost use Rattle.bw_model.specs.declared.fault.Fault.{Fault};
 ghost use Rattle.bw_query.specs.declared.scan.Scan.TheVariants.{Program};
 ghost use Rattle.bw_query.specs.ProgramChoice.{IsChosenAmong, IsYield, texts_of};
 ghost use Rattle.bw_query.specs.Scan.{IsFor, IsChosen, IsScanFault, IsUsable, given_file, scan_by};
@@ -137,7 +135,6 @@ pub(crate) fn plan_and_certify(
     ensures certified { IfOk result (IsFor schema.now.columns.items cond.now) }
     ensures chosen { IfOk result (IsChosen None schema.now.columns.items cond.now) }
     ensures only_oom { IfErr result (λ fault. IsTrue (is_memory fault)) }
-    ensures found { (found : Result Certified Fault) × (result ≡ scan_by found) }
 {
     scan_by(certify_plan(alloc, schema, cond, order))
 }

@@ -1,5 +1,5 @@
 -- Each segment's loads are added to those of the segments before it.
-use Rattle.std.proofs.Common.{◌≡◌, ◌+◌, refl, arith}
+use Rattle.std.proofs.Common.{refl, arith}
 use Rattle.bw_memory.specs.StoredSegments.{stored_groups}
 use Rattle.bw_memory.specs.MemoryTable.{schema_of, meaning_numbered}
 use Rattle.bw_memory.proofs.StoredSegmentLemmas.{groups_more}
