@@ -14,14 +14,15 @@ use Rattle.std.proofs.lemmas.Map.Views.{list_any-from_Contains, Contains-from_an
 use Rattle.std.proofs.lemmas.List.{map-append, take_more}
 use Rattle.bw_model.specs.declared.cond.Op.TheVariants.{Eq}
 use Rattle.bw_model.specs.declared.cond.Operand.{Operand}
-use Rattle.bw_model.specs.declared.cond.Operand.TheVariants.{Lit}
+use Rattle.bw_model.specs.declared.cond.Operand.TheVariants.{Lit, Null}
 use Rattle.bw_model.specs.Cond.{operand_value}
 use Rattle.bw_model.specs.declared.cond.Truth.{Truth}
-use Rattle.bw_model.specs.declared.cond.Truth.TheVariants.{No, Unknown}
+use Rattle.bw_model.specs.declared.cond.Truth.TheVariants.{No, Unknown, Yes}
 use Rattle.bw_model.specs.Row.{Value}
 use Rattle.bw_model.specs.Truth.{in_list, compare_values, greatest, truth_from}
 use Rattle.bw_rowwise.proofs.LogicLemmas.{greatest_assoc, greatest_comm}
 use Rattle.bw_rowwise.specs.Numbers.{among_numbers}
+use Rattle.bw_rowwise.specs.Prepared.{with_null}
 
 -- what one of the numbers is, and what the rest has
 here_or_there : (here there : Bool) (numbers : List ℤ) (n m : ℤ) → int_eq n m ≡ here → list_any (int_eq n) numbers ≡ there
@@ -119,13 +120,60 @@ number_more x row items others numbers i d n within is so_far =
     ∙ ap (λ (t : Truth). greatest t (compare_values Eq x (Some n))) so_far
     ∙ sym (items_more x row items i d within ∙ ap (λ (item : Operand). greatest (in_list x (map (operand_value row) (take i items))) (compare_values Eq x (operand_value row item))) is)
 
--- and another item to the others
-pub other_more : (x : Value) (row : List Value) (items others : List Operand) (numbers : List ℤ) (i : ℕ) (d : Operand) → i < length items
-    → greatest (among_numbers x numbers) (in_list x (map (operand_value row) others)) ≡ in_list x (map (operand_value row) (take i items))
-    → greatest (among_numbers x numbers) (in_list x (map (operand_value row) (others ++ get_or items i d ∷ []))) ≡ in_list x (map (operand_value row) (take (i + 1) items))
-other_more x row items others numbers i d within so_far =
-    let item = operand_value row (get_or items i d) in
-    ap (greatest (among_numbers x numbers)) (ap (in_list x) (map-append (operand_value row) others (get_or items i d ∷ [])) ∙ among_more x (map (operand_value row) others) item)
-    ∙ sym (greatest_assoc (among_numbers x numbers) (in_list x (map (operand_value row) others)) (compare_values Eq x item))
-    ∙ ap (λ (t : Truth). greatest t (compare_values Eq x item)) so_far
-    ∙ sym (items_more x row items i d within)
+-- what one NULL in a list decides
+null_truth : Bool → Truth
+null_truth true = Unknown
+null_truth false = No
+
+null_item : (x : Value) → compare_values Eq x None ≡ Unknown
+null_item None = refl
+null_item (Some n) = refl
+
+-- NULL at the end of a list
+null_last : (x : Value) (row : List Value) (others : List Operand) (has_null : Bool)
+    → in_list x (map (operand_value row) (with_null others has_null)) ≡ greatest (in_list x (map (operand_value row) others)) (null_truth has_null)
+unfolding null_truth
+null_last x row others true =
+    ap (in_list x) (map-append (operand_value row) others (Null ∷ [])) ∙ among_more x (map (operand_value row) others) None
+    ∙ ap (greatest (in_list x (map (operand_value row) others))) (null_item x)
+null_last x row others false = greatest_comm No (in_list x (map (operand_value row) others))
+
+-- one NULL decides as much as two
+null_twice : (t : Truth) (has_null : Bool) → greatest t Unknown ≡ greatest (greatest t (null_truth has_null)) Unknown
+unfolding null_truth
+null_twice Yes true = refl
+null_twice Unknown true = refl
+null_twice No true = refl
+null_twice Yes false = refl
+null_twice Unknown false = refl
+null_twice No false = refl
+
+module _ (x : Value) (row : List Value) (items others : List Operand) (numbers : List ℤ) (i : ℕ) (d : Operand) (has_null : Bool) (within : i < length items)
+    (so_far : greatest (among_numbers x numbers) (in_list x (map (operand_value row) (with_null others has_null))) ≡ in_list x (map (operand_value row) (take i items))) where
+  -- and a column to the others
+  pub other_more : greatest (among_numbers x numbers) (in_list x (map (operand_value row) (with_null (others ++ get_or items i d ∷ []) has_null)))
+      ≡ in_list x (map (operand_value row) (take (i + 1) items))
+  other_more =
+      let item = operand_value row (get_or items i d) in
+      let before = in_list x (map (operand_value row) others) in
+      let last : in_list x (map (operand_value row) (with_null (others ++ get_or items i d ∷ []) has_null)) ≡ greatest (in_list x (map (operand_value row) (with_null others has_null))) (compare_values Eq x item) =
+      null_last x row (others ++ get_or items i d ∷ []) has_null
+      ∙ ap (λ (t : Truth). greatest t (null_truth has_null)) (ap (in_list x) (map-append (operand_value row) others (get_or items i d ∷ [])) ∙ among_more x (map (operand_value row) others) item)
+      ∙ beside before (null_truth has_null) (compare_values Eq x item)
+      ∙ ap (λ (t : Truth). greatest t (compare_values Eq x item)) (sym (null_last x row others has_null)) in
+      ap (greatest (among_numbers x numbers)) last
+      ∙ sym (greatest_assoc (among_numbers x numbers) (in_list x (map (operand_value row) (with_null others has_null))) (compare_values Eq x item))
+      ∙ ap (λ (t : Truth). greatest t (compare_values Eq x item)) so_far
+      ∙ sym (items_more x row items i d within)
+
+  -- a NULL is noted
+  pub null_more : get_or items i d ≡ Null → greatest (among_numbers x numbers) (in_list x (map (operand_value row) (with_null others true)))
+      ≡ in_list x (map (operand_value row) (take (i + 1) items))
+  unfolding null_truth
+  null_more is =
+      let those = in_list x (map (operand_value row) (with_null others has_null)) in
+      ap (greatest (among_numbers x numbers)) (null_last x row others true ∙ null_twice (in_list x (map (operand_value row) others)) has_null ∙ ap (λ (t : Truth). greatest t Unknown) (sym (null_last x row others has_null)))
+      ∙ sym (greatest_assoc (among_numbers x numbers) those Unknown)
+      ∙ ap (λ (t : Truth). greatest t Unknown) so_far
+      ∙ ap (greatest (in_list x (map (operand_value row) (take i items)))) (sym (null_item x))
+      ∙ sym (items_more x row items i d within ∙ ap (λ (item : Operand). greatest (in_list x (map (operand_value row) (take i items))) (compare_values Eq x (operand_value row item))) is)

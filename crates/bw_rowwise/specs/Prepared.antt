@@ -1,7 +1,9 @@
 -- Conditions whose lists are sorted, and their meaning on a row, which is that of the original
 -- conditions.
-use Rattle.std.specs.Prelude.{◌≡◌, ℕ, List, [], map, slice_index_or}
+use Rattle.std.specs.Prelude.{◌≡◌, ℕ, Bool, if◌then◌else◌, List, [], ◌∷◌, ◌++◌, map, slice_index_or}
 use Rattle.bw_model.specs.declared.cond.Cond.{Cond}
+use Rattle.bw_model.specs.declared.cond.Operand.{Operand}
+use Rattle.bw_model.specs.declared.cond.Operand.TheVariants.{Null}
 use Rattle.bw_model.specs.declared.cond.Truth.{Truth}
 use Rattle.bw_model.specs.declared.cond.Truth.TheVariants.{Yes}
 use Rattle.bw_model.specs.Cond.{operand_value, truth_of}
@@ -45,6 +47,10 @@ pub record JoinAlike (these those : List Truth) : Type 0 where
 pub record Absorbs (truths : List Truth) (t : Truth) : Type 0 where
   pub all : least (all_of truths) t ≡ all_of truths
   pub any : greatest (any_of truths) t ≡ any_of truths
+
+-- operands, and after them NULL if there is to be one
+abbrev pub with_null : List Operand → Bool → List Operand
+with_null operands has_null = if has_null then operands ++ Null ∷ [] else operands
 
 -- the row in a lane; past the last row it has no values
 abbrev pub row_at : List (List Value) → ℕ → List Value

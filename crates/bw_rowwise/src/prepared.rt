@@ -6,6 +6,7 @@ ghost use Rattle.bw_model.specs.Row.{Value};
 ghost use Rattle.bw_model.specs.Truth.{in_list, greatest};
 ghost use Rattle.bw_rowwise.specs.Numbers.{among_numbers};
 ghost use Rattle.bw_rowwise.specs.Prepared.{prepared_truth, Absorbs, IsPreparedFrom, JoinAlike};
+ghost use Rattle.bw_rowwise.specs.Prepared.{with_null};
 
 use crate::hash::hash_of;
 use crate::numbers::Numbers;
@@ -110,7 +111,8 @@ fn has_at(conds: &[Cond], place: usize, cond: &Cond) -> bool
     place < conds.len() && conds[place].is_same(cond)
 }
 
-/// Returns the numbers among the items of a list, sorted, and the other items.
+/// Returns the numbers among the items of a list, sorted, and the other items, of whose NULLs only
+/// one is kept: it decides as much as all of them.
 fn items_of(alloc: Global, items: &[Operand]) -> Result<Items, Fault>
     ensures items { IfOk result (λ found. (row : List Value) (x : Value)
         → greatest (among_numbers x found.numbers.sorted.items)
@@ -120,14 +122,28 @@ fn items_of(alloc: Global, items: &[Operand]) -> Result<Items, Fault>
 {
     let mut numbers = Vec::new(alloc);
     let mut others = Vec::new(alloc);
+    let mut has_null = false;
     for item in items {
         match item {
             Operand::Lit(n) => numbers.push(*n)?,
-            Operand::Col(_) | Operand::Null => others.push(*item)?,
+            Operand::Col(_) => others.push(*item)?,
+            Operand::Null => has_null = true,
         }
     }
+    let others = with_null(others, has_null)?;
     Ok(Items {
         numbers: Numbers::new(alloc, numbers)?,
         others,
     })
+}
+
+/// Returns operands, and after them NULL if there is to be one.
+fn with_null(mut operands: Vec<Operand>, has_null: bool) -> Result<Vec<Operand>, Fault>
+    ensures operands { IfOk result (λ found. found.items ≡ with_null operands.items has_null) }
+    ensures only_oom { IsOkUnless result no_memory }
+{
+    if has_null {
+        operands.push(Operand::Null)?;
+    }
+    Ok(operands)
 }
