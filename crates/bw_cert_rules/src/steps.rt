@@ -1,4 +1,5 @@
-//! The steps of a condition, operands first: each consumes the next line.
+//! The steps of a condition, operands first: each consumes the next line. What `pair` calls isn't
+//! inlined, which keeps the stack of a deep condition small.
 ghost use Rattle.std.specs.Prelude.{◌≡◌, [], ◌∷◌, Some, IsTrue, IfErr, length, map};
 ghost use Rattle.std.specs.List.{list_all};
 ghost use Rattle.bw_model.specs.FaultTable.{CONDITION_LINE};
@@ -98,6 +99,7 @@ fn combine_parts<'a>(
 }
 
 /// Returns the truth pair of equations with one operand, combined by OR.
+#[inline(never)]
 fn read_list<'a>(
     schema: &Schema,
     diagram: &Diagram<'_>,
@@ -144,6 +146,7 @@ fn one_more<'a>(
 }
 
 /// Returns the truth pair of `x >= y AND x <= z`.
+#[inline(never)]
 fn between<'a>(
     schema: &Schema,
     diagram: &Diagram<'_>,
@@ -194,6 +197,7 @@ fn read_comparison<'a>(
 
 /// Returns the truth pair of a step with the same truth on every row, by the next line.
 #[tactic(auto, unfolding(crate::specs::Pair::by_line))]
+#[inline(never)]
 fn constant<'a>(truth: Truth, lines: BodyLines<'a>, end: u64) -> Read<'a>
     ensures pair { Answers result (by_line end (fixed_pair truth) (body_lines lines.entry)) }
     ensures code { IfErr result (λ fault. fault.code ≡ CONDITION_LINE) }
@@ -207,6 +211,7 @@ fn constant<'a>(truth: Truth, lines: BodyLines<'a>, end: u64) -> Read<'a>
 
 /// Returns the truth pair of `IS NULL`, by the next line.
 #[tactic(auto, unfolding(crate::specs::Pair::by_line))]
+#[inline(never)]
 fn read_null_test<'a>(
     schema: &Schema,
     diagram: &Diagram<'_>,
@@ -305,6 +310,7 @@ fn joined_pair(
 
 /// Returns the truth pair of NOT, by the next line.
 #[tactic(auto, unfolding(crate::specs::Pair::by_line, crate::specs::Pair::negated_pair))]
+#[inline(never)]
 fn read_negation<'a>(pair: TruthPair, lines: BodyLines<'a>, end: u64) -> Read<'a>
     ensures pair { Answers result (by_line end (negated_pair pair) (body_lines lines.entry)) }
     ensures code { IfErr result (λ fault. fault.code ≡ CONDITION_LINE) }
@@ -318,6 +324,7 @@ fn read_negation<'a>(pair: TruthPair, lines: BodyLines<'a>, end: u64) -> Read<'a
 
 /// Returns the truth pair of `IS TRUE`, `IS FALSE` or `IS UNKNOWN`, by the next line.
 #[tactic(auto, unfolding(crate::specs::Pair::by_line))]
+#[inline(never)]
 fn read_truth_test<'a>(
     diagram: &Diagram<'_>,
     wanted: Truth,
