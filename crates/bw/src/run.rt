@@ -222,7 +222,8 @@ fn run_session<'a>(
 }
 
 /// Runs the statements of standard input over a table in memory. Returns the status of the first
-/// one that was rejected.
+/// one that was rejected, or of one for which memory was refused. If none was, but a line of scan
+/// statistics couldn't be written, the session fails (702).
 fn answer_input(
     rt: &HostRuntime,
     table: &MemoryTable,
@@ -243,8 +244,13 @@ fn answer_input(
         &mut ToWrite::new(&mut out),
         &mut teller,
     );
-    let first = or_write_failure(done, &[], out.error())?;
-    Ok(first.map_or(0, |fault| quiet_status(&fault)))
+    match or_write_failure(done, &[], out.error())? {
+        Some(fault) => Ok(quiet_status(&fault)),
+        None if teller.has_lost_statistics() => {
+            Err(CommandFailure::of(Fault::new(code::WRITE_FAILED), &[]))
+        }
+        None => Ok(0),
+    }
 }
 
 /// Returns the bytes of each program file of a session.

@@ -1,4 +1,6 @@
 //! The prompts and reports of `bw session`, beside its results.
+ghost use Rattle.std.specs.Prelude.{None};
+
 use bw_explain::explain_statement;
 use bw_file::ToWrite;
 use bw_model::{Fault, Schema};
@@ -8,7 +10,8 @@ use std::io::IsTerminal;
 /// The prompt at a terminal, while a statement is awaited.
 const PROMPT: &str = "bw> ";
 
-/// Writes the prompts, scan statistics and errors of a session to standard error.
+/// Writes the prompts, scan statistics and errors of a session to standard error. A line that can't
+/// be written is dropped.
 #[derive(Drop)]
 pub struct Teller<'a> {
     rt: &'a HostRuntime,
@@ -16,6 +19,7 @@ pub struct Teller<'a> {
     stats: bool,
     explains: bool,
     prompts: bool,
+    lost: bool,
 }
 
 impl<'a> Teller<'a> {
@@ -29,11 +33,19 @@ impl<'a> Teller<'a> {
             stats,
             explains,
             prompts,
+            lost: false,
         }
+    }
+
+    /// Returns whether a line of scan statistics was dropped.
+    pub fn has_lost_statistics(&self) -> bool {
+        self.lost
     }
 }
 
 impl Listener for Teller<'_> {
+    ghost told = { λ _. None };
+
     fn wait(&mut self) {
         if self.prompts {
             let _ = eprint!(self.rt; "{}", PROMPT);
@@ -41,8 +53,8 @@ impl Listener for Teller<'_> {
     }
 
     fn note_answer(&mut self, served: &Served) {
-        if self.stats {
-            let _ = stats_line(served, &mut ToWrite::new(self.rt.stderr()));
+        if self.stats && stats_line(served, &mut ToWrite::new(self.rt.stderr())).is_err() {
+            self.lost = true;
         }
     }
 

@@ -1,5 +1,5 @@
 //! Sessions: statements from hostile sources, answers to hostile sinks, and refused memory.
-ghost use Rattle.std.specs.Prelude.{◌<◌, ◌-◌, ◌^◌};
+ghost use Rattle.std.specs.Prelude.{◌<◌, ◌-◌, ◌^◌, None};
 
 use crate::calls::{LAYOUTS, plan_file, table_file};
 use crate::devices::{Pieces, Repeated, Taker};
@@ -41,6 +41,8 @@ impl Counter {
 }
 
 impl Listener for Counter {
+    ghost told = { λ _. None };
+
     fn wait(&mut self) {}
 
     fn note_answer(&mut self, _served: &Served) {

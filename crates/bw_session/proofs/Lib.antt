@@ -1,5 +1,6 @@
 mod CutLemmas
 mod KeptLemmas
+mod NoteLemmas
 mod ReadingLemmas
 mod SessionLemmas
 mod WriteLemmas

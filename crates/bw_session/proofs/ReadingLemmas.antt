@@ -1,12 +1,14 @@
 -- One more byte of a statement.
 use Rattle.std.proofs.Common.{◌≡◌, refl, sym, ap, ◌∙◌, subst, ℕ, ◌+◌, ◌≤◌, ◌<◌, Bool, true, false}
-use Rattle.std.proofs.Common.{List, [], ◌∷◌, ◌++◌, Option, None, Some, Result, Ok, Err, length}
+use Rattle.std.proofs.Common.{List, [], ◌∷◌, ◌++◌, Option, None, Some, length}
 use Rattle.std.proofs.Common.{take, arith, append-nil, length-append, length-take, take_all}
 use Rattle.std.proofs.lemmas.List.{take-append-le}
-use Rattle.std.proofs.lemmas.Bool.{ltb-true, ltb-false}
+use Rattle.std.proofs.lemmas.Bool.{both_ways, ltb-true, ltb-false}
 use Rattle.std.proofs.KnownBytes.{Consumes-nil, Consumes-trans}
 use Rattle.std.specs.Io.KnownBytes.{Keeps, Consumes, IsAtEnd}
-use Rattle.std.specs.Prelude.{IfErr, ltb, if◌then◌else◌}
+use Rattle.std.specs.Prelude.{ltb, if◌then◌else◌}
+use Rattle.bw_model.specs.declared.fault.Fault.{Fault}
+use Rattle.bw_io.specs.Source.{is_read_fault}
 use Rattle.bw_session.specs.declared.statement_state.StatementState.{StatementState}
 use Rattle.bw_session.specs.declared.statement_state.StatementState.TheVariants.{Blank}
 use Rattle.bw_session.specs.StatementState.{after, is_ended, statement_state_after}
@@ -47,6 +49,10 @@ is_open : {old before : Option (List ℕ)} {statement : List ℕ} {standing : St
     (so_far : Reads old before statement standing) → is_ended (statement_state_after Blank so_far.bytes) ≡ false
 is_open so_far = ap is_ended so_far.stands ∙ so_far.opened
 
+still_open : {old before : Option (List ℕ)} {statement : List ℕ} {standing : StatementState}
+    (so_far : Reads old before statement standing) → IsOpen (so_far.bytes ++ [])
+still_open so_far = subst IsOpen (sym (append-nil so_far.bytes)) (opened so_far.bytes (is_open so_far))
+
 module _ {old before now : Option (List ℕ)} {statement : List ℕ} {standing : StatementState}
     (so_far : Reads old before statement standing) where
   -- a byte came, and no statement ended with it
@@ -85,16 +91,26 @@ module _ {old before now : Option (List ℕ)} {statement : List ℕ} {standing :
     consumes = Consumes-trans old before now so_far.bytes [] so_far.consumes came;
     kept = so_far.kept ∙ ap (take most_stored) (sym (append-nil so_far.bytes));
     whole = λ p. absurd (cc p);
-    last = λ _. subst IsOpen (sym (append-nil so_far.bytes)) (opened so_far.bytes (is_open so_far));
+    last = λ _. still_open so_far;
     end = λ _. end;
   }
 
-  -- one byte more came, or none, and then no more
-  pub no_more : (rest : List ℕ) → length rest ≤ 1 → Consumes before now rest → HasReadBeginning old now
-  no_more rest few came = record {
-    bytes = so_far.bytes ++ rest;
-    consumes = Consumes-trans old before now so_far.bytes rest so_far.consumes came;
-    begun = record { front = so_far.bytes; rest = rest; is = refl; short = few; opened = opened so_far.bytes (is_open so_far) };
+  -- no more came
+  pub no_more : (fault : Fault) → Consumes before now [] → HasReadBeginning old now fault
+  no_more fault came = record {
+    bytes = so_far.bytes ++ [];
+    consumes = Consumes-trans old before now so_far.bytes [] so_far.consumes came;
+    begun = record { front = so_far.bytes; rest = []; is = refl; short = omega arith; opened = opened so_far.bytes (is_open so_far) };
+    unended = λ read. still_open so_far;
+  }
+
+  -- one byte more came, and no read failed
+  pub one_more : (fault : Fault) (byte : ℕ) → Consumes before now (byte ∷ []) → is_read_fault fault ≡ false → HasReadBeginning old now fault
+  one_more fault byte came other = record {
+    bytes = so_far.bytes ++ byte ∷ [];
+    consumes = Consumes-trans old before now so_far.bytes (byte ∷ []) so_far.consumes came;
+    begun = record { front = so_far.bytes; rest = byte ∷ []; is = refl; short = omega arith; opened = opened so_far.bytes (is_open so_far) };
+    unended = λ read. absurd (both_ways (is_read_fault fault) other read);
   }
 
 -- known bytes that stay as they were are as many as before
@@ -102,8 +118,3 @@ pub keeps_as_none : (before now : Option (List ℕ)) → Keeps before now → Co
 keeps_as_none None now kept = tt
 keeps_as_none (Some bytes) None kept = absurd kept
 keeps_as_none (Some bytes) (Some others) kept = sym kept
-
--- what holds in any case holds of an error
-pub of_any : {A E : Type 0} (P : Type 0) (result : Result A E) → P → IfErr result (λ fault. P)
-of_any P (Ok x) holds = tt
-of_any P (Err fault) holds = holds

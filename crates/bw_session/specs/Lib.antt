@@ -1,3 +1,4 @@
+pub mod Note
 pub mod Reading
 pub mod Session
 pub mod StatementState

@@ -2,6 +2,8 @@
 use Rattle.std.specs.Prelude.{◌≡◌, ℕ, Bool, true, false, List, [], ◌∷◌, ◌++◌, length, Option, Some}
 use Rattle.std.specs.Prelude.{None, take, ltb, if◌then◌else◌}
 use Rattle.std.specs.Io.KnownBytes.{Consumes, IsAtEnd}
+use Rattle.bw_model.specs.declared.fault.Fault.{Fault}
+use Rattle.bw_io.specs.Source.{is_read_fault}
 use Rattle.bw_session.specs.declared.statement_state.StatementState.{StatementState}
 use Rattle.bw_session.specs.declared.statement_state.StatementState.TheVariants.{Blank}
 use Rattle.bw_session.specs.StatementState.{is_ended, statement_state_after}
@@ -32,11 +34,13 @@ pub record HasReadStatement (old new : Option (List ℕ)) (statement : List ℕ)
   pub last : more ≡ false → IsOpen bytes
   pub end : more ≡ false → IsAtEnd new
 
--- the source yielded bytes that begin a statement, and was read no further
-pub record HasReadBeginning (old new : Option (List ℕ)) : Type 0 where
+-- The source yielded bytes that begin a statement, and was read no further. After a failed read
+-- the statement hasn't ended.
+pub record HasReadBeginning (old new : Option (List ℕ)) (fault : Fault) : Type 0 where
   pub bytes : List ℕ
   pub consumes : Consumes old new bytes
   pub begun : IsBegun bytes
+  pub unended : is_read_fault fault ≡ true → IsOpen bytes
 
 -- The source yielded these bytes of a statement, which hasn't ended, and this is its state after
 -- them.

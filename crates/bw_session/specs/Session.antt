@@ -1,6 +1,6 @@
 -- What a session writes for each statement: its result and an LF, an LF, or nothing.
-use Rattle.std.specs.Prelude.{◌≡◌, ℕ, ◌+◌, false, List, [], ◌∷◌, ◌++◌, length, ◌≤◌, ◌⊎◌}
-use Rattle.std.specs.Prelude.{IsTrue, if◌then◌else◌, Option, Some, None, Result, Ok, Err}
+use Rattle.std.specs.Prelude.{◌≡◌, ℕ, ◌+◌, true, false, List, [], ◌∷◌, ◌++◌, length, take, ◌≤◌}
+use Rattle.std.specs.Prelude.{◌<◌, ◌⊎◌, IsTrue, if◌then◌else◌, Option, Some, None, Result, Ok, Err}
 use Rattle.std.specs.Io.KnownBytes.{Appends, Consumes, IsAtEnd}
 use Rattle.bw_model.specs.declared.fault.Fault.{Fault}
 use Rattle.bw_model.specs.declared.query.Query.{Query}
@@ -9,133 +9,191 @@ use Rattle.bw_model.specs.Column.{names_of}
 use Rattle.bw_model.specs.FaultTable.{WRITE_FAILED}
 use Rattle.bw_model.specs.Fault.{is_memory, nowhere}
 use Rattle.bw_model.specs.Row.{Value}
+use Rattle.bw_report.specs.declared.served.Served.{Served}
+use Rattle.bw_query.specs.ProgramChoice.{IsServedAmong}
 use Rattle.bw_sql.specs.Cut.{HasNoToken}
 use Rattle.bw_sql.specs.Limits.{longest_statement}
 use Rattle.bw_sql.specs.Statement.{IsReadAs}
 use Rattle.bw_answer.specs.Answer.{csv_text, meaning}
 use Rattle.bw_io.specs.Sink.{SinkState, TookPart, is_write_fault}
-use Rattle.bw_io.specs.Source.{SourceState, failed_reads, is_input_fault}
+use Rattle.bw_io.specs.Source.{SourceState, failed_reads, is_input_fault, is_read_fault}
+use Rattle.bw_session.specs.Note.{Hears, Note, answered, rejected}
+use Rattle.bw_session.specs.Reading.{most_stored}
 use Rattle.bw_session.specs.Statements.{IsBegun, IsOpen, IsWhole}
+
+-- what statements are asked of: a table's schema and rows, and the program files that may serve
+pub record SessionTable : Type 0 where
+  pub files : List (List ℕ)
+  pub schema : Schema
+  pub rows : List (List Value)
+
+abbrev pub session_table : List (List ℕ) → Schema → List (List Value) → SessionTable
+session_table files schema rows = record { files = files; schema = schema; rows = rows }
+
+-- what a session's sink consumed and its listener was told, each if it states it
+pub record Outputs : Type 0 where
+  pub taken : Option (List ℕ)
+  pub told : Option (List Note)
+
+abbrev pub outputs : Option (List ℕ) → Option (List Note) → Outputs
+outputs taken told = record { taken = taken; told = told }
 
 -- a statement is empty: it isn't too long, and has only spaces, tabs, line ends and comments
 abbrev pub AsksNothing : List ℕ → Type 0
 AsksNothing sql = (length sql ≤ longest_statement) × HasNoToken sql
 
--- What a session writes for a statement over rows, and the statement's error if it is rejected. An
--- empty statement writes nothing. One that spells a query writes the CSV text of its meaning and an
--- LF. One that is rejected writes an LF. Out of memory may reject any statement.
-pub data IsOutput (schema : Schema) (rows : List (List Value)) (sql : List ℕ) : Option Fault
-    → List ℕ → Type 0 where
-  nothing : AsksNothing sql → IsOutput schema rows sql None []
-  answer : (query : Query) → IsReadAs schema sql (Ok query)
-      → IsOutput schema rows sql None (csv_text (meaning (names_of schema.columns.items) query rows)
-      ++ 10 ∷ [])
+-- What a session writes for a statement, and the statement's error if it is rejected. An empty
+-- statement writes nothing. One that spells a query writes the CSV text of its meaning and an LF.
+-- One that is rejected writes an LF. Out of memory may reject any statement.
+pub data IsOutput (table : SessionTable) (sql : List ℕ) : Option Fault → List ℕ → Type 0 where
+  nothing : AsksNothing sql → IsOutput table sql None []
+  answer : (query : Query) → IsReadAs table.schema sql (Ok query)
+      → IsOutput table sql None
+      (csv_text (meaning (names_of table.schema.columns.items) query table.rows) ++ 10 ∷ [])
   refusal : {fault : Fault} → (AsksNothing sql → ⊥)
-      → (is_memory fault ≡ false → IsReadAs schema sql (Err fault))
-      → IsOutput schema rows sql (Some fault) (10 ∷ [])
+      → (is_memory fault ≡ false → IsReadAs table.schema sql (Err fault))
+      → IsOutput table sql (Some fault) (10 ∷ [])
 
--- the sink consumed what a statement writes
-pub record HasWrittenOutput (schema : Schema) (rows : List (List Value)) (sql : List ℕ)
-    (old new : Option (List ℕ))
+-- What a session tells its listener of a statement with this error, if there is one: nothing of an
+-- empty one; how a query was served, which is by the first program file that is accepted for its
+-- condition, or if none is, by some program with a valid certificate, or row by row; the stored
+-- bytes of one that is rejected, and its error.
+pub data IsTold (table : SessionTable) (sql : List ℕ) : Option Fault → List Note → Type 0 where
+  told_nothing : AsksNothing sql → IsTold table sql None []
+  told_answer : (query : Query) (served : Served) → IsReadAs table.schema sql (Ok query)
+      → IsServedAmong table.files table.schema query table.rows served
+      → IsTold table sql None (answered served ∷ [])
+  told_refusal : (fault : Fault) → IsTold table sql (Some fault)
+      (rejected (take most_stored sql) fault ∷ [])
+
+-- the sink consumed what a statement writes, and the listener was told of it
+pub record HasWrittenOutput (table : SessionTable) (sql : List ℕ) (old new : Outputs)
     (fault : Option Fault) : Type 0 where
   pub out : List ℕ
-  pub is : IsOutput schema rows sql fault out
-  pub appends : Appends old new out
+  pub notes : List Note
+  pub is : IsOutput table sql fault out
+  pub tells : IsTold table sql fault notes
+  pub appends : Appends old.taken new.taken out
+  pub hears : Hears old.told new.told notes
 
--- the sink consumed a prefix of it
-pub record HasWrittenPart (schema : Schema) (rows : List (List Value)) (sql : List ℕ)
-    (old new : Option (List ℕ)) : Type 0 where
+-- a listener was told these notes, and perhaps of one statement more, which has this error
+abbrev pub MayHear : SessionTable → List ℕ → Option Fault → Option (List Note)
+    → Option (List Note) → List Note → Type 0
+MayHear table sql fault old new notes = Hears old new notes
+    ⊎ ((next : List Note) × IsTold table sql fault next × Hears old new (notes ++ next))
+
+-- the sink consumed a prefix of what a statement writes
+pub record HasWrittenPart (table : SessionTable) (sql : List ℕ) (old new : Outputs)
+    : Type 0 where
   pub out : List ℕ
   pub fault : Option Fault
-  pub is : IsOutput schema rows sql fault out
-  pub appends : TookPart old new out
+  pub is : IsOutput table sql fault out
+  pub appends : TookPart old.taken new.taken out
+  pub hears : MayHear table sql fault old.told new.told []
 
 -- the number of writes that failed in a call with this error: 1 for a failed write, else 0
 abbrev pub failed_writes : Fault → ℕ
 failed_writes fault = if is_write_fault fault then 1 else 0
 
--- the first of two errors, if there is one
+-- Of two errors the one that is out of memory, else the first. So an answer that is missing for
+-- memory isn't hidden behind an earlier error.
 abbrev pub first_of : Option Fault → Option Fault → Option Fault
-first_of (Some fault) other = Some fault
 first_of None other = other
+first_of (Some fault) None = Some fault
+first_of (Some fault) (Some other) = Some (if is_memory other then other else fault)
 
--- A text is statements, one after another, each with what ends it. This is what they write, one
--- after another, and the first of their errors.
-pub data AreAnswered (schema : Schema) (rows : List (List Value)) : List ℕ → Option Fault → List ℕ
+-- A text is statements, one after another, each with what ends it. This is the error that
+-- `first_of` chooses of theirs, what they write, one after another, and what is told of them.
+pub data AreAnswered (table : SessionTable) : List ℕ → Option Fault → List ℕ → List Note
     → Type 0 where
-  begun : AreAnswered schema rows [] None []
-  more : {text output : List ℕ} {first : Option Fault} (sql out : List ℕ) (fault : Option Fault) →
-      AreAnswered schema rows text first output → IsWhole sql → IsOutput schema rows sql fault out
-      → AreAnswered schema rows (text ++ sql) (first_of first fault) (output ++ out)
+  begun : AreAnswered table [] None [] []
+  more : {text output : List ℕ} {told : List Note} {first : Option Fault} (sql out : List ℕ)
+      (notes : List Note) (fault : Option Fault) → AreAnswered table text first output told
+      → IsWhole sql → IsOutput table sql fault out → IsTold table sql fault notes
+      → AreAnswered table (text ++ sql) (first_of first fault) (output ++ out) (told ++ notes)
 
 -- A whole text: its statements, and then what is left after the last one that ends.
-pub data IsAnswered (schema : Schema) (rows : List (List Value)) : List ℕ → Option Fault → List ℕ
+pub data IsAnswered (table : SessionTable) : List ℕ → Option Fault → List ℕ → List Note
     → Type 0 where
-  whole : {text output : List ℕ} {first : Option Fault} (sql out : List ℕ) (fault : Option Fault) →
-      AreAnswered schema rows text first output → IsOpen sql → IsOutput schema rows sql fault out
-      → IsAnswered schema rows (text ++ sql) (first_of first fault) (output ++ out)
+  whole : {text output : List ℕ} {told : List Note} {first : Option Fault} (sql out : List ℕ)
+      (notes : List Note) (fault : Option Fault) → AreAnswered table text first output told
+      → IsOpen sql → IsOutput table sql fault out → IsTold table sql fault notes
+      → IsAnswered table (text ++ sql) (first_of first fault) (output ++ out) (told ++ notes)
 
--- A session so far: the source yielded a text, and the sink consumed what its statements write.
-pub record RanSoFar (schema : Schema) (rows : List (List Value))
-    (old now taken_old taken_now : Option (List ℕ))
+-- A session so far: the source yielded a text, the sink consumed what its statements write, and the
+-- listener was told of them.
+pub record RanSoFar (table : SessionTable) (from to : Option (List ℕ)) (old new : Outputs)
     (first : Option Fault) : Type 0 where
   pub text : List ℕ
   pub output : List ℕ
-  pub consumes : Consumes old now text
-  pub appends : Appends taken_old taken_now output
-  pub answered : AreAnswered schema rows text first output
+  pub notes : List Note
+  pub consumes : Consumes from to text
+  pub appends : Appends old.taken new.taken output
+  pub hears : Hears old.told new.told notes
+  pub answered : AreAnswered table text first output notes
 
 -- A session over all of a source, whose text it consumed. The sink consumed what the text's
--- statements write.
-pub record Ended (schema : Schema) (rows : List (List Value))
-    (old new taken_old taken_new : Option (List ℕ))
+-- statements write, and the listener was told of them.
+pub record Ended (table : SessionTable) (from to : Option (List ℕ)) (old new : Outputs)
     (first : Option Fault) : Type 0 where
   pub text : List ℕ
   pub output : List ℕ
-  pub consumes : Consumes old new text
-  pub end : IsAtEnd new
-  pub appends : Appends taken_old taken_new output
-  pub answered : IsAnswered schema rows text first output
+  pub notes : List Note
+  pub consumes : Consumes from to text
+  pub end : IsAtEnd to
+  pub appends : Appends old.taken new.taken output
+  pub hears : Hears old.told new.told notes
+  pub answered : IsAnswered table text first output notes
 
 -- a statement was read completely: with what ends it, or up to the end of the source
 abbrev pub IsComplete : Option (List ℕ) → List ℕ → Type 0
 IsComplete new sql = IsWhole sql ⊎ (IsOpen sql × IsAtEnd new)
 
--- A session that ended early, by this error. The sink consumed what the statements of a text write.
--- Then a read failed, or memory ran out, before the next statement was read completely; or a write
--- failed, after a prefix of what that statement writes.
-pub data IsStopped (schema : Schema) (rows : List (List Value))
-    (old new taken_old taken_new : Option (List ℕ))
+-- a sink consumed a text, and a prefix of what follows it, not all of that
+abbrev pub TookRest : Option (List ℕ) → Option (List ℕ) → List ℕ → List ℕ → Type 0
+TookRest old new text rest = (n : ℕ) × (n < length rest) × Appends old new (text ++ take n rest)
+
+-- A session that ended early, by this error. The sink consumed what the statements of a text write,
+-- and the listener was told of them. Then a read failed, before the next statement was read
+-- completely, or memory ran out, after at most that statement; or a write failed, after a prefix of
+-- what that statement writes.
+pub data IsStopped (table : SessionTable) (from to : Option (List ℕ)) (old new : Outputs)
     : Fault → Type 0 where
   reading : {fault : Fault} {first : Option Fault} (text begun output : List ℕ)
-      → IsTrue (is_input_fault fault)
-      → AreAnswered schema rows text first output → Consumes old new (text ++ begun) → IsBegun begun
-      → Appends taken_old taken_new output → IsStopped schema rows old new taken_old taken_new fault
+      (notes : List Note) → IsTrue (is_input_fault fault)
+      → AreAnswered table text first output notes → Consumes from to (text ++ begun)
+      → IsBegun begun → (is_read_fault fault ≡ true → IsOpen begun)
+      → Appends old.taken new.taken output → Hears old.told new.told notes
+      → IsStopped table from to old new fault
   writing : {first refused : Option Fault} (text sql output out : List ℕ)
-      → AreAnswered schema rows text first output
-      → Consumes old new (text ++ sql) → IsComplete new sql → IsOutput schema rows sql refused out
-      → TookPart taken_old taken_new (output ++ out)
-      → IsStopped schema rows old new taken_old taken_new (nowhere WRITE_FAILED)
+      (notes : List Note) → AreAnswered table text first output notes
+      → Consumes from to (text ++ sql) → IsComplete to sql → IsOutput table sql refused out
+      → TookRest old.taken new.taken output out
+      → MayHear table sql refused old.told new.told notes
+      → IsStopped table from to old new (nowhere WRITE_FAILED)
 
--- A session ran all statements of its source, and returned the first of their errors; or it ended
--- early. The counts of failures rise by one if a failed read or write ended it, and else stay.
-abbrev pub Answers : Schema → List (List Value) → SourceState → SourceState → SinkState → SinkState
-    → Result (Option Fault) Fault → Type 0
-Answers schema rows from to old new (Ok first) =
-    Ended schema rows from.known to.known old.taken new.taken first
+-- A session ran all statements of its source, and returned the error that `first_of` chooses; or it
+-- ended early. The counts of failures rise by one if a failed read or write ended it, and else
+-- stay.
+abbrev pub Answers : SessionTable → SourceState → SourceState → SinkState → SinkState
+    → Option (List Note) → Option (List Note) → Result (Option Fault) Fault → Type 0
+Answers table from to old new before after (Ok first) =
+    Ended table from.known to.known (outputs old.taken before) (outputs new.taken after) first
     × (to.failures ≡ from.failures) × (new.failures ≡ old.failures)
-Answers schema rows from to old new (Err fault) =
-    IsStopped schema rows from.known to.known old.taken new.taken fault
+Answers table from to old new before after (Err fault) =
+    IsStopped table from.known to.known (outputs old.taken before) (outputs new.taken after) fault
     × (to.failures ≡ from.failures + failed_reads fault)
     × (new.failures ≡ old.failures + failed_writes fault)
 
 -- one statement was run, or a write failed
-abbrev pub AnswersOne : Schema → List (List Value) → List ℕ → SinkState → SinkState
-    → Result (Option Fault) Fault → Type 0
-AnswersOne schema rows sql old new (Ok fault) =
-    HasWrittenOutput schema rows sql old.taken new.taken fault × (new.failures ≡ old.failures)
-AnswersOne schema rows sql old new (Err fault) =
-    (fault ≡ nowhere WRITE_FAILED) × HasWrittenPart schema rows sql old.taken new.taken
+abbrev pub AnswersOne : SessionTable → List ℕ → SinkState → SinkState → Option (List Note)
+    → Option (List Note) → Result (Option Fault) Fault → Type 0
+AnswersOne table sql old new before after (Ok fault) =
+    HasWrittenOutput table sql (outputs old.taken before) (outputs new.taken after) fault
+    × (new.failures ≡ old.failures)
+AnswersOne table sql old new before after (Err fault) =
+    (fault ≡ nowhere WRITE_FAILED)
+    × HasWrittenPart table sql (outputs old.taken before) (outputs new.taken after)
     × (new.failures ≡ old.failures + 1)
 
 -- an LF was written, and this is returned; or a write failed

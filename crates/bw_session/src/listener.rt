@@ -1,15 +1,24 @@
 //! Reports what a session does.
+ghost use Rattle.std.specs.Prelude.{[], ◌∷◌, List, Option};
+ghost use Rattle.bw_session.specs.Note.{Hears, Note, answered, rejected};
+
 use bw_model::Fault;
 use bw_report::Served;
 
 /// Receives what a session does, beside what it writes. No result depends on it.
 pub trait Listener {
+    /// What it was told of statements, if it states it.
+    ghost told: { Self → Option (List Note) };
+
     /// The session waits for a statement, of which nothing was read.
-    fn wait(&mut self);
+    fn wait(&mut self)
+        ensures { Hears (told self.old) (told self.new) [] };
 
     /// A statement was run, and this is how it was served.
-    fn note_answer(&mut self, served: &Served);
+    fn note_answer(&mut self, served: &Served)
+        ensures { Hears (told self.old) (told self.new) (answered served.now ∷ []) };
 
     /// A statement was rejected.
-    fn note_refusal(&mut self, statement: &[u8], fault: &Fault);
+    fn note_refusal(&mut self, statement: &[u8], fault: &Fault)
+        ensures { Hears (told self.old) (told self.new) (rejected statement.now fault.now ∷ []) };
 }

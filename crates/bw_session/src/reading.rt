@@ -30,7 +30,7 @@ pub(crate) fn next_statement<S: Source>(
         (S.state source.new).known statement.new.items) }
     ensures failed { TellsFailure (S.state source.old) (S.state source.new) result }
     ensures fault { IfErr result (λ fault. IsTrue (is_input_fault fault)) }
-    ensures begun { IfErr result (λ _. HasReadBeginning (S.state source.old).known
+    ensures begun { IfErr result (HasReadBeginning (S.state source.old).known
         (S.state source.new).known) }
 {
     statement.clear();

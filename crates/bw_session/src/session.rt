@@ -1,15 +1,18 @@
 //! Runs a session: the statements of a source, one after another.
-ghost use Rattle.std.specs.Prelude.{◌≡◌, ◌-◌, ◌^◌, ◌<◌, ◌↔◌, IsTrue};
+ghost use Rattle.std.specs.Prelude.{◌≡◌, ◌-◌, ◌^◌, ◌<◌, ◌≤◌, ◌↔◌, IsTrue, [], length};
+ghost use Rattle.bw_model.specs.Fault.{is_memory};
 ghost use Rattle.bw_io.specs.Sink.{is_write_fault};
 ghost use Rattle.bw_memory.specs.MemoryTable.{rows_of, schema_of};
-ghost use Rattle.bw_query.specs.ProgramCache.{Serves};
+ghost use Rattle.bw_query.specs.ProgramCache.{Serves, files_of};
 ghost use Rattle.bw_session.specs.Session.{Answers, AnswersOne, AsksNothing, EndsLine, first_of};
+ghost use Rattle.bw_session.specs.Note.{Hears};
+ghost use Rattle.bw_session.specs.Session.{session_table};
 
 use crate::listener::Listener;
 use crate::reading::{MAX_LEN, next_statement};
 use bw_io::{Sink, Source, write_whole};
 use bw_memory::MemoryTable;
-use bw_model::{Fault, code};
+use bw_model::{Fault, Place, code};
 use bw_query::{ProgramCache, answer_with_programs};
 use bw_sql::has_no_token;
 use std::alloc::Global;
@@ -18,12 +21,15 @@ use std::alloc::Global;
 /// a `;` outside a comment, with an empty line, or with the source. For each the sink takes the CSV
 /// text of its meaning over the rows and an LF; an LF alone if it is rejected; nothing if it has
 /// only spaces, tabs, line ends and comments. Each result is written before the next statement is
-/// read. Returns the error of the first rejected statement, if there is one.
+/// read. Returns the error of the first rejected statement, if there is one; if memory was refused
+/// to any statement, it returns that error (801).
 ///
 /// Each statement is run by [`answer_with_programs`], whose errors (401 to 408, 801) don't end the
-/// session. It ends early by a failed read (701) or write (702), and if there is no memory for a
-/// statement's text (801). The programs must serve the table's columns, and the counts of errors of
-/// the source and of the sink must be able to rise.
+/// session. The listener is told of each statement that isn't empty: before its LF is written, how
+/// it was served, or its text (the first 65,537 bytes) and its error. The session ends early by a
+/// failed read (701) or write (702), and if there is no memory for a statement's text (801). The
+/// programs must serve the table's columns, and the counts of errors of the source and of the sink
+/// must be able to rise.
 pub fn answer_statements<S: Source, K: Sink, L: Listener>(
     alloc: Global,
     table: &MemoryTable,
@@ -35,15 +41,14 @@ pub fn answer_statements<S: Source, K: Sink, L: Listener>(
     requires serves { Serves (schema_of table.now).columns.items programs.old }
     requires input { (S.state input.old).failures < 2 ^ 64 - 1 }
     requires sink { (K.state sink.old).failures < 2 ^ 64 - 1 }
-    ensures { Answers (schema_of table.now) (rows_of table.now) (S.state input.old)
-        (S.state input.new) (K.state sink.old) (K.state sink.new) result }
+    ensures { Answers (session_table (files_of programs.old) (schema_of table.now)
+        (rows_of table.now)) (S.state input.old) (S.state input.new) (K.state sink.old)
+        (K.state sink.new) (L.told listener.old) (L.told listener.new) result }
 {
     let mut statement = Vec::new(alloc);
     let mut first = None;
     for _ in 0..u64::MAX {
-        if input.share(1).is_none() {
-            listener.wait();
-        }
+        wait_if_unread(input, listener);
         let more = match next_statement(input, &mut statement) {
             Ok(more) => more,
             Err(fault) => return Err(fault),
@@ -59,6 +64,15 @@ pub fn answer_statements<S: Source, K: Sink, L: Listener>(
     Err(Fault::new(code::OUT_OF_MEMORY))
 }
 
+/// Tells the listener that the session waits, if no byte of the next statement is there yet.
+fn wait_if_unread<S: Source, L: Listener>(input: &S, listener: &mut L)
+    ensures { Hears (L.told listener.old) (L.told listener.new) [] }
+{
+    if input.share(1).is_none() {
+        listener.wait();
+    }
+}
+
 /// Runs a statement, and writes its result and an LF. Returns its error if it is rejected. Errors:
 /// 702.
 fn answer_one<K: Sink, L: Listener>(
@@ -71,9 +85,12 @@ fn answer_one<K: Sink, L: Listener>(
 ) -> Result<Option<Fault>, Fault>
     requires serves { Serves (schema_of table.now).columns.items programs.old }
     requires sink { (K.state sink.old).failures < 2 ^ 64 - 1 }
-    ensures answers { AnswersOne (schema_of table.now) (rows_of table.now) sql.now
-        (K.state sink.old) (K.state sink.new) result }
+    requires stored { length sql.now ≤ 65537 }
+    ensures answers { AnswersOne (session_table (files_of programs.old) (schema_of table.now)
+        (rows_of table.now)) sql.now (K.state sink.old) (K.state sink.new) (L.told listener.old)
+        (L.told listener.new) result }
     ensures serves { Serves (schema_of table.now).columns.items programs.new }
+    ensures files { files_of programs.new ≡ files_of programs.old }
 {
     if asks_nothing(sql) {
         return Ok(None);
@@ -119,12 +136,26 @@ fn asks_nothing(sql: &[u8]) -> bool
     sql.len() <= MAX_LEN && has_no_token(sql)
 }
 
-/// Returns the first of two errors, if there is one.
+/// Returns of two errors the one that is out of memory, else the first, if there is one.
 fn first_of(first: Option<Fault>, other: Option<Fault>) -> Option<Fault>
     ensures { result ≡ first_of first other }
 {
-    match first {
-        Some(fault) => Some(fault),
-        None => other,
+    match (first, other) {
+        (None, other) => other,
+        (Some(_), Some(memory)) if is_memory(&memory) => Some(memory),
+        (Some(fault), _) => Some(fault),
     }
+}
+
+/// Returns whether memory was refused.
+fn is_memory(fault: &Fault) -> bool
+    ensures { result ≡ is_memory fault.now }
+{
+    matches!(
+        fault,
+        Fault {
+            code: code::OUT_OF_MEMORY,
+            place: Place::Nowhere
+        }
+    )
 }

@@ -1,7 +1,8 @@
-use Rattle.std.proofs.Common.{◌≡◌, refl, sym, ◌∙◌, ap, rules, false, true, [], ◌∷◌, arith}
+use Rattle.std.proofs.Common.{◌≡◌, refl, sym, ◌∙◌, ap, rules, false, true}
 use Rattle.bw_session.specs.StatementState.{after, is_ended}
-use Rattle.bw_session.proofs.ReadingLemmas.{begun, ended, keeps_as_none, more, no_more, of_any}
+use Rattle.bw_session.proofs.ReadingLemmas.{begun, ended, keeps_as_none, more, no_more, one_more}
 use Rattle.bw_session.proofs.ReadingLemmas.{whole}
+use Rattle.bw_model.proofs.ErrLemmas.{err_passed_on}
 use Rattle.std.proofs.KnownBytes.{Consumes-nil}
 use Rattle.bw_session.proofs.reading.next_statement.Goals as goal
 
@@ -32,12 +33,12 @@ returns-in_default-clause-statement g c =
 
 pub returns-in_err-byte-clause-begun : goal.returns-in_err-byte-clause-begun
 returns-in_err-byte-clause-begun g c =
-    of_any _ c.from_residual.result (no_more c.loop.invariant.reads [] (omega arith) (keeps_as_none _ _ c.in_err-byte.ensures.same))
+    rw (err_passed_on _ c.from_residual.ensures.1) (no_more c.loop.invariant.reads _ (keeps_as_none _ _ c.in_err-byte.ensures.same))
 
 pub returns-in_err-store_byte-clause-begun : goal.returns-in_err-store_byte-clause-begun
 returns-in_err-store_byte-clause-begun g c =
     let came = rw c.in-Some.is at c.in_ok-byte.ensures.byte in
-    of_any _ c.from_residual-in_err-store_byte.result (no_more c.loop.invariant.reads (c.in-Some.byte ∷ []) (omega arith) came)
+    rw (err_passed_on _ c.from_residual-in_err-store_byte.ensures.1) (one_more c.loop.invariant.reads _ c.in-Some.byte came refl)
 
 pub returns-clause-begun : goal.returns-clause-begun
-returns-clause-begun g c = no_more c.loop.invariant.reads [] (omega arith) (Consumes-nil _)
+returns-clause-begun g c = no_more c.loop.invariant.reads _ (Consumes-nil _)
