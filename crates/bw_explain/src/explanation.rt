@@ -261,8 +261,8 @@ fn explain_byte(rt: &HostRuntime, sql: &str, byte: u64) {
     if let Some(part) = usize::try_from(byte).ok().and_then(|at| Part::of(sql, at)) {
         let _ = eprintln!(rt;
             "    {}{}\n    {}^",
-            part.before,
-            part.after,
+            Plain(part.before),
+            Plain(part.after),
             Blank(part.before)
         );
     }
@@ -376,6 +376,24 @@ fn begin_of_line(text: &str, room: usize) -> Option<&str> {
 /// with it.
 fn fits(part: Option<&str>, columns: usize) -> bool {
     part.is_some_and(|part| columns_of(part) <= columns)
+}
+
+/// A part of a line, with a space for each control character but a tab: a carriage return would
+/// move what follows.
+#[derive(Clone, Copy)]
+struct Plain<'a>(&'a str);
+
+impl fmt::Display for Plain<'_> {
+    fn fmt<W: fmt::Write>(&self, f: &mut fmt::Formatter<W>) -> fmt::Result {
+        for character in self.0.chars() {
+            if character.is_control() && character != '\t' {
+                f.write_str(" ")?;
+            } else {
+                write!(f, "{character}")?;
+            }
+        }
+        Ok(())
+    }
 }
 
 /// As many blanks as a text has characters.

@@ -129,8 +129,8 @@ fn put_kind(text: &mut String, csv: &[u8]) -> Result<bool, AllocError> {
     let kind = match csv {
         [0x1f, 0x8b, ..] => "compressed by gzip: gunzip it",
         [b'P', b'K', 3, 4, ..] => "a zip archive, or a workbook: unzip it, or save it as CSV",
-        [0xff, 0xfe, ..] | [0xfe, 0xff, ..] => "UTF-16: tools/import loads it",
-        [_, 0, _, 0, ..] | [0, _, 0, _, ..] => "UTF-16: tools/import loads it",
+        [0xff, 0xfe, ..] | [0xfe, 0xff, ..] => "UTF-16: bw-import loads it",
+        [_, 0, _, 0, ..] | [0, _, 0, _, ..] => "UTF-16: bw-import loads it",
         _ => return Ok(false),
     };
     writeln!(text, "the file is {kind}")?;
@@ -154,6 +154,6 @@ fn put_separator(text: &mut String, heading: &ByteRecord) -> Result<(), AllocErr
     };
     writeln!(
         text,
-        "fields seem to be separated by {separator}: tools/import loads such files"
+        "fields seem to be separated by {separator}: bw-import loads such files"
     )
 }

@@ -29,7 +29,7 @@ const SETS: &str = "ask two statements";
 const NESTED: &str = "a statement can't contain another; ask two statements";
 
 const PATTERNS: &str =
-    "columns store whole numbers; tools/ask compares texts that tools/import loaded with = and <, and by IN";
+    "columns store whole numbers; bw-ask compares texts that bw-import loaded with = and <, and by IN";
 
 const FUNCTIONS: &str = "the only functions are COUNT, SUM, MIN and MAX";
 
@@ -138,15 +138,15 @@ fn missing_of(token: Token<'_>, schema: &Schema, follows_operand: bool) -> Optio
         Token::Number { is_fraction: false } => return None,
         Token::Number { is_fraction: true } => (
             "a fraction such as 5.5",
-            "numbers are whole; tools/ask takes decimals of a table that tools/import loaded",
+            "numbers are whole; bw-ask takes decimals of a table that bw-import loaded",
         ),
         Token::Quoted(b'\'') => (
             "a text in quotes",
-            "columns store whole numbers; tools/ask takes texts of a table that tools/import loaded",
+            "columns store whole numbers; bw-ask takes texts of a table that bw-import loaded",
         ),
         Token::Quoted(_) => (
             "a name in quotation marks",
-            "write it bare; tools/ask takes a heading in double quotes",
+            "write it bare; bw-ask takes a heading in double quotes",
         ),
         Token::Mark(b"!=") => ("!=", "write <>"),
         Token::Mark(b"==") => ("==", "write ="),

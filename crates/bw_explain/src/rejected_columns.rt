@@ -36,7 +36,7 @@ fn put_columns(
     columns.put_ranges(text, heading)?;
     put_open_quote(text, csv)?;
     if columns.seen.iter().any(|seen| seen.is_unfit) {
-        text.push_str("tools/import loads texts, decimals and dates\n")?;
+        text.push_str("bw-import loads texts, decimals and dates\n")?;
     }
     Ok(())
 }
