@@ -43,13 +43,15 @@ def program(path=None):
 
 @contextlib.contextmanager
 def new_folder(bw):
-    """Makes a new folder with the examples, the cases, the scripts and the tools, and with `bin`, in which `bw` is the
-    program."""
+    """Makes a new folder with the examples, the cases and the scripts, and with `bin`, in which `bw` is the program, beside
+    the Python programs."""
     with tempfile.TemporaryDirectory() as name:
         folder = pathlib.Path(name)
         (folder / "bin").mkdir()
         (folder / "bin" / "bw").symlink_to(bw)
-        for each in ("examples", "cases", "scripts", "tools"):
+        for tool in (ROOT / "python" / "bin").iterdir():
+            (folder / "bin" / tool.name).symlink_to(tool)
+        for each in ("examples", "cases", "scripts"):
             (folder / each).symlink_to(ROOT / each)
         yield folder
 

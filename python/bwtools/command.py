@@ -1,0 +1,129 @@
+"""What the programs share as commands: the program that they call, and how they end."""
+from __future__ import annotations
+
+import contextlib
+import csv
+import gc
+import os
+import pathlib
+import shutil
+import signal
+import subprocess
+import sys
+from typing import IO, Any, Callable, NoReturn, Sequence
+
+from .naming import is_name, name_like
+from .telling import Refused, shown
+
+
+class Ended(Exception):
+    """A program that ended with a status other than 0."""
+
+    def __init__(self, status: int) -> None:
+        super().__init__(status)
+        self.status = status
+
+
+def program() -> str:
+    """Returns the program bw: that of the environment variable BW, else the one on the PATH, else
+    the one that the package came with."""
+    found = os.environ.get("BW") or shutil.which("bw") or own_program()
+    if not found:
+        raise Refused("no program bw on the PATH: set BW=FILE to its path")
+    return str(found)
+
+
+def own_program() -> pathlib.Path | None:
+    """Returns the program that the package came with, or None: that of a checkout's dist/, if it
+    runs here, else one beside the package's folder, else one that was installed with it."""
+    top = pathlib.Path(__file__).resolve().parent.parent.parent
+    shipped = top / "dist" / "bw"
+    if is_program(shipped) and not subprocess.run(
+            [shipped, "--version"], stdin=subprocess.DEVNULL, stdout=subprocess.DEVNULL,
+            stderr=subprocess.DEVNULL, check=False).returncode:
+        return shipped
+    near = (top / "bw", top.parent.parent / "bin" / "bw")
+    return next((path for path in near if is_program(path)), None)
+
+
+def is_program(path: pathlib.Path) -> bool:
+    return path.is_file() and os.access(path, os.X_OK)
+
+
+def own_name() -> str:
+    """Returns the name by which a program was called, such as bw-ask."""
+    return pathlib.Path(sys.argv[0]).name
+
+
+def call(words: Sequence[Any], output: IO[bytes] | int = subprocess.PIPE) -> None:
+    """Runs a command of bw to its end. If it fails, passes on its error, and raises Ended with its
+    status."""
+    status = subprocess.run([program(), *map(str, words)], stdin=subprocess.DEVNULL, stdout=output,
+                            check=False).returncode
+    if status:
+        print(f"bw {words[0]} ended with status {status}", file=sys.stderr)
+        raise Ended(status if status > 0 else 128 - status)
+
+
+def table_name(name: str | None, out: str | None) -> str:
+    """Returns the name of the table to load: the given one, else that of the file or folder to
+    write, made valid."""
+    name = name or name_like(pathlib.Path(out or "t").name.removesuffix(".bw"))
+    if not is_name(name):
+        raise Refused(f"--table: {shown(name)} is not a valid name: use letters, digits and _, and "
+                      "no reserved word of SQL")
+    return name
+
+
+def stop(number: int, _: object) -> NoReturn:
+    """Exits as an interrupt does, so that unfinished files are removed."""
+    raise SystemExit(128 + number)
+
+
+def write_utf8() -> None:
+    """Has standard output written as UTF-8, with line feeds as they are."""
+    # `status_of` opened it as a text file
+    getattr(sys.stdout, "reconfigure")(encoding="utf-8", errors="strict", newline="")
+
+
+def drop_output() -> None:
+    """Flushes standard output, then redirects it to /dev/null, so that Python reports no error at
+    its end."""
+    with contextlib.suppress(OSError):
+        sys.stdout.flush()
+    os.dup2(os.open(os.devnull, os.O_WRONLY), sys.stdout.fileno())
+
+
+def status_of(name: str, work: Callable[[], int | None]) -> int:
+    """Does a program's work. Returns its status: 3 if the input was rejected, 5 if I/O failed."""
+    for number in (signal.SIGTERM, signal.SIGHUP):
+        if signal.getsignal(number) == signal.SIG_DFL:
+            signal.signal(number, stop)
+    # many objects are made, and none are in a reference cycle
+    gc.disable()
+    if not sys.stdout:
+        print(f"{name}: standard output is closed", file=sys.stderr)
+        return 5
+    # with PYTHONUNBUFFERED Python's own has no buffer, and silently drops what the system doesn't
+    # write at once
+    sys.stdout = open(sys.stdout.fileno(), "w", encoding=sys.stdout.encoding,
+                      errors="backslashreplace", closefd=False)
+    try:
+        status = work() or 0
+        sys.stdout.flush()
+        return status
+    except (Refused, UnicodeError, csv.Error) as refused:
+        print(f"{name}: {refused}", file=sys.stderr)
+        return 3
+    except Ended as ended:
+        return ended.status
+    except KeyboardInterrupt:
+        return 130
+    except BrokenPipeError:
+        drop_output()
+        return 5
+    except OSError as error:
+        where = f"{error.filename}: " if error.filename else ""
+        print(f"{name}: {where}{error.strerror}", file=sys.stderr)
+        drop_output()
+        return 5

@@ -1,0 +1,114 @@
+"""The bytes of a file to read: a regular file, a pipe, or standard input; of a compressed file what
+it holds."""
+from __future__ import annotations
+
+import bz2
+import gzip
+import io
+import lzma
+import os
+import shutil
+import stat
+import sys
+import tempfile
+import zlib
+from typing import IO, Any, BinaryIO, Callable
+
+from .telling import Refused
+
+# the first bytes of each form, its name, and what opens it
+FORMS: tuple[tuple[bytes, str, Callable[[Any], Any]], ...] = (
+    (b"\x1f\x8b\x08", "gzip", gzip.open), (b"BZh", "bzip2", bz2.open),
+    (b"\xfd7zXZ\0", "xz", lzma.open))
+# what a reader may take for a table, and what to do with it
+OTHERS = ((b"PK\3\4", "a zip archive, or a spreadsheet: unpack it, or export it as CSV"),
+          (b"PAR1", "a Parquet file: write it as CSV"),
+          (b"SQLite format 3\0", "a database: write its table as CSV"))
+AT_ONCE = 1 << 20
+
+
+class Positioned(io.RawIOBase):
+    """An open file with a position of its own, so that several processes can read it side by
+    side."""
+
+    def __init__(self, file: IO[bytes]) -> None:
+        self.file, self.position = file, 0
+
+    def readable(self) -> bool:
+        return True
+
+    def seekable(self) -> bool:
+        return True
+
+    def fileno(self) -> int:
+        return self.file.fileno()
+
+    def seek(self, offset: int, whence: int = os.SEEK_SET) -> int:
+        bases = {os.SEEK_SET: 0, os.SEEK_CUR: self.position}
+        end = os.fstat(self.fileno()).st_size
+        self.position = offset + (bases[whence] if whence in bases else end)
+        return self.position
+
+    def readinto(self, buffer: Any) -> int:
+        found = os.pread(self.fileno(), len(buffer), self.position)
+        buffer[:len(found)] = found
+        self.position += len(found)
+        return len(found)
+
+
+def name_of(path: str | os.PathLike[str]) -> str:
+    """Returns the name of a file to read, for messages."""
+    return "standard input" if os.fspath(path) == "-" else os.fspath(path)
+
+
+def path_of(path: str | os.PathLike[str]) -> str | os.PathLike[str]:
+    """Returns the path of a file to read, to compare it with others."""
+    return "/dev/stdin" if os.fspath(path) == "-" else path
+
+
+def open_input(path: str | os.PathLike[str]) -> BinaryIO:
+    """Opens a file to read, which can be read more than once: a pipe, and what a compressed file
+    holds, are copied to a temporary file. `-` is standard input. Raises Refused for a file of
+    another form, or one that is compressed and damaged."""
+    if os.fspath(path) != "-":
+        file: BinaryIO = open(path, "rb")
+    elif sys.stdin is None:
+        raise Refused("standard input is closed")
+    else:
+        file = open(os.dup(sys.stdin.fileno()), "rb")
+    if not stat.S_ISREG(os.fstat(file.fileno()).st_mode):
+        file = copied(file)
+    begin = os.pread(file.fileno(), 16, 0)
+    for mark, what in OTHERS:
+        if begin.startswith(mark):
+            raise Refused(f"{name_of(path)} is {what}")
+    for mark, name, opener in FORMS:
+        if begin.startswith(mark):
+            return unpacked(file, name, opener, name_of(path))
+    return file
+
+
+def copied(file: BinaryIO) -> BinaryIO:
+    """Returns a temporary file with the rest of a file."""
+    out: Any = tempfile.TemporaryFile()
+    with file:
+        shutil.copyfileobj(file, out, AT_ONCE)
+    out.flush()
+    found: BinaryIO = out
+    return found
+
+
+def unpacked(file: BinaryIO, name: str, opener: Callable[[Any], Any], path: str) -> BinaryIO:
+    """Returns a temporary file with what a compressed file holds."""
+    file.seek(0)
+    try:
+        # reading may raise EOFError or zlib.error, opening doesn't
+        with opener(file) as text:
+            return copied(text)
+    except (EOFError, zlib.error, lzma.LZMAError, gzip.BadGzipFile) as error:
+        raise Refused(f"{path} is not a whole {name} file: {error}") from None
+    except OSError as error:
+        # bz2 reports a damaged file as one without a number
+        if error.errno is not None:
+            raise
+        raise Refused(f"{path} is not a whole {name} file: {error}") from None

@@ -1,0 +1,170 @@
+"""Numbers: whole numbers, decimals and floats, in one style."""
+from __future__ import annotations
+
+import math
+from dataclasses import dataclass
+from typing import ClassVar, Optional, Sequence, Union
+
+from ..keeping import GREATEST, LEAST
+from ..kind import Kind
+from ..kinds.decimals import Decimals
+from ..kinds.floats import Floats
+from ..kinds.styled import Numbers, Styled
+from ..kinds.whole import Whole
+from ..naming import option
+from ..numerals import LIKE, SIMPLE, STARTS, ZEROS, Style, is_number
+from ..plain import Spans
+from ..rounding import Rounding
+from ..telling import shown
+from .judge import Decision, Fields, Question, Verdict, matching, starting
+from .survey import Survey
+
+
+@dataclass
+class NumberJudge:
+    """Looks for numbers. `survey` has what their spellings have in common, once it is known;
+    `has_zeros` whether one has leading zeros, as codes have."""
+    survey: Optional[Survey] = None
+    has_zeros: bool = False
+    plural: ClassVar[str] = "numbers"
+    singular: ClassVar[str] = "a number"
+    forms: ClassVar[tuple[str, ...]] = ("number", "float")
+
+    @property
+    def is_shared(self) -> bool:
+        return not self.has_zeros
+
+    def like(self, texts: Sequence[str]) -> list[str]:
+        found = [text for text in matching(LIKE, starting(texts, STARTS)) if text.isdigit() or
+                 is_number(text)]
+        self.has_zeros = self.has_zeros or any(map(ZEROS.match, found))
+        return found
+
+    def surveyed(self, column: Fields) -> Survey:
+        if self.survey is None:
+            self.survey = Survey()
+            for texts in column.bare():
+                self.survey.add(texts)
+            self.survey.add(list(column.plain.samples.values()))
+        return self.survey
+
+    def signs(self, column: Fields) -> set[str]:
+        return {self.surveyed(column).decimal() or ""} - {""}
+
+    def decide(self, column: Fields, signs: set[str]) -> Verdict:
+        survey, wishes = self.surveyed(column), column.wishes
+        conflict = survey.conflict()
+        if conflict:
+            return Question("{0} and {1} are numbers with different signs", conflict,
+                            (option("--text", wishes.heading),))
+        if survey.zeros and not wishes.is_number:
+            return with_zeros(survey, wishes.heading)
+        is_wanted = wishes.is_number or wishes.digits is not None
+        if survey.has_codes_alone() and not column.plain.forms and not is_wanted:
+            return Question("{0} may be a code, or a number with a power of ten", (survey.first,),
+                            both(wishes.heading))
+        sign = self.decimal_sign(column, signs)
+        if isinstance(sign, Question):
+            return sign
+        return in_style(column, survey.style(sign))
+
+    def decimal_sign(self, column: Fields, signs: set[str]) -> Union[str, Question]:
+        """Returns the decimal sign of the column, or why it can't be decided."""
+        survey, wishes = self.surveyed(column), column.wishes
+        own, heading = survey.decimal(), wishes.heading
+        thousands = wishes.rules.thousands
+        if own and own == thousands:
+            return Question(f"{{0}} has {thousands} before other than three digits",
+                            (survey.decimals.get(own, survey.first),),
+                            (option("--text", heading),))
+        if thousands and thousands in survey.eithers and len(survey.eithers) == 1:
+            return "," if thousands == "." else "."
+        is_separator = wishes.rules.separator == "," and not wishes.is_number
+        if own == "," and is_separator and not survey.groupings:
+            return Question("{0} has a comma, which separates the fields", (survey.decimals[","],),
+                            both(heading))
+        if own or not survey.eithers:
+            return own or "."
+        (mark, text), = survey.eithers.items()
+        if wishes.is_number:
+            return mark
+        if len(signs) == 1:
+            return next(iter(signs))
+        return Question(f"{{0}} may be {text.replace(mark, '')} or {text.replace(mark, '.')}",
+                        (text,),
+                        (option("--thousands", mark), *both(heading)))
+
+
+def both(heading: str) -> tuple[str, str]:
+    """Returns the options that make a column one of numbers, or of texts."""
+    return option("--number", heading), option("--text", heading)
+
+
+def with_zeros(survey: Survey, heading: str) -> Decision:
+    """Returns what becomes of codes with leading zeros. Those of one length have the same order as
+    numbers and as texts."""
+    drop = option('--number', heading)
+    why = f"{shown(survey.zeros)} and others have leading zeros, which {drop} drops"
+    return Decision(None, why, "" if len(survey.lengths) == 1 else "numbers")
+
+
+def in_style(column: Fields, style: Style) -> Verdict:
+    """Returns what a column of numbers in one style becomes."""
+    wishes = column.wishes
+    if wishes.digits is not None:
+        return rounded(column, style, wishes.digits)
+    spans = spans_of(column, style)
+    number: Numbers
+    if not spans.is_float and spans.fits():
+        digits = spans.digits
+        number = Decimals(digits,
+                          int(len(spans.lengths) > 1 and not spans.has_zero)) if digits else Whole()
+    elif not spans.is_float and not spans.digits and not wishes.is_number:
+        rounds = option('--number', wishes.heading)
+        why = f"numbers of more than 64 bits, which {rounds} rounds to the nearest doubles"
+        return Decision(None, why, "numbers")
+    else:
+        text = too_large(column, style)
+        if text is not None:
+            return Question("{0} is too large for a double", (text,),
+                            (option("--null", f"{wishes.heading}={text}"),
+                             option("--text", wishes.heading)))
+        number = Floats(0)
+    return Decision(dressed(number, style))
+
+
+def dressed(number: Numbers, style: Style) -> Kind:
+    return number if style == Style() else Styled(number, style)
+
+
+def spans_of(column: Fields, style: Style) -> Spans:
+    """Returns what all numbers of a column span."""
+    spans = column.plain.spans.copy()
+    for texts in column.bare():
+        simple = list(map(int, filter(SIMPLE.fullmatch, texts)))
+        if simple:
+            spans.widen(0, min(simple), max(simple))
+        for text in texts if len(simple) < len(texts) else ():
+            if not SIMPLE.fullmatch(text):
+                spans.add(style.bare(text) or "")
+    return spans
+
+
+def rounded(column: Fields, style: Style, digits: int) -> Verdict:
+    """Returns what becomes of numbers that are rounded to some digits."""
+    rounding = Rounding(style, digits)
+    numbers = [rounding.number(text) for texts in column.bare() for text in texts]
+    present = [number for number in numbers if number is not None]
+    least, greatest = min(present, default=0), max(present, default=0)
+    if least < LEAST or greatest > GREATEST or greatest - least > GREATEST:
+        return Question(f"its numbers don't fit 64 bits with {digits} digits after the point", (),
+                        (option("--digits", f"{column.wishes.heading}=N") + " with fewer",
+                         option("--text", column.wishes.heading)))
+    number: Numbers = Decimals(digits, 0) if digits else Whole()
+    return Decision(dressed(number, style), rounding=rounding)
+
+
+def too_large(column: Fields, style: Style) -> Optional[str]:
+    """Returns a number that no double is near to, if there is one."""
+    return next((text for texts in column.bare() for text in texts
+                 if math.isinf(float(style.bare(text) or 0))), None)

@@ -1,0 +1,84 @@
+"""What the spellings of a column's numbers have in common: marks, currencies, units, brackets,
+zeros and powers of ten."""
+from __future__ import annotations
+
+from dataclasses import dataclass, field
+from typing import Sequence
+
+from ..numerals import CODE, SIMPLE, ZEROS, Style, marks_of, parts_of
+
+
+@dataclass
+class Survey:
+    """The first text with each decimal sign, with each sign between thousands, with each mark that
+    may be either, and with each unit before and behind; the first with leading zeros; the lengths
+    of those without a sign; whether one is in brackets; and how many are codes such as 1E3, and how
+    many aren't."""
+    decimals: dict[str, str] = field(default_factory=dict)
+    groupings: dict[str, str] = field(default_factory=dict)
+    eithers: dict[str, str] = field(default_factory=dict)
+    affixes: dict[tuple[str, str], str] = field(default_factory=dict)
+    zeros: str = ""
+    lengths: set[int] = field(default_factory=set)
+    has_brackets: bool = False
+    codes: tuple[int, int] = (0, 0)
+
+    def add(self, texts: Sequence[str]) -> None:
+        self.lengths.update(map(len, texts))
+        rest = [text for text in texts if not SIMPLE.fullmatch(text)]
+        if len(rest) < len(texts):
+            simple = next(filter(SIMPLE.fullmatch, texts))
+            self.affixes.setdefault(("", ""), simple)
+            self.codes = self.codes[0], self.codes[1] + len(texts) - len(rest)
+        for text in rest:
+            self.see(text)
+
+    def see(self, text: str) -> None:
+        is_code = CODE.fullmatch(text) is not None
+        self.codes = self.codes[0] + is_code, self.codes[1] + (not is_code)
+        found = parts_of(text)
+        marks = marks_of(found.body) if found else None
+        if not found or not marks:
+            return
+        self.affixes.setdefault((found.prefix, found.suffix), text)
+        for known, mark in ((self.decimals, marks.decimal), (self.groupings, marks.grouping),
+                            (self.eithers, marks.either)):
+            if mark:
+                known.setdefault(mark, text)
+        self.has_brackets = self.has_brackets or found.has_brackets
+        self.zeros = self.zeros or (text if ZEROS.match(found.body) else "")
+
+    @property
+    def first(self) -> str:
+        return next(iter(self.affixes.values()), "")
+
+    def has_codes_alone(self) -> bool:
+        return self.codes[0] > 0 and not self.codes[1]
+
+    def decimal(self) -> str | None:
+        """Returns the decimal sign that the column shows, or nothing if it shows none; None if it
+        shows more than one."""
+        shown = set(self.decimals)
+        shown |= {"," if mark == "." else "." for mark in self.groupings if mark in ".,"}
+        return None if len(shown) > 1 else next(iter(shown), "")
+
+    def conflict(self) -> tuple[str, str] | None:
+        """Returns two texts whose marks or units contradict each other, if there are any."""
+        for texts in (self.decimals.values(), self.groupings.values(), self.affixes.values()):
+            if len(texts) > 1:
+                first, second, *_ = texts
+                return first, second
+        both = next((mark for mark in self.decimals if mark in self.groupings), None)
+        if both:
+            return self.decimals[both], self.groupings[both]
+        if len(self.eithers) > 1 and self.decimal() in ("", None):
+            first, second, *_ = self.eithers.values()
+            return first, second
+        return None
+
+    def style(self, decimal: str) -> Style:
+        """Returns the style of the column's numbers, whose decimal sign is given."""
+        prefix, suffix = next(iter(self.affixes), ("", ""))
+        grouping = next(iter(self.groupings),
+                        "") or next((mark for mark in self.eithers if mark != decimal), "")
+        return Style(decimal, grouping, prefix, suffix, int(self.has_brackets))

@@ -1,0 +1,120 @@
+"""The fields of a file in compact form, from when they are read until the kinds of all columns are
+known.
+
+A field is stored as the code of its text, or as the number that it spells. So each distinct text is
+examined once, and the file is read once. All is in a temporary file, of one to nine bytes for each
+field."""
+from __future__ import annotations
+
+import array
+import marshal
+import operator
+import os
+import pathlib
+import tempfile
+from itertools import compress
+from typing import Any, Iterator, NamedTuple, Sequence
+
+LEAST, GREATEST = -1 << 63, (1 << 63) - 1
+# the types of arrays of numbers, each with the bits of its magnitudes
+TYPES = (("b", 7), ("h", 15), ("i", 31), ("q", 63))
+
+
+class Coded(NamedTuple):
+    """The codes of fields: the run of texts that they are places in, the type of the array, and its
+    bytes."""
+    run: int
+    type: str
+    data: bytes
+
+
+class Numbered(NamedTuple):
+    """The numbers of fields that are spelled as numbers are printed: the type of the array and its
+    bytes. `nulls` has a byte for each field: 0, or 1 more than the place of its word for null; it
+    is empty if no field is null. Whole numbers, decimals and times are multiplied by ten to
+    `digits`. If decimals have different numbers of digits, `lengths` has that of each; of doubles
+    it has 1 for those that are spelled without their `.0`. `shape` is the decimal sign, or the
+    shape of times."""
+    form: str
+    type: str
+    data: bytes
+    nulls: bytes
+    digits: int
+    lengths: bytes
+    shape: Any
+
+
+# where something is in a store: its first byte, and how many there are
+Place = tuple[int, int]
+
+
+class Store:
+    """A temporary file of what can be marshalled. Processes that are forked from this one can read
+    it too."""
+
+    def __init__(self, folder: pathlib.Path | None = None) -> None:
+        self.file, self.size = tempfile.TemporaryFile(dir=folder, buffering=0), 0
+
+    def append(self, stored: Any) -> Place:
+        data = marshal.dumps(stored)
+        place = (self.size, len(data))
+        rest = memoryview(data)
+        while rest:
+            written = os.pwrite(self.file.fileno(), rest, self.size)
+            self.size, rest = self.size + written, rest[written:]
+        return place
+
+    def at(self, place: Place) -> Any:
+        """Returns what was appended. Several processes may call it at once."""
+        return marshal.loads(os.pread(self.file.fileno(), place[1], place[0]))
+
+    def fields(self, place: Place) -> Coded | Numbered:
+        """Returns stored fields."""
+        found = self.at(place)
+        return Coded(*found) if len(found) == 3 else Numbered(*found)
+
+
+def coded(run: int, codes: Sequence[int], count: int) -> Coded:
+    """Returns codes as stored, of which `count` are possible."""
+    if count <= 1 << 8:
+        return Coded(run, "B", bytes(codes))
+    kind = "H" if count <= 1 << 16 else "I"
+    return Coded(run, kind, array.array(kind, codes).tobytes())
+
+
+def packed(numbers: Sequence[int]) -> tuple[str, bytes] | None:
+    """Returns the type of an array and its bytes, or None if a number doesn't fit 64 bits."""
+    least, greatest = min(numbers), max(numbers)
+    for kind, bits in TYPES:
+        if -1 << bits <= least and greatest < 1 << bits:
+            return kind, array.array(kind, numbers).tobytes()
+    return None
+
+
+def values_of(kept: Coded | Numbered) -> array.array[Any]:
+    """Returns the stored codes or numbers."""
+    found = array.array(kept.type)
+    found.frombytes(kept.data)
+    return found
+
+
+def spread(texts: Sequence[str], nulls: bytes, words: Sequence[str]) -> Sequence[str]:
+    """Returns the texts with words for null between them, at the fields whose byte names one."""
+    if not nulls:
+        return texts
+    rest = iter(texts)
+    return [words[null - 1] if null else next(rest) for null in nulls]
+
+
+def split_nulls(fields: Sequence[str], places: dict[str, int]) -> tuple[Sequence[str], bytes]:
+    """Returns the fields that aren't a word for null, and a byte for each field as Numbered has it,
+    or nothing if none is such a word. `places` has what stands for each word."""
+    if places.keys().isdisjoint(fields):
+        return fields, b""
+    nulls = bytes([places.get(field, 0) for field in fields])
+    return list(compress(fields, map(operator.not_, nulls))), nulls
+
+
+def in_blocks(texts: Sequence[str], size: int) -> Iterator[list[str]]:
+    for first in range(0, len(texts), size):
+        yield list(texts[first:first + size])

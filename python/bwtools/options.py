@@ -1,0 +1,116 @@
+"""The options of the programs, and what the arguments of the command line give."""
+from __future__ import annotations
+
+import argparse
+from typing import Any, Sequence
+
+from .source import SEPARATORS
+
+RAW = "the file to read, or - for standard input; gzip, bzip2 and xz are unpacked"
+
+
+def one_character(text: str) -> str:
+    """Returns one character, or the name of a separator."""
+    if len(SEPARATORS.get(text, text)) != 1 or text in "\r\n":
+        raise argparse.ArgumentTypeError("must be one character")
+    return text
+
+
+def number_of(text: str) -> int:
+    """Returns a number of lines, rows or processes."""
+    if not text.isdecimal() or not text.isascii() or len(text) > 18:
+        raise argparse.ArgumentTypeError("must be a number")
+    return int(text)
+
+
+class Format(argparse.Action):
+    """Collects the values COLUMN=FORMAT of an option that can be repeated."""
+
+    def __call__(self, parser: argparse.ArgumentParser, namespace: argparse.Namespace, values: Any,
+                 option_string: str | None = None) -> None:
+        column, sign, form = values.rpartition("=")
+        if not sign or not form:
+            parser.error(f"{option_string}: expected COLUMN=FORMAT, such as day=%d/%m/%Y")
+        setattr(namespace, self.dest, {**getattr(namespace, self.dest), column: form})
+
+
+class Digits(argparse.Action):
+    """Collects the values COLUMN=N of an option that can be repeated."""
+
+    def __call__(self, parser: argparse.ArgumentParser, namespace: argparse.Namespace, values: Any,
+                 option_string: str | None = None) -> None:
+        column, sign, digits = values.rpartition("=")
+        if not sign or not digits.isdecimal() or not digits.isascii() or int(digits) > 18:
+            parser.error(f"{option_string}: expected COLUMN=N, such as price=2, with N up to 18")
+        setattr(namespace, self.dest, {**getattr(namespace, self.dest), column: int(digits)})
+
+
+def add_options(parser: argparse.ArgumentParser) -> None:
+    """Adds the options for reading a file."""
+    add_form(parser)
+    add_meaning(parser)
+
+
+def add_form(parser: argparse.ArgumentParser) -> None:
+    """Adds the options that say how a file is written."""
+    parser.add_argument("--separator", type=one_character,
+                        help="the separator of fields: comma, semicolon, tab, bar or a character "
+                             "(default: detected in the heading)")
+    parser.add_argument("--encoding", help="the encoding, such as cp1252 or latin-1 (default: by "
+                                           "the byte order mark, or UTF-8)")
+    parser.add_argument("--quote", type=one_character, default='"',
+                        help='the quotation mark around a field (default: ")')
+    parser.add_argument("--escape", type=one_character,
+                        help="the character that escapes the next one (default: none)")
+    parser.add_argument("--skip", metavar="N", type=number_of, default=0,
+                        help="skip N lines at the beginning, such as a title")
+    parser.add_argument("--comment", metavar="SIGN", default="",
+                        help="skip lines that begin with this sign, such as #")
+    parser.add_argument("--fill", action="store_true",
+                        help="add empty fields to rows that have fewer than the heading")
+    heading = parser.add_mutually_exclusive_group()
+    heading.add_argument("--heading", action="store_true", default=None,
+                         help="the first line is a heading, whatever it looks like")
+    heading.add_argument("--no-heading", action="store_false", dest="heading",
+                         help="the first line is a row; the columns are c1, c2 and so on")
+
+
+def add_meaning(parser: argparse.ArgumentParser) -> None:
+    """Adds the options that say what fields mean."""
+    parser.add_argument("--null", metavar="[COLUMN=]WORD", action="append", default=[],
+                        help="a word for null in a column, or in every one, texts too; this and "
+                             "the next options can be repeated")
+    parser.add_argument("--text", metavar="COLUMN", action="append", default=[],
+                        help="a column to load as texts, by its heading")
+    parser.add_argument("--number", metavar="COLUMN", action="append", default=[],
+                        help="a column to load as numbers, also with leading zeros, or with a "
+                             "comma as the decimal sign")
+    parser.add_argument("--date", metavar="COLUMN=FORMAT", action=Format, default={},
+                        help="the format of a column's dates or times, of %%d, %%m, %%b, %%B, %%Y "
+                             "and %%y, and %%H, %%I, %%p, %%M and %%S")
+    parser.add_argument("--digits", metavar="COLUMN=N", action=Digits, default={},
+                        help="round a column's numbers to N digits after the point, at most 18")
+    parser.add_argument("--thousands", metavar="SIGN", type=one_character,
+                        help="the sign between thousands, such as . in 1.234,50 (default: decided "
+                             "by the columns)")
+    blanks = parser.add_mutually_exclusive_group()
+    blanks.add_argument("--drop-blanks", action="store_true",
+                        help="drop blanks around texts, even if two texts become one")
+    blanks.add_argument("--keep-blanks", action="store_true", help="keep blanks around texts")
+    parser.add_argument("--keep-spelling", action="store_true",
+                        help="load a column as texts if a field of it wouldn't be restored "
+                             "exactly, such as 2.0 beside 1.25")
+
+
+def parsed(parser: argparse.ArgumentParser, words: Sequence[str]) -> argparse.Namespace:
+    """Returns what arguments of the command line give. Those after `--` are names, even if they
+    begin as options do."""
+    if "--" not in words:
+        return parser.parse_intermixed_args(words)
+    at = words.index("--")
+    # argparse takes a name that begins so for an option, even after `--`
+    names = {f"\0{place}": name for place, name in enumerate(words[at + 1:])}
+    given = parser.parse_intermixed_args([*words[:at], *names])
+    for each, value in vars(given).items():
+        setattr(given, each, names.get(value, value) if isinstance(value, str) else value)
+    return given

@@ -1,0 +1,268 @@
+"""Fields that are examined many at a time: numbers and times in one spelling, from which their
+texts can be made again."""
+from __future__ import annotations
+
+import array
+import functools
+import itertools
+import math
+import operator
+import re
+from collections import Counter
+from dataclasses import dataclass, field
+from typing import Any, Iterable, Sequence
+
+from . import moments
+from .keeping import GREATEST, LEAST, Numbered, packed, split_nulls, values_of
+from .numerals import is_grouped
+
+# a number of more characters doesn't fit 64 bits
+LONGEST, MOST_DIGITS = 100, 18
+FLOATS = re.compile(r"(?:-?(?:[0-9]+(?:\.[0-9]+)?)(?:e[+-][0-9]+)?\n)*")
+FIRST = re.compile("-?[0-9]|[ \t]")
+
+
+@dataclass
+class Spans:
+    """What numbers are stored: the minimum and the maximum of each number of digits after the
+    decimal sign, these numbers of digits, whether one ends in a zero there, whether one is a double
+    or doesn't fit a scale, and the least magnitude of a double above 0, the least and the greatest
+    double."""
+    ends: dict[int, tuple[int, int]] = field(default_factory=dict)
+    lengths: set[int] = field(default_factory=set)
+    has_zero: bool = False
+    is_float: bool = False
+    reach: tuple[float, float, float] = (math.inf, math.inf, -math.inf)
+
+    def add(self, plain: str) -> None:
+        """Adds a number in plain spelling."""
+        whole, _, part = plain.partition(".")
+        if "e" in plain or "E" in plain or len(part) > MOST_DIGITS or len(plain) > LONGEST:
+            self.is_float = True
+            return
+        self.has_zero = self.has_zero or part[-1:] == "0"
+        number = int(f"{whole}{part}")
+        self.widen(len(part), number, number)
+
+    def widen(self, digits: int, least: int, greatest: int) -> None:
+        ends = self.ends.get(digits, (least, greatest))
+        self.ends[digits] = min(ends[0], least), max(ends[1], greatest)
+        self.lengths.add(digits)
+
+    def add_doubles(self, doubles: Sequence[float]) -> None:
+        self.is_float = True
+        least, low, high = self.reach
+        least = min(least, min((abs(each) for each in doubles if each), default=math.inf))
+        self.reach = least, min(low, min(doubles)), max(high, max(doubles))
+
+    def copy(self) -> Spans:
+        return Spans(dict(self.ends), set(self.lengths), self.has_zero, self.is_float, self.reach)
+
+    @property
+    def digits(self) -> int:
+        return max(self.ends, default=0)
+
+    def fits(self) -> bool:
+        """Returns whether all numbers, scaled to the most digits, fit 64 bits and are less than
+        2^63 apart."""
+        least = min((end[0] * 10 ** (self.digits - each) for each, end in self.ends.items()),
+                    default=0)
+        greatest = max((end[1] * 10 ** (self.digits - each) for each, end in self.ends.items()),
+                       default=0)
+        return LEAST <= least and greatest <= GREATEST and greatest - least <= GREATEST
+
+
+@dataclass
+class Plain:
+    """What is known of the fields of a column that are stored as numbers: the numbers, one with a
+    decimal sign and one in all, the shapes of times, how many nulls there are of each word, how
+    many fields had blanks around them, and how often other fields came. `words` has what stands for
+    each word for null; `signs` are the decimal signs that are read, none if no fields may be stored
+    so."""
+    words: dict[str, int]
+    signs: str = ".,"
+    spans: Spans = field(default_factory=Spans)
+    samples: dict[str, str] = field(default_factory=dict)
+    shapes: dict[Any, tuple[int, int]] = field(default_factory=dict)
+    nulls: Counter[str] = field(default_factory=Counter)
+    padded: int = 0
+    failed: int = 0
+
+    @property
+    def forms(self) -> set[str]:
+        """The forms of the stored fields: number, float and time."""
+        found = {"number": bool(self.spans.ends), "float": self.spans.is_float,
+                 "time": bool(self.shapes)}
+        return {form for form, is_there in found.items() if is_there}
+
+    @property
+    def mark(self) -> str:
+        """The decimal sign, or nothing if none has occurred."""
+        return "," if "," in self.samples.get("mark", "") else self.samples.get("mark", "") and "."
+
+    def add(self, fields: Sequence[str]) -> Numbered | None:
+        """Adds fields, and returns them as stored, if all but the nulls are numbers or times in
+        such a spelling."""
+        first = fields[0]
+        if not self.signs or self.failed > 2 or not FIRST.match(first) and first not in self.words:
+            return None
+        bare, padded = without_blanks(fields)
+        present, nulls = split_nulls(bare, self.words)
+        kept = self.examined(present, nulls) if present else None
+        if kept is None:
+            self.failed += 1
+            return None
+        self.padded += padded
+        self.samples.setdefault("any", present[0])
+        if nulls:
+            self.nulls.update(itertools.compress(bare, nulls))
+        return kept
+
+    def examined(self, fields: Sequence[str], nulls: bytes) -> Numbered | None:
+        if max(map(len, fields)) > LONGEST:
+            return None
+        joined = "\n".join(fields) + "\n"
+        if joined.count("\n") != len(fields):
+            return None
+        if fields[0][4:5] == "-":
+            return self.times(fields, nulls)
+        return self.numbers(fields, joined, nulls) or self.floats(fields, joined, nulls)
+
+    def numbers(self, fields: Sequence[str], joined: str, nulls: bytes) -> Numbered | None:
+        """Adds fields without line feeds, which are also given joined, if they are whole numbers or
+        decimals."""
+        digits, lengths, mark = 0, b"", ""
+        if "." not in joined and "," not in joined:
+            if not are_whole(fields, joined):
+                return None
+            numbers = list(map(int, fields))
+        else:
+            mark = "," if "," in joined else "."
+            counts = self.decimal_lengths(fields, joined, mark)
+            if counts is None:
+                return None
+            digits, lengths = max(counts), counts
+            found: Iterable[int] = map(int, joined.replace(mark, "").split())
+            if min(counts) != digits:
+                found = map(operator.mul, found,
+                            map([10 ** (digits - length)
+                                 for length in range(digits + 1)].__getitem__, counts))
+            else:
+                lengths = b""
+            numbers = list(found)
+        kept = packed(numbers)
+        if not kept:
+            return None
+        if mark and not self.mark:
+            self.samples["mark"] = next(text for text in fields if mark in text and
+                                        not is_grouped(text.lstrip("-"), mark))
+        self.spans.widen(digits, min(numbers), max(numbers))
+        self.spans.lengths.update(lengths)
+        self.spans.has_zero = self.spans.has_zero or bool(mark) and has_zero(fields, joined, mark)
+        return Numbered("number", *kept, nulls, digits, lengths, mark)
+
+    def decimal_lengths(self, fields: Sequence[str], joined: str, mark: str) -> bytes | None:
+        """Returns how many digits each field has after the decimal sign, or None if a field isn't
+        such a decimal, or if the sign may separate thousands."""
+        if mark not in self.signs or self.mark not in ("", mark):
+            return None
+        if not plain_of(mark).fullmatch(joined):
+            return None
+        lengths = [len(text.partition(mark)[2]) for text in fields]
+        if max(lengths) > MOST_DIGITS:
+            return None
+        if not self.mark and all(length in (0, 3) for length in lengths) and \
+                all(is_grouped(text.lstrip("-"), mark) for text,
+                    length in zip(fields, lengths) if length):
+            return None
+        return bytes(lengths)
+
+    def floats(self, fields: Sequence[str], joined: str, nulls: bytes) -> Numbered | None:
+        """Adds fields that are doubles in Python's spelling, also without its `.0`."""
+        # other decimals with a negative zero may still fit a scale
+        is_float = self.spans.is_float or "e" in joined or max(map(len, fields)) > MOST_DIGITS
+        if not is_float or not FLOATS.fullmatch(joined):
+            return None
+        numbers = list(map(float, fields))
+        spelled = list(map(repr, numbers))
+        lengths = b""
+        if spelled != fields:
+            lengths = bytes(map(operator.ne, spelled, fields))
+            bare = itertools.compress(fields, lengths)
+            if any(text + ".0" != other for text, other in
+                   zip(bare, itertools.compress(spelled, lengths))):
+                return None
+        self.spans.add_doubles(numbers)
+        return Numbered("float", "d", array.array("d", numbers).tobytes(), nulls, 0, lengths, ".")
+
+    def times(self, fields: Sequence[str], nulls: bytes) -> Numbered | None:
+        """Adds fields that are times of one shape."""
+        found = moments.plain_times(fields)
+        kept = found and packed(found.numbers)
+        if not found or not kept or self.shapes and found.shape not in self.shapes:
+            return None
+        ends = self.shapes.get(found.shape, (found.numbers[0], found.numbers[0]))
+        self.shapes[found.shape] = min(ends[0],
+                                       min(found.numbers)), max(ends[1], max(found.numbers))
+        return Numbered("time", *kept, nulls, found.shape[2], b"", found.shape)
+
+
+def has_zero(fields: Sequence[str], joined: str, mark: str) -> bool:
+    """Returns whether one of some decimals, which are also given joined, ends in a zero after its
+    decimal sign."""
+    return "0\n" in joined and any(text[-1] == "0" and mark in text for text in fields)
+
+
+def without_blanks(fields: Sequence[str]) -> tuple[Sequence[str], int]:
+    """Returns fields without the blanks and tabs at their ends, and how many had some."""
+    joined = "".join(fields)
+    if " " not in joined and "\t" not in joined:
+        return fields, 0
+    bare = [text.strip(" \t") for text in fields]
+    return bare, sum(map(operator.ne, bare, fields))
+
+
+def texts_of(kept: Numbered) -> Sequence[str]:
+    """Returns the texts of stored numbers as they were, without blanks around them and without the
+    nulls."""
+    numbers = values_of(kept)
+    if kept.form == "time":
+        return moments.times_of(numbers, kept.shape)
+    if kept.form == "float":
+        texts = list(map(repr, numbers))
+        return [text[:-2] if bare else text for text,
+                bare in zip(texts, kept.lengths)] if kept.lengths else texts
+    if not kept.digits:
+        return list(map(str, numbers))
+    lengths = kept.lengths or bytes([kept.digits]) * len(numbers)
+    return [decimal_text(number, kept.digits, length, kept.shape) for number,
+            length in zip(numbers, lengths)]
+
+
+def decimal_text(number: int, digits: int, length: int, mark: str) -> str:
+    """Returns a decimal, multiplied by ten to `digits`, with a number of digits after its decimal
+    sign."""
+    text = str(abs(number)).rjust(digits + 1, "0")
+    whole, part = text[:-digits], text[-digits:][:length]
+    return f"{'-' if number < 0 else ''}{whole}{mark if length else ''}{part}"
+
+
+def are_whole(fields: Sequence[str], joined: str) -> bool:
+    """Returns whether fields without line feeds, which are joined with one after each, are all
+    whole numbers as they are restored."""
+    digits = joined.replace("\n", "").replace("-", "")
+    # only ASCII: other scripts have digits too
+    if not digits.isdigit() or not digits.isascii():
+        return False
+    if "-0" in joined or "--" in joined or "-\n" in joined:
+        return False
+    if joined.count("-") != joined.count("\n-") + joined.startswith("-") or "" in fields:
+        return False
+    return joined.count("\n0") + joined.startswith("0") == fields.count("0")
+
+
+@functools.lru_cache(2)
+def plain_of(mark: str) -> re.Pattern[str]:
+    """Returns the pattern of lines of whole numbers and decimals with a decimal sign, without
+    negative zeros."""
+    return re.compile(rf"(?:(?!-0(?:[{mark}]0+)?\n)-?(?:0|[1-9][0-9]*)(?:[{mark}][0-9]+)?\n)*")

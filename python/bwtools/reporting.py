@@ -1,0 +1,70 @@
+"""What an import reports of each column."""
+from __future__ import annotations
+
+from typing import Iterator, Sequence
+
+from .kind import Column
+from .kinds import undressed
+from .naming import option
+from .tallies import Tally
+from .telling import counted, shown
+from .wishes import BLANKS, NULLS
+
+HEADINGS = ("COLUMN", "HEADING", "WHAT IT IS", "FROM", "TO", "NULLS", "NOTES")
+
+
+def report_lines(columns: Sequence[Column], tallies: Sequence[Tally]) -> Iterator[str]:
+    """Yields a heading, and a line for each column, without the parts that none has."""
+    lines: list[tuple[str, ...]] = [HEADINGS]
+    for column, tally in zip(columns, tallies):
+        ends = [shown(end)[1:-1] for end in column.ends] or ["", ""]
+        heading = "" if column.heading == column.name else shown(column.heading)
+        nulls = ", ".join(f"{counted(count, 'null')} as {shown(word) if word else 'nothing'}"
+                          for word, count in tally.counts.nulls.items())
+        lines.append((column.name, heading, column.kind.told(), *ends, nulls,
+                      "; ".join(notes(column, tally))))
+    widths = [max(len(line[place]) for line in lines) for place in range(len(lines[0]))]
+    for line in lines:
+        yield "  ".join(cell.ljust(width) for cell, width in zip(line, widths) if width).rstrip()
+
+
+def notes(column: Column, tally: Tally) -> Iterator[str]:
+    """Yields the notes on a column: why it is one of texts, and what isn't printed as it was."""
+    counts = tally.counts
+    if column.why:
+        yield f"texts{', though ' if column.looks_like else ': '}{column.why}"
+    if column.looks_like:
+        yield f"so not ordered, unless by {option('--text', column.heading)}"
+    if tally.texts is not None:
+        for word, count in words_in(tally):
+            null = option('--null', f'{column.heading}={word}')
+            yield f"{shown(word)} is a text in {counted(count, 'field')}, and null by {null}"
+    if counts.padded:
+        yield f"blanks dropped in {counted(counts.padded, 'field')}"
+    if counts.zeros:
+        yield f"-0.0 in {counted(counts.zeros, 'field')} is 0.0"
+    if counts.rounded:
+        yield f"{counted(counts.rounded, 'field')} rounded, by at most {counts.change:f}"
+    if counts.changed:
+        is_float = undressed(column.kind).plural == "floats"
+        where = "in the shortest spelling" if is_float else "values kept"
+        yield f"spelling changed in {counted(counts.changed, 'field')}, {where}"
+
+
+def words_in(tally: Tally) -> list[tuple[str, int]]:
+    """Returns the words that are texts in a column, though they are null in one of numbers, and how
+    many fields have each."""
+    column = tally.column
+    wanted = [word for word in NULLS if word not in column.wishes.nulls and
+              not column.wishes.is_text]
+    found = dict.fromkeys(wanted, 0)
+    for run, stored in enumerate(column.runs.stored):
+        codes = {code: word for word, (_, code) in stored.words.items()}
+        if stored.has_blanks:
+            texts = column.runs.texts(run, column.store)
+            codes = {code: text.strip(BLANKS) for text,
+                     code in zip(texts, column.runs.order(run, column.store))}
+        for code, word in codes.items():
+            if word in found:
+                found[word] += column.count_code(run, code)
+    return [(word, count) for word, count in found.items() if count]

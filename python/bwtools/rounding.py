@@ -1,0 +1,35 @@
+"""Numbers that are rounded to some digits after the point, as an option asks."""
+from __future__ import annotations
+
+import decimal
+from dataclasses import dataclass
+
+from .numerals import Style
+
+# enough digits for any double, and for what people write
+CONTEXT = decimal.Context(prec=1200, rounding=decimal.ROUND_HALF_EVEN)
+
+
+@dataclass(frozen=True)
+class Rounding:
+    """Rounds numbers in a style to `digits` after the point, those halfway to an even last
+    digit."""
+    style: Style
+    digits: int
+
+    def number(self, text: str) -> int | None:
+        """Returns the number of a field, multiplied by ten to `digits`."""
+        plain = self.style.bare(text)
+        return None if plain is None else int(self.rounded(decimal.Decimal(plain)))
+
+    def rounded(self, number: decimal.Decimal) -> decimal.Decimal:
+        return number.scaleb(self.digits,
+                             CONTEXT).to_integral_value(decimal.ROUND_HALF_EVEN, CONTEXT)
+
+    def change(self, text: str) -> decimal.Decimal:
+        """Returns by how much a field changes."""
+        plain = self.style.bare(text)
+        if plain is None:
+            return decimal.Decimal(0)
+        number = decimal.Decimal(plain)
+        return abs(CONTEXT.subtract(self.rounded(number).scaleb(-self.digits, CONTEXT), number))

@@ -1,0 +1,135 @@
+"""The distinct texts of a column, in runs: each run is a dictionary of bounded size, which is
+stored once it is full. So any number of different texts takes bounded memory."""
+from __future__ import annotations
+
+import bisect
+import itertools
+from array import array
+from typing import Iterable, Iterator, NamedTuple, Sequence
+
+from .keeping import Coded, Place, Store, coded, in_blocks
+
+# a run is full with so many texts, or so many characters; sorted texts are stored so many at a time
+MOST_TEXTS, MOST_CHARACTERS, BLOCK, SAMPLE = 1 << 17, 1 << 24, 1 << 13, 64
+BLANKS = frozenset(" \t")
+
+
+class Codes(dict[str, int]):
+    """A code for each distinct text, in the order in which they were met."""
+
+    def __missing__(self, text: str) -> int:
+        code = self[text] = len(self)
+        return code
+
+
+class Run(NamedTuple):
+    """A run as it is stored: its texts, sorted by code points; their codes in this order; how many
+    there are; whether one may have blanks at an end; and for each word for null that is among them,
+    its place and its code."""
+    texts: tuple[Place, ...]
+    order: Place
+    size: int
+    has_blanks: bool
+    words: dict[str, tuple[int, int]]
+
+
+class Runs:
+    """The runs of a column: those that are stored, and the codes of the present one. `words` may be
+    null."""
+
+    def __init__(self, words: Iterable[str] = ()) -> None:
+        self.words = frozenset(words)
+        self.stored: list[Run] = []
+        self.codes, self.characters, self.is_fresh = Codes(), 0, False
+
+    def add(self, fields: Sequence[str], store: Store) -> tuple[Coded, int]:
+        """Adds fields. Returns them as stored, and how many of them are new in the run."""
+        codes, before = self.codes, len(self.codes)
+        if self.is_fresh:
+            new = [text for text in dict.fromkeys(fields) if text not in codes]
+            codes.update(zip(new, range(before, before + len(new))))
+        found = list(map(codes.__getitem__, fields))
+        kept, fresh = coded(len(self.stored), found, len(codes)), len(codes) - before
+        self.is_fresh = fresh * 8 > len(fields)
+        # fresh texts are about as long as the first ones of their kind
+        self.characters += fresh * sum(map(len, fields[:SAMPLE])) // len(fields[:SAMPLE])
+        if len(codes) > MOST_TEXTS or self.characters > MOST_CHARACTERS:
+            self.end(store)
+        return kept, fresh
+
+    def end(self, store: Store) -> None:
+        """Stores the present run, if it has texts, and begins another."""
+        if self.codes:
+            texts = sorted(self.codes)
+            order = array("I", map(self.codes.__getitem__, texts))
+            places = tuple(store.append(block) for block in in_blocks(texts, BLOCK))
+            words = {word: (bisect.bisect_left(texts, word), self.codes[word])
+                     for word in self.words if word in self.codes}
+            self.stored.append(Run(places, store.append(order.tobytes()), len(texts),
+                                   have_blanks(texts), words))
+        self.codes, self.characters = Codes(), 0
+
+    def texts(self, run: int, store: Store) -> list[str]:
+        """Returns the texts of a stored run in order."""
+        return list(itertools.chain.from_iterable(map(store.at, self.stored[run].texts)))
+
+    def order(self, run: int, store: Store) -> array[int]:
+        """Returns the codes of the texts of a stored run, in their order."""
+        found = array("I")
+        found.frombytes(store.at(self.stored[run].order))
+        return found
+
+    def each(self, store: Store) -> Iterator[list[str]]:
+        """Yields the texts of one stored run after another. A text may be in more than one."""
+        for run in range(len(self.stored)):
+            yield self.texts(run, store)
+
+    @property
+    def have_blanks(self) -> bool:
+        return any(run.has_blanks for run in self.stored)
+
+
+def have_blanks(texts: Iterable[str]) -> bool:
+    """Returns whether a text has a blank or a tab at an end."""
+    return not (BLANKS.isdisjoint([text[-1:] for text in texts]) and
+                BLANKS.isdisjoint([text[:1] for text in texts]))
+
+
+class SortedRun:
+    """Distinct texts in order, some of which are read at a time, and the places that they get among
+    those of all runs."""
+
+    def __init__(self, blocks: Iterable[list[str]]) -> None:
+        self.blocks, self.block = iter(blocks), list[str]()
+        self.places = array("i")
+
+    def fill(self) -> bool:
+        """Reads the next texts, if none are left of those before. Returns whether there are any."""
+        if not self.block:
+            self.block = next(self.blocks, [])
+        return bool(self.block)
+
+    def take(self, last: str) -> list[str]:
+        """Removes and returns the texts up to one."""
+        end = bisect.bisect_right(self.block, last)
+        taken, self.block = self.block[:end], self.block[end:]
+        return taken
+
+
+def merged(runs: Sequence[SortedRun]) -> Iterator[list[str]]:
+    """Yields the distinct texts of all runs in order, many at a time, and gives each run the places
+    of its own."""
+    base = 0
+    while live := [run for run in runs if run.fill()]:
+        # each other run has all its texts up to this one in its block
+        last = min(run.block[-1] for run in live)
+        taken = [(run, run.take(last)) for run in live]
+        texts = taken[0][1]
+        if len(live) > 1:
+            blocks = itertools.chain.from_iterable(block for _, block in taken)
+            texts = list(dict.fromkeys(sorted(blocks)))
+        places = dict(zip(texts, range(base, base + len(texts))))
+        for run, block in taken:
+            run.places.extend(map(places.__getitem__, block))
+        base += len(texts)
+        yield texts

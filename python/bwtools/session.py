@@ -1,0 +1,155 @@
+"""A run of `bw session`, which reads a table once and runs many statements over it, one after
+another."""
+from __future__ import annotations
+
+import io
+import os
+import re
+import subprocess
+import sys
+from typing import IO, Any, BinaryIO, NoReturn, Sequence, TextIO
+
+from . import command
+
+AT_ONCE = 1 << 16
+SURPLUS = "bw session returned more results than it was sent statements"
+
+
+class Failed(Exception):
+    """Why a session can't continue, what it printed before, and the status to exit with."""
+
+    def __init__(self, why: str, told: str = "", status: int = 5) -> None:
+        super().__init__(why)
+        self.told, self.status = told, status
+
+    def report(self) -> int:
+        """Prints it on standard error. Returns the status."""
+        print(self.told, end="", file=sys.stderr)
+        if str(self):
+            print(f"{command.own_name()}: {self}", file=sys.stderr)
+        return self.status
+
+
+class Answer(io.RawIOBase):
+    """The bytes of one result, up to the empty line that ends it. No result has an empty line in
+    it."""
+
+    def __init__(self, session: Session) -> None:
+        super().__init__()
+        self.session, self.last, self.is_ended = session, b"\n", False
+
+    def readable(self) -> bool:
+        return True
+
+    def readinto(self, buffer: Any) -> int:
+        if self.is_ended:
+            return 0
+        count = self.session.stdout.readinto(buffer)
+        if not count:
+            self.session.fail()
+        text = self.last + bytes(buffer[:count])
+        end, self.last = text.find(b"\n\n"), text[-1:]
+        self.is_ended = end >= 0
+        # nothing follows the empty line until the next statement is sent
+        if self.is_ended and end + 2 < len(text):
+            raise Failed(SURPLUS)
+        return count - self.is_ended
+
+
+class Session:
+    """A run of `bw session` over an open table file. It gets one statement at a time, and reads the
+    next one only when its result is written, so that neither waits for the other. Standard error
+    has a short line or two for each result."""
+
+    def __init__(self, table: BinaryIO, options: Sequence[str] = ()) -> None:
+        # bw reads the file that was compared, even if its path has another one by now
+        words = [command.program(), "session", *options, f"/dev/fd/{table.fileno()}"]
+        self.process = subprocess.Popen(words, bufsize=0, stdin=subprocess.PIPE,
+                                        stdout=subprocess.PIPE, stderr=subprocess.PIPE,
+                                        pass_fds=[table.fileno()])
+        self.stdin, self.stdout, self.stderr = map(pipe_of, (self.process.stdin,
+                                                             self.process.stdout,
+                                                             self.process.stderr))
+        os.set_blocking(self.stderr.fileno(), False)
+        self.answer: Answer | None = None
+        self.has_refused = False
+
+    def __enter__(self) -> Session:
+        return self
+
+    def __exit__(self, *error: Any) -> None:
+        self.process.__exit__(*error)
+
+    def ask(self, statement: str) -> TextIO | None:
+        """Sends a statement. Returns its result, or None if it is rejected; standard error then has
+        the reason."""
+        self.told()
+        self.send(f"{one_statement(statement)}\n\n".encode())
+        self.answer = Answer(self)
+        answer = io.BufferedReader(self.answer, AT_ONCE)
+        if answer.peek(1):
+            return io.TextIOWrapper(answer, encoding="utf-8", newline="")
+        self.has_refused = True
+        return None
+
+    def send(self, data: bytes) -> None:
+        """Sends bytes, unless the session has ended, which reading its result will show."""
+        rest = memoryview(data)
+        try:
+            while rest:
+                rest = rest[self.stdin.write(rest):]
+        except BrokenPipeError:
+            pass
+
+    def told(self) -> str:
+        """Returns what was printed on standard error for the last result, once. Drops the rest of
+        the result."""
+        if not self.answer:
+            return ""
+        while self.answer.read(AT_ONCE):
+            pass
+        self.answer = None
+        return self.said()
+
+    def said(self) -> str:
+        """Returns what is on standard error by now. All that belongs to a result is printed before
+        its end."""
+        said = b""
+        while part := self.stderr.read(AT_ONCE):
+            said += part
+        return said.decode("utf-8", "replace")
+
+    def end(self) -> int:
+        """Ends the session. Returns its status: 0, or that of the first statement that was
+        rejected."""
+        self.told()
+        self.stdin.close()
+        if self.stdout.read():
+            raise Failed(SURPLUS)
+        status = self.process.wait()
+        if status < 0 or status and not self.has_refused:
+            self.fail()
+        return status
+
+    def fail(self) -> NoReturn:
+        """Raises what a session printed that has ended by itself."""
+        self.stdin.close()
+        status, told = self.process.wait(), self.said()
+        if status < 0:
+            raise Failed(f"bw session was ended by signal {-status}", told, 128 - status)
+        raise Failed("" if told and status
+                     else f"bw session ended with status {status} before a result", told, status
+                     or 5)
+
+
+def pipe_of(end: IO[bytes] | None) -> io.FileIO:
+    """Returns this process's end of a pipe without a buffer."""
+    assert isinstance(end, io.FileIO)
+    return end
+
+
+def one_statement(statement: str) -> str:
+    """Returns a statement in the session's form, which ends at its first semicolon and at an empty
+    line. If these occur before the end, as in a text that bw rejects anyway, they become a
+    character that bw rejects everywhere."""
+    return re.sub("[;\r\n]", "?", statement.removesuffix(";")) + ";"

@@ -1,0 +1,147 @@
+"""A folder of shards: the tables into which one file was split, and one columns file, which
+identifies their table files. Each shard is queried on its own, and the results are combined into
+that of a single table.
+
+`ask_shard` and what it calls use only the standard library, so that a worker on another machine can
+run them."""
+from __future__ import annotations
+
+import os
+import pathlib
+import shutil
+import subprocess
+from typing import BinaryIO, Callable, Iterable, Sequence
+
+from .pairs import is_of
+from .store import Store, TableFile
+from .telling import Refused
+
+FILE = "shards.columns"
+FOREIGN = "isn't the table that {} names: it has changed or was replaced; run bw-shards load again"
+
+# What asking a shard gives: the status of bw, or of a table file that can't be asked; what was said
+# of it; and the answer
+Reply = tuple[int, str, bytes]
+
+
+class Folder:
+    """A folder of shards: the columns of its tables, their name, and the records of the table
+    files, in the rows' order."""
+
+    def __init__(self, path: str) -> None:
+        self.path, self.file = path, os.path.join(path, FILE)
+        if not os.path.exists(self.file):
+            raise Refused(f"{path} is not a folder of shards: {self.file}, which bw-shards load "
+                          "writes, is missing")
+        self.store = found = Store(self.file)
+        self.name, self.shards, self.columns = found.name, found.files, found.columns
+        if not self.shards or not all(each.file for each in self.shards):
+            raise Refused(f"{self.file} is not a columns file of bw-shards load")
+
+    def close(self) -> None:
+        """Closes the columns file; texts can't be read any more."""
+        self.store.close()
+
+    def path_of(self, place: int) -> str:
+        return os.path.join(self.path, self.shards[place].file)
+
+    def foreign_files(self) -> list[str]:
+        """Returns the files in the folder that aren't shards."""
+        own = {FILE, *(record.file for record in self.shards)}
+        return sorted(set(os.listdir(self.path)) - own)
+
+
+def ask_shard(program: str, path: str, record: TableFile, columns: str, options: Sequence[str],
+              statement: str) -> Reply:
+    """Queries a table file by bw, if it is the one of the record. bw reads the file that was
+    compared."""
+    found = program if os.access(program, os.X_OK) else shutil.which("bw") or program
+    try:
+        with open(path, "rb") as table:
+            if not is_of(record, table):
+                return 3, FOREIGN.format(columns), b""
+            done = subprocess.run([found, "query", *options, f"/dev/fd/{table.fileno()}",
+                                   statement], stdin=subprocess.DEVNULL,
+                                  capture_output=True, pass_fds=[table.fileno()], check=False)
+    except OSError as error:
+        where = f"{error.filename}: " if error.filename != path else ""
+        return 5, f"{where}{error.strerror}", b""
+    if done.returncode < 0:
+        return 128 - done.returncode, f"bw was ended by signal {-done.returncode}", b""
+    return done.returncode, done.stderr.decode("utf-8", "replace"), done.stdout
+
+
+def is_of_statement(reply: Reply) -> bool:
+    """Returns whether an error is one of the statement, which each shard would return."""
+    return reply[0] == 3 and reply[1].startswith("bw: 4")
+
+
+class Joined:
+    """The results of shards as one: rows follow one another in a file, and totals are stored until
+    the end."""
+
+    def __init__(self, out: BinaryIO) -> None:
+        self.out, self.heading = out, b""
+        self.totals: list[list[int | None]] | None = None
+
+    def add(self, answer: bytes) -> None:
+        """Adds the next shard's result."""
+        heading = answer[:answer.find(b"\n") + 1]
+        if not self.heading:
+            self.heading = heading
+            self.out.write(heading)
+            self.totals = [[] for _ in heading.split(b",")] if b"(" in heading else None
+        if not heading or heading != self.heading:
+            raise Refused(f"the shards' results have several headings: {self.heading!r} and "
+                          f"{heading!r}")
+        if self.totals is None:
+            self.out.write(memoryview(answer)[len(heading):])
+            return
+        fields = answer[len(heading):].decode().rstrip("\n").split(",")
+        if len(fields) != len(self.totals):
+            raise Refused(f"a shard's result has {len(fields)} totals, expected {len(self.totals)}")
+        for values, field in zip(self.totals, fields):
+            values.append(None if field == "NULL" else int(field))
+
+    def end(self) -> None:
+        """Writes the totals, after the last result."""
+        if self.totals is not None:
+            functions = [item.partition("(")[0] for item in self.heading.decode().split(",")]
+            found = [total(function, values) for function, values in zip(functions, self.totals)]
+            self.out.write((",".join("NULL" if value is None else str(value)
+                                     for value in found) + "\n").encode())
+        self.out.seek(0)
+
+
+def total(function: str, values: Iterable[int | None]) -> int | None:
+    """Returns the total over all rows, from those of the shards. None is null, the total of no
+    value; a COUNT is never null."""
+    present = [value for value in values if value is not None]
+    if not present:
+        return None
+    totals: dict[str, Callable[[list[int]], int]] = {"COUNT": sum, "SUM": sum, "MIN": min,
+                                                     "MAX": max}
+    return totals[function](present)
+
+
+def refuse_folder(path: str) -> None:
+    """Rejects a target folder that exists and has anything but shards that were loaded before."""
+    if not os.path.lexists(path):
+        return
+    if os.path.islink(path) or not os.path.isdir(path):
+        what = "a symlink" if os.path.islink(path) else "no folder"
+        raise Refused(f"{path} can't be overwritten: it is {what}")
+    if not os.listdir(path):
+        return
+    try:
+        foreign = Folder(path).foreign_files()
+    except Refused as refused:
+        raise Refused(f"{path} can't be overwritten: {refused}") from None
+    if foreign:
+        raise Refused(f"{path} can't be overwritten: it has {foreign[0]}, which isn't one of its "
+                      "shards")
+
+
+def shard_file(folder: pathlib.Path, place: int) -> pathlib.Path:
+    """Returns the path of a shard's table file."""
+    return folder / f"shard-{place + 1:03}.bw"

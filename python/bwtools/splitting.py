@@ -1,0 +1,177 @@
+"""Loads a file of any length as several tables: its numbers are cut into pieces, each within the
+limits of one load, and several processes load some of the pieces each."""
+from __future__ import annotations
+
+import copy
+import itertools
+import os
+import pathlib
+from dataclasses import replace
+from typing import Iterator, Sequence, TextIO
+
+from . import command, pairs, processes
+from .shards import shard_file
+from .source import MOST_ROWS
+from .store import TableFile
+from .tallies import Counts, Tally
+from .telling import counted
+from .writing import MOST_BYTES, Table
+
+# from so many rows on, `auto` is one shard for each processor
+MANY_ROWS = 1_000_000
+# a load takes at most so many times the bytes of its numbers
+MEMORY = 4
+
+
+class Loads:
+    """Consumes the lines of a CSV file of numbers, as a file does, and loads each piece of it as a
+    table in a folder. The table files' names are those of a part of all pieces."""
+
+    def __init__(self, table: Table, room: pathlib.Path, name: str, most_rows: int,
+                 part: int = 0) -> None:
+        self.table, self.room, self.name = table, room, name
+        self.most_rows, self.part = most_rows, part
+        # the current piece: its file, and how many rows and bytes are in it
+        self.out: TextIO | None = None
+        self.rows, self.size = 0, 0
+        self.records: list[TableFile] = []
+
+    @property
+    def csv(self) -> pathlib.Path:
+        return self.room / f"numbers-{self.part}.csv"
+
+    def write(self, text: str) -> None:
+        """Writes complete lines of numbers, one or more at a time."""
+        at = 0
+        while at < len(text):
+            end = self.end_of_fitting(text, at)
+            if end == at:
+                self.load()
+                continue
+            self.begin().write(text[at:end] if (at, end) != (0, len(text)) else text)
+            self.rows += text.count("\n", at, end)
+            self.size += end - at
+            at = end
+
+    def end_of_fitting(self, text: str, at: int) -> int:
+        """Returns the end of the lines that fit the current piece."""
+        room = MOST_BYTES - (self.size or len(self.table.heading()))
+        end = len(text) if len(text) - at <= room else text.rfind("\n", at, at + room) + 1 or at
+        surplus = self.rows + text.count("\n", at, end) - self.most_rows
+        if surplus <= 0:
+            return end
+        end = at
+        for _ in range(self.most_rows - self.rows):
+            end = text.index("\n", end) + 1
+        return end
+
+    def begin(self) -> TextIO:
+        """Begins a piece, unless one has begun, and returns its file."""
+        if self.out is None:
+            self.out = open(self.csv, "w", encoding="ascii", newline="")
+            self.out.write(self.table.heading())
+            self.rows, self.size = 0, len(self.table.heading())
+        return self.out
+
+    def load(self) -> None:
+        """Loads the current piece."""
+        assert self.out is not None
+        self.out.close()
+        made = self.room / f"made-{self.part}-{len(self.records)}.bw"
+        schema = self.room / f"schema-{self.part}"
+        schema.write_text(self.table.schema(self.name), encoding="ascii")
+        command.call(["load", schema, self.csv, made])
+        self.records.append(pairs.record_of(made, made.name, self.rows))
+        self.csv.unlink()
+        self.out, self.rows, self.size = None, 0, 0
+
+    def end(self) -> None:
+        """Loads the rest; a file without rows is one shard too."""
+        if self.out is not None or not self.records and not self.part:
+            self.begin()
+            self.load()
+
+
+def lines_between(table: Table, first: int, end: int) -> Iterator[str]:
+    """Yields the lines of numbers of a range of rows, many at a time. What is counted of rows that
+    were read together is counted with the first of them."""
+    rows = 0
+    for chunk, count in enumerate(table.source.chunk_rows):
+        before, rows = rows, rows + count
+        if rows <= first or before >= end:
+            continue
+        kept = [copy.deepcopy(tally.counts) for tally in table.tallies] if before < first else []
+        columns: list[Sequence[str]] = [tally.fields(chunk) for tally in table.tallies]
+        for tally, counts in zip(table.tallies, kept):
+            recount(tally, counts)
+        part = slice(max(first - before, 0), min(end, rows) - before)
+        columns = [column[part] for column in columns]
+        yield "\n".join(columns[0] if len(columns) == 1 else map(",".join, zip(*columns))) + "\n"
+
+
+def recount(tally: Tally, counts: Counts) -> None:
+    """Sets what is counted to what was counted before, though with the range of all numbers that
+    were written, and with the words for null among them."""
+    span, nulls = tally.counts.span, tally.counts.nulls
+    tally.counts = replace(counts, nulls={**dict.fromkeys(nulls, 0), **counts.nulls})
+    if span:
+        tally.counts.widen(*span)
+    tally.may_have_null = tally.may_have_null or bool(nulls)
+
+
+def rows_a_shard(table: Table, wanted: str | None, most_rows: int | None) -> int:
+    """Returns how many rows a shard has, for a wanted number of shards, or the most rows of one."""
+    rows, least = table.rows, 1
+    if most_rows is not None:
+        return most_rows
+    if wanted in (None, "auto"):
+        least = processes.processors() if rows >= MANY_ROWS else 1
+    elif wanted is not None:
+        least = int(wanted)
+    return max(1, min(MOST_ROWS, -(-rows // least)))
+
+
+def processes_for(count: int, size: int) -> int:
+    """Returns how many processes load so many shards of so many bytes side by side: as many as
+    there are processors, and as memory allows."""
+    free = os.sysconf("SC_AVPHYS_PAGES") * os.sysconf("SC_PAGE_SIZE")
+    fitting = free // (MEMORY * min(size // count + 1, MOST_BYTES))
+    return max(1, min(count, processes.processors(), fitting))
+
+
+def load_shards(table: Table, room: pathlib.Path, name: str, most_rows: int) -> list[TableFile]:
+    """Loads all rows of a table, so many a shard, side by side. Returns the records of the table
+    files in the folder `made`, in the order of rows."""
+    shards = max(1, -(-table.rows // most_rows))
+    parts = processes_for(shards, table.source.marks()[0])
+    ends = [min(table.rows, shards * part // parts * most_rows) for part in range(parts)]
+    ends.append(table.rows)
+
+    def load_part(part: int) -> tuple[list[TableFile], list[Counts]]:
+        loads = Loads(table, room, name, most_rows, part)
+        for lines in lines_between(table, ends[part], ends[part + 1]):
+            loads.write(lines)
+        loads.end()
+        return loads.records, [tally.counts for tally in table.tallies]
+
+    found = processes.do_parts(parts, load_part)
+    for _, each in found[1:]:
+        for tally, counts in zip(table.tallies, each):
+            tally.counts.add(counts)
+    table.finish()
+    records = list(itertools.chain.from_iterable(part for part, _ in found))
+    return [placed(room, place, record) for place, record in enumerate(records)]
+
+
+def placed(room: pathlib.Path, place: int, record: TableFile) -> TableFile:
+    """Moves a table file to its place among the shards, and returns its record there."""
+    path = shard_file(room / "made", place)
+    os.rename(room / record.file, path)
+    return replace(record, file=path.name)
+
+
+def told(path: str, name: str, records: Sequence[TableFile]) -> str:
+    """Returns what is said of a folder of shards that was written."""
+    most = max(record.rows for record in records)
+    return (f"{path} is written, as table {name}: {counted(len(records), 'shard')} of up to "
+            f"{counted(most, 'row')}")

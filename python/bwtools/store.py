@@ -1,0 +1,322 @@
+"""The columns file TABLE.bw.columns, which says what a table's numbers mean: an SQLite database.
+
+It has the name of the table and what identifies its file, the columns, their settings and words for
+null, and a table `values_N` for each column whose numbers are places in a list. A file that was
+made by others, or is damaged, is refused: its header is checked before SQLite opens it, its schema
+must have the statements below and no others, and each field is checked before it is used."""
+from __future__ import annotations
+
+import contextlib
+import itertools
+import json
+import operator
+import os
+import pathlib
+import sqlite3
+import urllib.parse
+from dataclasses import astuple, dataclass, fields
+from typing import Any, Iterable, Iterator, Sequence
+
+from . import kinds
+from .kind import Column, Settings
+from .naming import is_name
+from .regular import open_regular
+from .stored_list import StoredList
+from .telling import Refused, counted
+
+VERSION, APPLICATION, MAGIC = 2, 0x62776331, b"SQLite format 3\0"
+# the first bytes of a columns file of the versions before, which was JSON
+EARLIER = b'{"bw columns"'
+MOST_COLUMNS, MOST_TABLES, MOST_SETTINGS, MOST_NULLS, MOST_CODES = 64, 1 << 16, 16, 1 << 12, 1 << 32
+FIXED = {
+    "named": "CREATE TABLE named (name TEXT NOT NULL)",
+    "files": "CREATE TABLE files (place INTEGER PRIMARY KEY, file TEXT NOT NULL, rows INTEGER NOT "
+             "NULL, size INTEGER NOT NULL, changed INTEGER NOT NULL, inode INTEGER NOT NULL, "
+             "sha256 TEXT NOT NULL)",
+    "columns": "CREATE TABLE columns (place INTEGER PRIMARY KEY, name TEXT NOT NULL, heading TEXT "
+               "NOT NULL, kind TEXT NOT NULL, why TEXT NOT NULL, looks_like TEXT NOT NULL, least "
+               "TEXT, greatest TEXT, listed INTEGER)",
+    "settings": "CREATE TABLE settings (place INTEGER NOT NULL, name TEXT NOT NULL, value NOT "
+                "NULL)",
+    "nulls": "CREATE TABLE nulls (place INTEGER NOT NULL, word TEXT NOT NULL)"}
+# of a column whose numbers are places in a list of texts, or of doubles
+LISTED = "CREATE TABLE values_{} (code INTEGER PRIMARY KEY, value {} NOT NULL)"
+ORDERED = "CREATE UNIQUE INDEX order_{0} ON values_{0} (value)"
+TYPES = {str: "TEXT", float: "REAL"}
+AT_ONCE, JSON_AT_ONCE = 10_000, 1000
+
+
+@dataclass
+class TableFile:
+    """What identifies a table file: its size, time of change and inode, else its SHA-256. Of a
+    shard also its name in the folder, and its rows."""
+
+    file: str
+    rows: int
+    size: int
+    changed: int
+    inode: int
+    sha256: str
+
+
+class Store:
+    """An open columns file."""
+
+    def __init__(self, path: str | os.PathLike[str]) -> None:
+        self.path = pathlib.Path(path)
+        self.database = opened(self.path)
+        try:
+            with self.reading():
+                self.refuse_schema()
+                self.name = self.read_name()
+                self.files = self.read_files()
+                self.columns = self.read_columns()
+        except BaseException:
+            self.database.close()
+            raise
+
+    def close(self) -> None:
+        """Closes the file; texts can't be read any more."""
+        self.database.close()
+
+    @contextlib.contextmanager
+    def reading(self) -> Iterator[None]:
+        """Turns what SQLite reports of a damaged file into a refusal."""
+        try:
+            yield
+        except sqlite3.Error as error:
+            raise self.foreign(str(error)) from None
+        except (OverflowError, ValueError) as error:
+            raise self.foreign(str(error)) from None
+
+    def foreign(self, why: str) -> Refused:
+        """Returns the refusal of this file."""
+        return Refused(f"{self.path} is not a columns file that bw-import wrote, or is damaged: "
+                       f"{' '.join(why.split())}")
+
+    def rows(self, sql: str, most: int) -> list[tuple[Any, ...]]:
+        """Returns the rows of a query, of which there may be so many."""
+        found = self.database.execute(sql).fetchmany(most + 1)
+        if len(found) > most:
+            raise self.foreign(f"it has more than {counted(most, 'row')} of one sort")
+        return found
+
+    def refuse_schema(self) -> None:
+        """Rejects a file whose tables and indices aren't those of a columns file."""
+        most = len(FIXED) + 2 * MOST_COLUMNS
+        found = self.rows("SELECT type, name, tbl_name, sql FROM sqlite_master", most)
+        listed = {name: sql for _, name, _, sql in found if name not in FIXED}
+        wanted = {("table", name, name, sql) for name, sql in FIXED.items()}
+        for place in range(MOST_COLUMNS):
+            name = f"values_{place}"
+            for type_ in TYPES.values() if name in listed else ():
+                if listed[name] == LISTED.format(place, type_):
+                    wanted.add(("table", name, name, listed[name]))
+                    wanted.add(("index", f"order_{place}", name, ORDERED.format(place)))
+        if len(found) != len(wanted) or set(found) != wanted:
+            raise self.foreign("its schema is another one")
+        self.listed = {int(name[7:]): str if " TEXT " in sql else float
+                       for name, sql in listed.items() if name.startswith("values_")}
+
+    def read_name(self) -> str:
+        found = self.rows("SELECT name FROM named", 1)
+        name = found[0][0] if found else None
+        return self.text(name, "the table's name")
+
+    def read_files(self) -> list[TableFile]:
+        names = [field.name for field in fields(TableFile)]
+        found = self.rows(f"SELECT {', '.join(names)} FROM files ORDER BY place", MOST_TABLES)
+        for row in found:
+            for name, value in zip(names, row):
+                if type(value) is not (str if name in ("file", "sha256") else int):
+                    raise self.foreign(f"{name} of a table file is {type(value).__name__}")
+        files = [TableFile(*row) for row in found]
+        if any(os.path.basename(each.file) != each.file or "\0" in each.file for each in files):
+            raise self.foreign("a table file isn't beside it")
+        return files
+
+    def read_columns(self) -> list[Column]:
+        found = self.rows("SELECT place, name, heading, kind, why, looks_like, least, greatest, "
+                          "listed FROM columns ORDER BY place", MOST_COLUMNS)
+        if not found or [row[0] for row in found] != list(range(len(found))):
+            raise self.foreign("its columns aren't numbered from 0 on")
+        if set(self.listed) != {row[0] for row in found if row[8] is not None}:
+            raise self.foreign("its lists aren't those of its columns")
+        settings, nulls = self.read_settings(len(found)), self.read_nulls(len(found))
+        columns = [self.column(row, settings[row[0]], nulls[row[0]]) for row in found]
+        if len({column.name.lower() for column in columns}) < len(columns):
+            raise self.foreign("two columns have one name")
+        return columns
+
+    def column(self, row: tuple[Any, ...], settings: Settings, nulls: list[str]) -> Column:
+        """Returns a column of a row, its settings and its words for null, all of them checked."""
+        place, name, heading, kind, why, looks_like, least, greatest, count = row
+        for value in (name, heading, kind, why, looks_like):
+            self.text(value, f"a field of column {place}")
+        ends = [self.text(end, f"an end of column {place}") for end in (least, greatest)
+                if end is not None]
+        if not is_name(name) or len(ends) == 1:
+            raise self.foreign(f"column {place} has no valid name, or only one end")
+        listed = None
+        if count is not None:
+            if type(count) is not int or not 0 <= count < MOST_CODES:
+                raise self.foreign(f"column {name} has {count} values")
+            listed = StoredList(self.database, place, count, self.listed[place])
+        try:
+            made = kinds.kind_of(kind, settings, listed)
+        except (ValueError, TypeError, KeyError):
+            raise self.foreign(f"column {name} is of no kind that this version knows") from None
+        return Column(name, heading, made, nulls, ends, why, looks_like)
+
+    def read_settings(self, count: int) -> list[Settings]:
+        settings: list[Settings] = [{} for _ in range(count)]
+        for place, name, value in self.rows("SELECT place, name, value FROM settings",
+                                            MOST_SETTINGS * count):
+            if type(place) is not int or not 0 <= place < count or type(name) is not str or \
+                    type(value) not in (int, str) or name in settings[place]:
+                raise self.foreign("a setting is of no column, or of no type that settings have")
+            settings[place][name] = value
+        return settings
+
+    def read_nulls(self, count: int) -> list[list[str]]:
+        nulls: list[list[str]] = [[] for _ in range(count)]
+        for place, word in self.rows("SELECT place, word FROM nulls", MOST_NULLS * count):
+            if type(place) is not int or not 0 <= place < count:
+                raise self.foreign("a word for null is of no column")
+            nulls[place].append(self.text(word, "a word for null"))
+        return nulls
+
+    def text(self, value: Any, what: str) -> str:
+        """Returns a value that must be text."""
+        if type(value) is not str:
+            raise self.foreign(f"{what} isn't text")
+        return value
+
+    def verify(self) -> None:
+        """Rejects a file of which a part is damaged, though it wasn't needed by now: it reads all
+        of it."""
+        with self.reading():
+            found = self.database.execute("PRAGMA integrity_check(1)").fetchone()
+            if found != ("ok",):
+                raise self.foreign(str(found[0]))
+            for column in self.columns:
+                for _ in column.kind.listed or ():
+                    pass
+
+
+def opened(path: pathlib.Path) -> sqlite3.Connection:
+    """Opens a columns file, which must be a regular file, to be read only. SQLite opens a file by
+    its path: if another one is put there at that moment, it is opened again."""
+    for _ in range(100):
+        with open_regular(path) as file:
+            told = os.fstat(file.fileno())
+            refuse_header(path, file.read(100), told.st_size)
+            database = sqlite3.connect(uri_of(path), uri=True, check_same_thread=False)
+            if os.path.samestat(os.stat(path), told):
+                for pragma in ("trusted_schema = off", "cell_size_check = on"):
+                    database.execute(f"PRAGMA {pragma}")
+                return database
+            database.close()
+    raise Refused(f"{path} is replaced again and again")
+
+
+def uri_of(path: pathlib.Path) -> str:
+    """Returns how SQLite opens a file that nobody writes."""
+    return f"file:{urllib.parse.quote(os.fspath(path.absolute()))}?mode=ro&immutable=1"
+
+
+def refuse_header(path: pathlib.Path, header: bytes, size: int) -> None:
+    """Rejects a file whose first bytes aren't those of a columns file of this version."""
+    if header.startswith(EARLIER):
+        raise Refused(f"{path} is a columns file of an earlier version: "
+                      "import the file again, by bw-import RAW.csv TABLE.bw")
+    version, mark, encoding = (int.from_bytes(header[at:at + 4], "big") for at in (60, 68, 56))
+    if not header.startswith(MAGIC) or len(header) < 100 or mark != APPLICATION or encoding != 1 \
+            or header[18:20] != b"\1\1":
+        raise Refused(f"{path} is not a columns file that bw-import wrote")
+    if version != VERSION:
+        raise Refused(f"{path} is a columns file of version {version}, and this is the program of "
+                      f"version {VERSION}: import the file again")
+    pages, page = int.from_bytes(header[28:32], "big"), int.from_bytes(header[16:18], "big")
+    if pages * (1 << 16 if page == 1 else page) != size:
+        raise Refused(f"{path} is damaged: it has {size:,} bytes, and not those of its pages")
+
+
+def write(path: str | os.PathLike[str], columns: Sequence[Column], name: str = "",
+          files: Sequence[TableFile] = ()) -> None:
+    """Writes a columns file. Each column's `kind.listed` is iterated once, in order: so it may be
+    read from elsewhere meanwhile. Raises Refused if it isn't strictly ascending."""
+    database = sqlite3.connect(os.fspath(path), isolation_level=None)
+    try:
+        for pragma in ("page_size = 16384", "encoding = 'UTF-8'", "journal_mode = OFF",
+                       "synchronous = OFF",
+                       "locking_mode = EXCLUSIVE", f"user_version = {VERSION}",
+                       f"application_id = {APPLICATION}"):
+            database.execute(f"PRAGMA {pragma}").fetchall()
+        database.execute("BEGIN")
+        for sql in FIXED.values():
+            database.execute(sql)
+        database.execute("INSERT INTO named VALUES (?)", (name,))
+        database.executemany("INSERT INTO files VALUES (?, ?, ?, ?, ?, ?, ?)",
+                             [(place, *astuple(file)) for place, file in enumerate(files)])
+        for place, column in enumerate(columns):
+            write_column(database, place, column)
+        database.execute("COMMIT")
+    finally:
+        database.close()
+
+
+def write_column(database: sqlite3.Connection, place: int, column: Column) -> None:
+    """Writes a column, its settings, its words for null and its list."""
+    listed, ends = column.kind.listed, column.ends or (None, None)
+    count = None if listed is None else write_list(database, place, listed)
+    database.execute("INSERT INTO columns VALUES (?, ?, ?, ?, ?, ?, ?, ?, ?)",
+                     (place, column.name, column.heading, column.kind.name, column.why,
+                      column.looks_like, *ends, count))
+    database.executemany("INSERT INTO settings VALUES (?, ?, ?)",
+                         [(place, *each) for each in column.kind.settings().items()])
+    database.executemany("INSERT INTO nulls VALUES (?, ?)",
+                         [(place, word) for word in column.nulls])
+
+
+def write_list(database: sqlite3.Connection, place: int, listed: Iterable[Any]) -> int:
+    """Writes the values of a list, and returns how many there are. Raises Refused if they don't
+    ascend."""
+    rest = iter(listed)
+    part = list(itertools.islice(rest, AT_ONCE))
+    database.execute(LISTED.format(place, TYPES[type(part[0])] if part else "TEXT"))
+    insert = as_json if part and type(part[0]) is str and has_json(database) else one_by_one
+    count, last = 0, part[:0]
+    while part:
+        if not all(map(operator.lt, last + part[:-1], part if last else part[1:])):
+            raise Refused(f"the values of column {place + 1} don't ascend")
+        insert(database, f"values_{place}", count, part)
+        count, last = count + len(part), part[-1:]
+        part = list(itertools.islice(rest, AT_ONCE))
+    database.execute(ORDERED.format(place))
+    return count
+
+
+def has_json(database: sqlite3.Connection) -> bool:
+    """Returns whether SQLite reads JSON, as it does if it isn't built without."""
+    try:
+        database.execute("SELECT value FROM json_each('[]')")
+        return True
+    except sqlite3.OperationalError:
+        return False
+
+
+def as_json(database: sqlite3.Connection, table: str, first: int, texts: Sequence[str]) -> None:
+    """Inserts texts by codes from `first` on, many in one text, which is faster than one by one."""
+    if "\0" in "".join(texts):
+        one_by_one(database, table, first, texts)
+        return
+    for start in range(0, len(texts), JSON_AT_ONCE):
+        part = json.dumps(texts[start:start + JSON_AT_ONCE], ensure_ascii=False)
+        database.execute(f"INSERT INTO {table} SELECT key + ?, value FROM json_each(?)",
+                         (first + start, part))
+
+
+def one_by_one(database: sqlite3.Connection, table: str, first: int, values: Sequence[Any]) -> None:
+    """Inserts values by codes from `first` on."""
+    database.executemany(f"INSERT INTO {table} VALUES (?, ?)", enumerate(values, first))

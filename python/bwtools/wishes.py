@@ -1,0 +1,86 @@
+"""What the options ask for: for all columns of a file, and for each."""
+from __future__ import annotations
+
+import argparse
+from dataclasses import dataclass
+from typing import Optional
+
+from .telling import Refused, shown
+
+# words that are null in a column of numbers, dates, times or booleans
+NULLS = ("NULL", "null", "NA", "N/A", "-")
+BLANKS = " \t"
+
+
+@dataclass(frozen=True)
+class Rules:
+    """What holds for all columns of a file: its separator, the sign between thousands if it is
+    named, whether a column must come back exactly, and whether blanks around texts are kept, or
+    dropped, or neither is said."""
+    separator: str = ","
+    thousands: Optional[str] = None
+    keeps_spelling: bool = False
+    keeps_blanks: bool = False
+    drops_blanks: bool = False
+
+
+@dataclass(frozen=True)
+class Wishes:
+    """What holds for one column: its heading; whether it is one of texts, or of numbers; the format
+    of its dates; to how many digits its numbers are rounded; and the words that are null in it,
+    whatever it is."""
+    heading: str
+    rules: Rules = Rules()
+    is_text: bool = False
+    is_number: bool = False
+    form: Optional[str] = None
+    digits: Optional[int] = None
+    nulls: tuple[str, ...] = ("",)
+
+    @property
+    def words(self) -> tuple[str, ...]:
+        """The words that are null in a column of anything but texts."""
+        return tuple(dict.fromkeys((*self.nulls, *(() if self.is_text else NULLS))))
+
+
+def rules_of(given: argparse.Namespace, separator: str) -> Rules:
+    return Rules(separator, given.thousands, given.keep_spelling, given.keep_blanks,
+                 given.drop_blanks)
+
+
+def wishes_of(given: argparse.Namespace, headings: list[str], separator: str) -> list[Wishes]:
+    """Returns what is asked for each column. Rejects options that name none, or contradict each
+    other."""
+    known, rules = set(headings), rules_of(given, separator)
+    for option in ("text", "number", "date", "digits"):
+        unknown = [each for each in getattr(given, option) if each not in known]
+        if unknown:
+            raise Refused(f"--{option}: no column has the heading {shown(unknown[0])}; "
+                          f"there are {', '.join(map(shown, headings))}")
+    nulls: dict[str, list[str]] = {}
+    for word in given.null:
+        column, sign, own = heading_of(word, known)
+        if sign and column not in known:
+            raise Refused(f"--null {word}: no column has the heading {shown(column)}")
+        nulls.setdefault(column if sign else "", []).append(own if sign else word)
+    general = nulls.pop("", []) if "" not in known else []
+    found = []
+    for heading in headings:
+        is_text, is_number = heading in given.text, heading in given.number
+        if is_text and (is_number or heading in given.date or
+                        heading in given.digits) or is_number and heading in given.date:
+            raise Refused(f"column {shown(heading)} can't be of two kinds: give one of --text, "
+                          "--number, --date and --digits for it")
+        words = tuple(dict.fromkeys(("", *general, *nulls.get(heading, []))))
+        found.append(Wishes(heading, rules, is_text, is_number, given.date.get(heading),
+                            given.digits.get(heading), words))
+    return found
+
+
+def heading_of(word: str, known: set[str]) -> tuple[str, str, str]:
+    """Returns the column, a sign and the word of COLUMN=WORD. Returns no sign for only a word."""
+    places = [place for place, character in enumerate(word) if character == "="]
+    for place in places:
+        if word[:place] in known:
+            return word[:place], "=", word[place + 1:]
+    return word.partition("=") if places and word[0] != "=" else (word, "", "")

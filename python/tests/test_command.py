@@ -1,0 +1,37 @@
+"""What the command line gives."""
+import argparse
+import unittest
+
+from bwtools import command, options
+from bwtools.telling import Refused
+
+
+def parsed(*words):
+    parser = argparse.ArgumentParser()
+    parser.add_argument("csv")
+    parser.add_argument("out", nargs="?")
+    options.add_options(parser)
+    return options.parsed(parser, words)
+
+
+class Arguments(unittest.TestCase):
+    def test_names_after_two_dashes_are_names(self):
+        for words, wanted in ((["--", "-x.csv", "-x.bw"], ("-x.csv", "-x.bw")),
+                              (["a", "--", "--fill"], ("a", "--fill")), (["--", "--"], ("--", None)),
+                              (["a", "b", "--"], ("a", "b")), (["a", "-"], ("a", "-")),
+                              (["--", "-"], ("-", None)), (["a", "--fill", "b"], ("a", "b"))):
+            given = parsed(*words)
+            with self.subTest(words):
+                self.assertEqual((given.csv, given.out, given.fill),
+                                 (*wanted, "--fill" in words and "--" not in words))
+        given = parsed("--text", "-", "--", "-a")
+        self.assertEqual((given.text, given.csv), (["-"], "-a"))
+
+    def test_table_names(self):
+        for out, wanted in (("trips.bw", "trips"), ("a/b c.bw", "b_c"), ("2024.bw", "_2024"),
+                            ("select.bw", "select_"), ("t.csv", "t_csv"), (None, "t"), ("é%.bw", "e_"),
+                            ("%.bw", "_"), ("folder", "folder")):
+            self.assertEqual(command.table_name(None, out), wanted)
+        self.assertEqual(command.table_name("u", "trips.bw"), "u")
+        with self.assertRaisesRegex(Refused, "'a b' is not a valid name"):
+            command.table_name("a b", "trips.bw")
