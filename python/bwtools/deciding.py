@@ -104,10 +104,11 @@ class Court:
                   (opinion.likes or self.column.plain.forms & set(opinion.judge.forms))]
         shares = [(*count_fields(self.column, opinion), opinion) for opinion in shared]
         for likes, count, opinion in sorted(shares, key=lambda share: -share[0]):
-            if likes * 2 < count and (opinion.likes * 2 < self.count or self.column.plain.forms):
+            if likes * 2 < count and (opinion.likes * 2 <= self.count or self.column.plain.forms):
                 continue
             words, heading = others_of(self.column, opinion), self.column.wishes.heading
-            if len(words) <= MOST_WORDS:
+            # half of the fields don't show what the others should be, but these have no order
+            if len(words) <= MOST_WORDS and likes * 2 != count:
                 return few_words(opinion.judge, words, likes, count, heading)
             plural = opinion.judge.plural
             why = f"{likes:,} of {counted(count, 'field')} look like {plural}"
