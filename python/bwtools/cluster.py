@@ -4,9 +4,11 @@ shards are queried one after another."""
 from __future__ import annotations
 
 import contextlib
+import importlib
 import importlib.util
 import logging
 import os
+import pickle
 import sys
 import tempfile
 from typing import Any, Iterator
@@ -45,7 +47,7 @@ class Cluster:
         """Starts or joins the cluster, and returns Dask's client."""
         # these load slowly, and aren't needed before
         import cloudpickle
-        import distributed
+        distributed: Any = importlib.import_module("distributed")
         # workers on other machines don't have this package: its functions are sent to them
         cloudpickle.register_pickle_by_value(sys.modules[__package__])
         logging.getLogger("distributed").setLevel(logging.CRITICAL)
@@ -67,7 +69,7 @@ class Cluster:
         files are in a temporary folder. If Python has cryptography, workers and scheduler
         authenticate by certificates that are made for them; else other users of the machine could
         send them calls."""
-        import distributed
+        distributed: Any = importlib.import_module("distributed")
         is_closed = importlib.util.find_spec("cryptography") is not None
         folder = self.stack.enter_context(tempfile.TemporaryDirectory(prefix="bw-shards-"))
         return self.stack.enter_context(distributed.LocalCluster(
@@ -80,11 +82,13 @@ class Cluster:
         """Returns the replies of these calls of ask_shard, in their order. A reply leaves the
         cluster once it is consumed."""
         client = self.start() if self.client is None else self.client
+        import cloudpickle
 
-        def asked(*call: Any) -> Reply:
-            return ask_shard(*call)
+        def asked(packed: bytes) -> Reply:
+            return ask_shard(*pickle.loads(packed))
 
-        futures = [client.submit(asked, *call, pure=False) for call in calls]
+        # Dask would send the types of the package that are among a call's values by name
+        futures = [client.submit(asked, cloudpickle.dumps(call), pure=False) for call in calls]
         try:
             while futures:
                 yield self.reply(futures[0])
