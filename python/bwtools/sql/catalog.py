@@ -109,6 +109,9 @@ class Catalog:
         """Returns the table of a name, or None."""
         return self.tables.get(name.lower())
 
+    def names(self) -> list[str]:
+        return [table.name for table in self.tables.values()]
+
     def close(self) -> None:
         for table in self.tables.values():
             table.close()

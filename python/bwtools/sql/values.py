@@ -165,4 +165,3 @@ def mean(column: Column, number: int, count: int) -> float | None:
     """Returns the double nearest to the mean of `count` values whose numbers' sum is given, or None
     if there are none."""
     return number / (count * power_of_ten(digits_of(column.kind))) if count else None
-
