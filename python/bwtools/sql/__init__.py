@@ -1,1 +1,1 @@
-"""Whole questions: SQLite's SQL over tables that bw-import wrote, whose rows bw scans."""
+"""Whole questions over tables: SQLite's SQL above, scans of bw below."""
