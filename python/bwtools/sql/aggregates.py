@@ -9,8 +9,10 @@ from fractions import Fraction
 from typing import Any, Sequence
 
 from ..kinds import Decimals, Truths, Whole, undressed
+from ..kinds.doubles import nearest
 from ..numerals import power_of_ten
 from ..telling import Refused
+from .exact import float_sum
 from .statement import Statement
 from .tokens import text_literal
 from .values import GREATEST, LEAST, double_of_sum
@@ -24,22 +26,10 @@ def summed(values: Sequence[Any]) -> int | float | None:
         if not LEAST <= found <= GREATEST:
             raise Refused(f"a SUM is outside the range of 64 bits: {found:,}")
         return found
-    try:
-        return math.fsum(values)
-    except OverflowError:
-        # the sum of a part is too large
-        return nearest(sum(map(Fraction, values)))
-    except ValueError:
-        # infinities of both signs
-        return None
-
-
-def nearest(value: Any) -> float:
-    """Returns the nearest double, which is infinite if a value is too large."""
-    try:
-        return float(value)
-    except OverflowError:
-        return math.inf if value > 0 else -math.inf
+    if all(map(math.isfinite, values)):
+        return float_sum(values)
+    infinite: float = sum(map(float, values))
+    return None if math.isnan(infinite) else infinite
 
 
 class Functions:

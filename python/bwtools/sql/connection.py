@@ -6,7 +6,7 @@ import os
 from dataclasses import dataclass, field
 from typing import Any, Callable, Sequence
 
-from . import errors
+from . import errors, grammar
 from .answer import Answer
 from .by_sqlite import BySqlite
 from .catalog import Catalog, Table, name_of, open_catalog
@@ -72,12 +72,7 @@ class Connection:
         `telling.Refused` for a statement that is rejected, and `session.Failed` if bw fails."""
         self.refuse_closed()
         statement = Statement(sql, self.catalog, parameters)
-        tables = {table.name: table for table in statement.structure.tables.values()}
-        found = None
-        if len(tables) == 1:
-            table, = tables.values()
-            found = by_bw(statement, table, self.engine(table))
-        return found or self.by_sqlite.answer(statement)
+        return grammar.answer(statement, self.engine) or self.by_sqlite.answer(statement)
 
     def engine(self, table: Table) -> Engine:
         """Returns the engine that asks bw about a table, whose sessions begin when they are
@@ -123,11 +118,6 @@ class Connection:
         """Ends the sessions, and closes the files."""
         self.is_closed = True
         self.stack.close()
-
-
-def by_bw(statement: Statement, table: Table, engine: Engine) -> Answer | None:
-    """Returns the answer by statements of bw, or None if it isn't one of theirs."""
-    return None
 
 
 def connect(*paths: str | os.PathLike[str], scheduler: str | None = None, list_all: bool = False,

@@ -2,6 +2,7 @@
 for each row."""
 from __future__ import annotations
 
+import collections
 import decimal
 import importlib
 from dataclasses import dataclass
@@ -45,6 +46,7 @@ def arrays_of(answer: Answer) -> dict[str, Any]:
     """Returns masked arrays by headings: int64, bool, float64 (decimals too), datetime64 in days
     or nanoseconds, timedelta64 for times of day, and objects for texts."""
     numpy = module("numpy", "python3-numpy")
+    refuse_twins(answer.headings)
     found = dict[str, Any]()
     for heading, kind, column in zip(answer.headings, answer.kinds, columns_of(answer, numpy)):
         values = converted(numpy, kind, column)
@@ -52,6 +54,13 @@ def arrays_of(answer: Answer) -> dict[str, Any]:
             values = numpy.array([*column.categories, None], dtype=object)[column.values]
         found[heading] = numpy.ma.MaskedArray(values, column.mask)
     return found
+
+
+def refuse_twins(headings: Sequence[str]) -> None:
+    """Rejects headings of which two are equal."""
+    for heading, count in collections.Counter(headings).items():
+        if count > 1:
+            raise Refused(f"{count} columns have the heading {heading}: give them aliases")
 
 
 def frame_of(answer: Answer, decimals: bool) -> Any:
