@@ -21,6 +21,10 @@ class Rows:
     def __init__(self, rows: Sequence[tuple[Value, ...]]) -> None:
         self.rows = rows
 
+    def count(self) -> int:
+        """Returns the number of rows."""
+        return len(self.rows)
+
     def values(self, kinds: Sequence[Kind | None]) -> Iterator[Block]:
         """Yields the columns of many rows at a time."""
         for start in range(0, len(self.rows), AT_ONCE):
@@ -38,6 +42,18 @@ class Numbers:
 
     def __init__(self, parts: Sequence[Union[bytes, BinaryIO]]) -> None:
         self.parts = parts
+
+    def contents(self) -> Iterator[bytes]:
+        """Yields the lines of each file, without its heading."""
+        for part in self.parts:
+            if not isinstance(part, bytes):
+                part.seek(0)
+                part = part.read()
+            yield part[part.index(b"\n") + 1:]
+
+    def count(self) -> int:
+        """Returns the number of rows."""
+        return sum(each.count(b"\n") for each in self.contents())
 
     def numbers(self, width: int) -> Iterator[Sequence[Sequence[str]]]:
         """Yields the columns of bw's fields of many rows at a time."""

@@ -6,7 +6,7 @@ import difflib
 import os
 import pathlib
 from dataclasses import dataclass, field
-from typing import BinaryIO, Iterable, Mapping, Sequence
+from typing import BinaryIO, Iterable, Sequence
 
 from ..kind import Column
 from ..naming import name_like
@@ -117,11 +117,11 @@ class Catalog:
             table.close()
 
 
-def open_catalog(paths: Mapping[str, str], is_local: bool = True) -> Catalog:
-    """Opens tables by name."""
+def open_catalog(paths: Iterable[tuple[str, str]], is_local: bool = True) -> Catalog:
+    """Opens tables, each of a name and a path."""
     with contextlib.ExitStack() as stack:
         tables = list[Table]()
-        for name, path in paths.items():
+        for name, path in paths:
             tables.append(open_table(name, path, is_local))
             stack.callback(tables[-1].close)
         catalog = Catalog(tables)

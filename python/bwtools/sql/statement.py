@@ -1,7 +1,7 @@
 """A statement over tables, checked before anything runs."""
 from __future__ import annotations
 
-from typing import Any, Sequence
+from typing import Any, Mapping, Sequence, Tuple
 
 from ..telling import Refused
 from .bracketed import Bracketed
@@ -15,6 +15,10 @@ from .tokens import END, PARAMETER, TEXT, Token, quoted_name, tokens_of
 
 # words that a literal may follow, or be before which it begins
 BEFORE_LITERAL = ("BETWEEN", "AND", "OR", "NOT", "WHERE", "ON", "HAVING", "WHEN", "THEN", "ELSE")
+
+# of tokens from a place on: their end, and the text that replaces them
+Edits = Mapping[int, Tuple[int, str]]
+NO_EDITS: Edits = {}
 
 
 class Statement:
@@ -37,18 +41,21 @@ class Statement:
         """The columns of its result, with their headings and the tables' columns that they are."""
         return self.structure.outputs
 
-    def sql(self, first: int = 0, end: int | None = None) -> str:
-        """Returns the text for SQLite of the tokens from one on, up to another one."""
-        parts, last = list[str](), first
-        for at in range(first, len(self.tokens) - 1 if end is None else end):
-            token, original = self.tokens[at], self.originals[at]
-            before = self.originals[last]
-            gap = self.written[before.start + len(before.text):original.start] if at > first else ""
+    def sql(self, first: int = 0, end: int | None = None, edits: Edits = NO_EDITS) -> str:
+        """Returns the text for SQLite of the tokens from one on, up to another one. `edits` has the
+        end and the text of what replaces tokens from a place on."""
+        end = len(self.tokens) - 1 if end is None else end
+        parts, at = list[str](), first
+        while at < end:
+            token, original, before = self.tokens[at], self.originals[at], self.originals[at - 1]
+            if at > first:
+                parts.append(self.written[before.start + len(before.text):original.start])
+            after, text = edits.get(at, (at + 1, token.text))
             # what replaces a token must not become one with its neighbours
-            parts.append(f"{gap}{token.text}" if token == original else f"{gap} {token.text} ")
+            parts.append(text if token == original and at not in edits else f" {text} ")
             name = self.structure.renamed.get(at)
             parts.append(f"AS {quoted_name(name)} " if name else "")
-            last = at
+            at = after
         return "".join(parts)
 
     def text(self, first: int, end: int) -> str:

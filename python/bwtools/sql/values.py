@@ -148,16 +148,28 @@ def digits_of(kind: Kind) -> int:
 def total(column: Column, number: int) -> Value:
     """Returns the value of a sum of numbers: a whole number, or the double of a sum of decimals.
     Raises Refused if the sum is outside 64 bits, or the double's spelling isn't the sum's."""
-    if not LEAST <= number <= GREATEST:
-        raise Refused(f"SUM({column.name}) is outside the range of 64 bits: {number:,}")
     digits = digits_of(column.kind)
-    if not digits:
-        return number
+    if digits:
+        return double_of_sum(column.name, number, digits)
+    refuse_long(column.name, number)
+    return number
+
+
+def refuse_long(name: str, number: int) -> None:
+    """Rejects a sum of numbers that 64 bits don't hold."""
+    if not LEAST <= number <= GREATEST:
+        raise Refused(f"SUM({name}) is outside the range of 64 bits: {number:,}")
+
+
+def double_of_sum(name: str, number: int, digits: int) -> float:
+    """Returns the double of a sum of decimals, multiplied by ten to `digits`. Raises Refused as
+    `total` does."""
+    refuse_long(name, number)
     found = number / power_of_ten(digits)
-    if Fraction(repr(found)) != Fraction(number, 10 ** digits):
+    if Fraction(repr(found)) != Fraction(number, power_of_ten(digits)):
         exact = decimal.Decimal(number).scaleb(-digits)
-        raise Refused(f"SUM({column.name}) is {exact}, which has more digits than a double: "
-                      "sum parts of it, or ask for AVG")
+        raise Refused(f"SUM({name}) is {exact}, which has more digits than a double: sum parts of "
+                      "it, or ask for AVG")
     return found
 
 
