@@ -14,6 +14,7 @@ from ..numerals import power_of_ten
 from ..telling import Refused
 from .exact import float_sum
 from .statement import Statement
+from .ties import tie_edits
 from .tokens import text_literal
 from .values import GREATEST, LEAST, double_of_sum
 
@@ -98,9 +99,9 @@ def mean_of(number: int | None, count: int, digits: int) -> float | None:
     return number / (count * power_of_ten(digits)) if number is not None and count else None
 
 
-def with_ours(statement: Statement) -> str:
-    """Returns a statement's text for SQLite, with our SUM and AVG."""
-    line, edits = statement.structure.line, dict[int, tuple[int, str]]()
+def for_sqlite(statement: Statement) -> str:
+    """Returns a statement's text for SQLite, with our SUM and AVG, and groups in order."""
+    line, edits = statement.structure.line, tie_edits(statement)
     # the calls within others come first
     for at in range(line.end - 1, -1, -1):
         if statement.tokens[at].name.upper() not in ("SUM", "AVG") or \

@@ -11,7 +11,7 @@ from ..kind import Column
 from ..kinds import Decimals, undressed
 from ..progress import Progress
 from ..telling import Refused
-from .aggregates import with_ours
+from .aggregates import for_sqlite
 from .answer import Answer
 from .bodies import Rows
 from .catalog import Catalog, Table
@@ -56,7 +56,7 @@ class BySqlite:
     def answer(self, statement: Statement) -> Answer:
         """Returns the answer to a statement. Raises Refused for one that can't run, Failed if bw
         can't list a column, and KeyboardInterrupt when it is interrupted."""
-        sql = with_ours(statement)
+        sql = for_sqlite(statement)
         reads = reads_of(self.whole.database, self.whole.guard, statement, sql)
         reads = {name: set(columns) for name, columns in reads.items()}
         refuse_long_decimals(self.catalog, reads)

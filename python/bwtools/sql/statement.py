@@ -42,8 +42,8 @@ class Statement:
         return self.structure.outputs
 
     def sql(self, first: int = 0, end: int | None = None, edits: Edits = NO_EDITS) -> str:
-        """Returns the text for SQLite of the tokens from one on, up to another one. `edits` has the
-        end and the text of what replaces tokens from a place on."""
+        """Returns the text for SQLite of the tokens from one on, up to another one. `edits` has
+        the end and the text of what replaces tokens from a place on, or follows the last one."""
         end = len(self.tokens) - 1 if end is None else end
         parts, at = list[str](), first
         while at < end:
@@ -56,6 +56,8 @@ class Statement:
             name = self.structure.renamed.get(at)
             parts.append(f"AS {quoted_name(name)} " if name else "")
             at = after
+        if end == len(self.tokens) - 1 and end in edits:
+            parts.append(edits[end][1])
         return "".join(parts)
 
     def text(self, first: int, end: int) -> str:
