@@ -87,8 +87,11 @@ class Table:
 
     def __init__(self, name, seed, rows=None):
         chance = random.Random(seed)
-        rows = chance.choice((1, 30, 300, 2000)) if rows is None else rows
+        rows = chance.choice((2, 30, 300, 2000)) if rows is None else rows
         kinds = [*chance.sample(self.KINDS, chance.randrange(4, 9)), "whole"]
+        if rows < 30:
+            # few doubles could be taken for decimals of many digits
+            kinds = [kind for kind in kinds if kind != "floats"]
         self.name, self.rows = name, rows
         self.columns = [Column(f"{kind[0]}{place}", kind, chance, rows) for place, kind in enumerate(kinds)]
         self.columns.append(Column("id", "whole", chance, 0))
@@ -114,9 +117,11 @@ class Statements:
         return self.chance.choice([each for each in self.table.columns if each.is_number])
 
     def statement(self):
-        """Returns a statement."""
+        """Returns a statement, and the one for sqlite3 alone. It has terms of ORDER BY for the groups that those of the statement
+        leave equal, which are to ascend: sqlite3 has them in another order, if the terms are as many as the groups' columns."""
         forms = [self.rows, self.groups, self.groups, self.totals, self.distinct]
-        return self.chance.choice(forms if self.are_plain else [*forms, self.odd, self.odd])()
+        found = self.chance.choice(forms if self.are_plain else [*forms, self.odd, self.odd])()
+        return found if isinstance(found, tuple) else (found, found)
 
     def where(self):
         return f" WHERE {self.condition(2)}" if self.chance.random() < .7 else ""
@@ -244,7 +249,7 @@ class Statements:
         return f"SELECT {items} FROM {self.table.name}{self.where()}{having}{self.limit() if self.chance.random() < .1 else ''}"
 
     def groups(self):
-        """Returns a statement with GROUP BY."""
+        """Returns a statement with GROUP BY, and the one for sqlite3."""
         chance, table = self.chance, self.table
         keys = [each.name for each in chance.sample(table.columns, chance.choice((1, 1, 1, 2, 3)))]
         shown = [key for key in keys if chance.random() < .8]
@@ -253,8 +258,10 @@ class Statements:
             items.append(f"upper({self.column('texts').name})" if chance.random() < 0 else f"length({keys[0]})")
         having = f" HAVING {chance.choice(('COUNT(*) > 2', f'{self.aggregate()} IS NOT NULL', f'{keys[0]} IS NOT NULL'))}"
         terms = [*keys, "COUNT(*)", "1", self.aggregate()]
-        return (f"SELECT {', '.join(items)} FROM {table.name}{self.where()} GROUP BY {', '.join(keys)}"
-                f"{having if chance.random() < .3 else ''}{self.order(terms)}{self.limit()}")
+        found = (f"SELECT {', '.join(items)} FROM {table.name}{self.where()} GROUP BY {', '.join(keys)}"
+                 f"{having if chance.random() < .3 else ''}")
+        order, limit = self.order(terms), self.limit()
+        return f"{found}{order}{limit}", f"{found}{order}{', ' + ', '.join(keys) if order else ''}{limit}"
 
     def odd(self):
         """Returns a statement that only SQLite answers."""
