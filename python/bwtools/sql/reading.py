@@ -35,6 +35,8 @@ class Guard:
 
     def __init__(self, catalog: Catalog) -> None:
         self.catalog, self.is_off, self.denied = catalog, True, ""
+        # how many statements were explained
+        self.explained = 0
         # the columns that were read of each table, by their names in lower case
         self.read: dict[str, set[str]] = {}
 
@@ -71,8 +73,10 @@ def declare(database: sqlite3.Connection, catalog: Catalog) -> None:
 def explain(database: sqlite3.Connection, guard: Guard, sql: str) -> None:
     """Has SQLite read a statement, which it doesn't run."""
     guard.read, guard.denied, guard.is_off = {}, "", False
+    # Python keeps statements by their text, and SQLite doesn't authorize one again that was kept
+    guard.explained += 1
     try:
-        database.execute(f"EXPLAIN {sql}").close()
+        database.execute(f"EXPLAIN /* {guard.explained} */ {sql}").close()
     finally:
         guard.is_off = True
 
