@@ -146,3 +146,7 @@ SELECT distribution, lts, COUNT(*), MIN(release), MAX(end_of_life) FROM releases
 SELECT distribution, COUNT(DISTINCT codename), COUNT(end_of_life) FROM releases WHERE lts OR lts IS NULL GROUP BY distribution
 
 SELECT codename FROM releases WHERE series GLOB '[a-f]*' ORDER BY codename LIMIT 9
+
+SELECT place, TOTAL(guests) FROM visits GROUP BY place ORDER BY AVG(guests)
+
+SELECT place, group_concat(DISTINCT member) FROM visits WHERE guests IN (2, 3) GROUP BY place ORDER BY SUM(guests) DESC
