@@ -149,4 +149,4 @@ SELECT codename FROM releases WHERE series GLOB '[a-f]*' ORDER BY codename LIMIT
 
 SELECT place, TOTAL(guests) FROM visits GROUP BY place ORDER BY AVG(guests)
 
-SELECT place, group_concat(DISTINCT member) FROM visits WHERE guests IN (2, 3) GROUP BY place ORDER BY SUM(guests) DESC
+SELECT place, group_concat(DISTINCT member) FROM visits WHERE guests IN (2, 3) GROUP BY place ORDER BY SUM(guests) DESC, place
