@@ -239,7 +239,7 @@ class Statements:
         """Returns an expression over aggregates."""
         found, number = self.aggregate(), self.number().name
         return self.chance.choice((found, found, found, f"{found} AS {'y'}{self.chance.randrange(10 ** 6)}", f"SUM({number}) / COUNT(*)",
-                                   f"COUNT(*) + 1", f"ROUND(AVG({number}), 2)", f"coalesce(MAX({number}), -1)",
+                                   "COUNT(*) + 1", f"ROUND(AVG({number}), 2)", f"coalesce(MAX({number}), -1)",
                                    "CASE WHEN COUNT(*) > 3 THEN 'many' ELSE 'few' END", "CAST(COUNT(*) AS TEXT) || '!'"))
 
     def totals(self):

@@ -27,6 +27,7 @@ from .answer import Answer
 from .catalog import Table
 from .clauses import Clauses, clauses_of
 from .condition import Condition
+from .counted import NULL_NUMBER
 from .engine import Engine
 from .expressions import AGGREGATES, PREFIX, Expressions, reader_of
 from .groups import Groups, Wanted, groups_of
@@ -169,7 +170,8 @@ class GroupsQuestion:
         if not clauses.span("GROUP") and has_aggregates == bool(self.expressions.keys):
             # an aggregate makes one group of all rows, HAVING needs one, and DISTINCT columns
             raise Outside
-        with self.groups(Groups([], [[] for _ in self.expressions.aggregates])) as database:
+        with self.groups(Groups([[] for _ in self.expressions.keys],
+                                [[] for _ in self.expressions.aggregates])) as database:
             try:
                 database.execute(f"EXPLAIN {self.sql}")
             except sqlite3.Error:
@@ -250,23 +252,23 @@ class GroupsQuestion:
         types += [quoted_name(f"{PREFIX}{place}") for place in range(len(groups.values))]
         database = sqlite3.connect(":memory:", isolation_level=None)
         try:
-            database.execute(f"CREATE TABLE {GROUPS} ({', '.join(types) or 'x'})")
-            stored = [values_of(column.kind, [key[place] for key in groups.keys])
-                      for place, column in enumerate(keys)]
-            marks = ", ".join("?" * len(types)) or "NULL"
-            rows = zip(*stored, *groups.values) if types else [() for _ in groups.keys]
+            database.execute(f"CREATE TABLE {GROUPS} ({', '.join(types)})")
+            stored = [values_of(column.kind, numbers)
+                      for column, numbers in zip(keys, groups.columns)]
+            marks = ", ".join("?" * len(types))
             database.execute("BEGIN")
-            database.executemany(f"INSERT INTO {GROUPS} VALUES ({marks})", rows)
+            database.executemany(f"INSERT INTO {GROUPS} VALUES ({marks})",
+                                 zip(*stored, *groups.values))
             yield database
         finally:
             database.close()
 
 
-def values_of(kind: Kind, numbers: Sequence[int | None]) -> list[values.Value]:
-    """Returns SQLite's values of a column's numbers, of which None is null."""
-    distinct = [number for number in dict.fromkeys(numbers) if number is not None]
+def values_of(kind: Kind, numbers: Sequence[int]) -> list[values.Value]:
+    """Returns SQLite's values of the numbers of a column that makes groups."""
+    distinct = list(dict.fromkeys(number for number in numbers if number != NULL_NUMBER))
     try:
-        found = dict(zip(distinct, values.stored(kind, distinct)))
+        found = {NULL_NUMBER: None, **dict(zip(distinct, values.stored(kind, distinct)))}
     except (ValueError, IndexError, OverflowError):
         raise bodies.foreign(kind) from None
-    return [None if number is None else found[number] for number in numbers]
+    return list(map(found.__getitem__, numbers))

@@ -9,14 +9,15 @@ from ..telling import Refused
 # the kinds of tokens
 WORD, QUOTED, TEXT, NUMBER, BLOB, PARAMETER, MARK, END = (
     "word", "quoted", "text", "number", "blob", "parameter", "mark", "end")
-# a letter of a name: SQLite counts each character beyond ASCII as one
-LETTER = "A-Za-z_\u0080-\U0010ffff"
-NAME = f"[{LETTER}0-9$]"
+# a letter of a name, and another of its characters: SQLite counts each one beyond ASCII as a letter.
+# Sets of what they aren't are compiled much faster
+LETTER = r"[^\x00-@\[-^`{-\x7f]"
+NAME = r"[^\x00-\x23%-/:-@\[-^`{-\x7f]"
 PATTERN = re.compile(rf"""(?P<gap>[ \t\n\f\r\ufeff]+|--[^\n]*|/\*(?:.*?\*/|.+\Z))
     |(?P<blob>[xX]'(?:[0-9A-Fa-f]{{2}})*')
     |(?P<number>(?:0[xX][0-9A-Fa-f]+|(?:[0-9]+(?:\.[0-9]*)?|\.[0-9]+)(?:[eE][+-]?[0-9]+)?)
         (?!{NAME}))
-    |(?P<word>(?![xX]')[{LETTER}]{NAME}*)
+    |(?P<word>(?![xX]'){LETTER}{NAME}*)
     |(?P<text>'(?:[^']|'')*')
     |(?P<quoted>"(?:[^"]|"")*"|`(?:[^`]|``)*`|\[[^\]]*\])
     |(?P<parameter>\?[0-9]*|[:@#]{NAME}+|\${NAME}+(?:::{NAME}*)*(?:\([^)\s]*\))?)
