@@ -87,6 +87,18 @@ def plain_column(statement: Statement, clauses: Clauses, first: int, end: int) -
     return column if reader.place == reader.end else None
 
 
+def column_of(statement: Statement, clauses: Clauses, first: int, end: int) -> Column:
+    """Returns the column that the tokens from one on, up to another, are, or name by its alias."""
+    column = plain_column(statement, clauses, first, end) if first < end else None
+    name = statement.tokens[first].name.lower()
+    if not column and end - first == 1 and name and name in clauses.aliases:
+        item = clauses.items[clauses.aliases.index(name)]
+        column = plain_column(statement, clauses, item.first, item.end)
+    if not column:
+        raise Outside
+    return column
+
+
 def columns_of(statement: Statement, clauses: Clauses, item: Item) -> Sequence[Column]:
     """Returns the columns that an item is: all for a `*`."""
     if is_star(statement, item):
@@ -134,16 +146,12 @@ class RowsQuestion:
     def key(self, term: Term, columns: Sequence[Column]) -> Key:
         """Returns the column of a term of ORDER BY: by its alias, its name, or its place."""
         token = self.statement.tokens[term.span.start]
-        column = plain_column(self.statement, self.clauses, term.span.start, term.span.stop)
-        place = -1
-        if len(term.span) == 1 and token.kind == NUMBER and token.text.isdecimal():
-            place = int(token.text) - 1
-        elif len(term.span) == 1 and token.name.lower() in self.clauses.aliases and not column:
-            item = self.clauses.items[self.clauses.aliases.index(token.name.lower())]
-            column = plain_column(self.statement, self.clauses, item.first, item.end)
-        if not column and not 0 <= place < len(columns):
-            raise Outside
-        return Key(column or columns[place], term.is_descending, term.are_nulls_first)
+        if len(term.span) == 1 and token.kind == NUMBER and token.text.isdecimal() and \
+                0 < int(token.text) <= len(columns):
+            column = columns[int(token.text) - 1]
+        else:
+            column = column_of(self.statement, self.clauses, term.span.start, term.span.stop)
+        return Key(column, term.is_descending, term.are_nulls_first)
 
 
 class GroupsQuestion:
@@ -157,8 +165,9 @@ class GroupsQuestion:
         self.limits = limits_of(statement.tokens, clauses.span("LIMIT"))
         self.sql = self.select()
         self.is_in_rows_order = has_free_keys and not self.is_ordered
-        if bool(self.expressions.aggregates) == has_free_keys and not clauses.span("GROUP"):
-            # an aggregate makes one group of all rows, and HAVING needs one
+        has_aggregates = bool(self.expressions.aggregates)
+        if not clauses.span("GROUP") and has_aggregates == bool(self.expressions.keys):
+            # an aggregate makes one group of all rows, HAVING needs one, and DISTINCT columns
             raise Outside
         with self.groups(Groups([], [[] for _ in self.expressions.aggregates])) as database:
             try:
@@ -169,17 +178,8 @@ class GroupsQuestion:
     def keys(self) -> list[Column]:
         """Returns the columns of GROUP BY."""
         line, span = self.statement.structure.line, self.clauses.span("GROUP")
-        return [self.key(*part) for part in line.split(span.start, span.stop)] if span else []
-
-    def key(self, first: int, end: int) -> Column:
-        column = plain_column(self.statement, self.clauses, first, end)
-        name = self.statement.tokens[first].name.lower()
-        if not column and end - first == 1 and name in self.clauses.aliases and name:
-            item = self.clauses.items[self.clauses.aliases.index(name)]
-            column = plain_column(self.statement, self.clauses, item.first, item.end)
-        if not column:
-            raise Outside
-        return column
+        parts = line.split(span.start, span.stop) if span else []
+        return [column_of(self.statement, self.clauses, *part) for part in parts]
 
     def select(self) -> str:
         """Returns the statement over the table of groups."""
@@ -191,13 +191,14 @@ class GroupsQuestion:
         sql = f"SELECT {'DISTINCT ' if clauses.is_distinct else ''}{', '.join(shown)} FROM {GROUPS}"
         having = clauses.span("HAVING")
         if having:
-            sql += f" WHERE {made.expression(having.start, having.stop, aliases)}"
+            sql += f" WHERE ({made.expression(having.start, having.stop, aliases)})"
         line = self.statement.structure.line
         terms = terms_of(line, clauses.span("ORDER"))
         orders = [made.expression(term.span.start, term.span.stop, aliases) for term in terms]
-        keys = {quoted_name(f"{PREFIX}{column.name}") for column in made.keys}
+        keys = {f"({quoted_name(PREFIX + column.name)})" for column in made.keys}
         items = list(itertools.chain.from_iterable(found))
-        self.is_ordered = keys <= {*orders, *self.named(orders, items)} and keys >= set(items)
+        ordered = {*(f"({order})" for order in orders), *self.named(orders, items)}
+        self.is_ordered = keys <= ordered and keys >= set(items)
         if orders:
             sql += " ORDER BY " + ", ".join(
                 [*(f"{order} {term.words}" for order, term in zip(orders, terms)),
@@ -212,8 +213,10 @@ class GroupsQuestion:
         if is_star(self.statement, item):
             if not self.expressions.are_keys_free:
                 raise Outside
-            return list(map(self.expressions.key, columns_of(self.statement, self.clauses, item)))
-        return [self.expressions.expression(item.first, item.end)]
+            columns = columns_of(self.statement, self.clauses, item)
+            return [f"({self.expressions.key(column)})" for column in columns]
+        # in brackets, so that no name that follows becomes an alias
+        return [f"({self.expressions.expression(item.first, item.end)})"]
 
     def named(self, orders: Sequence[str], items: Sequence[str]) -> Iterator[str]:
         """Yields the items that terms of ORDER BY name by their aliases or places."""

@@ -69,42 +69,48 @@ def groups_of(engine: Engine, wanted: Wanted) -> Groups:
     """Returns the groups of rows."""
     found = totals_of(engine, wanted)
     keys = list(found) if wanted.is_in_rows_order else counted.ascending(found)
-    columns = [values_of(engine, wanted, each, keys, found) for each in wanted.aggregates]
+    # of each column the doubles, or the number of its values, in each group
+    doubles: dict[str, Mapping[Key, Sequence[float]]] = {}
+    distinct: dict[str, Mapping[Key, int]] = {}
+    columns = list[Sequence[values.Value]]()
+    for each in wanted.aggregates:
+        if each.column and each.is_distinct:
+            if each.column.name not in distinct:
+                distinct[each.column.name] = distinct_of(engine, wanted, each.column)
+            columns.append([distinct[each.column.name].get(key, 0) for key in keys])
+        elif each.column and is_float_sum(each):
+            if each.column.name not in doubles:
+                doubles[each.column.name] = doubles_of(engine, wanted, each.column)
+            columns.append([float_total(each.function, doubles[each.column.name].get(key, ()))
+                            for key in keys])
+        else:
+            columns.append(values_of(each, [found[key] for key in keys]))
     return Groups(keys, columns)
 
 
-def values_of(engine: Engine, wanted: Wanted, aggregate: Aggregate, keys: Sequence[Key],
-              found: Mapping[Key, Found]) -> list[values.Value]:
-    """Returns the values of an aggregate for groups."""
+def values_of(aggregate: Aggregate, found: Sequence[Found]) -> list[values.Value]:
+    """Returns the values of an aggregate for groups of these totals."""
     column, function = aggregate.column, aggregate.function
     if column is None:
-        return [found[key][COUNT] for key in keys]
-    if aggregate.is_distinct:
-        distinct = distinct_of(engine, replace(wanted, keys=[*wanted.keys, column], aggregates=()))
-        return [distinct.get(key, 0) for key in keys]
-    if is_float_sum(aggregate):
-        sums = floats_of(engine, wanted, column)
-        return [float_total(function, sums.get(key, ())) for key in keys]
+        return [each[COUNT] for each in found]
     needed = [f"{each}({column.name})" for each in NEEDED[function]]
-    numbers = [[found[key][name] for name in needed] for key in keys]
-    if function == "AVG":
-        return [None if number is None else values.mean(column, number, count or 0)
-                for number, count in numbers]
-    plain = [number for number, in numbers]
+    numbers = [each[needed[0]] for each in found]
     if function == "COUNT":
-        return list(plain)
-    present = [number for number in plain if number is not None]
+        return list(numbers)
+    if function == "AVG":
+        counts = [each[needed[1]] or 0 for each in found]
+        return [None if number is None else values.mean(column, number, count)
+                for number, count in zip(numbers, counts)]
+    present = [number for number in numbers if number is not None]
     stored = iter([values.total(column, number) for number in present] if function == "SUM"
                   else values.stored(column.kind, present))
-    return [None if number is None else next(stored) for number in plain]
+    return [None if number is None else next(stored) for number in numbers]
 
 
 def totals_of(engine: Engine, wanted: Wanted) -> Mapping[Key, Found]:
     """Returns the totals of bw for each group, of which all have rows unless there is only one
     group. Raises Failed if those don't add up to the totals of all rows."""
-    ends = [f"{function}({column.name})" for column in wanted.keys
-            for function in ("COUNT", "MIN", "MAX")]
-    names = list(dict.fromkeys([*wanted.totals, *ends]))
+    names = names_of_ends(wanted)
     whole = dict(zip(names, engine.totals([wanted.select(", ".join(names))])[0]))
     if not wanted.keys:
         return {(): whole}
@@ -116,6 +122,14 @@ def totals_of(engine: Engine, wanted: Wanted) -> Mapping[Key, Found]:
         if total(name.partition("(")[0], [each[name] for each in found.values()]) != whole[name]:
             raise Failed(f"the groups' {name} don't add up to that of all rows, {whole[name]}")
     return found
+
+
+def names_of_ends(wanted: Wanted) -> list[str]:
+    """Returns the totals that are asked of all rows: those that are wanted, and those that tell
+    which numbers the groups' columns may have."""
+    ends = [f"{function}({column.name})" for column in wanted.keys
+            for function in ("COUNT", "MIN", "MAX")]
+    return list(dict.fromkeys([*wanted.totals, *ends]))
 
 
 def choices_of(wanted: Wanted, whole: Found) -> list[list[int | None]]:
@@ -168,21 +182,20 @@ def by_rows(engine: Engine, wanted: Wanted) -> Mapping[Key, Found]:
     return counted.totals(parts, len(wanted.keys), functions)
 
 
-def distinct_of(engine: Engine, wanted: Wanted) -> Mapping[Key, int]:
-    """Returns how many numbers the last column has in each group of the others."""
-    last = wanted.keys[-1].name
-    items = [COUNT, *(f"{function}({column.name})" for column in wanted.keys
-                      for function in ("COUNT", "MIN", "MAX"))]
-    whole = dict(zip(items, engine.totals([wanted.select(", ".join(items))])[0]))
-    choices = choices_of(replace(wanted, is_in_rows_order=False), whole)
+def distinct_of(engine: Engine, wanted: Wanted, column: Column) -> Mapping[Key, int]:
+    """Returns how many numbers a column has in each group."""
+    finer = replace(wanted, keys=[*wanted.keys, column], aggregates=(), is_in_rows_order=False)
+    names = names_of_ends(finer)
+    whole = dict(zip(names, engine.totals([finer.select(", ".join(names))])[0]))
+    choices = choices_of(finer, whole)
     if not choices:
-        parts = engine.rows(wanted.select(names_of(wanted.keys), f"{last} IS NOT NULL"))
+        parts = engine.rows(finer.select(names_of(finer.keys), f"{column.name} IS NOT NULL"))
         return counted.distinct(parts)
-    found = by_statements(engine, wanted, choices)
+    found = by_statements(engine, finer, choices)
     return Counter(key[:-1] for key in found if key[-1] is not None)
 
 
-def floats_of(engine: Engine, wanted: Wanted, column: Column) -> Mapping[Key, Sequence[float]]:
+def doubles_of(engine: Engine, wanted: Wanted, column: Column) -> Mapping[Key, Sequence[float]]:
     """Returns the doubles of a column in each group, which bw lists."""
     columns = [*wanted.keys, column]
     parts = engine.rows(wanted.select(names_of(columns), f"{column.name} IS NOT NULL"))

@@ -111,8 +111,8 @@ def columns_compared(left: Column, sign: str, right: Column) -> str:
 def range_of(column: Column) -> range:
     """Returns the numbers of a column from its minimum to its maximum, of which some may not
     occur."""
-    if column.kind.listed is not None:
-        return range(len(column.kind.listed))
+    if column.kind.listed is not None or column.kind.name == "truths":
+        return range(len(column.kind.listed or "01"))
     numbers = [column.kind.number(end) for end in column.ends]
     if not numbers or None in numbers:
         raise Outside

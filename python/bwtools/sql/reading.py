@@ -36,7 +36,9 @@ class Guard:
     for the statements that fill the tables."""
 
     def __init__(self, catalog: Catalog) -> None:
-        self.catalog, self.is_off, self.denied, self.count = catalog, True, "", 0
+        self.catalog, self.is_off, self.denied = catalog, True, ""
+        # how many statements were explained
+        self.explained = 0
         # the columns that were read of each table, by their names in lower case
         self.read: dict[str, set[str]] = {}
 
@@ -75,10 +77,10 @@ def declare(database: sqlite3.Connection, catalog: Catalog) -> None:
 def explain(database: sqlite3.Connection, guard: Guard, sql: str) -> list[tuple[Any, ...]]:
     """Has SQLite read a statement, which it doesn't run. Returns its program."""
     guard.read, guard.denied, guard.is_off = {}, "", False
-    guard.count += 1
+    # Python keeps statements by their text, and SQLite doesn't authorize one again that was kept
+    guard.explained += 1
     try:
-        # a statement that Python has prepared before isn't read again
-        return database.execute(f"EXPLAIN {sql}\n-- {guard.count}").fetchall()
+        return database.execute(f"EXPLAIN /* {guard.explained} */ {sql}").fetchall()
     finally:
         guard.is_off = True
 

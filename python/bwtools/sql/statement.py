@@ -56,7 +56,7 @@ class Statement:
             name = self.structure.renamed.get(at)
             parts.append(f"AS {quoted_name(name)} " if name else "")
             at = after
-        if end == len(self.tokens) - 1 and end in edits:
+        if first < end == len(self.tokens) - 1 and end in edits:
             parts.append(edits[end][1])
         return "".join(parts)
 
