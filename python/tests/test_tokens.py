@@ -49,7 +49,7 @@ class Tokens(unittest.TestCase):
         for sql, message in [("SELECT 12ab", "unexpected 12ab at character 7"), ("a!b", "unexpected '!' at character 1"),
                              ("SELECT 'a", "the quote ' at character 7 of the statement isn't closed"),
                              ('"a', 'the quote " at character 0'), ("a [b", r"the quote \[ at character 2"),
-                             ("x'0'", "unexpected x'0'"), ("1e", "unexpected 1e"), ("a \0", "unexpected '.x00'")]:
+                             ("x'0'", "unexpected x'0'"), ("1e", "unexpected 1e"), ("0x10000000000000000", "more than 64 bits"), ("a \0", "unexpected '.x00'")]:
             with self.subTest(sql), self.assertRaisesRegex(Refused, message):
                 tokens_of(sql)
 

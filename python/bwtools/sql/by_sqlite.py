@@ -58,7 +58,6 @@ class BySqlite:
         can't list a column, and KeyboardInterrupt when it is interrupted."""
         sql = for_sqlite(statement)
         reads = reads_of(self.whole.database, self.whole.guard, statement, sql)
-        reads = {name: set(columns) for name, columns in reads.items()}
         refuse_long_decimals(self.catalog, reads)
         listing, asked = self.listing(statement, reads), list[str]()
         tables = [self.tables()[name] for name in reads]
@@ -102,20 +101,14 @@ class BySqlite:
 
     def run(self, listing: Listing, statement: Statement, sql: str, asked: list[str]) -> Answer:
         """Runs a statement over what is listed."""
-        guard, listing.functions.refusal = listing.guard, None
+        guard, listing.functions.raised = listing.guard, None
         guard.denied, guard.read, guard.is_off = "", {}, False
         try:
             cursor = listing.database.execute(sql)
             rows = cursor.fetchall()
         except sqlite3.Error as error:
-            if str(error) == "interrupted":
-                raise KeyboardInterrupt from None
-            if str(error) == "integer overflow":
-                raise Refused("a SUM is outside the range of 64 bits") from None
-            refusal = listing.functions.refusal or guard.denied
             guard.is_off = True
-            raise Refused(refusal or told(listing.database, guard, statement,
-                                          str(error))) from None
+            raise self.failure(listing, statement, str(error)) from None
         finally:
             guard.is_off = True
         names = [each[0] for each in cursor.description]
@@ -124,6 +117,17 @@ class BySqlite:
             return Answer(names, [None] * len(names), Rows(rows), 2, asked)
         kinds = [each.plain.kind if each.plain else None for each in outputs]
         return Answer([each.heading for each in outputs], kinds, Rows(rows), 2, asked)
+
+    def failure(self, listing: Listing, statement: Statement, message: str) -> BaseException:
+        """Returns what SQLite's message means, while it runs a statement."""
+        raised = listing.functions.raised
+        # a signal's exception ends the function of ours that it finds
+        if message == "interrupted" or raised is None and "user-defined" in message:
+            return KeyboardInterrupt()
+        if message == "integer overflow":
+            return Refused("a SUM is outside the range of 64 bits")
+        return raised or Refused(listing.guard.denied or told(
+            listing.database, listing.guard, statement, message))
 
 
 def refuse_long_decimals(catalog: Catalog, reads: Mapping[str, set[str]]) -> None:

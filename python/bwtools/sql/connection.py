@@ -3,6 +3,7 @@ from __future__ import annotations
 
 import contextlib
 import os
+import sqlite3
 from dataclasses import dataclass, field
 from typing import Any, Callable, Sequence
 
@@ -14,6 +15,9 @@ from .cursor import Cursor
 from .engine import Asker, Engine, Scheduled, Sessions
 from .errors import translated
 from .statement import Statement
+
+# the SQLite of Debian 11
+OLDEST = (3, 34, 0)
 
 
 def nothing(told: str) -> None:
@@ -126,6 +130,9 @@ def connect(*paths: str | os.PathLike[str], scheduler: str | None = None, list_a
     has the name of its file or folder, or the one of its keyword: connect("trips.bw",
     places="stations.bw"). With `scheduler`, the address of Dask's, shards are asked on its
     workers. A statement that SQLite answers over more than 4 million rows needs `list_all`."""
+    if sqlite3.sqlite_version_info < OLDEST:
+        raise errors.NotSupportedError("SQLite 3.34 or later is needed, and this Python has "
+                                       f"{sqlite3.sqlite_version}")
     with translated():
         given = [*((name_of(path), os.fspath(path)) for path in paths),
                  *((name, os.fspath(path)) for name, path in named.items())]

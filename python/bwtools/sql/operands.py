@@ -1,6 +1,7 @@
 """The operands of comparisons in a statement's tokens."""
 from __future__ import annotations
 
+import math
 from dataclasses import dataclass
 from fractions import Fraction
 from typing import Iterator, Union
@@ -14,6 +15,8 @@ from .tokens import BLOB, NUMBER, PARAMETER, TEXT
 TIGHTER = ("+", "-", "*", "/", "%", "||", "->", "->>", "<<", ">>", "&", "|", "~", ".")
 COMPARE = ("=", "==", "<>", "!=", "<", "<=", ">", ">=")
 EQUAL = ("=", "==", "<>", "!=", "IS", "IN", "CASE")
+# a number of more digits, or of a greater power of ten, is beyond all columns
+MOST_DIGITS = 400
 LITERAL_WORDS = {"TRUE": Fraction(1), "FALSE": Fraction(0)}
 
 
@@ -195,5 +198,12 @@ class Operands:
 
 
 def number_of(text: str) -> Fraction:
-    """Returns the number of a numeral."""
-    return Fraction(int(text, 16)) if text[:2] in ("0x", "0X") else Fraction(text)
+    """Returns the number of a numeral; of one that is longer, or of a greater power of ten, than
+    those of columns one that compares with theirs as it does."""
+    if text[:2] in ("0x", "0X"):
+        return Fraction(int(text, 16))
+    power = text.lower().partition("e")[2]
+    if len(text) <= MOST_DIGITS and abs(int(power or 0)) <= MOST_DIGITS:
+        return Fraction(text)
+    found = float(text)
+    return Fraction(found) if math.isfinite(found) else Fraction(10 ** MOST_DIGITS)

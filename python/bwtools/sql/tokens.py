@@ -26,6 +26,8 @@ PATTERN = re.compile(rf"""(?P<gap>[ \t\n\f\r\ufeff]+|--[^\n]*|/\*(?:.*?\*/|.+\Z)
 # what looks like a number or a blob, and isn't one
 ODD = re.compile(rf"[0-9.]+{NAME}*|[xX]'[^']*'?")
 
+TOO_LONG = re.compile("0[xX]0*[1-9A-Fa-f][0-9A-Fa-f]{16}")
+
 
 class Token(NamedTuple):
     """A token: its kind, its text, and the place of its first character in the statement as it was
@@ -83,6 +85,9 @@ def tokens_of(sql: str) -> list[Token]:
         if not found:
             raise odd(sql, at)
         kind = str(found.lastgroup)
+        if kind == "number" and TOO_LONG.match(found.group()):
+            raise Refused(f"{found.group()} at character {at} of the statement has more than 64 "
+                          "bits")
         if kind != "gap":
             tokens.append(Token(kind, found.group(), at))
         at = found.end()
