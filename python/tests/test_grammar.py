@@ -39,7 +39,8 @@ def columns():
             Column("name", "name", texts(*NAMES)),
             Column("at", "at", kinds.Times("%Y-%m-%d %H:%M"),
                    ends=["2024-05-01 00:00", "2024-05-01 12:00"]),
-            Column("big", "big", kinds.Whole(), ends=["0", "99999"])]
+            Column("big", "big", kinds.Whole(), ends=["0", "99999"]),
+            Column("long", "long", kinds.Decimals(1, False), ends=["0.0", "1234567890123456.1"])]
 
 
 class OverTable(unittest.TestCase):
@@ -97,6 +98,13 @@ class Conditions(OverTable):
             ("city = 'C'", "city <> city"), ("city <> 'C'", "city = city"),
             ("n < 99999999999999999999", "n = n"), ("n > 99999999999999999999", "n <> n"),
             ("n < -99999999999999999999", "n <> n"), ("day < '2024-05-01 12:00'", "day <= 19844")])
+
+    def test_numbers_of_many_digits_are_compared_as_doubles_by_sqlite(self):
+        self.check([("price < 12.10000000000001", "price <= 1210"), ("price < 1e300", "price = price"),
+                    ("f = 0.30000000000000004", "f = 4599075939470750516"), ("f < 1e400", "f < 9218868437227405312"),
+                    ("n < 12.10000000000000000001", "n <= 12"), ("long = 1234567890123456.1", "long = 12345678901234561"),
+                    ("long = 1234567890123456.10000000000000001", "long <> long")])
+        self.refuse(["price = 12.1000000000000000001", "f = 9007199254740993", "f < 0.1000000000000000055"])
 
     def test_truth(self):
         self.check([

@@ -7,8 +7,6 @@ import sqlite3
 from dataclasses import dataclass, field
 from typing import Callable, Iterable, Mapping
 
-from ..kind import Column
-from ..kinds import Decimals, undressed
 from ..progress import Progress
 from ..telling import Refused
 from .aggregates import for_sqlite
@@ -16,10 +14,10 @@ from .answer import Answer
 from .bodies import Rows
 from .catalog import Catalog, Table
 from .clauses import Clauses, clauses_of
-from .condition import Condition
+from .condition import MOST_BYTES, Condition
 from .engine import Engine
 from .listing import Listing
-from .predicates import Outside
+from .predicates import Outside, is_long
 from .reader import Reader
 from .reading import reads_of, told
 from .statement import Statement
@@ -140,15 +138,6 @@ def refuse_long_decimals(catalog: Catalog, reads: Mapping[str, set[str]]) -> Non
                               "compare the column with a number")
 
 
-def is_long(column: Column) -> bool:
-    """Returns whether a column has decimals of too many digits for a double."""
-    kind = undressed(column.kind)
-    if not isinstance(kind, Decimals):
-        return False
-    numbers = [column.kind.number(end) for end in column.ends]
-    return any(number is None or len(str(abs(number))) > EXACT_DIGITS for number in numbers)
-
-
 def pushed(statement: Statement) -> str:
     """Returns the condition of bw that each row of the answer fulfils: those among the operands of
     AND in WHERE that have one, if the statement is one SELECT over one table; or nothing."""
@@ -160,7 +149,8 @@ def pushed(statement: Statement) -> str:
     for first, end in terms(statement, clauses.span("WHERE")):
         condition = condition_of(statement, clauses, first, end)
         found += [condition] if condition else []
-    return " AND ".join(f"({each})" for each in found) if len(found) > 1 else "".join(found)
+    condition = " AND ".join(f"({each})" for each in found) if len(found) > 1 else "".join(found)
+    return condition if len(condition) <= MOST_BYTES else ""
 
 
 def condition_of(statement: Statement, clauses: Clauses, first: int, end: int) -> str:

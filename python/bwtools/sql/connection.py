@@ -76,6 +76,8 @@ class Connection:
         `telling.Refused` for a statement that is rejected, and `session.Failed` if bw fails."""
         self.refuse_closed()
         statement = Statement(sql, self.catalog, parameters)
+        for engine in self.engines.values():
+            engine.asked.clear()
         return grammar.answer(statement, self.engine) or self.by_sqlite.answer(statement)
 
     def engine(self, table: Table) -> Engine:
