@@ -24,7 +24,7 @@ SEPARATORS = {"comma": ",", "semicolon": ";", "tab": "\t", "bar": "|", "\\t": "\
 MARKS = ((b"\xef\xbb\xbf", "utf-8-sig"), (b"\xff\xfe", "utf-16"), (b"\xfe\xff", "utf-16"))
 # the bytes that cp1252 has no character for
 NO_CP1252 = bytes((0x81, 0x8d, 0x8f, 0x90, 0x9d))
-MOST_COLUMNS, MOST_ROWS, ROWS_AT_ONCE = 64, 1 << 24, 8192
+MOST_COLUMNS, MOST_ROWS, ROWS_AT_ONCE, MOST_WAIT = 64, 1 << 24, 8192, 15
 CHARACTERS_AT_ONCE, BYTES_AT_ONCE = 1 << 18, 1 << 18
 BREAK = re.compile("\r\n|\r|\n")
 SAID = re.compile('"?sep=(.)"?[\r\n]*', re.IGNORECASE)
@@ -203,6 +203,8 @@ class Source:
         begins, the text, and its columns or, if these aren't available at once, None and its
         records."""
         file, line, text = self.decoded(), self.skipped + 1, ""
+        # how many texts are left to the csv module after one that had to be, and before the next
+        wait, left = 0, 0
         try:
             while True:
                 more = file.read(CHARACTERS_AT_ONCE + len(text))
@@ -211,14 +213,15 @@ class Source:
                 if not text:
                     return
                 self.refuse_nul(text, line)
-                columns = None
+                columns, left = None, left - 1
                 if self.signs.is_simple and NUL not in text and \
                         not self.signs.may_have_comment(text):
-                    parts = text.split(self.signs.quote)
-                    if len(parts) % 2 == 0:
+                    if text.count(self.signs.quote) % 2:
                         text += self.to_next_quote(file)
-                        parts = text.split(self.signs.quote)
-                    columns = columns_of(parts, self.separator, len(self.headings))
+                    if left < 0:
+                        columns = columns_of(text.split(self.signs.quote), self.separator,
+                                             len(self.headings))
+                        left = wait = 0 if columns else min(2 * wait + 1, MOST_WAIT)
                 try:
                     lines = io.StringIO(text, newline="")
                     records = [] if columns else list(self.reader(lines))
