@@ -72,8 +72,10 @@ class Court:
         self.column, wishes = column, column.wishes
         judges: Iterable[Judge] = (TruthJudge(), NumberJudge(), DateJudge(), ClockJudge())
         is_asked = wishes.form is not None or wishes.is_number or wishes.digits is not None
-        if is_asked:
-            judges = (NumberJudge() if wishes.form is None else WantedJudge(wishes.form),)
+        if wishes.form is not None:
+            judges = (WantedJudge(wishes.form),)
+        elif is_asked:
+            judges = (NumberJudge(),)
         self.opinions = [] if wishes.is_text else list(map(Opinion, judges))
         self.count = 0
         may_leave = not is_asked and not column.plain.forms

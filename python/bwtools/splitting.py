@@ -119,9 +119,10 @@ def recount(tally: Tally, counts: Counts) -> None:
     tally.may_have_null = tally.may_have_null or bool(nulls)
 
 
-def rows_a_shard(table: Table, wanted: str | None, most_rows: int | None) -> int:
-    """Returns how many rows a shard has, for a wanted number of shards, or the most rows of one."""
-    rows, least = table.rows, 1
+def rows_a_shard(rows: int, wanted: str | None, most_rows: int | None) -> int:
+    """Returns how many of all rows a shard has, for a wanted number of shards, or the most rows of
+    one."""
+    least = 1
     if most_rows is not None:
         return most_rows
     if wanted in (None, "auto"):

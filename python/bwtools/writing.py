@@ -15,7 +15,7 @@ from .kind import Column
 from .naming import names_of
 from .progress import Progress
 from .reading import read
-from .reporting import report_lines
+from .reporting import notes, report_lines
 from .source import MOST_ROWS, Source
 from .tallies import Counts, Tally
 from .telling import Refused, counted
@@ -150,7 +150,8 @@ class Table:
 
     def report(self) -> None:
         """Prints what was done with each column, one line each."""
-        for line in report_lines(self.columns, self.tallies):
+        noted = ["; ".join(notes(*each)) for each in zip(self.columns, self.tallies)]
+        for line in report_lines(self.columns, [tally.counts for tally in self.tallies], noted):
             print(line)
         source = self.source
         skipped = f"; {counted(source.empty, 'empty line')} skipped" if source.empty else ""
