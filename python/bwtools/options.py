@@ -4,7 +4,7 @@ from __future__ import annotations
 import argparse
 from typing import Any, Sequence
 
-from .source import SEPARATORS
+from .text import SEPARATORS
 
 RAW = "the file to read, or - for standard input; gzip, bzip2 and xz are unpacked"
 
