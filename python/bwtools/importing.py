@@ -49,12 +49,12 @@ def import_file(given: argparse.Namespace, out: str, is_folder: bool) -> None:
         raise Refused(f"{path} can't be overwritten: it is a folder")
     refuse_out(path)
     command.program()
-    with placing.new_folder(path) as room:
-        straight = import_straight(given, room, name, is_folder or os.path.isdir(path))
+    with placing.new_folder(path) as room, inputs.open_input(given.csv) as file:
+        straight = import_straight(given, file, room, name, is_folder or os.path.isdir(path))
         if straight:
             put_straight(straight, room, name, path, is_folder)
             return
-        table = Table(given.csv, given, room, sys.maxsize)
+        table = Table(given.csv, given, room, sys.maxsize, file)
         told = ""
         if not is_folder and not os.path.isdir(path) and table.rows <= MOST_ROWS:
             told = load_one(table, room, name, path)

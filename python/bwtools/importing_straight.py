@@ -6,10 +6,9 @@ import contextlib
 import functools
 import pathlib
 from dataclasses import dataclass
-from typing import Iterator, Sequence
+from typing import BinaryIO, Iterator, Sequence
 
 from . import options, pairs, processes, splitting
-from .inputs import open_input
 from .kind import Column
 from .kinds import Nulls, Whole
 from .reporting import report_lines
@@ -53,14 +52,15 @@ def has_wishes(given: argparse.Namespace) -> bool:
                for name, default in vars(parser.parse_args([])).items())
 
 
-def import_straight(given: argparse.Namespace, room: pathlib.Path, name: str,
+def import_straight(given: argparse.Namespace, file: BinaryIO, room: pathlib.Path, name: str,
                     is_folder: bool) -> Imported | None:
-    """Loads a file into the folder `made` of a folder, as shards if it is too long for one table or
-    these are asked for. Returns None if it isn't loaded as it is; nothing is in the folder then."""
+    """Loads an open file into the folder `made` of a folder, as shards if it is too long for one
+    table or these are asked for. Returns None if it isn't loaded as it is; then nothing is left in
+    the folder."""
     if has_wishes(given):
         return None
     made = room / "made"
-    with contextlib.suppress(Unfit), open_input(given.csv) as file:
+    with contextlib.suppress(Unfit):
         straight = Straight(file)
         made.mkdir()
         try:

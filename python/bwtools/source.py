@@ -9,7 +9,7 @@ import io
 import itertools
 import os
 from dataclasses import dataclass, field
-from typing import Iterator, NoReturn, Sequence, TextIO
+from typing import BinaryIO, Iterator, NoReturn, Sequence, TextIO
 
 from . import ragged
 from .chunk import BREAK, Chunk
@@ -36,8 +36,9 @@ class Source:
     """The file to read, which can be read more than once; the counts are those of the last time."""
 
     def __init__(self, path: str | os.PathLike[str], given: argparse.Namespace,
-                 most_rows: int = MOST_ROWS) -> None:
-        self.text, self.most_rows, self.fills = Text(path, given), most_rows, given.fill
+                 most_rows: int = MOST_ROWS, opened: BinaryIO | None = None) -> None:
+        self.text = Text(path, given, opened)
+        self.most_rows, self.fills = most_rows, given.fill
         self.has_heading = given.heading is not False
         self.counts = Counts()
         self.headings = self.read_headings()

@@ -8,7 +8,7 @@ import os
 import re
 import sys
 from dataclasses import replace
-from typing import Iterable, Iterator, NoReturn, TextIO
+from typing import BinaryIO, Iterable, Iterator, NoReturn, TextIO
 
 from .comments import NUL, Records, Signs, reader_of
 from .inputs import Positioned, name_of, open_input
@@ -27,12 +27,13 @@ getattr(sys, "set_int_max_str_digits", int)(0)
 
 
 class Text:
-    """The text of a file, which can be read more than once. `skipped` lines are before the
-    heading."""
+    """The text of a file, which can be read more than once. `skipped` lines are before the heading.
+    A file that is open already is `opened`."""
 
-    def __init__(self, path: str | os.PathLike[str], given: argparse.Namespace) -> None:
+    def __init__(self, path: str | os.PathLike[str], given: argparse.Namespace,
+                 opened: BinaryIO | None = None) -> None:
         self.path = name_of(path)
-        self.file = io.BufferedReader(Positioned(open_input(path)), BYTES_AT_ONCE)
+        self.file = io.BufferedReader(Positioned(opened or open_input(path)), BYTES_AT_ONCE)
         self.encoding, self.may_have_nul = self.encoding_of(given), bool(given.encoding)
         self.skipped = given.skip
         self.signs = Signs(quote=given.quote, escape=given.escape, comment=given.comment)

@@ -7,7 +7,7 @@ import os
 import pathlib
 import shutil
 import sys
-from typing import Any, Iterator, NoReturn
+from typing import Any, BinaryIO, Iterator, NoReturn
 
 from . import processes
 from .deciding import decide, refuse_heading
@@ -36,8 +36,8 @@ class Table:
 
     def __init__(self, path: str | os.PathLike[str], given: argparse.Namespace,
                  folder: pathlib.Path | None = None,
-                 most_rows: int = MOST_ROWS) -> None:
-        self.source = Source(path, given, most_rows)
+                 most_rows: int = MOST_ROWS, opened: BinaryIO | None = None) -> None:
+        self.source = Source(path, given, most_rows, opened)
         self.marks = self.source.text.marks()
         headings = [heading.strip(BLANKS) for heading in self.source.headings]
         fields = read(self.source, wishes_of(given, headings, self.source.separator), folder)
