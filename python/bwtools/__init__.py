@@ -1,1 +1,57 @@
-"""The modules that the tools share."""
+"""Answers questions in SQL over tables that bw-import wrote, after PEP 249.
+
+    import bwtools
+
+    with bwtools.connect("trips.bw", stations="stations.bw") as connection:
+        cursor = connection.cursor()
+        cursor.execute("SELECT city, COUNT(*) n, AVG(amount) FROM trips "
+                       "WHERE day >= ? GROUP BY city ORDER BY n DESC LIMIT 3", ["2024-05-01"])
+        print([column[0] for column in cursor.description])
+        for row in cursor:
+            print(row)
+        frame = cursor.execute("SELECT day, amount FROM trips").df()
+
+The SQL is that of SQLite. What bw can answer is asked of bw, with its proved scans; the rest SQLite
+answers over the columns that bw lists for it. Rows have int, float, str, bool, decimal.Decimal,
+datetime.date, datetime.datetime, datetime.time and None. `df` returns a data frame of pandas,
+`columns` masked arrays of numpy. docs/PYTHON.md has more.
+
+The other modules are those of the programs bw-import, bw-ask and bw-shards."""
+from __future__ import annotations
+
+import importlib
+from typing import TYPE_CHECKING, Any
+
+apilevel, threadsafety, paramstyle = "2.0", 1, "qmark"
+# where each name is, which is imported when it is used: programs that need none begin sooner
+ERRORS = ("Warning", "Error", "InterfaceError", "DatabaseError", "DataError", "OperationalError",
+          "IntegrityError", "InternalError", "ProgrammingError", "NotSupportedError")
+TYPES = ("STRING", "BINARY", "NUMBER", "DATETIME", "ROWID", "Date", "Time", "Timestamp", "Binary",
+         "DateFromTicks", "TimeFromTicks", "TimestampFromTicks")
+PLACES = {"connect": "connection", "Connection": "connection", "Cursor": "cursor",
+          **dict.fromkeys(ERRORS, "errors"), **dict.fromkeys(TYPES, "types")}
+
+if TYPE_CHECKING:
+    from .sql.connection import Connection, connect
+    from .sql.cursor import Cursor
+    from .sql.errors import (DatabaseError, DataError, Error, IntegrityError, InterfaceError,
+                             InternalError, NotSupportedError, OperationalError, ProgrammingError,
+                             Warning)
+    from .sql.types import (BINARY, DATETIME, NUMBER, ROWID, STRING, Binary, Date, DateFromTicks,
+                            Time, TimeFromTicks, Timestamp, TimestampFromTicks)
+
+__all__ = ["apilevel", "threadsafety", "paramstyle", "connect", "Connection", "Cursor", "Warning",
+           "Error", "InterfaceError", "DatabaseError", "DataError", "OperationalError",
+           "IntegrityError", "InternalError", "ProgrammingError", "NotSupportedError", "STRING",
+           "BINARY", "NUMBER", "DATETIME", "ROWID", "Date", "Time", "Timestamp", "Binary",
+           "DateFromTicks", "TimeFromTicks", "TimestampFromTicks"]
+
+
+def __getattr__(name: str) -> Any:
+    if name not in PLACES:
+        raise AttributeError(f"module {__name__!r} has no attribute {name!r}")
+    return getattr(importlib.import_module(f".sql.{PLACES[name]}", __name__), name)
+
+
+def __dir__() -> list[str]:
+    return sorted({*globals(), *PLACES})

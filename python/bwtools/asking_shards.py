@@ -4,7 +4,6 @@ from __future__ import annotations
 import argparse
 import io
 import os
-import shutil
 import sys
 import tempfile
 from typing import Any
@@ -16,8 +15,7 @@ def ask_folder(given: argparse.Namespace, path: str, workers: int | None,
                scheduler: str | None) -> int:
     """Runs the given statement, or those on standard input, over all shards. Returns the status."""
     folder = shards.Folder(path)
-    program = command.program()
-    given.program = os.path.abspath(shutil.which(program) or program)
+    given.program = command.whole_path()
     engine = cluster.engine(len(folder.shards), workers, scheduler)
     try:
         if given.statement is not None:

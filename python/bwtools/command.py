@@ -33,6 +33,12 @@ def program() -> str:
     return str(found)
 
 
+def whole_path() -> str:
+    """Returns the program bw as a path that holds in any working directory."""
+    found = program()
+    return os.path.abspath(shutil.which(found) or found)
+
+
 def own_program() -> pathlib.Path | None:
     """Returns the program that the package came with, or None: that of a checkout's dist/, if it
     runs here, else one beside the package's folder, else one that was installed with it."""

@@ -12,6 +12,10 @@ from typing import IO, Any, BinaryIO, NoReturn, Sequence, TextIO
 from . import command
 
 AT_ONCE = 1 << 16
+# how many statements, and how many bytes of them and of their results, may be under way at once: no
+# more than the least pipe has room for, so that neither side waits for the other
+MOST_AHEAD, BYTES_AHEAD = 16, 1 << 12
+RESULT = re.compile(rb"((?:[^\n]+\n)*)\n")
 SURPLUS = "bw session returned more results than it was sent statements"
 
 
@@ -83,14 +87,44 @@ class Session:
     def ask(self, statement: str) -> TextIO | None:
         """Sends a statement. Returns its result, or None if it is rejected; standard error then has
         the reason."""
+        answer = self.result_of(statement)
+        return io.TextIOWrapper(answer, encoding="utf-8", newline="") if answer else None
+
+    def result_of(self, statement: str) -> io.BufferedReader | None:
+        """Sends a statement. Returns its result as bytes, or None if it is rejected."""
         self.told()
-        self.send(f"{one_statement(statement)}\n\n".encode())
+        self.send(sent_form(statement))
         self.answer = Answer(self)
         answer = io.BufferedReader(self.answer, AT_ONCE)
         if answer.peek(1):
-            return io.TextIOWrapper(answer, encoding="utf-8", newline="")
+            return answer
         self.has_refused = True
         return None
+
+    def totals(self, statements: Sequence[str]) -> tuple[list[bytes], str]:
+        """Sends statements whose results are totals, some of them ahead of the results of those
+        before. Returns the results, and what was printed on standard error for them. That of a
+        rejected statement is empty."""
+        self.told()
+        results, ahead = list[bytes](), list[int]()
+        told, rest, sent = "", b"", 0
+        while len(results) < len(statements):
+            while sent < len(statements) and len(ahead) < MOST_AHEAD and (
+                    not ahead or sum(ahead) + room_of(statements[sent]) <= BYTES_AHEAD):
+                self.send(sent_form(statements[sent]))
+                ahead.append(room_of(statements[sent]))
+                sent += 1
+            part = self.stdout.read(AT_ONCE)
+            if not part:
+                self.fail()
+            found, rest = results_in(rest + part)
+            results += found
+            del ahead[:len(found)]
+            told += self.said()
+        if rest or len(results) > len(statements):
+            raise Failed(SURPLUS)
+        self.has_refused |= b"" in results
+        return results, told
 
     def send(self, data: bytes) -> None:
         """Sends bytes, unless the session has ended, which reading its result will show."""
@@ -146,6 +180,27 @@ def pipe_of(end: IO[bytes] | None) -> io.FileIO:
     """Returns this process's end of a pipe without a buffer."""
     assert isinstance(end, io.FileIO)
     return end
+
+
+def room_of(statement: str) -> int:
+    """Returns a bound of the bytes that a statement of totals and its result take, whose heading is
+    a part of the statement: a total has at most 28 characters."""
+    return 2 * len(statement) + 32 * (statement.count(",") + 1)
+
+
+def results_in(data: bytes) -> tuple[list[bytes], bytes]:
+    """Returns the results in these bytes that are complete, and the rest. A result ends with an
+    empty line; that of a rejected statement is this line alone."""
+    results, start = list[bytes](), 0
+    while found := RESULT.match(data, start):
+        results.append(found[1])
+        start = found.end()
+    return results, data[start:]
+
+
+def sent_form(statement: str) -> bytes:
+    """Returns a statement as it is sent."""
+    return f"{one_statement(statement)}\n\n".encode()
 
 
 def one_statement(statement: str) -> str:

@@ -2,13 +2,18 @@
 from __future__ import annotations
 
 import argparse
+import contextlib
 import functools
+import io
 import pathlib
 import tempfile
+import unittest
+import warnings
 
-from bwtools import kinds, writing
+from bwtools import importing, kinds, writing
 from bwtools.options import add_options
 from bwtools.listed import SortedList
+from bwtools.programs import import_
 from bwtools.source import Source
 
 
@@ -56,3 +61,30 @@ def described(column) -> tuple:
     return (column.name, column.heading, column.kind.name, column.kind.settings(),
             list(column.nulls), list(column.ends), column.why,
             None if column.kind.listed is None else list(column.kind.listed))
+
+
+def imported(path: pathlib.Path, data: str, *words: str) -> pathlib.Path:
+    """Imports a CSV of these characters as the table file, or the folder, of a path, which it
+    returns."""
+    raw = path.with_name(f"{path.name}.csv")
+    raw.write_text(data, encoding="utf-8", newline="")
+    given = import_.parser_of().parse_args([str(raw), str(path), *words])
+    with contextlib.redirect_stdout(io.StringIO()), warnings.catch_warnings():
+        warnings.simplefilter("ignore", ResourceWarning)
+        importing.import_file(given, given.table, given.shards is not None)
+    return path
+
+
+class Imported(unittest.TestCase):
+    """Tests over tables in a folder: `tables` has the CSV of each, and the options of its import,
+    by the name of its file."""
+
+    tables: dict[str, tuple[str, ...]] = {}
+
+    @classmethod
+    def setUpClass(cls):
+        folder = tempfile.TemporaryDirectory(prefix="unittests-")
+        cls.addClassCleanup(folder.cleanup)
+        cls.folder = pathlib.Path(folder.name)
+        for name, words in cls.tables.items():
+            imported(cls.folder / name, *words)

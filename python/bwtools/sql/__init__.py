@@ -1,0 +1,1 @@
+"""Whole questions over tables: SQLite's SQL above, scans of bw below."""

@@ -1,0 +1,49 @@
+"""The answer to a statement."""
+from __future__ import annotations
+
+from dataclasses import dataclass, field
+from typing import Any, Iterator, Sequence, Union
+
+from ..kind import Kind
+from . import values
+from .bodies import Block, Numbers, Rows, rows_of
+
+
+@dataclass
+class Answer:
+    """The answer to a statement: its headings; of each column the kind if it is a plain column, or
+    the minimum or maximum of one, else None; its rows; which way served it, 1 (statements of bw) or
+    2 (SQLite over listed columns); and the statements that bw ran for it."""
+
+    headings: Sequence[str]
+    kinds: Sequence[Kind | None]
+    body: Union[Rows, Numbers]
+    way: int
+    asked: Sequence[str] = field(default_factory=list)
+
+    def blocks(self) -> Iterator[Block]:
+        """Yields the columns of SQLite's values, many rows at a time."""
+        return self.body.values(self.kinds)
+
+    def rows(self) -> Iterator[tuple[values.Value, ...]]:
+        """Yields the rows as SQLite's values."""
+        return rows_of(self.blocks())
+
+    def fields(self) -> Iterator[Sequence[Sequence[str]]]:
+        """Yields the columns of the fields of a CSV, many rows at a time: in the column's own form
+        if it has a kind. They have no quotes yet; a null is an empty field."""
+        return self.body.fields(self.kinds)
+
+    def python_rows(self) -> Iterator[tuple[Any, ...]]:
+        """Yields the rows as Python's objects (`values.python`)."""
+        makers = list(map(values.python, self.kinds))
+        for block in self.blocks():
+            yield from zip(*(made(maker, column) for maker, column in zip(makers, block)))
+
+
+def made(maker: Any, column: Sequence[Any]) -> Sequence[Any]:
+    """Returns Python's objects of a column's values, each distinct one made once."""
+    if maker is values.same:
+        return column
+    known = {value: None if value is None else maker(value) for value in set(column)}
+    return list(map(known.__getitem__, column))

@@ -1,0 +1,190 @@
+"""Answers statements by SQLite over columns that bw listed: all that bw can't answer itself."""
+from __future__ import annotations
+
+import collections
+import re
+import sqlite3
+from dataclasses import dataclass, field
+from typing import Callable, Iterable, Mapping
+
+from ..kind import Column
+from ..kinds import Decimals, undressed
+from ..progress import Progress
+from ..telling import Refused
+from .aggregates import for_sqlite
+from .answer import Answer
+from .bodies import Rows
+from .catalog import Catalog, Table
+from .clauses import Clauses, clauses_of
+from .condition import Condition
+from .engine import Engine
+from .listing import Listing
+from .predicates import Outside
+from .reader import Reader
+from .reading import reads_of, told
+from .statement import Statement
+from .tokens import NUMBER
+from .values import EXACT_DIGITS
+
+# so many rows are listed without being asked for, and so many conditions' rows are kept
+MOST_ROWS, MOST_CONDITIONS = 4_000_000, 8
+EngineOf = Callable[[Table], Engine]
+
+
+@dataclass
+class BySqlite:
+    """SQLite over the listed columns of a catalog's tables, which are kept."""
+
+    catalog: Catalog
+    engine_of: EngineOf
+    # whether any number of rows may be listed, and whether progress is shown at a terminal
+    is_all: bool = False
+    is_shown: bool = False
+    whole: Listing = field(init=False)
+    # the rows of conditions, the last one used last
+    parts: collections.OrderedDict[str, Listing] = field(
+        default_factory=collections.OrderedDict)
+
+    def __post_init__(self) -> None:
+        self.whole = Listing(self.catalog)
+
+    def close(self) -> None:
+        """Forgets what was listed."""
+        for listing in (self.whole, *self.parts.values()):
+            listing.close()
+
+    def answer(self, statement: Statement) -> Answer:
+        """Returns the answer to a statement. Raises Refused for one that can't run, Failed if bw
+        can't list a column, and KeyboardInterrupt when it is interrupted."""
+        sql = for_sqlite(statement)
+        reads = reads_of(self.whole.database, self.whole.guard, statement, sql)
+        reads = {name: set(columns) for name, columns in reads.items()}
+        refuse_long_decimals(self.catalog, reads)
+        listing, asked = self.listing(statement, reads), list[str]()
+        tables = [self.tables()[name] for name in reads]
+        engines = {table.name: self.engine_of(table) for table in tables}
+        before = {name: len(engine.asked) for name, engine in engines.items()}
+        self.refuse_many(listing, tables, reads, engines)
+        with Progress("listed", self.is_shown) as progress:
+            for table in tables:
+                listing.add(table, reads[table.name], engines[table.name], progress.add)
+        for name, engine in engines.items():
+            asked += engine.asked[before[name]:]
+        return self.run(listing, statement, sql, asked)
+
+    def tables(self) -> Mapping[str, Table]:
+        return {table.name: table for table in self.catalog.tables.values()}
+
+    def refuse_many(self, listing: Listing, tables: Iterable[Table], reads: Mapping[str, set[str]],
+                    engines: Mapping[str, Engine]) -> None:
+        """Rejects a statement for which too many rows would be listed."""
+        count = sum(listing.count(table, engines[table.name]) for table in tables
+                    if listing.missing(table, reads[table.name]))
+        if count > MOST_ROWS and not self.is_all:
+            raise Refused(f"SQLite would answer this over {count:,} rows, which bw lists: to list "
+                          f"more than {MOST_ROWS:,}, use --all, or list_all=True")
+
+    def listing(self, statement: Statement, reads: Mapping[str, set[str]]) -> Listing:
+        """Returns where a statement runs: over all rows if they are listed, or if it has no
+        condition of bw; else over those of the condition."""
+        tables = self.tables()
+        if all(table in self.whole.listed and not self.whole.missing(tables[table], columns)
+               for table, columns in reads.items()):
+            return self.whole
+        condition = pushed(statement)
+        if not condition:
+            return self.whole
+        found = self.parts.pop(condition, None) or Listing(self.catalog, condition)
+        self.parts[condition] = found
+        while len(self.parts) > MOST_CONDITIONS:
+            self.parts.popitem(last=False)[1].close()
+        return found
+
+    def run(self, listing: Listing, statement: Statement, sql: str, asked: list[str]) -> Answer:
+        """Runs a statement over what is listed."""
+        guard, listing.functions.refusal = listing.guard, None
+        guard.denied, guard.read, guard.is_off = "", {}, False
+        try:
+            cursor = listing.database.execute(sql)
+            rows = cursor.fetchall()
+        except sqlite3.Error as error:
+            if str(error) == "interrupted":
+                raise KeyboardInterrupt from None
+            if str(error) == "integer overflow":
+                raise Refused("a SUM is outside the range of 64 bits") from None
+            refusal = listing.functions.refusal or guard.denied
+            guard.is_off = True
+            raise Refused(refusal or told(listing.database, guard, statement,
+                                          str(error))) from None
+        finally:
+            guard.is_off = True
+        names = [each[0] for each in cursor.description]
+        outputs = statement.outputs
+        if len(outputs) != len(names):
+            return Answer(names, [None] * len(names), Rows(rows), 2, asked)
+        kinds = [each.plain.kind if each.plain else None for each in outputs]
+        return Answer([each.heading for each in outputs], kinds, Rows(rows), 2, asked)
+
+
+def refuse_long_decimals(catalog: Catalog, reads: Mapping[str, set[str]]) -> None:
+    """Rejects to read decimals whose digits a double doesn't hold."""
+    for table in catalog.tables.values():
+        for column in table.columns:
+            if column.name.lower() in reads.get(table.name, ()) and is_long(column):
+                raise Refused(f"{column.name} has decimals of more than {EXACT_DIGITS} digits, "
+                              "which SQLite doesn't compute with: ask for COUNT, MIN, MAX, or "
+                              "compare the column with a number")
+
+
+def is_long(column: Column) -> bool:
+    """Returns whether a column has decimals of too many digits for a double."""
+    kind = undressed(column.kind)
+    if not isinstance(kind, Decimals):
+        return False
+    numbers = [column.kind.number(end) for end in column.ends]
+    return any(number is None or len(str(abs(number))) > EXACT_DIGITS for number in numbers)
+
+
+def pushed(statement: Statement) -> str:
+    """Returns the condition of bw that each row of the answer fulfils: those among the operands of
+    AND in WHERE that have one, if the statement is one SELECT over one table; or nothing."""
+    try:
+        clauses = clauses_of(statement)
+    except Outside:
+        return ""
+    found = list[str]()
+    for first, end in terms(statement, clauses.span("WHERE")):
+        condition = condition_of(statement, clauses, first, end)
+        found += [condition] if condition else []
+    return " AND ".join(f"({each})" for each in found) if len(found) > 1 else "".join(found)
+
+
+def condition_of(statement: Statement, clauses: Clauses, first: int, end: int) -> str:
+    """Returns the condition of bw for these tokens, or nothing."""
+    if any(is_long_number(token.text) for token in statement.tokens[first:end]
+           if token.kind == NUMBER):
+        return ""
+    try:
+        return Condition(Reader(statement, clauses.table, clauses.called, first, end)).whole()
+    except Outside:
+        return ""
+
+
+def is_long_number(text: str) -> bool:
+    """Returns whether a number may differ from its double."""
+    return len(re.sub("[^0-9]", "", text.lower().partition("e")[0]).strip("0")) > EXACT_DIGITS
+
+
+def terms(statement: Statement, span: range) -> list[tuple[int, int]]:
+    """Returns the first and the end of each operand of AND in a condition."""
+    line = statement.structure.line
+    places = list(line.places(span.start, span.stop))
+    keys = [line.key(at) for at in places]
+    if not places or "OR" in keys or "CASE" in keys:
+        return [(span.start, span.stop)] if places else []
+    ands, is_between = list[int](), False
+    for at, key in zip(places, keys):
+        if key == "AND" and not is_between:
+            ands.append(at)
+        is_between = key == "BETWEEN" or is_between and key != "AND"
+    return list(zip([span.start, *(at + 1 for at in ands)], [*ands, span.stop]))

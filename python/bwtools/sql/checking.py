@@ -1,0 +1,194 @@
+"""What is refused before a statement runs, since SQLite's answer would be wrong for a reader: a
+literal compared with a column of another kind, sums of dates and texts, the order of texts that
+look like numbers, and names that SQLite would read as something else."""
+from __future__ import annotations
+
+from typing import Callable
+
+from .. import statements
+from ..answers import no_sum
+from ..kind import Column, Literal
+from ..kinds import Clocks, Dates, Styled, Times, Truths
+from ..moments import read_moment
+from ..telling import Refused
+from .operands import EQUAL, Comparison, Operand, Operands
+from .scopes import Scope
+from .structure import Structure
+from .tokens import NUMBER, QUOTED, TEXT, Token, quoted_name, text_literal
+from .values import ISO_CLOCK, ISO_TIME, plain_of
+
+ROWIDS = ("rowid", "oid", "_rowid_")
+MOMENTS = (Dates, Times, Clocks)
+ORDER_END = ("LIMIT", "ROWS", "RANGE", "GROUPS")
+AFTER_TERM = ("ASC", "DESC", "NULLS", "FIRST", "LAST")
+
+
+class Checks:
+    """The checks of a statement, and the tokens that it gets instead of those that were written."""
+
+    def __init__(self, structure: Structure, text: Callable[[int, int], str]) -> None:
+        self.structure, self.line, self.text_of = structure, structure.line, text
+        self.replaced = dict[int, Token]()
+
+    def run(self) -> dict[int, Token]:
+        """Raises Refused for what is refused. Returns the tokens to replace, by their places."""
+        for at, token in enumerate(self.line.tokens[:self.line.end]):
+            scope = self.structure.scopes[at]
+            if token.name and scope and not self.line.is_mark(at + 1, "."):
+                self.name(at, token, scope)
+            elif token.kind == QUOTED:
+                self.replace(at, QUOTED, quoted_name(token.name))
+        for found in Operands(self.structure).comparisons():
+            self.comparison(found)
+        for at, table in self.structure.tables.items():
+            self.replace(at, QUOTED, quoted_name(table.name))
+        return self.replaced
+
+    def replace(self, at: int, kind: str, text: str) -> None:
+        self.replaced[at] = Token(kind, text, self.line.tokens[at].start)
+
+    def name(self, at: int, token: Token, scope: Scope) -> None:
+        """Checks a name in an expression."""
+        if self.line.is_mark(at + 1, "("):
+            self.function(at, scope)
+            return
+        if token.key == "ORDER" and self.line.key(at + 1) == "BY":
+            self.order(at + 2, scope)
+            return
+        if token.kind == QUOTED:
+            self.replace(at, QUOTED, quoted_name(token.name))
+        if token.text[:1] == '"':
+            self.heading(at, token, scope)
+        if token.name.lower() in ROWIDS and not self.structure.resolve(at, scope):
+            raise Refused(f"there is no column {token.name} {where(token)}: rows have no numbers")
+
+    def heading(self, at: int, token: Token, scope: Scope) -> None:
+        """Makes a heading in double quotes a name."""
+        qualifier = self.line.qualifier(at)
+        around: Scope | None = scope
+        while around:
+            headed = around.headed(token.name, qualifier)
+            names = sorted({output.name for output in headed})
+            alias = None if qualifier else around.alias(token.name)
+            if len(names) > 1:
+                raise Refused(f"{len(headed)} columns have the heading {token.text}: use "
+                              f"{' or '.join(names)}, without quotes")
+            if alias and names and token.name.lower() != names[0].lower():
+                if alias.plain is headed[0].plain:
+                    return
+                raise Refused(f"{token.text} {where(token)} is an alias, and the heading of the "
+                              f"column {names[0]}: use another alias")
+            if names:
+                self.replace(at, QUOTED, quoted_name(names[0]))
+            if names or around.find(token.name, qualifier):
+                return
+            around = around.outer
+
+    def function(self, at: int, scope: Scope) -> None:
+        """Checks the argument of SUM, AVG, MIN and MAX."""
+        key, end = self.line.tokens[at].name.upper(), self.line.closing[at + 1]
+        if key not in ("SUM", "AVG", "TOTAL", "MIN", "MAX"):
+            return
+        for first, stop in self.line.split(at + 2, end):
+            column = self.column(first + (self.line.key(first) in ("DISTINCT", "ALL")), stop,
+                                 scope)
+            if column and key in ("MIN", "MAX"):
+                statements.refuse_unordered(column, f"{key}({column.name})")
+            elif column and is_without_sum(column):
+                raise Refused(no_sum(column).replace("SUM(", f"{key}(", 1))
+
+    def column(self, first: int, end: int, scope: Scope, is_alias_first: bool = False
+               ) -> Column | None:
+        """Returns the table's column that an expression is, or None."""
+        found = self.structure.meaning(first, end, scope, is_alias_first) if end > first else None
+        return found.plain if found else None
+
+    def order(self, first: int, scope: Scope) -> None:
+        """Checks the terms of ORDER BY."""
+        end = next((each for each in self.line.places(first, self.line.end)
+                    if self.line.key(each) in ORDER_END or self.line.is_mark(each, ")")),
+                   self.line.end)
+        for start, stop in self.line.split(first, end):
+            while stop - 1 > start and self.line.key(stop - 1) in AFTER_TERM:
+                stop -= 1
+            if self.line.key(stop - 2) == "COLLATE":
+                stop -= 2
+            column, token = self.column(start, stop, scope, True), self.line.tokens[start]
+            if token.kind == NUMBER and stop == start + 1 and token.text.isdecimal() and \
+                    0 < int(token.text) <= len(scope.outputs):
+                column = scope.outputs[int(token.text) - 1].plain
+            if column:
+                statements.refuse_unordered(column, f"ORDER BY {column.name}")
+
+    def comparison(self, found: Comparison) -> None:
+        """Checks a comparison, and gives its literal SQLite's form."""
+        for operand in (found.left, found.right):
+            if operand.column and found.sign not in EQUAL:
+                statements.refuse_unordered(operand.column, f"{self.text(found.left)} "
+                                            f"{found.sign} {self.text(found.right)}")
+        for column, literal in ((found.left.column, found.right), (found.right.column, found.left)):
+            if column and literal.value is not None:
+                self.literal(column, literal, found.sign in EQUAL)
+        if found.left.column and found.right.column:
+            self.moments(found.left.column, found.right.column)
+
+    def text(self, operand: Operand) -> str:
+        return self.text_of(operand.first, operand.end)
+
+    def moments(self, left: Column, right: Column) -> None:
+        """Rejects the comparison of dates and times whose texts aren't ordered as they are."""
+        kinds = [column.kind for column in (left, right)]
+        if all(isinstance(kind, MOMENTS) for kind in kinds) and not kinds[0].alike(kinds[1]):
+            raise Refused(f"{left.name} and {right.name} can't be compared: "
+                          f"{statements.held(left)}, {statements.held(right)}, and equal texts "
+                          "mean different values")
+
+    def literal(self, column: Column, operand: Operand, is_equal: bool) -> None:
+        """Rejects a literal of another kind than the column's, and gives it SQLite's form."""
+        written = self.text(operand)
+        if isinstance(operand.value, bytes):
+            raise Refused(f"{written} can't be compared with {column.name}: "
+                          f"{statements.held(column)}")
+        assert operand.value is not None
+        statements.place_of(column, statements.Operand(None, operand.value, written), is_equal)
+        form = sqlite_form(column, operand.value)
+        at = next(each for each in range(operand.first, operand.end)
+                  if self.line.tokens[each].kind == TEXT) if form else 0
+        if form:
+            self.replace(at, *form)
+
+
+def sqlite_form(column: Column, literal: Literal) -> tuple[str, str] | None:
+    """Returns the kind and the text of the token that a text of a column's becomes, or None if it
+    stays as it is."""
+    kind = column.kind
+    if not isinstance(literal, str) or not isinstance(kind, (*MOMENTS, Truths, Styled)):
+        return None
+    if isinstance(kind, MOMENTS):
+        return TEXT, text_literal(iso(kind, literal))
+    place = kind.place(literal)
+    return (NUMBER, plain_of(kind).text(place[0])) if place and not isinstance(kind, Truths) else (
+        NUMBER, str(place[0] if place else 0))
+
+
+def iso(kind: Dates | Times | Clocks, literal: str) -> str:
+    """Returns the ISO form of a date or a time: that of the column's value, or else a text that is
+    between those of two values, as the literal is."""
+    place = kind.place(literal)
+    if place and place[1]:
+        return plain_of(kind).text(place[0])
+    if isinstance(kind, Clocks):
+        number, digits = kind.read(literal) or (0, 0)
+        return Clocks(ISO_CLOCK, digits).text(number)
+    moment = read_moment(kind.form, literal)
+    assert moment
+    return Times(ISO_TIME, moment.digits).text(moment.number)
+
+
+def is_without_sum(column: Column) -> bool:
+    """Returns whether a column has no sum: one of dates, times and texts."""
+    return not column.kind.is_summable and column.kind.plural != "floats"
+
+
+def where(token: Token) -> str:
+    return f"at character {token.start} of the statement"

@@ -1,0 +1,133 @@
+"""Connections to tables."""
+from __future__ import annotations
+
+import contextlib
+import os
+from dataclasses import dataclass, field
+from typing import Any, Callable, Sequence
+
+from . import errors, grammar
+from .answer import Answer
+from .by_sqlite import BySqlite
+from .catalog import Catalog, Table, name_of, open_catalog
+from .cursor import Cursor
+from .engine import Asker, Engine, Scheduled, Sessions
+from .errors import translated
+from .statement import Statement
+
+
+def nothing(told: str) -> None:
+    """Drops what bw prints beside an answer."""
+
+
+@dataclass
+class Settings:
+    """How a connection asks: the scheduler of a cluster, or None for sessions on this machine; bw's
+    options; what gets that which bw prints beside its answers; whether SQLite may get any number of
+    rows; and whether progress is shown at a terminal."""
+
+    scheduler: str | None = None
+    options: Sequence[str] = ()
+    tell: Callable[[str], None] = nothing
+    list_all: bool = False
+    is_shown: bool = False
+
+
+@dataclass
+class Connection:
+    """A connection to some tables, which are read only. It answers all statements from the files
+    that it opened, also if they are replaced meanwhile. One thread at a time may use it."""
+
+    catalog: Catalog
+    settings: Settings = field(default_factory=Settings)
+    engines: dict[str, Engine] = field(default_factory=dict)
+    stack: contextlib.ExitStack = field(default_factory=contextlib.ExitStack)
+    is_closed: bool = False
+
+    Warning = errors.Warning
+    Error = errors.Error
+    InterfaceError = errors.InterfaceError
+    DatabaseError = errors.DatabaseError
+    DataError = errors.DataError
+    OperationalError = errors.OperationalError
+    IntegrityError = errors.IntegrityError
+    InternalError = errors.InternalError
+    ProgrammingError = errors.ProgrammingError
+    NotSupportedError = errors.NotSupportedError
+
+    def __post_init__(self) -> None:
+        self.stack.callback(self.catalog.close)
+        self.by_sqlite = BySqlite(self.catalog, self.engine, self.settings.list_all,
+                                  self.settings.is_shown)
+        self.stack.callback(self.by_sqlite.close)
+
+    def __enter__(self) -> Connection:
+        return self
+
+    def __exit__(self, *_: Any) -> None:
+        self.close()
+
+    def answer(self, sql: str, parameters: Sequence[Any] = ()) -> Answer:
+        """Returns the answer to a statement, by bw if it can, else by SQLite. Raises
+        `telling.Refused` for a statement that is rejected, and `session.Failed` if bw fails."""
+        self.refuse_closed()
+        statement = Statement(sql, self.catalog, parameters)
+        return grammar.answer(statement, self.engine) or self.by_sqlite.answer(statement)
+
+    def engine(self, table: Table) -> Engine:
+        """Returns the engine that asks bw about a table, whose sessions begin when they are
+        needed."""
+        if table.name not in self.engines:
+            engine = self.engines[table.name] = Engine(self.asker(table))
+            self.stack.callback(engine.close)
+        return self.engines[table.name]
+
+    def asker(self, table: Table) -> Asker:
+        settings = self.settings
+        if settings.scheduler is None:
+            files = [part.file for part in table.parts if part.file]
+            return Sessions(files, settings.options, settings.tell)
+        from .. import cluster
+        files_there = [(os.path.abspath(part.path), part.record) for part in table.parts]
+        joined = cluster.engine(len(table.parts), None, settings.scheduler)
+        return Scheduled(joined, files_there, table.parts[0].columns, settings.options,
+                         settings.tell)
+
+    def refuse_closed(self) -> None:
+        if self.is_closed:
+            raise errors.ProgrammingError("the connection is closed")
+
+    def cursor(self) -> Cursor:
+        """Returns a cursor, which doesn't disturb others."""
+        self.refuse_closed()
+        return Cursor(self)
+
+    def execute(self, sql: str, parameters: Sequence[Any] = ()) -> Cursor:
+        """Returns a cursor that has run a statement."""
+        return self.cursor().execute(sql, parameters)
+
+    def commit(self) -> None:
+        """Does nothing: tables are read only."""
+        self.refuse_closed()
+
+    def rollback(self) -> None:
+        """Does nothing: tables are read only."""
+        self.refuse_closed()
+
+    def close(self) -> None:
+        """Ends the sessions, and closes the files."""
+        self.is_closed = True
+        self.stack.close()
+
+
+def connect(*paths: str | os.PathLike[str], scheduler: str | None = None, list_all: bool = False,
+            **named: str | os.PathLike[str]) -> Connection:
+    """Opens tables that bw-import wrote, or folders of shards that bw-shards load wrote. A table
+    has the name of its file or folder, or the one of its keyword: connect("trips.bw",
+    places="stations.bw"). With `scheduler`, the address of Dask's, shards are asked on its
+    workers. A statement that SQLite answers over more than 4 million rows needs `list_all`."""
+    with translated():
+        given = [*((name_of(path), os.fspath(path)) for path in paths),
+                 *((name, os.fspath(path)) for name, path in named.items())]
+        settings = Settings(scheduler=scheduler, list_all=list_all)
+        return Connection(open_catalog(given, scheduler is None), settings)

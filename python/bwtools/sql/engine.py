@@ -1,0 +1,218 @@
+"""Asks bw about the rows of a table: in a session for each of its files, which stays open, or on
+the workers of a cluster. What it returns is whole: a session that ends by itself, or a shard that
+fails, is an exception."""
+from __future__ import annotations
+
+import functools
+import io
+import tempfile
+import threading
+from typing import Any, BinaryIO, Callable, Iterator, Protocol, Sequence, TypeVar, Union
+
+from .. import command
+from ..session import Failed, Session
+from ..shards import Reply, is_of_statement, total
+from ..store import TableFile
+from ..telling import Refused
+
+# a result up to this many bytes is kept in memory, a longer one in a temporary file
+MOST_IN_MEMORY, AT_ONCE = 1 << 26, 1 << 16
+# the totals of a statement, of which None is null
+Totals = Sequence[Union[int, None]]
+T = TypeVar("T")
+
+
+class Asker(Protocol):
+    """Runs statements on each file of a table."""
+
+    def totals(self, statements: Sequence[str]) -> list[list[bytes]]:
+        """Returns the results of statements of totals, for each file."""
+
+    def rows(self, statement: str) -> list[BinaryIO]:
+        """Returns the results of a statement of rows, one for each file."""
+
+    def close(self) -> None:
+        """Ends what it has started."""
+
+
+class Engine:
+    """Runs statements on all rows of a table."""
+
+    def __init__(self, asker: Asker) -> None:
+        self.asker = asker
+        # the statements that bw ran, in order
+        self.asked: list[str] = []
+
+    def totals(self, statements: Sequence[str]) -> list[Totals]:
+        """Returns the totals of each statement over all files. Raises Refused if bw rejects one,
+        and Failed if a file can't be asked."""
+        self.asked += statements
+        parts = self.asker.totals(statements) if statements else []
+        return [added(results) for results in zip(*parts)]
+
+    def rows(self, statement: str) -> list[BinaryIO]:
+        """Returns the results of a statement of rows, in the files' order, as `totals` does. Each
+        is an open file of lines of CSV, the first of which is the heading."""
+        self.asked.append(statement)
+        return self.asker.rows(statement)
+
+    def close(self) -> None:
+        """Ends the sessions. A later statement begins others."""
+        self.asker.close()
+
+
+def added(results: Sequence[bytes]) -> Totals:
+    """Returns the totals of all rows, from the results of a table's files."""
+    lines = [result.split(b"\n") for result in results]
+    heading = lines[0][0]
+    functions = [item.partition("(")[0] for item in heading.decode().split(",")]
+    fields = [each[1].decode().split(",") for each in lines if len(each) == 3 and not each[2]]
+    if len(fields) != len(lines) or any(each[0] != heading for each in lines) or \
+            any(len(each) != len(functions) for each in fields):
+        raise Failed(f"bw returned no totals: {results!r}")
+    values = [[None if field == "NULL" else int(field) for field in each] for each in fields]
+    if len(values) == 1:
+        return values[0]
+    return [total(function, each) for function, each in zip(functions, zip(*values))]
+
+
+class Sessions:
+    """A session of bw for each of some open table files, begun when it is needed. They work side by
+    side. If one fails, all are ended, so no result of theirs is taken for another one's."""
+
+    def __init__(self, files: Sequence[BinaryIO], options: Sequence[str] = (),
+                 tell: Callable[[str], None] = lambda told: None) -> None:
+        self.files, self.options, self.tell = files, options, tell
+        self.sessions: list[Session] = []
+
+    def totals(self, statements: Sequence[str]) -> list[list[bytes]]:
+        def asked(session: Session) -> list[bytes]:
+            results, told = session.totals(statements)
+            if b"" in results:
+                raise Refused(told.rstrip("\n"))
+            self.tell(told)
+            return results
+
+        return self.each(asked)
+
+    def rows(self, statement: str) -> list[BinaryIO]:
+        def asked(session: Session) -> BinaryIO:
+            answer = session.result_of(statement)
+            found = kept(answer) if answer else None
+            told = session.told()
+            if found is None:
+                raise Refused(told.rstrip("\n"))
+            self.tell(told)
+            return found
+
+        return self.each(asked)
+
+    def each(self, work: Callable[[Session], T]) -> list[T]:
+        """Returns what a function returns for each session."""
+        try:
+            for file in self.files[len(self.sessions):]:
+                self.sessions.append(Session(file, self.options))
+            return side_by_side([functools.partial(work, each) for each in self.sessions],
+                                self.kill)
+        except Refused:
+            # every session has answered
+            raise
+        except BaseException:
+            self.close()
+            raise
+
+    def kill(self) -> None:
+        """Ends the processes of all sessions, whatever they do."""
+        for session in self.sessions:
+            session.process.kill()
+
+    def close(self) -> None:
+        self.kill()
+        for session in self.sessions:
+            session.process.__exit__(None, None, None)
+        self.sessions = []
+
+
+class Scheduled:
+    """Runs statements by a cluster, whose workers have the table files at the same paths: each
+    statement on each file by itself."""
+
+    def __init__(self, cluster: Any, files: Sequence[tuple[str, TableFile]], columns: str,
+                 options: Sequence[str] = (),
+                 tell: Callable[[str], None] = lambda told: None) -> None:
+        self.cluster, self.files, self.columns = cluster, files, columns
+        self.options, self.tell = options, tell
+
+    def totals(self, statements: Sequence[str]) -> list[list[bytes]]:
+        answers = list(self.answers(statements))
+        count = len(self.files)
+        return [answers[place::count] for place in range(count)]
+
+    def rows(self, statement: str) -> list[BinaryIO]:
+        return [io.BytesIO(answer) for answer in self.answers([statement])]
+
+    def answers(self, statements: Sequence[str]) -> Iterator[bytes]:
+        """Yields the result of each statement on each file, statement by statement."""
+        program = command.whole_path()
+        calls = [(program, path, record, self.columns, self.options, statement)
+                 for statement in statements for path, record in self.files]
+        for call, reply in zip(calls, self.cluster.replies(calls)):
+            yield self.answer(call[1], reply)
+
+    def answer(self, path: str, reply: Reply) -> bytes:
+        """Returns the result of a reply. Raises what it reports."""
+        status, told, answer = reply
+        if is_of_statement(reply):
+            raise Refused(told.rstrip("\n"))
+        lines = "\n".join(f"{path}: {line}" for line in told.splitlines())
+        if status:
+            raise Failed(lines, status=status)
+        self.tell(lines)
+        return answer
+
+    def close(self) -> None:
+        self.cluster.close()
+
+
+def side_by_side(works: Sequence[Callable[[], T]], end: Callable[[], None]) -> list[T]:
+    """Runs functions, each but the first in a thread of its own. Returns their results, or raises
+    the exception of the first that failed, once all have ended. `end` has them end early, if this
+    thread is interrupted."""
+    results: dict[int, T] = {}
+    errors: dict[int, Exception] = {}
+
+    def do(place: int) -> None:
+        try:
+            results[place] = works[place]()
+        except Exception as error:
+            errors[place] = error
+
+    threads = [threading.Thread(target=do, args=(place,), daemon=True)
+               for place in range(1, len(works))]
+    try:
+        for thread in threads:
+            thread.start()
+        do(0)
+        for thread in threads:
+            thread.join()
+    except BaseException:
+        end()
+        for thread in filter(threading.Thread.is_alive, threads):
+            thread.join()
+        raise
+    if errors:
+        raise errors[min(errors)]
+    return [results[place] for place in range(len(works))]
+
+
+def kept(answer: io.BufferedReader) -> BinaryIO:
+    """Returns a result that was read to its end, as an open file at its begin."""
+    found: BinaryIO = io.BytesIO()
+    while part := answer.read(AT_ONCE):
+        found.write(part)
+        if isinstance(found, io.BytesIO) and found.tell() > MOST_IN_MEMORY:
+            longer: Any = tempfile.TemporaryFile()
+            longer.write(found.getbuffer())
+            found = longer
+    found.seek(0)
+    return found

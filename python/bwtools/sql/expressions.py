@@ -1,0 +1,115 @@
+"""Items, and conditions over groups, as expressions over the columns of the small table of groups,
+which SQLite evaluates."""
+from __future__ import annotations
+
+from dataclasses import dataclass, field
+from typing import Sequence
+
+from ..kind import Column
+from . import tokens
+from .clauses import Clauses
+from .predicates import Outside
+from .reader import Reader
+from .statement import Statement
+from .tokens import quoted_name
+
+AGGREGATES = ("COUNT", "SUM", "MIN", "MAX", "AVG")
+# functions whose value depends on nothing but their arguments
+FUNCTIONS = set("ABS CAST CHAR COALESCE DATE DATETIME HEX IFNULL IIF INSTR JULIANDAY LENGTH LOWER "
+                "LTRIM NULLIF PRINTF QUOTE REPLACE ROUND RTRIM SIGN STRFTIME SUBSTR SUBSTRING TIME "
+                "TRIM TYPEOF UNICODE UPPER".split())
+WORDS = set("AND OR NOT IS NULL ISNULL NOTNULL BETWEEN IN LIKE GLOB ESCAPE CASE WHEN THEN ELSE END "
+            "TRUE FALSE".split())
+TYPES = set("INTEGER INT REAL TEXT NUMERIC".split())
+MARKS = ("(", ")", ",", "+", "-", "*", "/", "%", "||", "<", "<=", ">", ">=", "=", "==", "<>", "!=",
+         "&", "|", "<<", ">>", "~")
+# what names in the table of groups begin with
+PREFIX = "bw:"
+
+
+@dataclass(frozen=True)
+class Aggregate:
+    """An aggregate over the rows of a group: of a column, or COUNT(*)."""
+
+    function: str
+    column: Column | None = None
+    is_distinct: bool = False
+
+
+@dataclass
+class Expressions:
+    """Makes expressions over groups of tokens, and notes which columns make the groups and which
+    aggregates are needed."""
+
+    statement: Statement
+    clauses: Clauses
+    # the columns that make groups
+    keys: list[Column] = field(default_factory=list)
+    aggregates: list[Aggregate] = field(default_factory=list)
+    # whether any column may make groups, as in SELECT DISTINCT
+    are_keys_free: bool = False
+
+    def expression(self, first: int, end: int, aliases: Sequence[str] = ()) -> str:
+        """Returns the expression of the tokens from one on, up to another. `aliases`, in lower
+        case, may occur in it."""
+        reader = reader_of(self.statement, self.clauses, range(first, end))
+        words = list[str]()
+        while reader.place < reader.end:
+            words.append(self.word(reader, aliases))
+        return " ".join(words)
+
+    def word(self, reader: Reader, aliases: Sequence[str]) -> str:
+        """Consumes the next tokens, and returns what they are in an expression over groups."""
+        token, is_call = reader.next(), reader.next(1).is_mark("(")
+        if token.key in WORDS and self.clauses.table.column(token.key):
+            raise Outside
+        if is_call and token.key in AGGREGATES:
+            return self.aggregate(reader)
+        if is_call and token.key in FUNCTIONS or token.key in WORDS:
+            return reader.take().text
+        if token.key == "AS" and reader.next(1).key in TYPES and reader.next(2).is_mark(")"):
+            return f"{reader.take().text} {reader.take().text}"
+        if token.kind in (tokens.NUMBER, tokens.TEXT) or token.is_mark(*MARKS):
+            return reader.take().text
+        column = reader.takes_column()
+        if column:
+            return self.key(column)
+        if token.name and token.name.lower() in aliases and not is_call:
+            return reader.take().text
+        raise Outside
+
+    def key(self, column: Column) -> str:
+        """Returns the name of a column that makes groups."""
+        if column not in self.keys:
+            if not self.are_keys_free:
+                raise Outside
+            self.keys.append(column)
+        return quoted_name(f"{PREFIX}{column.name}")
+
+    def aggregate(self, reader: Reader) -> str:
+        """Consumes an aggregate, and returns the name of its column."""
+        found = aggregate_of(reader)
+        if found not in self.aggregates:
+            self.aggregates.append(found)
+        return quoted_name(f"{PREFIX}{self.aggregates.index(found)}")
+
+
+def reader_of(statement: Statement, clauses: Clauses, span: range) -> Reader:
+    """Returns a reader of some tokens."""
+    return Reader(statement, clauses.table, clauses.called, span.start, span.stop)
+
+
+def aggregate_of(reader: Reader) -> Aggregate:
+    """Consumes an aggregate over a column, or COUNT(*)."""
+    function = reader.take().key
+    reader.wants_mark("(")
+    column, is_distinct = None, False
+    if function != "COUNT" or not reader.takes_mark("*"):
+        is_distinct = function == "COUNT" and reader.takes("DISTINCT")
+        column = reader.takes_column()
+        if not column:
+            raise Outside
+    reader.wants_mark(")")
+    if reader.next().key in ("FILTER", "OVER"):
+        raise Outside
+    return Aggregate(function, column, is_distinct)

@@ -1,0 +1,217 @@
+"""Groups of rows, and the totals of each.
+
+Few groups are counted by statements of bw, one for each number that the columns may have, and their
+totals are asked likewise: so each is an answer of bw, and all must add up to those of all rows. The
+rows of many groups are listed by bw, and counted and added here (`counted`). Sums of floats and
+counts of distinct values of many are made of rows that bw listed, too."""
+from __future__ import annotations
+
+import math
+from collections import Counter
+from dataclasses import dataclass, field, replace
+from typing import Mapping, Optional, Sequence
+
+from ..kind import Column
+from ..session import Failed
+from ..shards import total
+from . import counted, values
+from .counted import Key
+from .engine import Engine, Totals
+from .exact import float_sum
+from .expressions import Aggregate
+from .rows import both, names_of, select
+
+# so many groups are counted by statements at most
+MOST_STATEMENTS = 400
+COUNT = "COUNT(*)"
+# the totals of bw that an aggregate needs
+NEEDED: Mapping[str, Sequence[str]] = {"COUNT": ("COUNT",), "SUM": ("SUM",), "MIN": ("MIN",),
+                                       "MAX": ("MAX",), "AVG": ("SUM", "COUNT")}
+# the totals of a group by their names, such as SUM(cents)
+Found = Mapping[str, "int | None"]
+
+
+@dataclass
+class Wanted:
+    """Which rows make groups, by which columns, and the aggregates of each group. Groups ascend,
+    nulls first, or have the order of their first rows."""
+
+    table: str
+    where: str
+    keys: Sequence[Column]
+    aggregates: Sequence[Aggregate] = ()
+    is_in_rows_order: bool = False
+    # the totals of bw that the aggregates need
+    totals: list[str] = field(init=False)
+
+    def __post_init__(self) -> None:
+        found = [f"{function}({each.column.name})" for each in self.aggregates
+                 if each.column and not each.is_distinct and not is_float_sum(each)
+                 for function in NEEDED[each.function]]
+        self.totals = list(dict.fromkeys([COUNT, *found]))
+
+    def select(self, items: str, where: str = "") -> str:
+        """Returns the statement of bw over these rows, of which those are wanted that fulfil a
+        condition."""
+        return select(items, self.table, both(self.where, where))
+
+
+@dataclass
+class Groups:
+    """Groups in order: the numbers of the columns that make them, and SQLite's values of each
+    aggregate for all groups."""
+
+    keys: Sequence[Key]
+    values: Sequence[Sequence[values.Value]]
+
+
+def groups_of(engine: Engine, wanted: Wanted) -> Groups:
+    """Returns the groups of rows."""
+    found = totals_of(engine, wanted)
+    keys = list(found) if wanted.is_in_rows_order else counted.ascending(found)
+    # of each column the doubles, or the number of its values, in each group
+    doubles: dict[str, Mapping[Key, Sequence[float]]] = {}
+    distinct: dict[str, Mapping[Key, int]] = {}
+    columns = list[Sequence[values.Value]]()
+    for each in wanted.aggregates:
+        if each.column and each.is_distinct:
+            if each.column.name not in distinct:
+                distinct[each.column.name] = distinct_of(engine, wanted, each.column)
+            columns.append([distinct[each.column.name].get(key, 0) for key in keys])
+        elif each.column and is_float_sum(each):
+            if each.column.name not in doubles:
+                doubles[each.column.name] = doubles_of(engine, wanted, each.column)
+            columns.append([float_total(each.function, doubles[each.column.name].get(key, ()))
+                            for key in keys])
+        else:
+            columns.append(values_of(each, [found[key] for key in keys]))
+    return Groups(keys, columns)
+
+
+def values_of(aggregate: Aggregate, found: Sequence[Found]) -> list[values.Value]:
+    """Returns the values of an aggregate for groups of these totals."""
+    column, function = aggregate.column, aggregate.function
+    if column is None:
+        return [each[COUNT] for each in found]
+    needed = [f"{each}({column.name})" for each in NEEDED[function]]
+    numbers = [each[needed[0]] for each in found]
+    if function == "COUNT":
+        return list(numbers)
+    if function == "AVG":
+        counts = [each[needed[1]] or 0 for each in found]
+        return [None if number is None else values.mean(column, number, count)
+                for number, count in zip(numbers, counts)]
+    present = [number for number in numbers if number is not None]
+    stored = iter([values.total(column, number) for number in present] if function == "SUM"
+                  else values.stored(column.kind, present))
+    return [None if number is None else next(stored) for number in numbers]
+
+
+def totals_of(engine: Engine, wanted: Wanted) -> Mapping[Key, Found]:
+    """Returns the totals of bw for each group, of which all have rows unless there is only one
+    group. Raises Failed if those don't add up to the totals of all rows."""
+    names = names_of_ends(wanted)
+    whole = dict(zip(names, engine.totals([wanted.select(", ".join(names))])[0]))
+    if not wanted.keys:
+        return {(): whole}
+    if not whole[COUNT]:
+        return {}
+    choices = choices_of(wanted, whole)
+    found = by_statements(engine, wanted, choices) if choices else by_rows(engine, wanted)
+    for name in wanted.totals:
+        if total(name.partition("(")[0], [each[name] for each in found.values()]) != whole[name]:
+            raise Failed(f"the groups' {name} don't add up to that of all rows, {whole[name]}")
+    return found
+
+
+def names_of_ends(wanted: Wanted) -> list[str]:
+    """Returns the totals that are asked of all rows: those that are wanted, and those that tell
+    which numbers the groups' columns may have."""
+    ends = [f"{function}({column.name})" for column in wanted.keys
+            for function in ("COUNT", "MIN", "MAX")]
+    return list(dict.fromkeys([*wanted.totals, *ends]))
+
+
+def choices_of(wanted: Wanted, whole: Found) -> list[list[int | None]]:
+    """Returns the numbers that each column may have among rows of which these are the totals; none
+    if the groups are many, or must be listed to have their order."""
+    found = list[list[Optional[int]]]()
+    for column in () if wanted.is_in_rows_order else wanted.keys:
+        least, greatest = (whole[f"{end}({column.name})"] for end in ("MIN", "MAX"))
+        numbers = range(0)
+        if least is not None and greatest is not None:
+            numbers = range(least, min(greatest, least + MOST_STATEMENTS) + 1)
+        has_null = whole[COUNT] != whole[f"COUNT({column.name})"]
+        found.append([*([None] if has_null else []), *numbers])
+    return found if math.prod(map(len, found)) <= MOST_STATEMENTS else []
+
+
+def by_statements(engine: Engine, wanted: Wanted,
+                  choices: Sequence[Sequence[int | None]]) -> dict[Key, Found]:
+    """Returns the totals of each group by statements of bw: first the count of each, column by
+    column, and then the totals of those that have rows."""
+    keys, counts = [()], list[Totals]()  # type: list[Key], list[Totals]
+    for column in choices:
+        tried = [(*key, number) for key in keys for number in column]
+        counts = engine.totals([wanted.select(COUNT, condition(wanted, key)) for key in tried])
+        keys = [key for key, (count,) in zip(tried, counts) if count]
+    if wanted.totals == [COUNT]:
+        return {key: {COUNT: count} for key, (count,) in zip(tried, counts) if count}
+    items = ", ".join(wanted.totals)
+    found = engine.totals([wanted.select(items, condition(wanted, key)) for key in keys])
+    return {key: dict(zip(wanted.totals, each)) for key, each in zip(keys, found)}
+
+
+def condition(wanted: Wanted, key: Key) -> str:
+    """Returns the condition of a group's rows, or of those of several whose numbers begin so."""
+    return " AND ".join(f"{column.name} IS NULL" if number is None else f"{column.name} = {number}"
+                        for column, number in zip(wanted.keys, key))
+
+
+def by_rows(engine: Engine, wanted: Wanted) -> Mapping[Key, Found]:
+    """Returns the totals of each group, counted here of rows that bw listed."""
+    named = {column.name: column for each in wanted.aggregates if (column := each.column)}
+    functions: dict[str, list[str]] = {}
+    for name in wanted.totals[1:]:
+        function, _, of = name[:-1].partition("(")
+        functions.setdefault(of, []).append(function)
+    columns = [*wanted.keys, *map(named.__getitem__, functions)]
+    parts = engine.rows(wanted.select(names_of(columns)))
+    if not functions:
+        return {key: {COUNT: count} for key, count in counted.counts(parts).items()}
+    return counted.totals(parts, len(wanted.keys), functions)
+
+
+def distinct_of(engine: Engine, wanted: Wanted, column: Column) -> Mapping[Key, int]:
+    """Returns how many numbers a column has in each group."""
+    finer = replace(wanted, keys=[*wanted.keys, column], aggregates=(), is_in_rows_order=False)
+    names = names_of_ends(finer)
+    whole = dict(zip(names, engine.totals([finer.select(", ".join(names))])[0]))
+    choices = choices_of(finer, whole)
+    if not choices:
+        parts = engine.rows(finer.select(names_of(finer.keys), f"{column.name} IS NOT NULL"))
+        return counted.distinct(parts)
+    found = by_statements(engine, finer, choices)
+    return Counter(key[:-1] for key in found if key[-1] is not None)
+
+
+def doubles_of(engine: Engine, wanted: Wanted, column: Column) -> Mapping[Key, Sequence[float]]:
+    """Returns the doubles of a column in each group, which bw lists."""
+    columns = [*wanted.keys, column]
+    parts = engine.rows(wanted.select(names_of(columns), f"{column.name} IS NOT NULL"))
+    return counted.doubles(parts, len(wanted.keys), column.kind)
+
+
+def is_float_sum(aggregate: Aggregate) -> bool:
+    """Returns whether an aggregate adds doubles, which bw doesn't."""
+    column = aggregate.column
+    return column is not None and not column.kind.is_summable and \
+        aggregate.function in ("SUM", "AVG")
+
+
+def float_total(function: str, doubles: Sequence[float]) -> float | None:
+    """Returns the sum or the mean of doubles, rounded once; None if there are none."""
+    if not doubles:
+        return None
+    found = float_sum(doubles)
+    return found if function == "SUM" else found / len(doubles)

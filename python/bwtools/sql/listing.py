@@ -1,0 +1,144 @@
+"""SQLite's tables of the columns that bw listed."""
+from __future__ import annotations
+
+import contextlib
+import itertools
+import sqlite3
+from typing import Any, Callable, Iterator, Sequence
+
+from ..kind import Column
+from ..session import Failed
+from .aggregates import Functions
+from .bodies import Numbers
+from .catalog import Catalog, Table
+from .engine import Engine
+from .reading import Guard, declare
+from .tokens import quoted_name
+from .values import affinity
+
+# after how many of SQLite's instructions an interrupt is noticed
+INSTRUCTIONS = 20_000
+ROWIDS = ("rowid", "oid", "_rowid_")
+FRESH = "bw:fresh"
+EACH_ROW = ("WITH RECURSIVE n(i) AS (SELECT 1 UNION ALL SELECT i + 1 FROM n WHERE i < ?) "
+            "INSERT INTO {0} ({1}) SELECT i FROM n")
+
+
+class Listing:
+    """A database in memory with the tables of a catalog: of each the columns that were listed, and
+    nulls in others. All rows are listed, or those of a condition of bw."""
+
+    def __init__(self, catalog: Catalog, condition: str = "") -> None:
+        self.condition = condition
+        self.database = sqlite3.connect(":memory:", isolation_level=None)
+        self.guard, self.functions = Guard(catalog), Functions(self.database)
+        self.database.set_authorizer(self.guard)
+        # a signal is handled in this function, and raises an exception, which interrupts SQLite
+        self.database.set_progress_handler(lambda: 0, INSTRUCTIONS)
+        declare(self.database, catalog)
+        # the columns of each table that are listed, by their names, and the number of its rows
+        self.listed = dict[str, set[str]]()
+        self.rows = dict[str, int]()
+
+    def close(self) -> None:
+        self.database.close()
+
+    def missing(self, table: Table, names: set[str]) -> list[Column]:
+        """Returns the columns among these names in lower case that aren't listed yet."""
+        listed = self.listed.get(table.name, set())
+        return [each for each in table.columns if each.name.lower() in names - listed]
+
+    def count(self, table: Table, engine: Engine) -> int:
+        """Returns the number of the table's rows, which bw counts."""
+        if table.name not in self.rows:
+            found, = engine.totals([f"SELECT COUNT(*) FROM {table.bw_name}{self.where()}"])
+            self.rows[table.name] = found[0] or 0
+        return self.rows[table.name]
+
+    def where(self) -> str:
+        return f" WHERE {self.condition}" if self.condition else ""
+
+    def add(self, table: Table, names: set[str], engine: Engine,
+            progress: Callable[[int], None]) -> None:
+        """Lists the columns of these names that aren't listed yet, all of them or none."""
+        columns, before = self.missing(table, names), self.listed.get(table.name)
+        if not columns and before is not None:
+            return
+        count = self.count(table, engine)
+        with self.transaction():
+            if columns:
+                target = FRESH if before else table.name
+                if before is not None and not before:
+                    # rows without columns were counted
+                    self.database.execute(f"DELETE FROM {quoted_name(table.name)}")
+                if before:
+                    self.create(FRESH, columns)
+                found = self.fill(target, table, columns, engine, progress)
+                if found != count:
+                    raise Failed(f"bw listed {found:,} rows of {table.name}, expected {count:,}")
+                if before:
+                    self.join(table, columns)
+            elif count:
+                sql = EACH_ROW.format(quoted_name(table.name), rowid_of(table.columns))
+                self.database.execute(sql, (count,))
+        self.listed[table.name] = (before or set()) | {each.name.lower() for each in columns}
+
+    @contextlib.contextmanager
+    def transaction(self) -> Iterator[None]:
+        """Undoes what isn't done to its end."""
+        self.database.execute("BEGIN")
+        try:
+            yield
+        except BaseException:
+            self.database.execute("ROLLBACK")
+            raise
+        self.database.execute("COMMIT")
+
+    def create(self, name: str, columns: Sequence[Column]) -> None:
+        typed = [f"{quoted_name(each.name)} {affinity(each.kind)}" for each in columns]
+        self.database.execute(f"CREATE TABLE {quoted_name(name)} ({', '.join(typed)})")
+
+    def fill(self, target: str, table: Table, columns: Sequence[Column], engine: Engine,
+             progress: Callable[[int], None]) -> int:
+        """Lists columns into a table of SQLite. Returns the number of rows."""
+        names = ", ".join(each.name for each in columns)
+        parts = engine.rows(f"SELECT {names} FROM {table.bw_name}{self.where()}")
+        count = 0
+
+        def rows() -> Iterator[tuple[Any, ...]]:
+            nonlocal count
+            for block in Numbers(parts).values([each.kind for each in columns]):
+                yield from zip(*block)
+                count += len(block[0])
+                progress(len(block[0]))
+
+        quoted = ", ".join(quoted_name(each.name) for each in columns)
+        marks = ", ".join("?" * len(columns))
+        try:
+            self.database.executemany(
+                f"INSERT INTO {quoted_name(target)} ({quoted}) VALUES ({marks})", rows())
+        finally:
+            for part in parts:
+                part.close()
+        return count
+
+    def join(self, table: Table, fresh: Sequence[Column]) -> None:
+        """Makes the table of its rows with the fresh columns beside those listed before."""
+        name, made, new = quoted_name(table.name), quoted_name("bw:made"), quoted_name(FRESH)
+        kept = [each for each in table.columns if each.name.lower() in self.listed[table.name]]
+        self.create("bw:made", table.columns)
+        into = ", ".join(quoted_name(each.name) for each in itertools.chain(kept, fresh))
+        items = ", ".join([*(f"a.{quoted_name(each.name)}" for each in kept),
+                           *(f"b.{quoted_name(each.name)}" for each in fresh)])
+        left, right = rowid_of(table.columns), rowid_of(fresh)
+        self.database.execute(f"INSERT INTO {made} ({into}) SELECT {items} FROM {name} a "
+                              f"JOIN {new} b ON b.{right} = a.{left} ORDER BY a.{left}")
+        self.database.execute(f"DROP TABLE {name}")
+        self.database.execute(f"DROP TABLE {new}")
+        self.database.execute(f"ALTER TABLE {made} RENAME TO {name}")
+
+
+def rowid_of(columns: Sequence[Column]) -> str:
+    """Returns the name of SQLite's row numbers that no column of a table has."""
+    taken = {each.name.lower() for each in columns}
+    return next((name for name in ROWIDS if name not in taken), "rowid")

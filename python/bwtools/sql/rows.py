@@ -1,0 +1,142 @@
+"""Rows of plain columns: listed by bw, then put in order and limited here, by their numbers."""
+from __future__ import annotations
+
+import itertools
+from dataclasses import dataclass
+from typing import BinaryIO, Iterator, Sequence
+
+from ..kind import Column
+from .bodies import Numbers
+from .condition import MOST_BYTES
+from .engine import Engine
+from .ordering import Limits
+from .predicates import Outside, placed
+
+NULL, HEADING, AT_ONCE = b"NULL", b"\n", 1 << 20
+# more rows than these aren't sorted here
+MOST_ROWS = 1_000_000
+# a limit is used to list fewer rows if there are so many
+MANY_ROWS = 100_000
+
+
+@dataclass
+class Key:
+    """A column by which rows are put in order."""
+
+    column: Column
+    is_descending: bool
+    are_nulls_first: bool
+
+
+@dataclass
+class Rows:
+    """Which rows are wanted, of which columns."""
+
+    table: str
+    columns: Sequence[Column]
+    where: str
+    keys: Sequence[Key]
+    limits: Limits
+
+    def body(self, engine: Engine) -> Numbers:
+        """Returns the rows."""
+        if self.limits.most == 0:
+            return Numbers([])
+        where = self.narrowed(engine) if self.keys else self.where
+        sorting = [key.column for key in self.keys]
+        parts = engine.rows(select(names_of([*self.columns, *sorting]), self.table, where))
+        if self.keys:
+            return Numbers([self.sorted(parts)])
+        if self.limits.most is None and not self.limits.offset:
+            return Numbers(parts)
+        return Numbers([limited(parts, self.limits)])
+
+    def narrowed(self, engine: Engine) -> str:
+        """Returns a condition on which all rows that are wanted are, and few others: if there is a
+        limit, counts tell how far the first column of the order goes. Raises Outside if the rows
+        are too many to be sorted."""
+        key, wanted, where = self.keys[0], self.limits.end, self.where
+        name = key.column.name
+        items = f"COUNT(*), COUNT({name}), MIN({name}), MAX({name})"
+        rows, present, least, greatest = engine.totals([select(items, self.table, where)])[0]
+        assert rows is not None and present is not None
+        if wanted is not None and rows >= MANY_ROWS and wanted <= rows // 2:
+            near, nulls = f"{name} IS NULL", rows - present
+            if key.are_nulls_first:
+                wanted -= nulls
+            if 0 < wanted <= present and least is not None and greatest is not None:
+                bound = self.bound(engine, wanted, least, greatest)
+                near = f"{bound} OR {near}" if key.are_nulls_first and nulls else bound
+            if wanted <= present:
+                where = both(where, near)
+                rows = self.count(engine, where)
+        if rows > MOST_ROWS:
+            raise Outside
+        return where
+
+    def bound(self, engine: Engine, wanted: int, least: int, greatest: int) -> str:
+        """Returns the narrowest bound of the first column within which so many rows are."""
+        key = self.keys[0]
+        turn, sign = (-1, ">=") if key.is_descending else (1, "<=")
+        low, high = sorted((turn * least, turn * greatest))
+        while low < high:
+            middle = (low + high) // 2
+            near = both(self.where, placed(key.column, sign, turn * middle, True))
+            is_enough = self.count(engine, near) >= wanted
+            low, high = (low, middle) if is_enough else (middle + 1, high)
+        return placed(key.column, sign, turn * high, True)
+
+    def count(self, engine: Engine, where: str) -> int:
+        """Returns how many rows fulfil a condition."""
+        return engine.totals([select("COUNT(*)", self.table, where)])[0][0] or 0
+
+    def sorted(self, parts: Sequence[BinaryIO]) -> bytes:
+        """Returns the rows of a result in order, within the limits, after an empty heading."""
+        fields = [line.rsplit(b",", len(self.keys)) for line in lines_of(parts)]
+        order: Sequence[int] = range(len(fields))
+        # a sort leaves the order of equal rows: so the first column's is the last
+        for place in reversed(range(len(self.keys))):
+            order = ordered(self.keys[place], order, [row[place + 1] for row in fields])
+        chosen = order[self.limits.offset:self.limits.end]
+        return HEADING + b"".join([fields[row][0] + b"\n" for row in chosen])
+
+
+def ordered(key: Key, order: Sequence[int], fields: Sequence[bytes]) -> list[int]:
+    """Returns rows in the order of a column, of which these are the fields."""
+    present = [row for row in order if fields[row] != NULL]
+    nulls = [row for row in order if fields[row] == NULL]
+    numbers = {row: int(fields[row]) for row in present}
+    present.sort(key=numbers.__getitem__, reverse=key.is_descending)
+    return [*nulls, *present] if key.are_nulls_first else [*present, *nulls]
+
+
+def limited(parts: Sequence[BinaryIO], limits: Limits) -> bytes:
+    """Returns the rows of a result within limits, after an empty heading."""
+    found = itertools.islice(lines_of(parts), limits.offset, limits.end)
+    return HEADING + b"".join([line + b"\n" for line in found])
+
+
+def lines_of(parts: Sequence[BinaryIO]) -> Iterator[bytes]:
+    """Yields the lines of a result after its heading, without their ends, a part at a time."""
+    for part in parts:
+        with part:
+            part.readline()
+            while block := part.read(AT_ONCE):
+                yield from (block + part.readline()).split(b"\n")[:-1]
+
+
+def names_of(columns: Sequence[Column]) -> str:
+    return ", ".join(column.name for column in columns)
+
+
+def both(one: str, other: str) -> str:
+    """Returns the conditions of both, of which either may be empty."""
+    return f"({one}) AND ({other})" if one and other else one or other
+
+
+def select(items: str, table: str, where: str) -> str:
+    """Returns a statement of bw. Raises Outside if it is too long for it."""
+    statement = f"SELECT {items} FROM {table}{f' WHERE {where}' if where else ''}"
+    if len(statement) > MOST_BYTES:
+        raise Outside
+    return statement

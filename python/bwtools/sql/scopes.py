@@ -1,0 +1,85 @@
+"""What names mean in a query: the columns of the tables and queries that it reads from."""
+from __future__ import annotations
+
+from dataclasses import dataclass, field
+from typing import Iterator, Sequence
+
+from ..kind import Column
+
+
+@dataclass
+class Output:
+    """A column of a table or of a query's result: its name, its heading, and the column of a table
+    whose values it has, or None for another expression. A total has a column of its own, which no
+    table has: its kind says what the total can be compared with."""
+
+    name: str
+    heading: str
+    column: Column | None
+    is_total: bool = False
+
+    @property
+    def plain(self) -> Column | None:
+        """The table's column of which it has values."""
+        return None if self.is_total else self.column
+
+
+def output_of(column: Column) -> Output:
+    """Returns the output that a table's column is."""
+    return Output(column.name, column.heading or column.name, column)
+
+
+@dataclass
+class Source:
+    """A table or a query that FROM names: the name by which columns are qualified, its columns, and
+    those among them, in lower case, that `*` leaves out since a source before has them."""
+
+    name: str
+    outputs: Sequence[Output]
+    merged: set[str] = field(default_factory=set)
+
+
+@dataclass
+class Scope:
+    """A SELECT: what it reads from, the columns of its result, those among them that have an alias,
+    and the SELECT around it."""
+
+    sources: list[Source]
+    outer: Scope | None
+    outputs: list[Output] = field(default_factory=list)
+    aliases: list[Output] = field(default_factory=list)
+
+    def each(self, qualifier: str) -> Iterator[Output]:
+        """Yields the columns of the sources of a name, or of all."""
+        for source in self.sources:
+            if not qualifier or source.name.lower() == qualifier.lower():
+                yield from source.outputs
+
+    def find(self, name: str, qualifier: str = "", is_heading: bool = False,
+             is_alias_first: bool = False) -> Output | None:
+        """Returns what a name means: the column that has it as its heading, if it may be one; or
+        else a column, an alias, or what it means in the SELECT around. None if it means nothing."""
+        if is_heading:
+            for output in self.headed(name, qualifier):
+                return output
+        aliases = [] if qualifier else self.aliases
+        columns = self.each(qualifier)
+        for outputs in (aliases, columns) if is_alias_first else (columns, aliases):
+            for output in outputs:
+                if output.name.lower() == name.lower():
+                    return output
+        return self.outer.find(name, qualifier, is_heading) if self.outer else None
+
+    def headed(self, heading: str, qualifier: str = "") -> list[Output]:
+        """Returns the columns of tables that have a heading and go by their own names."""
+        return [output for output in self.each(qualifier) if output.plain
+                and output.plain.heading == heading and output.name == output.plain.name]
+
+    def alias(self, name: str) -> Output | None:
+        """Returns the result's column that has this alias, or None."""
+        return next((each for each in self.aliases if each.name.lower() == name.lower()), None)
+
+    def names(self) -> list[str]:
+        """Returns all names of columns that mean something."""
+        found = [output.name for output in (*self.each(""), *self.aliases)]
+        return found + (self.outer.names() if self.outer else [])

@@ -1,0 +1,98 @@
+"""The tokens of a statement, by SQLite's lexical rules."""
+from __future__ import annotations
+
+import re
+from typing import NamedTuple
+
+from ..telling import Refused
+
+# the kinds of tokens
+WORD, QUOTED, TEXT, NUMBER, BLOB, PARAMETER, MARK, END = (
+    "word", "quoted", "text", "number", "blob", "parameter", "mark", "end")
+# a letter of a name: SQLite counts each character beyond ASCII as one
+LETTER = "A-Za-z_\u0080-\U0010ffff"
+NAME = f"[{LETTER}0-9$]"
+PATTERN = re.compile(rf"""(?P<gap>[ \t\n\f\r\ufeff]+|--[^\n]*|/\*(?:.*?\*/|.+\Z))
+    |(?P<blob>[xX]'(?:[0-9A-Fa-f]{{2}})*')
+    |(?P<number>(?:0[xX][0-9A-Fa-f]+|(?:[0-9]+(?:\.[0-9]*)?|\.[0-9]+)(?:[eE][+-]?[0-9]+)?)
+        (?!{NAME}))
+    |(?P<word>(?![xX]')[{LETTER}]{NAME}*)
+    |(?P<text>'(?:[^']|'')*')
+    |(?P<quoted>"(?:[^"]|"")*"|`(?:[^`]|``)*`|\[[^\]]*\])
+    |(?P<parameter>\?[0-9]*|[:@#]{NAME}+|\${NAME}+(?:::{NAME}*)*(?:\([^)\s]*\))?)
+    |(?P<mark>->>|->|\|\||<=|<>|<<|>=|>>|==|!=|[-()+*/%=<>|,&~.;])""", re.VERBOSE | re.DOTALL)
+
+# what looks like a number or a blob, and isn't one
+ODD = re.compile(rf"[0-9.]+{NAME}*|[xX]'[^']*'?")
+
+
+class Token(NamedTuple):
+    """A token: its kind, its text, and the place of its first character in the statement as it was
+    written, from 0 on."""
+
+    kind: str
+    text: str
+    start: int
+
+    @property
+    def name(self) -> str:
+        """The name that a word or a quoted word is, without its quotes; or an empty text."""
+        if self.kind == WORD:
+            return self.text
+        if self.kind != QUOTED:
+            return ""
+        quote, inner = self.text[0], self.text[1:-1]
+        return inner if quote == "[" else inner.replace(quote * 2, quote)
+
+    @property
+    def key(self) -> str:
+        """The word in upper case if it has no quotes, so that it may be a keyword; or an empty
+        text."""
+        return self.text.upper() if self.kind == WORD else ""
+
+    @property
+    def value(self) -> str:
+        """The text that a literal in single quotes stands for, or an empty text."""
+        return self.text[1:-1].replace("''", "'") if self.kind == TEXT else ""
+
+    def is_mark(self, *texts: str) -> bool:
+        """Returns whether it is one of these operators or signs."""
+        return self.kind == MARK and self.text in texts
+
+
+def text_literal(value: str) -> str:
+    """Returns the literal of a text."""
+    quoted = value.replace("'", "''")
+    return f"'{quoted}'"
+
+
+def quoted_name(name: str) -> str:
+    """Returns a name in quotes that SQLite never reads as a text, as it does with a word in double
+    quotes that it doesn't know."""
+    quoted = name.replace("`", "``")
+    return f"`{quoted}`"
+
+
+def tokens_of(sql: str) -> list[Token]:
+    """Returns the tokens of a statement without blanks and comments, the last of which is its end.
+    Raises Refused for what isn't a token of SQLite, with its place."""
+    tokens, at = list[Token](), 0
+    while at < len(sql):
+        found = PATTERN.match(sql, at)
+        if not found:
+            raise odd(sql, at)
+        kind = str(found.lastgroup)
+        if kind != "gap":
+            tokens.append(Token(kind, found.group(), at))
+        at = found.end()
+    tokens.append(Token(END, "", len(sql)))
+    return tokens
+
+
+def odd(sql: str, at: int) -> Refused:
+    """Returns the refusal of the characters at a place, where no token is."""
+    where = f"at character {at} of the statement"
+    if sql[at] in "'\"`[":
+        return Refused(f"the quote {sql[at]} {where} isn't closed")
+    found = ODD.match(sql, at)
+    return Refused(f"unexpected {found.group() if found else repr(sql[at])} {where}")

@@ -1,0 +1,196 @@
+"""Questions over real tables, asked in each way that serves them, and of sqlite3 over the same values."""
+import csv
+import datetime
+import fractions
+import io
+import math
+import pathlib
+import random
+import re
+import sqlite3
+import unittest
+
+import bwtools
+from bwtools.sql import grammar
+from bwtools.sql.statement import Statement
+
+from helping import Imported
+
+HERE = pathlib.Path(__file__).parent / "questions"
+STORMS = pathlib.Path(__file__).parents[2] / "examples" / "storms.csv"
+# what each column is to SQLite, by hand: its type, and how its fields are read
+INTEGER, REAL, TEXT = ("INTEGER", int), ("REAL", float), ("TEXT", str)
+TRUTH = ("INTEGER", {"false": 0, "true": 1}.__getitem__)
+GERMAN = ("TEXT", lambda field: datetime.datetime.strptime(field, "%d.%m.%Y").date().isoformat())
+TIME = ("TEXT", lambda field: field.replace("T", " "))
+CLOCK = ("TEXT", lambda field: f"{field}:00")
+COLUMNS = {
+    "storms": [(name, INTEGER) for name in STORMS.read_text().partition("\n")[0].split(",")],
+    "zones": [("codes", TEXT), ("latitude", REAL), ("longitude", REAL), ("zone", TEXT), ("comments", TEXT)],
+    "countries": [("code", TEXT), ("name", TEXT)],
+    "releases": [("distribution", TEXT), ("version", TEXT), ("codename", TEXT), ("series", TEXT), ("created", TEXT),
+                 ("release", TEXT), ("end_of_life", TEXT), ("lts", TRUTH)],
+    "visits": [("id", INTEGER), ("place", TEXT), ("day", GERMAN), ("arrived", TIME), ("open_at", CLOCK), ("fee", REAL),
+               ("rate", REAL), ("score", REAL), ("member", TRUTH), ("guests", INTEGER), ("code", TEXT)]}
+OPTIONS = {"releases": ["--text", "version"], "visits": ["--text", "code", "--date", "day=%d.%m.%Y"]}
+PLACES = ["Café \"Zur Post\"", "Bar, Grill", "two\nlines", "Ångström", "O'Neil", "straße", "Zoo", "zoo", "in  between", "100%", "a_b",
+          "日本", "x"]
+
+
+def visits():
+    """Returns the CSV of drawn visits."""
+    drawn = random.Random(77)
+    rows = []
+    for number in range(1, 701):
+        day = datetime.date(2023, 1, 1) + datetime.timedelta(drawn.randrange(500))
+        second = drawn.randrange(86400)
+        row = [drawn.choice(PLACES), f"{day:%d.%m.%Y}",
+               f"{day}T{second // 3600:02}:{second // 60 % 60:02}:{second % 60:02}",
+               f"{drawn.randrange(7, 12):02}:{drawn.choice((0, 15, 30)):02}", f"{drawn.randrange(-500, 20000) / 100:.2f}",
+               f"{drawn.randrange(3000) / 1000:.3f}", repr(drawn.choice([1e-7, 0.1, 2.5, 1e12, -3.75, drawn.random()])),
+               drawn.choice(["true", "false"]), drawn.randrange(-2, 9), f"{drawn.randrange(40):03}"]
+        rows.append([number, *("" if drawn.random() < 0.1 else field for field in row)])
+    out = io.StringIO()
+    csv.writer(out, lineterminator="\n").writerows([[name for name, _ in COLUMNS["visits"]], *rows])
+    return out.getvalue()
+
+
+def contents():
+    """Returns the CSV of each table."""
+    found = {name: (HERE / f"{name}.csv").read_text(encoding="utf-8") for name in ("zones", "countries", "releases")}
+    return {"storms": STORMS.read_text(), "visits": visits(), **found}
+
+
+class Exact:
+    """SUM and AVG of the reference: of the decimals that doubles are spelled as, rounded once."""
+
+    is_mean = False
+
+    def __init__(self):
+        self.values = []
+
+    def step(self, value):
+        if value is not None:
+            self.values.append(value)
+
+    def finalize(self):
+        if not self.values:
+            return None
+        total = sum(fractions.Fraction(repr(value)) for value in self.values)
+        if self.is_mean:
+            return float(total / len(self.values))
+        return int(total) if all(isinstance(value, int) for value in self.values) else float(total)
+
+
+class ExactMean(Exact):
+    is_mean = True
+
+
+def reference(tables, is_exact):
+    """Returns a database of these tables, which is made of their CSV without the package. Its own SUM and AVG can't be used
+    before OVER."""
+    database = sqlite3.connect(":memory:")
+    if is_exact:
+        database.create_aggregate("sum", 1, Exact)
+        database.create_aggregate("avg", 1, ExactMean)
+    for name, data in tables.items():
+        columns = COLUMNS[name]
+        rows = list(csv.reader(io.StringIO(data, newline="")))[1:]
+        database.execute(f"CREATE TABLE {name} ({', '.join(f'{column} {kind[0]}' for column, kind in columns)})")
+        values = [[None if field == "" else kind[1](field) for field, (_, kind) in zip(row, columns)] for row in rows]
+        database.executemany(f"INSERT INTO {name} VALUES ({', '.join('?' * len(columns))})", values)
+    return database
+
+
+def questions():
+    """Returns the questions of all files: where each is, what is asked, and what sqlite3 is asked."""
+    found = []
+    for path in sorted(HERE.glob("*.sql")):
+        line = 1
+        for paragraph in re.split(r"(\n{2,})", path.read_text(encoding="utf-8")):
+            if paragraph.strip():
+                instead = re.match("-- sqlite: (.*)\n", paragraph)
+                asked = paragraph[instead.end():] if instead else paragraph
+                found.append((f"{path.name}:{line}", asked, instead[1] if instead else asked))
+            line += paragraph.count("\n")
+    return found
+
+
+def is_same(found, wanted):
+    """Returns whether two values are equal: doubles within one unit in the last place."""
+    if isinstance(found, float) and isinstance(wanted, float) and math.isfinite(wanted):
+        return abs(found - wanted) <= math.ulp(wanted)
+    return type(found) is type(wanted) and found == wanted
+
+
+class Questions(Imported):
+    tables = {f"{name}.bw": (data, *OPTIONS.get(name, [])) for name, data in contents().items()}
+
+    @classmethod
+    def setUpClass(cls):
+        super().setUpClass()
+        cls.connection = bwtools.connect(*(cls.folder / name for name in cls.tables))
+        cls.addClassCleanup(cls.connection.close)
+        plain = {name.removesuffix(".bw"): words[0] for name, words in cls.tables.items()}
+        cls.exact, cls.plain = reference(plain, True), reference(plain, False)
+        cls.addClassCleanup(cls.exact.close)
+        cls.addClassCleanup(cls.plain.close)
+
+    def by(self, way, asked):
+        """Returns the rows of an answer by one of the ways, or None if it doesn't serve it."""
+        statement = Statement(asked, self.connection.catalog)
+        if way == 1:
+            answer = grammar.answer(statement, self.connection.engine)
+        else:
+            answer = self.connection.by_sqlite.answer(statement)
+        return answer and list(answer.rows())
+
+    def compare(self, found, wanted):
+        """Compares rows, in their order."""
+        self.assertEqual(len(found), len(wanted))
+        for place, rows in enumerate(zip(found, wanted)):
+            if len(rows[0]) != len(rows[1]) or not all(map(is_same, *rows)):
+                self.fail(f"row {place} is {rows[0]}, expected {rows[1]}")
+
+    def test_each_way_has_the_rows_of_sqlite(self):
+        counts = {1: 0, 2: 0}
+        for place, asked, instead in questions():
+            database = self.plain if re.search(r"\bover\b", instead, re.IGNORECASE) else self.exact
+            wanted = database.execute(instead).fetchall()
+            for way in counts:
+                with self.subTest(place, way=way, asked=asked):
+                    rows = self.by(way, asked)
+                    if rows is not None:
+                        counts[way] += 1
+                        self.compare(rows, wanted)
+        self.assertGreaterEqual(counts[1], 50)
+        self.assertGreaterEqual(counts[2], 80)
+
+    def test_questions_are_answered_again(self):
+        """The columns that were listed for one question serve the others."""
+        for place, asked, _ in questions():
+            with self.subTest(place):
+                rows = list(self.connection.answer(asked).rows())
+                self.assertEqual(list(self.connection.answer(asked).rows()), rows)
+
+    def test_fields_of_plain_columns_are_those_of_the_file(self):
+        for name, (data, *_) in self.tables.items():
+            with self.subTest(name):
+                records = list(csv.reader(io.StringIO(data, newline="")))
+                for way in (1, 2):
+                    statement = Statement(f"SELECT * FROM {name.removesuffix('.bw')}", self.connection.catalog)
+                    answer = grammar.answer(statement, self.connection.engine) if way == 1 else \
+                        self.connection.by_sqlite.answer(statement)
+                    self.assertEqual(answer.headings, records[0])
+                    rows = [list(row) for block in answer.fields() for row in zip(*block)]
+                    self.assertEqual([self.same_doubles(name, row) for row in rows],
+                                     [self.same_doubles(name, row) for row in records[1:]])
+
+    def same_doubles(self, name, row):
+        """Returns the fields of a row with floats in one spelling."""
+        place = 7 if name == "visits.bw" else None
+        return [repr(float(field)) if at == place and field else field for at, field in enumerate(row)]
+
+
+if __name__ == "__main__":
+    unittest.main()
