@@ -1,58 +1,137 @@
-"""The parts that the querying tools share: the statements on standard input, and the message for a
-statement that bw rejects."""
+"""Asks statements, one after another, and prints their answers."""
 from __future__ import annotations
 
 import argparse
-import io
 import os
+import shutil
 import sys
-from dataclasses import replace
-from typing import Callable
+import time
+from dataclasses import dataclass, replace
+from typing import Iterable, Iterator
 
-from . import command
-from .kind import Column
+from . import command, printing
 from .kinds import undressed
-from .statements import is_empty, statements_in
-from .telling import Refused
+from .session import Failed
+from .sql.answer import Answer
+from .sql.connection import Connection
+from .telling import Refused, counted
+
+WAYS = {1: "by statements of bw", 2: "by SQLite, over what bw listed"}
+# what ends a text that begins with these characters
+QUOTES = {"'": "'", '"': '"', "`": "`", "[": "]"}
 
 
-def answer_all(answer: Callable[[str, str], int]) -> int:
-    """Runs the statements on standard input one after another, up to the first one that fails.
-    Returns the status. `answer` gets a statement, and the text to write before its result. At a
-    terminal, a statement that fails doesn't end the run."""
-    count, lines = 0, io.TextIOWrapper(sys.stdin.buffer, encoding="utf-8",
-                                       newline="") if sys.stdin else ()
-    for statement in statements_in(lines):
-        if is_empty(statement):
-            continue
+@dataclass
+class Asking:
+    """How answers are printed: in which format; whether numbers lose their signs; whether it is
+    told which way served an answer; and whether a table is followed by the time that it took."""
+
+    connection: Connection
+    form: str
+    is_plain: bool = False
+    is_told: bool = False
+    is_timed: bool = False
+
+    def ask(self, sql: str) -> None:
+        """Runs a statement, and writes its answer to standard output. Raises Refused or Failed."""
+        begun = time.monotonic()
+        answer = self.connection.answer(sql)
+        if self.is_told:
+            tell(answer)
+        if self.is_plain:
+            kinds = [each and undressed(each) for each in answer.kinds]
+            answer = replace(answer, kinds=kinds)
+        width = shutil.get_terminal_size().columns if os.isatty(sys.stdout.fileno()) else None
+        count = printing.FORMATS[self.form](answer, sys.stdout, width)
+        took = f", {time.monotonic() - begun:.2f} s" if self.is_timed else ""
+        if self.form == "table" or took:
+            where = sys.stdout if self.form == "table" else sys.stderr
+            print(f"{counted(count, 'row')}{took}", file=where)
+        sys.stdout.flush()
+
+    def ask_all(self, lines: Iterable[str]) -> int:
+        """Runs the statements in these lines. Each answer is followed by an empty line; one that is
+        rejected has the empty line alone. Returns the status of the first one that failed."""
+        first = 0
+        for statement in statements_in(lines):
+            status = self.status_of(statement)
+            first = first or status
+            sys.stdout.write("\n")
+            sys.stdout.flush()
+        return first
+
+    def status_of(self, statement: str) -> int:
+        """Runs a statement. Returns its status, and prints why it failed."""
         try:
-            status, count = answer(statement, "\n" if count else ""), count + 1
+            self.ask(statement)
+            return 0
         except Refused as refused:
             print(f"{command.own_name()}: {refused}", file=sys.stderr)
-            status = 3
-        if status and not os.isatty(0):
-            return status
-    return 0
+            return 3
+        except Failed as failed:
+            return failed.report()
 
 
-def add_plain(parser: argparse.ArgumentParser) -> None:
-    """Adds the option for numbers without signs."""
+def tell(answer: Answer) -> None:
+    """Prints which way served an answer, and the statements that bw ran."""
+    print(f"{WAYS[answer.way]}:", file=sys.stderr)
+    for statement in answer.asked:
+        print(f"  {statement}", file=sys.stderr)
+
+
+def add_options(parser: argparse.ArgumentParser) -> None:
+    """Adds the options that say how answers are computed and printed."""
+    parser.add_argument("--format", choices=list(printing.FORMATS), dest="form",
+                        help="how answers are printed (default: table at a terminal, else csv)")
     parser.add_argument("--plain", action="store_true",
                         help="print numbers without the signs that they have in the file, such as "
                              "$ or the sign between thousands")
+    parser.add_argument("--show", action="store_true",
+                        help="print which way serves an answer, and the statements that bw runs, "
+                             "to standard error")
+    parser.add_argument("--stats", action="store_true",
+                        help="print bw's scan statistics to standard error")
+    parser.add_argument("--all", action="store_true",
+                        help="let SQLite compute over more than 4 million listed rows")
 
 
-def printed(given: argparse.Namespace, columns: list[Column]) -> list[Column]:
-    """Returns the columns as they are printed."""
-    if not given.plain:
-        return columns
-    return [replace(column, kind=undressed(column.kind)) for column in columns]
+def statements_in(lines: Iterable[str]) -> Iterator[str]:
+    """Yields the statements in these lines, each of which ends with a semicolon, an empty line or
+    the last line, but not within a text or a comment. Empty ones are left out."""
+    text, end, is_empty = "", "", True
+    for line in lines:
+        if not end and not line.strip():
+            if not is_empty:
+                yield text
+            text, is_empty = "", True
+            continue
+        at = 0
+        while at < len(line):
+            size, end, is_blank = piece(line, at, end)
+            text += line[at:at + size]
+            is_ended = not end and line[at:at + size] == ";"
+            is_empty = is_empty and (is_blank or is_ended)
+            at += size
+            if is_ended:
+                if not is_empty:
+                    yield text
+                text, is_empty = "", True
+    if not is_empty:
+        yield text
 
 
-def pass_on(told: str, turned: str) -> None:
-    """Prints what bw wrote to standard error for a translated statement."""
-    print(told, end="", file=sys.stderr)
-    # its errors in statements are those from 401 on
-    if told.startswith("bw: 4") and " at byte " in told:
-        print(f"{command.own_name()}: the byte is one of the translated statement: {turned}",
-              file=sys.stderr)
+def piece(line: str, at: int, end: str) -> tuple[int, str, bool]:
+    """Returns the size of the next piece of a line, what ends the text or comment in which it
+    leaves off, or nothing, and whether it is a blank or a part of a comment. `end` is what ends the
+    one in which it begins."""
+    if end:
+        place = line.find(end, at)
+        if place < 0:
+            return len(line) - at, end, end == "*/"
+        return place + len(end) - at, "", end == "*/"
+    if line.startswith("--", at):
+        return len(line) - at, "", True
+    if line.startswith("/*", at):
+        return 2, "*/", True
+    character = line[at]
+    return 1, QUOTES.get(character, ""), character.isspace()

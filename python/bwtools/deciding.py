@@ -3,6 +3,7 @@ once, with the options that decide it."""
 from __future__ import annotations
 
 import itertools
+import random
 from dataclasses import dataclass, field
 from typing import Iterable, Optional, Sequence
 
@@ -27,26 +28,41 @@ from .wishes import BLANKS
 
 # a column that is mostly of a kind, and has at most so many other words, is refused
 MOST_WORDS = 3
+# of more texts so many are drawn: if less than two fifths of these are like a judge's own, then
+# less than half of all are, but for a chance of one in a thousand million
+MANY, DRAWN = 1 << 14, 1000
 
 
 @dataclass
 class Opinion:
     """What one judge thinks of a column: how many of its distinct texts are like its own, for each
-    run a byte for each of its texts that says so, and the first others, of which there may be
-    more."""
+    run a byte for each of its texts that says so, and the first others, of which there may be more.
+    Runs of which few texts can be like its own are left."""
     judge: Judge
     likes: int = 0
-    flags: list[bytes] = field(default_factory=list)
+    flags: dict[int, bytes] = field(default_factory=dict)
     others: dict[str, None] = field(default_factory=dict)
+    left: set[int] = field(default_factory=set)
 
-    def add(self, texts: Sequence[str], bare: Sequence[str]) -> None:
+    def add(self, run: int, texts: Sequence[str], bare: Sequence[str]) -> None:
         """Adds the texts of a run, as Fields.each_run yields them."""
         known = set(self.judge.like(bare))
         self.likes += len(known)
-        self.flags.append(bytes(map(known.__contains__, texts)) if known else b"")
+        self.flags[run] = bytes(map(known.__contains__, texts)) if known else b""
         if len(self.others) <= MOST_WORDS and len(known) < len(bare):
             others = (text for text in bare if text not in known)
             self.others.update(dict.fromkeys(itertools.islice(others, MOST_WORDS + 1)))
+
+    def leaves(self, run: int, bare: Sequence[str], fields: Sequence[str]) -> bool:
+        """Returns whether a run is left, since less than half of its texts, and of its fields, are
+        like the judge's own: `fields` are some of them."""
+        drawn = random.Random(0).sample(bare, DRAWN)
+        known = set(self.judge.like(sorted({*drawn, *fields})))
+        if any(sum(map(known.__contains__, each)) * 5 >= len(each) * 2 for each in (drawn, fields)):
+            return False
+        self.left.add(run)
+        self.others.setdefault(next(text for text in drawn if text not in known))
+        return True
 
 
 class Court:
@@ -55,16 +71,26 @@ class Court:
     def __init__(self, column: Fields) -> None:
         self.column, wishes = column, column.wishes
         judges: Iterable[Judge] = (TruthJudge(), NumberJudge(), DateJudge(), ClockJudge())
+        is_asked = wishes.form is not None or wishes.is_number or wishes.digits is not None
         if wishes.form is not None:
             judges = (WantedJudge(wishes.form),)
-        elif wishes.is_number or wishes.digits is not None:
+        elif is_asked:
             judges = (NumberJudge(),)
         self.opinions = [] if wishes.is_text else list(map(Opinion, judges))
         self.count = 0
-        for texts, bare in column.each_run():
+        may_leave = not is_asked and not column.plain.forms
+        for run, (texts, bare) in enumerate(column.each_run()):
             self.count += len(bare)
+            drawn = column.drawn(run, texts, DRAWN) if may_leave and len(bare) > MANY else []
             for opinion in self.opinions:
-                opinion.add(texts, bare)
+                if not drawn or not opinion.leaves(run, bare, drawn):
+                    opinion.add(run, texts, bare)
+        # if other runs have some, all are counted
+        late = [opinion for opinion in self.opinions if opinion.left and opinion.likes]
+        for run, (texts, bare) in enumerate(column.each_run() if late else ()):
+            for opinion in late:
+                if run in opinion.left:
+                    opinion.add(run, texts, bare)
 
     def winner(self) -> Optional[Judge]:
         """Returns the first judge to whom all fields are like its own, if there are any."""

@@ -7,12 +7,15 @@ import contextlib
 import os
 import pathlib
 import sys
-from typing import BinaryIO
+from typing import BinaryIO, Sequence
 
 from . import command, inputs, options, pairs, placing, splitting, store
+from .importing_straight import Imported, import_straight
+from .kind import Column
 from .regular import open_regular
 from .shards import FILE, Folder, refuse_folder
 from .source import MOST_ROWS
+from .store import TableFile
 from .telling import Refused
 from .writing import Table, TooLong
 
@@ -46,8 +49,12 @@ def import_file(given: argparse.Namespace, out: str, is_folder: bool) -> None:
         raise Refused(f"{path} can't be overwritten: it is a folder")
     refuse_out(path)
     command.program()
-    with placing.new_folder(path) as room:
-        table = Table(given.csv, given, room, sys.maxsize)
+    with placing.new_folder(path) as room, inputs.open_input(given.csv) as file:
+        straight = import_straight(given, file, room, name, is_folder or os.path.isdir(path))
+        if straight:
+            put_straight(straight, room, name, path, is_folder)
+            return
+        table = Table(given.csv, given, room, sys.maxsize, file)
         told = ""
         if not is_folder and not os.path.isdir(path) and table.rows <= MOST_ROWS:
             told = load_one(table, room, name, path)
@@ -55,6 +62,19 @@ def import_file(given: argparse.Namespace, out: str, is_folder: bool) -> None:
             told = load_many(given, table, room, name, path)
     # last, since its reader may stop early, as head does
     table.report()
+    print(told)
+
+
+def put_straight(found: Imported, room: pathlib.Path, name: str, path: str,
+                 is_folder: bool) -> None:
+    """Moves what was loaded as it is to its place, and prints what an import reports."""
+    is_one = len(found.records) == 1 and not is_folder and not os.path.isdir(path)
+    if is_one:
+        told = put_one(room / "made" / found.records[0].file, found.columns, room, name, path)
+    else:
+        told = put_many(found.records, found.columns, room, name, path)
+    for line in found.report():
+        print(line)
     print(told)
 
 
@@ -83,7 +103,7 @@ def verify_sum(path: str, digest: str, file: BinaryIO) -> None:
 def load_one(table: Table, room: pathlib.Path, name: str, path: str) -> str:
     """Loads a table, and moves it and its columns file to their places. Returns what was done, or
     nothing if its numbers are too many bytes for one table."""
-    made, columns, schema = room / "table.bw", room / "columns", room / "schema"
+    made, schema = room / "table.bw", room / "schema"
     try:
         table.write(room / "numbers.csv")
     except TooLong:
@@ -91,19 +111,30 @@ def load_one(table: Table, room: pathlib.Path, name: str, path: str) -> str:
         return ""
     schema.write_text(table.schema(name), encoding="ascii")
     command.call(["load", schema, room / "numbers.csv", made])
+    return put_one(made, table.columns, room, name, path)
+
+
+def put_one(made: pathlib.Path, columns: Sequence[Column], room: pathlib.Path, name: str,
+            path: str) -> str:
+    """Moves a table file and its columns file to their places. Returns what was done."""
     record = pairs.record_of(made)
-    store.write(columns, table.columns, name, [record])
-    pairs.put_pair(room, made, columns, record.sha256, path)
+    store.write(room / "columns", columns, name, [record])
+    pairs.put_pair(room, made, room / "columns", record.sha256, path)
     return f"{path} is written, as table {name}, and {path}.columns"
 
 
 def load_many(given: argparse.Namespace, table: Table, room: pathlib.Path, name: str,
               path: str) -> str:
     """Loads a file as shards, and moves their folder to its place. Returns what was done."""
-    rows = splitting.rows_a_shard(table, given.shards, getattr(given, "rows", None))
+    rows = splitting.rows_a_shard(table.rows, given.shards, getattr(given, "rows", None))
     (room / "made").mkdir()
-    records = splitting.load_shards(table, room, name, rows)
-    store.write(room / "made" / FILE, table.columns, name, records)
+    return put_many(splitting.load_shards(table, room, name, rows), table.columns, room, name, path)
+
+
+def put_many(records: Sequence[TableFile], columns: Sequence[Column], room: pathlib.Path, name: str,
+             path: str) -> str:
+    """Moves a folder of shards to its place. Returns what was done."""
+    store.write(room / "made" / FILE, columns, name, records)
     placing.put_folder(room / "made", path, refuse_out)
     return splitting.told(path, name, records)
 

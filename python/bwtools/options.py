@@ -4,7 +4,7 @@ from __future__ import annotations
 import argparse
 from typing import Any, Sequence
 
-from .source import SEPARATORS
+from .text import SEPARATORS
 
 RAW = "the file to read, or - for standard input; gzip, bzip2 and xz are unpacked"
 
@@ -112,5 +112,8 @@ def parsed(parser: argparse.ArgumentParser, words: Sequence[str]) -> argparse.Na
     names = {f"\0{place}": name for place, name in enumerate(words[at + 1:])}
     given = parser.parse_intermixed_args([*words[:at], *names])
     for each, value in vars(given).items():
-        setattr(given, each, names.get(value, value) if isinstance(value, str) else value)
+        if isinstance(value, str):
+            setattr(given, each, names.get(value, value))
+        elif isinstance(value, list):
+            setattr(given, each, [names.get(part, part) for part in value])
     return given

@@ -52,8 +52,8 @@ class Outcome(NamedTuple):
 
 def parts_of(source: Source) -> int:
     """Returns how many processes read a file."""
-    return max(1,
-               min(processes.processors(), len(source.headings), source.marks()[0] // BYTES_A_PART))
+    size = source.text.marks()[0]
+    return max(1, min(processes.processors(), len(source.headings), size // BYTES_A_PART))
 
 
 def read_part(source: Source, columns: list[Gatherer], store: Store, part: int, step: int,
@@ -66,7 +66,7 @@ def read_part(source: Source, columns: list[Gatherer], store: Store, part: int, 
             for chunk in source.chunks():
                 for gatherer, fields in zip(columns[part::step], chunk.columns[part::step]):
                     gatherer.add(fields)
-                progress.add(chunk.count, source.file.tell())
+                progress.add(chunk.count, source.text.file.tell())
                 number += 1
                 if stops.are_before(number):
                     break
@@ -77,7 +77,7 @@ def read_part(source: Source, columns: list[Gatherer], store: Store, part: int, 
         fault = Fault(number, error)
     found = [(each.fields.runs, each.fields.plain, each.fields.places)
              for each in columns[part::step]]
-    return Outcome(found, store.size, source.count, source.empty, fault)
+    return Outcome(found, store.size, source.counts.rows, source.counts.empty, fault)
 
 
 def read(source: Source, wishes: list[Wishes], folder: pathlib.Path | None = None) -> list[Fields]:

@@ -6,23 +6,23 @@ from typing import Iterator, Sequence
 from .kind import Column
 from .kinds import undressed
 from .naming import option
-from .tallies import Tally
+from .tallies import Counts, Tally
 from .telling import counted, shown
 from .wishes import BLANKS, NULLS
 
 HEADINGS = ("COLUMN", "HEADING", "WHAT IT IS", "FROM", "TO", "NULLS", "NOTES")
 
 
-def report_lines(columns: Sequence[Column], tallies: Sequence[Tally]) -> Iterator[str]:
+def report_lines(columns: Sequence[Column], counts: Sequence[Counts],
+                 noted: Sequence[str]) -> Iterator[str]:
     """Yields a heading, and a line for each column, without the parts that none has."""
     lines: list[tuple[str, ...]] = [HEADINGS]
-    for column, tally in zip(columns, tallies):
+    for column, count_of, note in zip(columns, counts, noted):
         ends = [shown(end)[1:-1] for end in column.ends] or ["", ""]
         heading = "" if column.heading == column.name else shown(column.heading)
         nulls = ", ".join(f"{counted(count, 'null')} as {shown(word) if word else 'nothing'}"
-                          for word, count in tally.counts.nulls.items())
-        lines.append((column.name, heading, column.kind.told(), *ends, nulls,
-                      "; ".join(notes(column, tally))))
+                          for word, count in count_of.nulls.items())
+        lines.append((column.name, heading, column.kind.told(), *ends, nulls, note))
     widths = [max(len(line[place]) for line in lines) for place in range(len(lines[0]))]
     for line in lines:
         yield "  ".join(cell.ljust(width) for cell, width in zip(line, widths) if width).rstrip()

@@ -89,10 +89,16 @@ class Runs:
         return any(run.has_blanks for run in self.stored)
 
 
-def have_blanks(texts: Iterable[str]) -> bool:
-    """Returns whether a text has a blank or a tab at an end."""
-    return not (BLANKS.isdisjoint([text[-1:] for text in texts]) and
-                BLANKS.isdisjoint([text[:1] for text in texts]))
+def have_blanks(texts: Sequence[str]) -> bool:
+    """Returns whether one of some sorted texts has a blank or a tab at an end."""
+    for blank in BLANKS:
+        place = bisect.bisect_left(texts, blank)
+        if place < len(texts) and texts[place][0] == blank:
+            return True
+    # looking for the ends of lines is faster than looking at each text, of which one may have lines
+    joined = "\n".join(texts) + "\n"
+    return any(f"{blank}\n" in joined for blank in BLANKS) and \
+        not BLANKS.isdisjoint([text[-1:] for text in texts])
 
 
 class SortedRun:

@@ -6,7 +6,7 @@ import copy
 import itertools
 import os
 import pathlib
-from dataclasses import replace
+from dataclasses import dataclass, replace
 from typing import Iterator, Sequence, TextIO
 
 from . import command, pairs, processes
@@ -23,6 +23,14 @@ MANY_ROWS = 1_000_000
 MEMORY = 4
 
 
+@dataclass
+class Piece:
+    """The CSV file of a piece that is being written, and how many rows and bytes are in it."""
+    out: TextIO
+    size: int
+    rows: int = 0
+
+
 class Loads:
     """Consumes the lines of a CSV file of numbers, as a file does, and loads each piece of it as a
     table in a folder. The table files' names are those of a part of all pieces."""
@@ -31,9 +39,7 @@ class Loads:
                  part: int = 0) -> None:
         self.table, self.room, self.name = table, room, name
         self.most_rows, self.part = most_rows, part
-        # the current piece: its file, and how many rows and bytes are in it
-        self.out: TextIO | None = None
-        self.rows, self.size = 0, 0
+        self.piece: Piece | None = None
         self.records: list[TableFile] = []
 
     @property
@@ -44,59 +50,56 @@ class Loads:
         """Writes complete lines of numbers, one or more at a time."""
         at = 0
         while at < len(text):
-            end = self.end_of_fitting(text, at)
+            piece = self.piece = self.piece or self.begin()
+            end = self.end_of_fitting(piece, text, at)
             if end == at:
-                self.load()
+                self.load(piece)
                 continue
-            self.begin().write(text[at:end] if (at, end) != (0, len(text)) else text)
-            self.rows += text.count("\n", at, end)
-            self.size += end - at
+            piece.out.write(text[at:end] if (at, end) != (0, len(text)) else text)
+            piece.rows += text.count("\n", at, end)
+            piece.size += end - at
             at = end
 
-    def end_of_fitting(self, text: str, at: int) -> int:
-        """Returns the end of the lines that fit the current piece."""
-        room = MOST_BYTES - (self.size or len(self.table.heading()))
+    def end_of_fitting(self, piece: Piece, text: str, at: int) -> int:
+        """Returns the end of the lines that fit a piece."""
+        room = MOST_BYTES - piece.size
         end = len(text) if len(text) - at <= room else text.rfind("\n", at, at + room) + 1 or at
-        surplus = self.rows + text.count("\n", at, end) - self.most_rows
+        surplus = piece.rows + text.count("\n", at, end) - self.most_rows
         if surplus <= 0:
             return end
         end = at
-        for _ in range(self.most_rows - self.rows):
+        for _ in range(self.most_rows - piece.rows):
             end = text.index("\n", end) + 1
         return end
 
-    def begin(self) -> TextIO:
-        """Begins a piece, unless one has begun, and returns its file."""
-        if self.out is None:
-            self.out = open(self.csv, "w", encoding="ascii", newline="")
-            self.out.write(self.table.heading())
-            self.rows, self.size = 0, len(self.table.heading())
-        return self.out
+    def begin(self) -> Piece:
+        """Begins a piece."""
+        out = open(self.csv, "w", encoding="ascii", newline="")
+        out.write(self.table.heading())
+        return Piece(out, len(self.table.heading()))
 
-    def load(self) -> None:
-        """Loads the current piece."""
-        assert self.out is not None
-        self.out.close()
+    def load(self, piece: Piece) -> None:
+        """Loads a piece."""
+        piece.out.close()
         made = self.room / f"made-{self.part}-{len(self.records)}.bw"
         schema = self.room / f"schema-{self.part}"
         schema.write_text(self.table.schema(self.name), encoding="ascii")
         command.call(["load", schema, self.csv, made])
-        self.records.append(pairs.record_of(made, made.name, self.rows))
+        self.records.append(pairs.record_of(made, made.name, piece.rows))
         self.csv.unlink()
-        self.out, self.rows, self.size = None, 0, 0
+        self.piece = None
 
     def end(self) -> None:
         """Loads the rest; a file without rows is one shard too."""
-        if self.out is not None or not self.records and not self.part:
-            self.begin()
-            self.load()
+        if self.piece is not None or not self.records and not self.part:
+            self.load(self.piece or self.begin())
 
 
 def lines_between(table: Table, first: int, end: int) -> Iterator[str]:
     """Yields the lines of numbers of a range of rows, many at a time. What is counted of rows that
     were read together is counted with the first of them."""
     rows = 0
-    for chunk, count in enumerate(table.source.chunk_rows):
+    for chunk, count in enumerate(table.source.counts.chunks):
         before, rows = rows, rows + count
         if rows <= first or before >= end:
             continue
@@ -119,9 +122,10 @@ def recount(tally: Tally, counts: Counts) -> None:
     tally.may_have_null = tally.may_have_null or bool(nulls)
 
 
-def rows_a_shard(table: Table, wanted: str | None, most_rows: int | None) -> int:
-    """Returns how many rows a shard has, for a wanted number of shards, or the most rows of one."""
-    rows, least = table.rows, 1
+def rows_a_shard(rows: int, wanted: str | None, most_rows: int | None) -> int:
+    """Returns how many of all rows a shard has, for a wanted number of shards, or the most rows of
+    one."""
+    least = 1
     if most_rows is not None:
         return most_rows
     if wanted in (None, "auto"):
@@ -143,7 +147,7 @@ def load_shards(table: Table, room: pathlib.Path, name: str, most_rows: int) -> 
     """Loads all rows of a table, so many a shard, side by side. Returns the records of the table
     files in the folder `made`, in the order of rows."""
     shards = max(1, -(-table.rows // most_rows))
-    parts = processes_for(shards, table.source.marks()[0])
+    parts = processes_for(shards, table.source.text.marks()[0])
     ends = [min(table.rows, shards * part // parts * most_rows) for part in range(parts)]
     ends.append(table.rows)
 

@@ -24,7 +24,7 @@ from .regular import open_regular
 from .stored_list import StoredList
 from .telling import Refused, counted
 
-VERSION, APPLICATION, MAGIC = 2, 0x62776331, b"SQLite format 3\0"
+VERSION, APPLICATION, MAGIC = 3, 0x62776331, b"SQLite format 3\0"
 # the first bytes of a columns file of the versions before, which was JSON
 EARLIER = b'{"bw columns"'
 MOST_COLUMNS, MOST_TABLES, MOST_SETTINGS, MOST_NULLS, MOST_CODES = 64, 1 << 16, 16, 1 << 12, 1 << 32
@@ -41,9 +41,8 @@ FIXED = {
     "nulls": "CREATE TABLE nulls (place INTEGER NOT NULL, word TEXT NOT NULL)"}
 # of a column whose numbers are places in a list of texts, or of doubles
 LISTED = "CREATE TABLE values_{} (code INTEGER PRIMARY KEY, value {} NOT NULL)"
-ORDERED = "CREATE UNIQUE INDEX order_{0} ON values_{0} (value)"
 TYPES = {str: "TEXT", float: "REAL"}
-AT_ONCE, JSON_AT_ONCE = 10_000, 1000
+AT_ONCE, JSON_AT_ONCE = 10_000, 4000
 
 
 @dataclass
@@ -102,8 +101,8 @@ class Store:
         return found
 
     def refuse_schema(self) -> None:
-        """Rejects a file whose tables and indices aren't those of a columns file."""
-        most = len(FIXED) + 2 * MOST_COLUMNS
+        """Rejects a file whose tables aren't those of a columns file, or that has more."""
+        most = len(FIXED) + MOST_COLUMNS
         found = self.rows("SELECT type, name, tbl_name, sql FROM sqlite_master", most)
         listed = {name: sql for _, name, _, sql in found if name not in FIXED}
         wanted = {("table", name, name, sql) for name, sql in FIXED.items()}
@@ -112,7 +111,6 @@ class Store:
             for type_ in TYPES.values() if name in listed else ():
                 if listed[name] == LISTED.format(place, type_):
                     wanted.add(("table", name, name, listed[name]))
-                    wanted.add(("index", f"order_{place}", name, ORDERED.format(place)))
         if len(found) != len(wanted) or set(found) != wanted:
             raise self.foreign("its schema is another one")
         self.listed = {int(name[7:]): str if " TEXT " in sql else float
@@ -293,7 +291,6 @@ def write_list(database: sqlite3.Connection, place: int, listed: Iterable[Any]) 
         insert(database, f"values_{place}", count, part)
         count, last = count + len(part), part[-1:]
         part = list(itertools.islice(rest, AT_ONCE))
-    database.execute(ORDERED.format(place))
     return count
 
 

@@ -49,17 +49,22 @@ class StoredList:
         are equal."""
         if isinstance(value, str) and not is_unicode(value):
             raise Refused(f"{shown(value)} isn't text of Unicode")
-        found = list(self.rows("WHERE value <= ? ORDER BY value DESC LIMIT 1", (value,)))
-        code = found[0][0] if found else -1
-        if type(code) is not int or not -1 <= code < self.count:
-            raise self.broken("the order has a code that there isn't")
-        # the index was read: the list itself must agree
-        near = [each for each in (code, code + 1) if 0 <= each < self.count]
-        values: list[Any] = self.values(near)
-        is_so = [each <= value for each in values] == [each == code for each in near]
-        if not is_so or found and found[0][1] != values[0]:
-            raise self.broken("the order isn't that of the codes")
-        return code, bool(found) and bool(values[0] == value)
+        low, high, near = -1, self.count, list[Any]()
+        while high - low > 1:
+            code = (low + high) // 2
+            found = self.at(code)
+            # what was read on both sides must ascend with what is between
+            near = [each for each in near if each[0] in (low, high)] + [(code, found)]
+            self.check([each for _, each in sorted(near)])
+            low, high = (code, high) if found <= value else (low, code)
+        return low, (low, value) in near
+
+    def at(self, code: int) -> Any:
+        """Returns the value of one code, which there must be."""
+        found = [each for _, each in self.rows("WHERE code = ?", (code,))]
+        if not found:
+            raise self.broken("a code is missing")
+        return found[0]
 
     def values(self, codes: Sequence[int]) -> list[Any]:
         """Returns the values of codes. Raises IndexError for a code that there isn't."""

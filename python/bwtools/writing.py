@@ -7,7 +7,7 @@ import os
 import pathlib
 import shutil
 import sys
-from typing import Any, Iterator, NoReturn
+from typing import Any, BinaryIO, Iterator, NoReturn
 
 from . import processes
 from .deciding import decide, refuse_heading
@@ -15,7 +15,7 @@ from .kind import Column
 from .naming import names_of
 from .progress import Progress
 from .reading import read
-from .reporting import report_lines
+from .reporting import notes, report_lines
 from .source import MOST_ROWS, Source
 from .tallies import Counts, Tally
 from .telling import Refused, counted
@@ -36,9 +36,9 @@ class Table:
 
     def __init__(self, path: str | os.PathLike[str], given: argparse.Namespace,
                  folder: pathlib.Path | None = None,
-                 most_rows: int = MOST_ROWS) -> None:
-        self.source = Source(path, given, most_rows)
-        self.marks = self.source.marks()
+                 most_rows: int = MOST_ROWS, opened: BinaryIO | None = None) -> None:
+        self.source = Source(path, given, most_rows, opened)
+        self.marks = self.source.text.marks()
         headings = [heading.strip(BLANKS) for heading in self.source.headings]
         fields = read(self.source, wishes_of(given, headings, self.source.separator), folder)
         decisions = decide(self.source, fields)
@@ -54,7 +54,7 @@ class Table:
                                        texts.ends if texts else (), decision.why,
                                        decision.looks_like))
             self.tallies.append(Tally(column, decision, texts, null))
-        self.rows, self.count = self.source.count, len(fields[0].places)
+        self.rows, self.count = self.source.counts.rows, len(fields[0].places)
 
     def chunks(self, first: int = 0, end: int | None = None) -> Iterator[list[list[str]]]:
         """Yields the columns of what is written, many rows at a time: of all rows, or of a part of
@@ -135,7 +135,7 @@ class Table:
     def finish(self) -> None:
         """Rejects a file that has changed, and sets the nulls, the minimum and the maximum of each
         column."""
-        if self.rows != self.source.count or self.marks != self.source.marks():
+        if self.rows != self.source.counts.rows or self.marks != self.source.text.marks():
             self.refuse_changed()
         for column, tally in zip(self.columns, self.tallies):
             tally.counts.padded += tally.column.plain.padded if tally.texts is None else 0
@@ -150,9 +150,10 @@ class Table:
 
     def report(self) -> None:
         """Prints what was done with each column, one line each."""
-        for line in report_lines(self.columns, self.tallies):
+        noted = ["; ".join(notes(*each)) for each in zip(self.columns, self.tallies)]
+        for line in report_lines(self.columns, [tally.counts for tally in self.tallies], noted):
             print(line)
-        source = self.source
-        skipped = f"; {counted(source.empty, 'empty line')} skipped" if source.empty else ""
-        print(f"{counted(source.count, 'row')}, separated by {source.separator!r}, "
-              f"in {source.encoding.removesuffix('-sig')}{skipped}")
+        source, counts = self.source, self.source.counts
+        skipped = f"; {counted(counts.empty, 'empty line')} skipped" if counts.empty else ""
+        print(f"{counted(counts.rows, 'row')}, separated by {source.separator!r}, "
+              f"in {source.text.encoding.removesuffix('-sig')}{skipped}")

@@ -169,7 +169,8 @@ class Values(Listings):
 
     def test_sums_are_exact(self):
         for sql, wanted in [("sum(cents + 0), avg(cents + 0)", (14.65, 3.6625)), ("sum(cents) + 0, avg(cents)", (14.65, 3.6625)),
-                            ("sum(ratio), avg(id)", (10000000002.60000025, 3.0)), ("sum(id) FILTER (WHERE id > 3), avg(id) FILTER (WHERE id > 9)", (9, None)),
+                            ("sum(ratio), avg(id)", (10000000002.60000025, 3.0)),
+                            ("sum(id) FILTER (WHERE id > 3), avg(id) FILTER (WHERE id > 9)", (9, None)),
                             ("sum(DISTINCT cents), avg(DISTINCT flag)", (14.65, 0.5)), ("sum(ALL id), sum(id * 2), sum(id * 0.5)", (15, 30, 7.5)),
                             ("sum(flag), sum(NULL), sum(1), avg('1' + 1)", (2, None, 5, 2.0)), ("sum((SELECT max(cents) FROM trips))", (62.5,)),
                             ("sum(far), max(far)", (1e300, 1e300))]:

@@ -1,6 +1,7 @@
 """Messy files, and what they must give: never numbers, dates or times that are ordered as texts."""
 import unittest
 
+from helping import table_of
 from messy import Import
 
 # each file with the options, the kinds of its columns, its rows as they come back, and a part of
@@ -156,6 +157,16 @@ class Messy(unittest.TestCase):
                              ("a\nx\ny\n", ""), ("id\n18446744073709551615\n", "numbers")):
             with self.subTest(data):
                 self.assertEqual(Import(data).columns[0].looks_like, wanted)
+
+    def test_numbers_among_many_texts(self):
+        """So many texts that only some of them are looked at first: the fields count too."""
+        words = [f"w{place}" for place in range(17_000)]
+        for name, numbers, wanted in (("none", [], ""), ("few", range(7_000), ""),
+                                      ("one that is in most fields", [0] * 20_000, "numbers"),
+                                      ("most texts", range(20_000), "numbers")):
+            with self.subTest(name):
+                data = "\n".join(["a", *words, *map(str, numbers)]) + "\n"
+                self.assertEqual(table_of(data.encode()).columns[0].looks_like, wanted)
 
 
 if __name__ == "__main__":

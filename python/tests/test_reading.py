@@ -6,7 +6,7 @@ import time
 import unittest
 from unittest import mock
 
-from bwtools import processes, reading, source
+from bwtools import inputs, processes, reading
 from bwtools.telling import Refused
 
 from helping import described, table_of
@@ -79,7 +79,7 @@ class Reading(unittest.TestCase):
         with tempfile.TemporaryFile() as file:
             file.write(b"0123456789")
             file.flush()
-            one, two = source.Positioned(file), source.Positioned(file)
+            one, two = inputs.Positioned(file), inputs.Positioned(file)
             self.assertEqual([one.read(4), two.read(2), one.read(9), one.read(1)],
                              [b"0123", b"01", b"456789", b""])
             self.assertEqual([two.tell(), two.seek(-1, os.SEEK_END), two.read(5), two.seek(3)],

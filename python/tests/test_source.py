@@ -73,7 +73,7 @@ class Files(unittest.TestCase):
     def test_empty_lines_are_counted(self):
         found = source_of(b"\n\na,b\n\n1,2\n\n\n3,4\n")
         self.assertEqual([list(map(list, chunk.columns)) for chunk in found.chunks()], [[["1", "3"], ["2", "4"]]])
-        self.assertEqual((found.count, found.empty), (2, 5))
+        self.assertEqual((found.counts.rows, found.counts.empty), (2, 5))
 
     def test_excel_says_its_separator(self):
         self.assertEqual(columns_of(b"sep=;\r\na;b\r\n1,5;2\r\n"), [["1,5"], ["2"]])
@@ -186,7 +186,7 @@ class Forms(unittest.TestCase):
         found = source_of(b"a,b,c\n1,2\n1,2,3\n\n1\n", "--fill")
         self.assertEqual([list(map(list, chunk.columns)) for chunk in found.chunks()],
                          [[["1", "1", "1"], ["2", "2", ""], ["", "3", ""]]])
-        self.assertEqual((found.filled, found.empty), (2, 1))
+        self.assertEqual((found.counts.filled, found.counts.empty), (2, 1))
 
     def test_a_title_or_a_comment_is_recognised(self):
         for data, wanted in (

@@ -186,6 +186,11 @@ class Names(Statements):
         self.refused("SELECT 1 FROM tripz", "there is no table tripz: did you mean trips")
         self.refused("SELECT 1 FROM sqlite_master", "there is no table sqlite_master: there are stations, trips")
 
+    def test_tables_of_sqlite_are_never_read(self):
+        for name in ("sqlite_master", "SQLITE_SCHEMA", "pragma_table_info"):
+            with self.assertRaisesRegex(Refused, "there is no table"):
+                Statement(f"SELECT * FROM {name}", self.one)
+
     def test_only_table_may_have_any_name(self):
         self.assertEqual(Statement("SELECT x.id FROM x WHERE id > 5", self.one).sql(),
                          "SELECT x.id FROM  `trips` AS `x`  WHERE id > 5")
@@ -239,6 +244,7 @@ class Kept(Statements):
                                  ("VACUUM INTO 'x'", "found VACUUM"), ("EXPLAIN SELECT 1", "found EXPLAIN"), ("", "is empty"),
                                  (" -- nothing\n;", "is empty"), ("SELECT 1; SELECT 2", "a second statement begins at character 10"),
                                  ("SELECT (1", r"the bracket \( at character 7 of the statement isn't closed"),
+                                 ("SELECT " + "(" * 101 + "1" + ")" * 101, "is in more than 100 others"),
                                  ("SELECT 1)", r"the bracket \) at character 8 of the statement closes none")]:
             self.refused(written, message)
 

@@ -2,6 +2,7 @@
 from __future__ import annotations
 
 import bisect
+import random
 import re
 from dataclasses import dataclass
 from typing import Iterator, Optional, Protocol, Sequence, Union
@@ -42,6 +43,21 @@ class Fields:
             elif stored.words.keys() & words:
                 bare = [text for text in texts if text not in words]
             yield texts, bare
+
+    def drawn(self, run: int, texts: Sequence[str], count: int) -> list[str]:
+        """Returns about so many fields of a run, drawn at random, about as many from each place.
+        `texts` are those of the run, as `each_run` yields them."""
+        draw, kept = random.Random(0), list[int]()
+        places = [each for each in map(self.store.fields, self.places)
+                  if isinstance(each, Coded) and each.run == run]
+        for place in places:
+            values = values_of(place)
+            kept += draw.choices(values, k=count // len(places) + 1)
+        wanted = set(kept)
+        text_of = {code: text for code, text in zip(self.runs.order(run, self.store), texts)
+                   if code in wanted}
+        words = set(self.wishes.words)
+        return [text for text in map(text_of.__getitem__, kept) if text not in words]
 
     def count_code(self, run: int, code: int) -> int:
         """Returns how many fields have a code of a run."""

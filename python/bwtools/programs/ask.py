@@ -1,135 +1,131 @@
-"""Queries a table that bw-import wrote, in the terms of the original file.
+"""Answers questions in SQL about tables that bw-import wrote.
 
-    bw-ask trips.bw "SELECT city FROM trips WHERE day >= '2024-05-01'"
+    bw-ask trips.bw "SELECT city, COUNT(*) FROM trips GROUP BY city"
+    bw-ask trips.bw stations.bw "SELECT ... FROM trips JOIN stations ..."
     bw-ask trips.bw < statements.sql
+    bw-ask trips.bw
 
-Without a statement, those on standard input are run one after another, with an
-empty line between their results. Each ends with a semicolon, an empty line or
-the end of the input. The first rejected one ends the run, unless it is typed
-at a terminal. All results are of the same rows.
+The last word is the statement, unless it names a file or a folder, or is
+NAME=FILE. A table has the name of its file or folder, or NAME; a statement
+over one table may call it by any name, if it has no join and no WITH.
 
-The language is that of bw. A literal is a text in single quotes, such as
-'Boston', '2024-05-01' or '2024-05-01 12:30:00', a number, such as -7 or 12.50,
-or TRUE or FALSE. Name a column by its name, or by its heading in double
-quotes, and the table by any name. Texts are ordered by code points: 'Z' is
-less than 'a'. Literals that no row has are compared correctly: `< 12.505` on
-hundredths, or `< 'Bosto'`. A date that is compared with a time is its
-midnight; a literal with an offset is converted to UTC if the column is in UTC.
-Two columns can be compared if equal numbers have the same meaning. A column of
-true and false can be a condition by itself. A column of texts of which most
-look like numbers or dates has no order, unless it was imported by --text.
+Any SELECT of SQLite is answered. What bw can answer is asked of bw, by proved
+scans: rows, totals, groups. The rest SQLite computes over the columns that bw
+lists for it. --show tells which way an answer was found. docs/SQL.md has the
+grammar of the first way, and where answers differ from SQLite's: a literal
+must be of its column's kind, and sums are exact.
+
+A column is named by its name, or by its heading in double quotes. A literal
+is a text in single quotes, such as 'Boston', '2024-05-01' or
+'2024-05-01 12:30:00', a number, such as -7 or 12.50, or TRUE or FALSE. Texts
+are ordered by code points. A column of texts of which most look like numbers
+or dates has no order, unless it was imported by --text.
+
+Without a statement, those on standard input are run one after another; each
+ends with a semicolon, an empty line or the end of the input. Each answer is
+followed by an empty line and flushed; a rejected statement has the empty line
+alone, and doesn't end the run. The status is that of the first rejected one.
+At a terminal there is a prompt; type .help there.
 
 TABLE.columns beside the table says what its numbers mean. If it belongs to
-another table, for example after bw load has replaced TABLE, nothing is
-queried. bw is the program of the environment variable BW, else `bw` on the
-PATH, else the one that this program came with; its errors and its status are
-passed on. A statement that can't be translated is rejected with status 3."""
+another table, for example after bw load has replaced TABLE, nothing is asked.
+All answers are of the rows that were there at the beginning. bw is the
+program of the environment variable BW, else `bw` on the PATH, else the one
+that this program came with."""
 from __future__ import annotations
 
 import argparse
 import io
 import os
-import subprocess
 import sys
-from typing import BinaryIO, TextIO
+from typing import Iterable, Sequence
 
-from .. import answers, asking, asking_shards, command, options, pairs, statements
-from ..kind import Column
-from ..progress import Progress
-from ..session import Failed, Session
-from ..store import Store
+from .. import asking, command, options
+from ..naming import is_name
+from ..session import Failed
+from ..sql.catalog import name_of, open_catalog
+from ..sql.connection import Connection, Settings
+from ..telling import Refused
 
 NAME = "bw-ask"
+Named = Sequence["tuple[str, str]"]
 
 
-def turned_of(given: argparse.Namespace, store: Store, statement: str) -> str:
-    """Returns the translated statement, and prints it if --show is given."""
-    turned = statements.turned(statement, store.columns, store.name)
-    if given.show:
-        print(turned, file=sys.stderr)
-    return turned
+def table_of(word: str) -> tuple[str, str] | None:
+    """Returns the name and the path of a table that a word names, or None."""
+    name, sign, path = word.partition("=")
+    if sign and is_name(name) and not os.path.lexists(word):
+        return name, path
+    return (name_of(word), word) if os.path.lexists(word) or looks_like_path(word) else None
 
 
-def write_answer(columns: list[Column], answer: TextIO, before: str = "") -> None:
-    """Writes `before`, then a result of bw in the original file's terms."""
-    sys.stdout.write(before)
-    with Progress("answered", not os.isatty(1)) as progress:
-        answers.turn_back(columns, answer, sys.stdout, progress)
+def looks_like_path(word: str) -> bool:
+    """Returns whether a word is rather a file that isn't there than a statement."""
+    return bool(word) and not any(each.isspace() for each in word) and \
+        (word.endswith(".bw") or os.sep in word)
 
 
-def ask(given: argparse.Namespace, store: Store, table: BinaryIO) -> int:
-    """Runs a statement on an open table file. Returns the status."""
-    turned = turned_of(given, store, given.statement)
-    # bw reads the file that was compared, even if its path has another one by now
-    words = [command.program(), "query", *options_of(given), f"/dev/fd/{table.fileno()}", turned]
-    with subprocess.Popen(words, stdin=subprocess.DEVNULL, stdout=subprocess.PIPE,
-                          stderr=subprocess.PIPE, pass_fds=[table.fileno()]) as asked:
-        assert asked.stderr
-        assert isinstance(asked.stdout, io.BufferedReader)
-        buffer = asked.stdout
-        # standard error gets only a short line, so standard output can be read to its end first
-        if buffer.peek(1):
-            write_answer(asking.printed(given, store.columns),
-                         io.TextIOWrapper(buffer, encoding="utf-8", newline=""))
-        told = asked.stderr.read().decode("utf-8", "replace")
-    sys.stdout.flush()
-    asking.pass_on(told, turned)
-    return asked.returncode
+def split(words: Sequence[str]) -> tuple[list[tuple[str, str]], str | None]:
+    """Returns the tables that the words of the command line name, and the statement, if the last
+    word is one."""
+    statement = None if table_of(words[-1]) else words[-1]
+    names = words if statement is None else words[:-1]
+    if not names:
+        raise Refused(f"there is no file {words[-1]}: expected a table that bw-import wrote")
+    return [table_of(word) or (name_of(word), word) for word in names], statement
 
 
-def ask_next(given: argparse.Namespace, store: Store, session: Session, statement: str,
-             before: str) -> int:
-    """Writes `before`, then the result of a statement by a session. Returns 0, or 3 if it is
-    rejected."""
-    turned = turned_of(given, store, statement)
-    answer = session.ask(turned)
-    if answer:
-        write_answer(asking.printed(given, store.columns), answer, before)
-    told = session.told()
-    sys.stdout.flush()
-    asking.pass_on(told, turned)
-    return 0 if answer else 3
+def settings_of(given: argparse.Namespace, scheduler: str | None = None) -> Settings:
+    """Returns how a connection asks."""
+    return Settings(scheduler, ["--stats"] if given.stats else [], tell, given.all, True)
 
 
-def ask_all(given: argparse.Namespace, store: Store, table: BinaryIO) -> int:
-    """Runs the statements on standard input on an open table file. Returns the status."""
-    try:
-        with Session(table, options_of(given)) as session:
-            status = asking.answer_all(lambda statement, before:
-                                       ask_next(given, store, session, statement, before))
-            # if bw rejected the statement, it ended with that status
-            ended = session.end()
-        return status and (ended or status)
-    except Failed as failed:
-        sys.stdout.flush()
-        return failed.report()
+def tell(told: str) -> None:
+    """Passes on what bw prints beside an answer."""
+    if told:
+        print(told.rstrip("\n"), file=sys.stderr)
 
 
-def options_of(given: argparse.Namespace) -> list[str]:
-    return ["--stats"] if given.stats else []
+def ask(given: argparse.Namespace, tables: Iterable[tuple[str, str]], statement: str | None,
+        scheduler: str | None = None) -> int:
+    """Runs a statement, or those on standard input. Returns the status."""
+    is_terminal = os.isatty(sys.stdout.fileno())
+    form = given.form or ("table" if is_terminal else "csv")
+    catalog = open_catalog(tables, scheduler is None)
+    with Connection(catalog, settings_of(given, scheduler)) as connection:
+        asked = asking.Asking(connection, form, given.plain, given.show,
+                              is_terminal and form == "table")
+        if statement is not None:
+            try:
+                asked.ask(statement)
+                return 0
+            except Failed as failed:
+                sys.stdout.flush()
+                return failed.report()
+        if sys.stdin and os.isatty(sys.stdin.fileno()) and is_terminal:
+            from ..prompt import Prompt
+            return Prompt(asked).run()
+        lines: Iterable[str] = io.TextIOWrapper(sys.stdin.buffer, encoding="utf-8",
+                                                newline="") if sys.stdin else ()
+        return asked.ask_all(lines)
 
 
 def work(given: argparse.Namespace) -> int:
     command.write_utf8()
-    if os.path.isdir(given.table):
-        return asking_shards.ask_folder(given, given.table, 0, None)
-    with pairs.open_pair(given.table) as pair:
-        return (ask_all if given.statement is None else ask)(given, pair.store, pair.file)
+    tables, statement = split(given.words)
+    return ask(given, tables, statement)
 
 
 def parser_of() -> argparse.ArgumentParser:
     """Returns the parser of the command line."""
     parser = argparse.ArgumentParser(prog=NAME, description=__doc__,
-                                     formatter_class=argparse.RawDescriptionHelpFormatter)
-    parser.add_argument("--stats", action="store_true",
-                        help="print scan statistics to standard error")
-    asking.add_plain(parser)
-    parser.add_argument("--show", action="store_true",
-                        help="print the translated statement to standard error")
-    parser.add_argument("table", metavar="TABLE.bw",
-                        help="the table file, or the folder of shards, that bw-import wrote")
-    parser.add_argument("statement", metavar="SQL", nargs="?",
-                        help="the statement (default: statements from standard input)")
+                                     formatter_class=argparse.RawDescriptionHelpFormatter,
+                                     usage=f"{NAME} [OPTIONS] TABLE.bw... [SQL]")
+    asking.add_options(parser)
+    parser.add_argument("words", metavar="TABLE.bw... [SQL]", nargs="+",
+                        help="table files, or folders of shards, that bw-import wrote, each also "
+                             "as NAME=FILE; then the statement (default: statements from standard "
+                             "input)")
     return parser
 
 

@@ -10,31 +10,29 @@ one columns file, which names them by size, time and SHA-256. Several processes
 load the shards. The folder is written at the end, or not at all. If FOLDER
 exists, it must be one of shards; it is then replaced.
 
-`ask` has the options of bw-ask, which takes FOLDER too. Rows are in the file's
-order, and COUNT, SUM, MIN and MAX are those of all rows. Nothing is printed
-before all shards are done. If one is missing, has changed, or is rejected by
-bw, the whole query fails.
+`ask` has the options of bw-ask, which takes FOLDER too: rows are in the file's
+order, and counts, sums and groups are those of all rows. If a shard is
+missing, has changed, or is rejected by bw, the whole query fails.
 
-Dask's distributed scheduler runs shards side by side: on workers of this
-machine, or on those of --scheduler, which must have FOLDER at the same path.
-If a worker dies, its shard is run again. Without Dask they run one after
-another, as with --workers 0, which is faster if the shards take less time than
-starting workers. The process that queries a shard keeps its result in
-memory."""
+A session of bw for each shard answers side by side. With --scheduler, the
+workers of Dask's distributed scheduler query the shards; they must have FOLDER
+at the same path. If a worker dies, its shard is run again."""
 from __future__ import annotations
 
 import argparse
 import sys
 from typing import Callable
 
-from .. import asking, asking_shards, command, importing, options
+from .. import asking, command, importing, options
+from ..sql.catalog import name_of
+from . import ask
 
 NAME = "bw-shards"
 
 
 def work_ask(given: argparse.Namespace) -> int:
     command.write_utf8()
-    return asking_shards.ask_folder(given, given.folder, given.workers, given.scheduler)
+    return ask.ask(given, [(name_of(given.folder), given.folder)], given.statement, given.scheduler)
 
 
 def work_load(given: argparse.Namespace) -> None:
@@ -75,17 +73,11 @@ def ask_parser() -> argparse.ArgumentParser:
     parser.add_argument("folder", metavar="FOLDER", help="the folder that load wrote")
     parser.add_argument("statement", metavar="SQL", nargs="?",
                         help="the statement (default: statements from standard input)")
-    parser.add_argument("--workers", metavar="N", type=options.number_of,
-                        help="the number of workers of this machine (default: one for each "
-                             "processor); 0 queries one shard after another")
     parser.add_argument("--scheduler", metavar="ADDRESS",
                         help="a Dask scheduler whose workers query the shards, such as "
-                             "tcp://127.0.0.1:8786")
-    asking.add_plain(parser)
-    parser.add_argument("--stats", action="store_true",
-                        help="print scan statistics of each shard to standard error")
-    parser.add_argument("--show", action="store_true",
-                        help="print the translated statement to standard error")
+                             "tcp://127.0.0.1:8786 (default: a session of bw for each shard, side "
+                             "by side)")
+    asking.add_options(parser)
     return parser
 
 

@@ -96,7 +96,7 @@ class Numbers:
 def spelled(kind: Kind | None, values: Sequence[Value]) -> list[str]:
     """Returns the fields of values."""
     if kind is None:
-        return [field(None, value) for value in values]
+        return [value if type(value) is str else field(None, value) for value in values]
     known = {value: field(kind, value) for value in set(values)}
     return list(map(known.__getitem__, values))
 

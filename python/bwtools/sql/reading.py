@@ -7,13 +7,12 @@ from typing import Any, Iterable, Iterator, Sequence
 from ..telling import Refused
 from .catalog import Catalog, missing
 from .statement import Statement
+from .structure import HIDDEN
 from .tokens import quoted_name
 from .values import affinity
 
 # actions of SQLite that Python's module doesn't name
 RECURSIVE = 33
-# how the names of SQLite's own tables begin
-HIDDEN = ("sqlite_", "pragma_")
 # SQLite's functions without those of files and extensions, and ours
 FUNCTIONS = set(
     "abs char coalesce concat concat_ws format glob hex if ifnull iif instr length like "

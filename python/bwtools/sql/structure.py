@@ -13,6 +13,8 @@ from .catalog import Catalog, Table, missing
 from .scopes import Output, Scope, Source, output_of
 from .tokens import QUOTED, TEXT, WORD
 
+# how the names of SQLite's own tables begin
+HIDDEN = ("sqlite_", "pragma_")
 CLAUSES = ("FROM", "WHERE", "GROUP", "HAVING", "WINDOW", "ORDER", "LIMIT")
 COMPOUND, QUERY = ("UNION", "INTERSECT", "EXCEPT"), ("SELECT", "WITH", "VALUES")
 TOTALS: dict[str, Kind] = {"COUNT": Whole(), "SUM": Floats(0), "AVG": Floats(0),
@@ -260,7 +262,7 @@ class Structure:
         elif name.lower() in ctes:
             return self.alias(at + 1, end, name, ctes[name.lower()], scope, is_natural)
         table = self.catalog.get(name) or self.catalog.only
-        if table is None:
+        if table is None or name.lower().startswith(HIDDEN):
             raise missing("table", name, self.catalog.names())
         self.tables[place] = table
         after = self.alias(place + 1, end, name, list(map(output_of, table.columns)), scope,

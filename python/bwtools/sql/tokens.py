@@ -4,15 +4,16 @@ from __future__ import annotations
 import re
 from typing import NamedTuple
 
+from ..stored_list import is_unicode
 from ..telling import Refused
 
 # the kinds of tokens
 WORD, QUOTED, TEXT, NUMBER, BLOB, PARAMETER, MARK, END = (
     "word", "quoted", "text", "number", "blob", "parameter", "mark", "end")
-# a letter of a name, and another of its characters: SQLite counts each one beyond ASCII as a letter.
-# Sets of what they aren't are compiled much faster
+# a letter of a name, and a character after it: SQLite counts each one beyond ASCII as a letter. As
+# what they aren't, these are fast to compile
 LETTER = r"[^\x00-@\[-^`{-\x7f]"
-NAME = r"[^\x00-\x23%-/:-@\[-^`{-\x7f]"
+NAME = r"[^\x00-#%-/:-@\[-^`{-\x7f]"
 PATTERN = re.compile(rf"""(?P<gap>[ \t\n\f\r\ufeff]+|--[^\n]*|/\*(?:.*?\*/|.+\Z))
     |(?P<blob>[xX]'(?:[0-9A-Fa-f]{{2}})*')
     |(?P<number>(?:0[xX][0-9A-Fa-f]+|(?:[0-9]+(?:\.[0-9]*)?|\.[0-9]+)(?:[eE][+-]?[0-9]+)?)
@@ -79,6 +80,8 @@ def quoted_name(name: str) -> str:
 def tokens_of(sql: str) -> list[Token]:
     """Returns the tokens of a statement without blanks and comments, the last of which is its end.
     Raises Refused for what isn't a token of SQLite, with its place."""
+    if "\0" in sql or not is_unicode(sql):
+        raise Refused("the statement has a character that isn't text")
     tokens, at = list[Token](), 0
     while at < len(sql):
         found = PATTERN.match(sql, at)
