@@ -243,7 +243,7 @@ LEFT = [
     "SELECT a.n FROM t a, t b", "SELECT n FROM t JOIN t b USING (n)", "SELECT DISTINCT 1 FROM t",
     "SELECT n FROM (SELECT n FROM t)", "SELECT (SELECT MAX(n) FROM t) FROM t",
     "SELECT n FROM t LIMIT 1 + 1", "SELECT n FROM t LIMIT 2.5", "SELECT random() FROM t GROUP BY n",
-    "SELECT n FROM t HAVING n > 1", "SELECT n FROM t GROUP BY n HAVING city = 'Zug'",
+    "SELECT n FROM t HAVING n > 1", "SELECT DISTINCT n FROM t HAVING n > 1", "SELECT n FROM t GROUP BY n HAVING city = 'Zug'",
     "SELECT * FROM t GROUP BY city", "SELECT COUNT(*) * FROM t", "SELECT COUNT(*) COUNT(*) FROM t",
     "SELECT n AS x FROM t WHERE x = 1", "SELECT SUM(n) s, s + 1 FROM t", "SELECT n, FROM t",
     "SELECT DISTINCT city, SUM(n) FROM t", "SELECT COUNT(*) `bw:0` FROM t", "SELECT ALL n FROM t",

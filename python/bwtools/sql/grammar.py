@@ -20,17 +20,16 @@ import sqlite3
 from dataclasses import dataclass
 from typing import Callable, Iterator, Sequence
 
-from ..kind import Column, Kind
+from ..kind import Column
 from ..telling import Refused
 from . import bodies, values
 from .answer import Answer
 from .catalog import Table
 from .clauses import Clauses, clauses_of
 from .condition import Condition
-from .counted import NULL_NUMBER
 from .engine import Engine
 from .expressions import AGGREGATES, PREFIX, Expressions, reader_of
-from .groups import Groups, Wanted, groups_of
+from .groups import Groups, Wanted, groups_of, stored_of
 from .ordering import Limits, Term, limits_of, terms_of
 from .predicates import Outside
 from .rows import Key, Rows
@@ -167,7 +166,8 @@ class GroupsQuestion:
         self.sql = self.select()
         self.is_in_rows_order = has_free_keys and not self.is_ordered
         has_aggregates = bool(self.expressions.aggregates)
-        if not clauses.span("GROUP") and has_aggregates == bool(self.expressions.keys):
+        if not clauses.span("GROUP") and (has_aggregates == bool(self.expressions.keys) or
+                                          clauses.span("HAVING") and not has_aggregates):
             # an aggregate makes one group of all rows, HAVING needs one, and DISTINCT columns
             raise Outside
         with self.groups(Groups([[] for _ in self.expressions.keys],
@@ -253,7 +253,7 @@ class GroupsQuestion:
         database = sqlite3.connect(":memory:", isolation_level=None)
         try:
             database.execute(f"CREATE TABLE {GROUPS} ({', '.join(types)})")
-            stored = [values_of(column.kind, numbers)
+            stored = [stored_of(column.kind, numbers)
                       for column, numbers in zip(keys, groups.columns)]
             marks = ", ".join("?" * len(types))
             database.execute("BEGIN")
@@ -262,13 +262,3 @@ class GroupsQuestion:
             yield database
         finally:
             database.close()
-
-
-def values_of(kind: Kind, numbers: Sequence[int]) -> list[values.Value]:
-    """Returns SQLite's values of the numbers of a column that makes groups."""
-    distinct = list(dict.fromkeys(number for number in numbers if number != NULL_NUMBER))
-    try:
-        found = {NULL_NUMBER: None, **dict(zip(distinct, values.stored(kind, distinct)))}
-    except (ValueError, IndexError, OverflowError):
-        raise bodies.foreign(kind) from None
-    return list(map(found.__getitem__, numbers))

@@ -11,10 +11,11 @@ from collections import Counter
 from dataclasses import dataclass, field, replace
 from typing import Mapping, Sequence
 
-from ..kind import Column
+from ..kind import Column, Kind
 from ..session import Failed
 from ..shards import total
 from . import counted, values
+from .bodies import foreign
 from .counted import COUNT, NULL_NUMBER, Found, Key
 from .engine import Engine
 from .exact import float_sum
@@ -101,10 +102,21 @@ def values_of(aggregate: Aggregate, found: Found) -> Sequence[values.Value]:
     if function == "AVG":
         return [None if number is None else values.mean(column, number, count or 0)
                 for number, count in zip(*needed)]
-    present = [number for number in numbers if number is not None]
-    stored = iter([values.total(column, number) for number in present] if function == "SUM"
-                  else values.stored(column.kind, present))
-    return [None if number is None else next(stored) for number in numbers]
+    if function == "SUM":
+        return [None if number is None else values.total(column, number) for number in numbers]
+    return stored_of(column.kind, numbers)
+
+
+def stored_of(kind: Kind, numbers: Sequence[int | None]) -> list[values.Value]:
+    """Returns SQLite's values of numbers, of which None and NULL_NUMBER are null. Raises Refused if
+    the table isn't the columns' own."""
+    distinct = [each for each in dict.fromkeys(numbers) if each is not None
+                and each != NULL_NUMBER]
+    try:
+        found = dict(zip(distinct, values.stored(kind, distinct)))
+    except (ValueError, IndexError, OverflowError):
+        raise foreign(kind) from None
+    return [None if number is None else found.get(number) for number in numbers]
 
 
 def totals_of(engine: Engine, wanted: Wanted) -> Found:
@@ -186,7 +198,9 @@ def by_rows(engine: Engine, wanted: Wanted) -> Found:
         functions.setdefault(of, []).append(function)
     columns = [*wanted.keys, *map(named.__getitem__, functions)]
     parts = engine.rows(wanted.select(names_of(columns)))
-    return counted.totals(parts, len(wanted.keys), functions) if functions else counted.counts(parts)
+    if not functions:
+        return counted.counts(parts)
+    return counted.totals(parts, len(wanted.keys), functions)
 
 
 def distinct_of(engine: Engine, wanted: Wanted, column: Column) -> Mapping[Key, int]:
