@@ -178,10 +178,11 @@ class GroupsQuestion:
                 raise Outside from None
 
     def keys(self) -> list[Column]:
-        """Returns the columns of GROUP BY."""
+        """Returns the columns of GROUP BY, each of them once."""
         line, span = self.statement.structure.line, self.clauses.span("GROUP")
         parts = line.split(span.start, span.stop) if span else []
-        return [column_of(self.statement, self.clauses, *part) for part in parts]
+        found = [column_of(self.statement, self.clauses, *part) for part in parts]
+        return list({column.name: column for column in found}.values())
 
     def select(self) -> str:
         """Returns the statement over the table of groups."""
