@@ -116,6 +116,17 @@ class Listed(Listings):
             with self.subTest(sql):
                 self.assertEqual(self.rows(sql), wanted)
 
+    def test_table_after_in_is_whole(self):
+        """No condition is pushed down if IN looks into the same table."""
+        imported(self.folder / "one.bw", "x\n1\n2\n3\n4\n")
+        with bwtools.connect(self.folder / "one.bw", self.folder / "trips.bw") as connection:
+            for sql, wanted in [("SELECT x FROM one WHERE x > 2 AND x - 2 IN one", [(3,), (4,)]),
+                                ("SELECT x FROM one WHERE x > 2 AND x - 2 NOT IN main.one", []),
+                                ("SELECT id FROM trips WHERE id IN one", [(1,), (2,), (3,), (4,)]),
+                                ("WITH one AS (SELECT 4) SELECT id FROM trips WHERE id IN one", [(4,)])]:
+                with self.subTest(sql):
+                    self.assertEqual(connection.execute(sql).fetchall(), wanted)
+
     def test_rows_of_few_conditions_are_kept(self):
         for number in range(by_sqlite.MOST_CONDITIONS + 3):
             self.rows(f"SELECT id + 0 FROM trips WHERE id > {number} AND id + 0 > 0")
@@ -210,6 +221,7 @@ class Values(Listings):
         self.assertEqual(self.rows("SELECT * FROM (SELECT city, count(*) n FROM trips GROUP BY 1 ORDER BY n DESC LIMIT 2)"),
                          [("Boston", 2), (None, 1)])
         self.assertEqual(self.rows("SELECT DISTINCT count(*) FROM trips GROUP BY city ORDER BY count(*) DESC"), [(2,), (1,)])
+        self.assertEqual(self.rows("SELECT 0 AS a UNION ALL SELECT id + 0 FROM trips GROUP BY id, city ORDER BY a DESC LIMIT 2"), [(5,), (4,)])
         self.assertEqual(self.rows("SELECT city c FROM trips t GROUP BY t.city, c HAVING c > 'A' ORDER BY length(c) > 0 DESC"),
                          [("Bergen",), ("Boston",), ('a, "b"',)])
 

@@ -128,6 +128,16 @@ class Literals(Statements):
             self.refused(f"SELECT 1 FROM trips t JOIN stations s ON {condition}", "equal texts mean different values")
         Statement("SELECT 1 FROM trips t JOIN stations s ON t.day = s.day", self.both)
 
+    def test_dates_have_no_arithmetic(self):
+        """SQLite would compute with the year, or with the hour."""
+        for written in ("day + 30", "max(day) - min(day)", "-day", "1 + t.day", '"when" - 5', "clock * 2", "(day) / 2", "id % day",
+                        "(SELECT max(day) FROM stations) - 1", "id - d2"):
+            self.refused(f"SELECT {written} FROM trips t JOIN (SELECT day AS d2 FROM stations)", "has (dates|times).*, which have no")
+        for written in ("julianday(day) - 5", "id - length(day)", "count(*) * 2", "t.id + -1", "id - (5)", "day || 'x'", "date(day, '+1 day')",
+                        "count(DISTINCT day) + 1", "strftime('%Y', day) + 0", "city + 1"):
+            with self.subTest(written):
+                Statement(f"SELECT {written} FROM trips t", self.both)
+
     def test_word_before_a_literal_may_be_a_column(self):
         self.assertEqual(self.sql("SELECT city date FROM trips"), "SELECT city date FROM `trips`")
 

@@ -18,6 +18,7 @@ from .values import ISO_CLOCK, ISO_TIME, plain_of
 
 ROWIDS = ("rowid", "oid", "_rowid_")
 MOMENTS = (Dates, Times, Clocks)
+ARITHMETIC = ("+", "-", "*", "/", "%")
 ORDER_END = ("LIMIT", "ROWS", "RANGE", "GROUPS")
 AFTER_TERM = ("ASC", "DESC", "NULLS", "FIRST", "LAST")
 
@@ -37,8 +38,13 @@ class Checks:
                 self.name(at, token, scope)
             elif token.kind == QUOTED:
                 self.replace(at, QUOTED, quoted_name(token.name))
-        for found in Operands(self.structure).comparisons():
+        operands = Operands(self.structure)
+        for found in operands.comparisons():
             self.comparison(found)
+        for at, scope in enumerate(self.structure.scopes):
+            if scope and self.line.is_mark(at, *ARITHMETIC):
+                for operand in operands.beside(at, scope):
+                    self.arithmetic(at, operand)
         for at, table in self.structure.tables.items():
             self.replace(at, QUOTED, quoted_name(table.name))
         return self.replaced
@@ -130,6 +136,14 @@ class Checks:
                 self.literal(column, literal, found.sign in EQUAL)
         if found.left.column and found.right.column:
             self.moments(found.left.column, found.right.column)
+
+    def arithmetic(self, at: int, operand: Operand) -> None:
+        """Rejects arithmetic on dates and times, of which SQLite takes the year or the hour."""
+        column, sign = operand.column, self.line.tokens[at]
+        if column and isinstance(column.kind, MOMENTS):
+            raise Refused(f"{self.text(operand)} has {column.kind.plural}, which have no "
+                          f"{sign.text} (at character {sign.start} of the statement): use "
+                          f"julianday({column.name}) for days, or date({column.name}, '+1 day')")
 
     def text(self, operand: Operand) -> str:
         return self.text_of(operand.first, operand.end)

@@ -153,7 +153,18 @@ class Structure:
                 self.nested[at] = self.query(at + 1, self.line.closing[at], scope, ctes)
                 at = self.line.closing[at]
                 self.scopes[at] = scope
+            elif self.line.key(at) == "IN" and self.line.tokens[at + 1].name:
+                at = self.listed(at + 1, ctes)
             at += 1
+
+    def listed(self, at: int, ctes: dict[str, list[Output]]) -> int:
+        """Reads the table of one column in which IN looks. Returns its place."""
+        self.has_join = True
+        at += 2 * self.line.is_mark(at + 1, ".")
+        table = self.catalog.get(self.line.tokens[at].name)
+        if table and self.line.tokens[at].name.lower() not in ctes:
+            self.tables[at] = table
+        return at
 
     def item(self, first: int, end: int) -> Item:
         """Returns the item of these tokens."""
