@@ -66,6 +66,12 @@ class Groups(Asked):
         self.assertEqual(answer.asked[0], "SELECT COUNT(*), SUM(price), COUNT(city), MIN(city), MAX(city) FROM t WHERE n > 2")
         self.assertEqual([row[0] for row in answer.rows()], [None, *CITIES])
 
+    def test_all_groups_are_asked_their_totals_at_once(self):
+        answer = self.answer("SELECT city, ok, SUM(n) FROM t GROUP BY city, ok")
+        self.assertEqual(answer.asked[1:5], [f"SELECT COUNT(*) FROM t WHERE city {of}" for of in ("IS NULL", "= 0", "= 1", "= 2")])
+        self.assertEqual(answer.asked[-1], "SELECT COUNT(*), SUM(n) FROM t WHERE city = 2 AND ok = 1")
+        self.assertEqual(len(answer.asked), 1 + 4 + 12)
+
     def test_groups_without_rows_are_asked_no_totals(self):
         answer = self.answer("SELECT n, SUM(price) FROM t WHERE n IN (1, 5) GROUP BY n")
         self.assertEqual([row[0] for row in answer.rows()], [1, 5])
@@ -79,8 +85,9 @@ class Groups(Asked):
         self.assertEqual([row[:2] for row in answer.rows()], [("Zug", None), ("Zug", 0), ("Zug", 1)])
 
     def test_totals_that_do_not_add_up_fail(self):
-        for sql, at in [("SELECT city, COUNT(*) FROM t GROUP BY city", 2), ("SELECT n, SUM(price) FROM t GROUP BY n", 12),
-                        ("SELECT city, MIN(n) FROM t GROUP BY city", 6), ("SELECT city, MAX(n) FROM t GROUP BY city", 6)]:
+        for sql, at in [("SELECT city, COUNT(*) FROM t GROUP BY city", 2), ("SELECT n, SUM(price) FROM t GROUP BY n", 4),
+                        ("SELECT city, MIN(n) FROM t GROUP BY city", 2), ("SELECT city, MAX(n) FROM t GROUP BY city", 2),
+                        ("SELECT city, SUM(n) FROM t WHERE n > 1 GROUP BY city", 7)]:
             totals, asked = self.engine.totals, []
 
             def wrong(statements):

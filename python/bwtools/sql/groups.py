@@ -17,7 +17,7 @@ from ..shards import total
 from . import counted, values
 from .bodies import foreign
 from .counted import COUNT, NULL_NUMBER, Found, Key
-from .engine import Engine
+from .engine import Engine, Totals
 from .exact import float_sum
 from .expressions import Aggregate
 from .rows import both, names_of, select
@@ -166,20 +166,21 @@ def choices_of(engine: Engine, wanted: Wanted, whole: Whole) -> list[list[int]]:
 
 def by_statements(engine: Engine, wanted: Wanted, choices: Sequence[Sequence[int]]) -> Found:
     """Returns the totals of each group by statements of bw: first the count of each, column by
-    column, and then the totals of those that have rows."""
-    keys, counts = list[Key]([()]), list[int]()
-    for column in choices:
+    column, and then the totals of those that have rows. Without a condition most have rows, so the
+    totals are asked at once with the last column's counts."""
+    keys, items = list[Key]([()]), ", ".join(wanted.totals)
+    totals = list[Totals]()
+    for place, column in enumerate(choices, 1):
+        asked = items if place == len(choices) and not wanted.where else COUNT
         tried = [(*key, number) for key in keys for number in column]
-        asked = engine.totals([wanted.select(COUNT, condition(wanted, key)) for key in tried])
-        found = [(key, count) for key, (count,) in zip(tried, asked) if count]
-        keys, counts = [key for key, _ in found], [count for _, count in found]
-    totals: list[Sequence[int | None]] = [counts] * len(wanted.totals)
-    if keys and wanted.totals != [COUNT]:
-        items = ", ".join(wanted.totals)
-        totals = list(zip(*engine.totals([wanted.select(items, condition(wanted, key))
-                                          for key in keys])))
+        found = engine.totals([wanted.select(asked, condition(wanted, key)) for key in tried])
+        keys = [key for key, each in zip(tried, found) if each[0]]
+        totals = [each for each in found if each[0]]
+    if wanted.where and wanted.totals != [COUNT]:
+        totals = engine.totals([wanted.select(items, condition(wanted, key)) for key in keys])
     columns = list(zip(*keys)) if keys else [()] * len(wanted.keys)
-    return Found(columns, dict(zip(wanted.totals, totals)))
+    return Found(columns, dict(zip(wanted.totals, zip(*totals) if keys else
+                                   [()] * len(wanted.totals))))
 
 
 def condition(wanted: Wanted, key: Key) -> str:
