@@ -168,6 +168,20 @@ class Groups(Asked):
         self.assertIn("SELECT ok, f FROM t WHERE (f > 0) AND (f IS NOT NULL)", answer.asked)
         self.assertEqual(list(answer.rows()), self.by_sqlite("SELECT ok, SUM(f) FROM t WHERE f > -100 GROUP BY ok"))
 
+    def test_expressions_make_groups_of_those_of_their_columns(self):
+        answer = self.answer("SELECT n % 3 AS r, COUNT(*), SUM(price), MIN(n), AVG(f) FROM t WHERE f > -9 GROUP BY r")
+        self.assertEqual([row[0] for row in answer.rows()], [None, 0, 1, 2])
+        self.assertIn("SELECT n, f FROM t WHERE (f > 0) AND (f IS NOT NULL)", answer.asked)
+        for most in (groups.MOST_STATEMENTS, 0):
+            for sql in ("SELECT n % 3 AS r, COUNT(*), SUM(price), MIN(n), AVG(f) FROM t WHERE f > -9 GROUP BY r",
+                        "SELECT upper(city), ok, MAX(wide), COUNT(f) FROM t GROUP BY upper(city), ok ORDER BY 3",
+                        "SELECT n > 100, COUNT(*) FROM t WHERE n > 100 GROUP BY n > 100", "SELECT n / 2, n / 2.0 FROM t GROUP BY n / 2.0, n / 2"):
+                with self.subTest(sql, most=most), mock.patch.object(groups, "MOST_STATEMENTS", most):
+                    self.assertEqual(self.rows(sql), self.by_sqlite(sql))
+        with mock.patch.object(counted, "MOST_GROUPS", 300):
+            sql = "SELECT wide % 2, COUNT(*) FROM t GROUP BY wide % 2"
+            self.assertEqual(self.connection.answer(sql).way, 2)
+
     def test_distinct_rows_keep_the_order_of_the_file(self):
         for sql in ("SELECT DISTINCT city, ok FROM t", "SELECT DISTINCT n FROM t WHERE n > 3", "SELECT DISTINCT upper(city) FROM t"):
             with self.subTest(sql):
