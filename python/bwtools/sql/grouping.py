@@ -54,17 +54,21 @@ class GroupsQuestion:
         return any(group.column is None for group in self.expressions.groups)
 
     def groups(self) -> list[Group]:
-        """Returns what GROUP BY names: columns, and expressions over columns."""
+        """Returns what GROUP BY names, each once: columns, and expressions over columns."""
         line, span = self.statement.structure.line, self.clauses.span("GROUP")
-        return [self.group(*part) for part in line.split(span.start, span.stop)] if span else []
+        parts = line.split(span.start, span.stop) if span else []
+        found = dict(self.group(*part) for part in parts)
+        self.made = list(found)
+        return list(found.values())
 
-    def group(self, first: int, end: int) -> Group:
+    def group(self, first: int, end: int) -> tuple[str, Group]:
+        """Returns what makes groups, as an expression over the columns of `fine`, and as what it is
+        in the statement."""
         span = named_item(self.statement, self.clauses, first, end)
         column = plain_column(self.statement, self.clauses, span.start, span.stop)
         if column:
-            self.made.append(self.fine.key(column))
-            return Group(column)
-        self.made.append(f"({self.fine.expression(span.start, span.stop)})")
+            return self.fine.key(column), Group(column)
+        made = f"({self.fine.expression(span.start, span.stop)})"
         words = words_of(self.statement, self.clauses, span)
         # a number alone is a place, and only the value of a CAST is compared as of a type
         if self.fine.aggregates or words[0] in ("CAST", "(") or \
@@ -72,7 +76,7 @@ class GroupsQuestion:
             raise Outside
         line = self.statement.structure.line
         is_call = line.is_mark(span.start + 1, "(") and line.closing[span.start + 1] == span[-1]
-        return Group(None, words, is_call)
+        return made, Group(None, words, is_call)
 
     def refuse_mixed(self) -> None:
         """Raises Outside if groups are missing or surplus: an aggregate makes one group of all
