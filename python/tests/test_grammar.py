@@ -227,6 +227,10 @@ TAKEN = [
     "SELECT CAST(AVG(n) AS INTEGER), round(AVG(n), 1) FROM t GROUP BY city",
     "SELECT city || '!' AS city_2 FROM t GROUP BY city ORDER BY length(city)",
     "SELECT coalesce(city, '-'), COUNT(*) FROM t GROUP BY city", "SELECT city FROM t GROUP BY city",
+    "SELECT strftime('%Y', day) AS y, COUNT(*), AVG(f) FROM t GROUP BY y ORDER BY y DESC",
+    "SELECT substr(city, 1, 1) || '.', SUM(n) FROM t GROUP BY substr(city, 1, 1), paid HAVING SUM(n) > 5",
+    "SELECT n % 7, (n % 7) * 2, COUNT(*) FROM t GROUP BY n % 7 ORDER BY n % 7, COUNT(*)",
+    "SELECT COUNT(*) FROM t GROUP BY upper(t.city)", "SELECT upper(CITY) FROM t GROUP BY UPPER(city)",
     "SELECT n FROM t WHERE n = 1;", "SELECT DISTINCT SUM(n) FROM t",
     "SELECT city AS city, COUNT(*) FROM t GROUP BY city"]
 LEFT = [
@@ -238,6 +242,12 @@ LEFT = [
     "SELECT group_concat(city) FROM t", "SELECT SUM(n + 1) FROM t", "SELECT COUNT(1) FROM t",
     "SELECT COUNT() FROM t", "SELECT city FROM t ORDER BY city COLLATE NOCASE",
     "SELECT COUNT(*) FROM t GROUP BY 1", "SELECT city, COUNT(*) FROM t GROUP BY upper(city)",
+    "SELECT COUNT(*) FROM t GROUP BY -1", "SELECT COUNT(*) FROM t GROUP BY 'x'", "SELECT COUNT(*) FROM t GROUP BY 1 + 1",
+    "SELECT COUNT(DISTINCT n) FROM t GROUP BY upper(city)", "SELECT COUNT(*) FROM t GROUP BY CAST(n AS TEXT)",
+    "SELECT n + 1, COUNT(*) FROM t GROUP BY n % 7", "SELECT n % 7 + 1, COUNT(*) FROM t GROUP BY n % 7",
+    "SELECT COUNT(*) FROM t GROUP BY (city)", "SELECT COUNT(*) FROM t GROUP BY random() + n",
+    "SELECT COUNT(*) FROM t GROUP BY date(day, 'NOW')", "SELECT date(), COUNT(*) FROM t GROUP BY n",
+    "SELECT COUNT(*) FROM t GROUP BY MAX(n) + 1", "SELECT strftime('%Y', day), COUNT(*) FROM t GROUP BY strftime('%m', day)",
     "SELECT n AS city, COUNT(*) FROM t GROUP BY city", "SELECT n a, city a FROM t",
     "SELECT n FROM t UNION SELECT n FROM t", "WITH x AS (SELECT n FROM t) SELECT n FROM x",
     "SELECT a.n FROM t a, t b", "SELECT n FROM t JOIN t b USING (n)", "SELECT DISTINCT 1 FROM t",

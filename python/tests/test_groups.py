@@ -66,6 +66,12 @@ class Groups(Asked):
         self.assertEqual(answer.asked[0], "SELECT COUNT(*), SUM(price), COUNT(city), MIN(city), MAX(city) FROM t WHERE n > 2")
         self.assertEqual([row[0] for row in answer.rows()], [None, *CITIES])
 
+    def test_all_groups_are_asked_their_totals_at_once(self):
+        answer = self.answer("SELECT city, ok, SUM(n) FROM t GROUP BY city, ok")
+        self.assertEqual(answer.asked[1:5], [f"SELECT COUNT(*) FROM t WHERE city {of}" for of in ("IS NULL", "= 0", "= 1", "= 2")])
+        self.assertEqual(answer.asked[-1], "SELECT COUNT(*), SUM(n) FROM t WHERE city = 2 AND ok = 1")
+        self.assertEqual(len(answer.asked), 1 + 4 + 12)
+
     def test_groups_without_rows_are_asked_no_totals(self):
         answer = self.answer("SELECT n, SUM(price) FROM t WHERE n IN (1, 5) GROUP BY n")
         self.assertEqual([row[0] for row in answer.rows()], [1, 5])
@@ -79,8 +85,9 @@ class Groups(Asked):
         self.assertEqual([row[:2] for row in answer.rows()], [("Zug", None), ("Zug", 0), ("Zug", 1)])
 
     def test_totals_that_do_not_add_up_fail(self):
-        for sql, at in [("SELECT city, COUNT(*) FROM t GROUP BY city", 2), ("SELECT n, SUM(price) FROM t GROUP BY n", 12),
-                        ("SELECT city, MIN(n) FROM t GROUP BY city", 6), ("SELECT city, MAX(n) FROM t GROUP BY city", 6)]:
+        for sql, at in [("SELECT city, COUNT(*) FROM t GROUP BY city", 2), ("SELECT n, SUM(price) FROM t GROUP BY n", 4),
+                        ("SELECT city, MIN(n) FROM t GROUP BY city", 2), ("SELECT city, MAX(n) FROM t GROUP BY city", 2),
+                        ("SELECT city, SUM(n) FROM t WHERE n > 1 GROUP BY city", 7)]:
             totals, asked = self.engine.totals, []
 
             def wrong(statements):
@@ -160,6 +167,20 @@ class Groups(Asked):
         answer = self.answer("SELECT ok, SUM(f) FROM t WHERE f > -100 GROUP BY ok")
         self.assertIn("SELECT ok, f FROM t WHERE (f > 0) AND (f IS NOT NULL)", answer.asked)
         self.assertEqual(list(answer.rows()), self.by_sqlite("SELECT ok, SUM(f) FROM t WHERE f > -100 GROUP BY ok"))
+
+    def test_expressions_make_groups_of_those_of_their_columns(self):
+        answer = self.answer("SELECT n % 3 AS r, COUNT(*), SUM(price), MIN(n), AVG(f) FROM t WHERE f > -9 GROUP BY r")
+        self.assertEqual([row[0] for row in answer.rows()], [None, 0, 1, 2])
+        self.assertIn("SELECT n, f FROM t WHERE (f > 0) AND (f IS NOT NULL)", answer.asked)
+        for most in (groups.MOST_STATEMENTS, 0):
+            for sql in ("SELECT n % 3 AS r, COUNT(*), SUM(price), MIN(n), AVG(f) FROM t WHERE f > -9 GROUP BY r",
+                        "SELECT upper(city), ok, MAX(wide), COUNT(f) FROM t GROUP BY upper(city), ok ORDER BY 3",
+                        "SELECT n > 100, COUNT(*) FROM t WHERE n > 100 GROUP BY n > 100", "SELECT n / 2, n / 2.0 FROM t GROUP BY n / 2.0, n / 2"):
+                with self.subTest(sql, most=most), mock.patch.object(groups, "MOST_STATEMENTS", most):
+                    self.assertEqual(self.rows(sql), self.by_sqlite(sql))
+        with mock.patch.object(counted, "MOST_GROUPS", 300):
+            sql = "SELECT wide % 2, COUNT(*) FROM t GROUP BY wide % 2"
+            self.assertEqual(self.connection.answer(sql).way, 2)
 
     def test_distinct_rows_keep_the_order_of_the_file(self):
         for sql in ("SELECT DISTINCT city, ok FROM t", "SELECT DISTINCT n FROM t WHERE n > 3", "SELECT DISTINCT upper(city) FROM t"):

@@ -11,6 +11,7 @@ from typing import BinaryIO, Iterable, Iterator, Mapping, Sequence, Tuple
 from ..kind import Kind
 from ..runs import Codes
 from ..session import Failed
+from ..shards import total
 from ..telling import Refused
 from . import values
 
@@ -34,6 +35,17 @@ class Found:
     def keys(self) -> list[Key]:
         """The numbers of each group."""
         return list(zip(*self.columns)) if self.columns else [()] * len(self.totals[COUNT])
+
+    def coarser(self, places: Sequence[int], groups: int) -> Found:
+        """Returns the totals of so many groups, each of which has some of these: those of its
+        place."""
+        parts: dict[str, list[list[int | None]]] = {name: [[] for _ in range(groups)]
+                                                    for name in self.totals}
+        for name, each in self.totals.items():
+            for place, number in zip(places, each):
+                parts[name][place].append(number)
+        return Found([], {name: [total(name.partition("(")[0], part) for part in each]
+                          for name, each in parts.items()})
 
     def ascending(self) -> Found:
         """Returns the groups in ascending order, nulls first."""
@@ -68,6 +80,10 @@ def distinct(parts: Sequence[BinaryIO]) -> dict[Key, int]:
         found.update(lines.split("\n")[:-1])
     several = Counter(line.rpartition(",")[0] for line in found)
     return dict(zip(keys_of(list(several)), several.values()))
+
+
+class TooMany(Refused):
+    """More groups than may be counted."""
 
 
 class Sums:
@@ -185,5 +201,5 @@ def keys_of(lines: Sequence[str]) -> list[Key]:
 
 def refuse_groups(count: int) -> None:
     if count > MOST_GROUPS:
-        raise Refused(f"the statement has more than {MOST_GROUPS:,} groups: use a condition, or "
+        raise TooMany(f"the statement has more than {MOST_GROUPS:,} groups: use a condition, or "
                       "group by fewer columns")

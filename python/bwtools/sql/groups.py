@@ -9,7 +9,7 @@ from __future__ import annotations
 import math
 from collections import Counter
 from dataclasses import dataclass, field, replace
-from typing import Mapping, Sequence
+from typing import Any, Callable, Mapping, Sequence, Tuple
 
 from ..kind import Column, Kind
 from ..session import Failed
@@ -17,7 +17,7 @@ from ..shards import total
 from . import counted, values
 from .bodies import foreign
 from .counted import COUNT, NULL_NUMBER, Found, Key
-from .engine import Engine
+from .engine import Engine, Totals
 from .exact import float_sum
 from .expressions import Aggregate
 from .rows import both, names_of, select
@@ -59,35 +59,60 @@ class Wanted:
 
 @dataclass
 class Groups:
-    """Groups in order: the numbers of the columns that make them, and SQLite's values of each
-    aggregate for all groups."""
+    """Groups in order: SQLite's values of what makes them, and of each aggregate, for all
+    groups."""
 
-    columns: Sequence[Sequence[int]]
+    columns: Sequence[Sequence[values.Value]]
     values: Sequence[Sequence[values.Value]]
 
 
-def groups_of(engine: Engine, wanted: Wanted) -> Groups:
-    """Returns the groups of rows."""
+# gets SQLite's values of the columns that make groups, and returns those of what makes fewer
+# groups, and the place among these of each of the others
+Coarse = Callable[[Sequence[Sequence[values.Value]]],
+                  Tuple[Sequence[Sequence[values.Value]], Sequence[int]]]
+
+
+def groups_of(engine: Engine, wanted: Wanted, coarse: Coarse | None = None) -> Groups:
+    """Returns the groups of rows; or those that some of them make together, if `coarse` returns
+    their columns and the place of each of the groups."""
     found = totals_of(engine, wanted)
     if not wanted.is_in_rows_order:
         found = found.ascending()
+    keys, columns = found.keys, found.columns
+    made: Sequence[Sequence[Any]] = [stored_of(column.kind, numbers)
+                                     for column, numbers in zip(wanted.keys, columns)]
+    places: Sequence[int] = range(len(keys))
+    if coarse:
+        made, places = coarse(made)
+        found = found.coarser(places, len(made[0]))
+    count = len(found.totals[COUNT])
     # of each column the doubles, or the number of its values, in each group
-    doubles: dict[str, Mapping[Key, Sequence[float]]] = {}
+    doubles: dict[str, Sequence[Sequence[float]]] = {}
     distinct: dict[str, Mapping[Key, int]] = {}
-    columns = list[Sequence[values.Value]]()
+    results = list[Sequence[values.Value]]()
     for each in wanted.aggregates:
         if each.column and each.is_distinct:
             if each.column.name not in distinct:
                 distinct[each.column.name] = distinct_of(engine, wanted, each.column)
-            columns.append([distinct[each.column.name].get(key, 0) for key in found.keys])
+            results.append([distinct[each.column.name].get(key, 0) for key in keys])
         elif each.column and is_float_sum(each):
             if each.column.name not in doubles:
-                doubles[each.column.name] = doubles_of(engine, wanted, each.column)
-            columns.append([float_total(each.function, doubles[each.column.name].get(key, ()))
-                            for key in found.keys])
+                of_keys = doubles_of(engine, wanted, each.column)
+                doubles[each.column.name] = together(of_keys, keys, places, count)
+            results.append([float_total(each.function, part)
+                            for part in doubles[each.column.name]])
         else:
-            columns.append(values_of(each, found))
-    return Groups(found.columns, columns)
+            results.append(values_of(each, found))
+    return Groups(made, results)
+
+
+def together(doubles: Mapping[Key, Sequence[float]], keys: Sequence[Key], places: Sequence[int],
+             count: int) -> list[Sequence[float]]:
+    """Returns the doubles of so many groups, each of which has those of some keys."""
+    found: list[list[float]] = [[] for _ in range(count)]
+    for key, place in zip(keys, places):
+        found[place] += doubles.get(key, ())
+    return list(found)
 
 
 def values_of(aggregate: Aggregate, found: Found) -> Sequence[values.Value]:
@@ -166,20 +191,21 @@ def choices_of(engine: Engine, wanted: Wanted, whole: Whole) -> list[list[int]]:
 
 def by_statements(engine: Engine, wanted: Wanted, choices: Sequence[Sequence[int]]) -> Found:
     """Returns the totals of each group by statements of bw: first the count of each, column by
-    column, and then the totals of those that have rows."""
-    keys, counts = list[Key]([()]), list[int]()
-    for column in choices:
+    column, and then the totals of those that have rows. Without a condition most have rows, so the
+    totals are asked at once with the last column's counts."""
+    keys, items = list[Key]([()]), ", ".join(wanted.totals)
+    totals = list[Totals]()
+    for place, column in enumerate(choices, 1):
+        asked = items if place == len(choices) and not wanted.where else COUNT
         tried = [(*key, number) for key in keys for number in column]
-        asked = engine.totals([wanted.select(COUNT, condition(wanted, key)) for key in tried])
-        found = [(key, count) for key, (count,) in zip(tried, asked) if count]
-        keys, counts = [key for key, _ in found], [count for _, count in found]
-    totals: list[Sequence[int | None]] = [counts] * len(wanted.totals)
-    if keys and wanted.totals != [COUNT]:
-        items = ", ".join(wanted.totals)
-        totals = list(zip(*engine.totals([wanted.select(items, condition(wanted, key))
-                                          for key in keys])))
+        found = engine.totals([wanted.select(asked, condition(wanted, key)) for key in tried])
+        keys = [key for key, each in zip(tried, found) if each[0]]
+        totals = [each for each in found if each[0]]
+    if wanted.where and wanted.totals != [COUNT]:
+        totals = engine.totals([wanted.select(items, condition(wanted, key)) for key in keys])
     columns = list(zip(*keys)) if keys else [()] * len(wanted.keys)
-    return Found(columns, dict(zip(wanted.totals, totals)))
+    return Found(columns, dict(zip(wanted.totals, zip(*totals) if keys else
+                                   [()] * len(wanted.totals))))
 
 
 def condition(wanted: Wanted, key: Key) -> str:
