@@ -1,6 +1,7 @@
 """SQLite over columns that bw listed: what is listed, once, and what SQLite computes."""
 import io
 import math
+import signal
 import sqlite3
 import unittest
 from unittest import mock
@@ -155,16 +156,40 @@ class Listed(Listings):
             self.rows("SELECT abs(id) FROM trips")
         self.assertEqual(len(self.rows("SELECT abs(id) FROM trips")), 5)
 
-    def test_interrupt_ends_a_statement(self):
-        """A signal that Python handles in SQLite's progress handler ends the statement."""
+    def test_exception_of_a_signal_ends_a_statement(self):
+        """What a signal's handler raises is what the caller gets, be it raised in a function of ours or in SQLite."""
+        class Late(Exception):
+            pass
+
+        def late(*_):
+            raise Late
+
+        before = signal.signal(signal.SIGALRM, late)
+        self.addCleanup(signal.signal, signal.SIGALRM, before)
+        self.rows("SELECT abs(id) FROM trips")
+        endless = "WITH RECURSIVE n(i) AS (SELECT 1 UNION ALL SELECT i + 1 FROM n WHERE i < 1e12) SELECT count(*) FROM n"
+        for _ in range(3):
+            signal.setitimer(signal.ITIMER_REAL, 0.05)
+            with self.assertRaises(Late):
+                self.rows(endless)
+        self.assertEqual(self.rows("SELECT abs(id), upper(city) FROM trips WHERE id > 4"), [(5, "BERGEN")])
+
+    def test_rows_that_no_name_numbers_are_listed_again(self):
+        """If all names of SQLite's row numbers are columns', rows can't be joined by them."""
+        imported(self.folder / "named.bw", "rowid,oid,_rowid_,x\n5,7,9,a\n3,1,2,b\n")
+        with bwtools.connect(self.folder / "named.bw") as connection:
+            for sql, wanted in [("SELECT count(*) FROM named a, named b", [(4,)]), ("SELECT rowid + 0 FROM named", [(5,), (3,)]),
+                                ("SELECT upper(x) FROM named", [("A",), ("B",)]),
+                                ("SELECT oid + 0, rowid, x FROM named", [(7, 5, "a"), (1, 3, "b")])]:
+                self.assertEqual(connection.execute(sql).fetchall(), wanted)
+
+    def test_what_a_signal_left_is_undone(self):
+        """An interrupt between the end of a transaction and the note of what was listed lists no row twice."""
         listing = self.connection.by_sqlite.whole
-
-        def interrupted():
-            raise KeyboardInterrupt
-
-        listing.database.set_progress_handler(interrupted, 1000)
-        with self.assertRaises(KeyboardInterrupt):
-            self.rows("WITH RECURSIVE n(i) AS (SELECT 1 UNION ALL SELECT i + 1 FROM n WHERE i < 1e8) SELECT count(*) FROM n")
+        self.rows("SELECT abs(id) FROM trips")
+        del listing.listed["trips"]
+        listing.database.execute("BEGIN")
+        self.assertEqual(self.rows("SELECT abs(id) FROM trips"), [(1,), (2,), (3,), (4,), (5,)])
 
 
 class Values(Listings):

@@ -45,13 +45,17 @@ class Functions:
         database.create_function("bw_total", 3, self.total, deterministic=True)
         database.create_function("bw_mean", 3, mean_of, deterministic=True)
 
+    def keep(self, raised: BaseException) -> None:
+        """Keeps what was raised in a callback of SQLite."""
+        self.raised = raised
+
     @contextlib.contextmanager
     def kept(self) -> Iterator[None]:
         """Keeps what is raised."""
         try:
             yield
         except BaseException as error:
-            self.raised = error
+            self.keep(error)
             raise
 
     def total(self, number: int | None, digits: int, name: str) -> float | None:

@@ -55,7 +55,8 @@ class BySqlite:
         """Returns the answer to a statement. Raises Refused for one that can't run, Failed if bw
         can't list a column, and KeyboardInterrupt when it is interrupted."""
         sql = for_sqlite(statement)
-        reads = reads_of(self.whole.database, self.whole.guard, statement, sql)
+        with self.whole.watched():
+            reads = reads_of(self.whole.database, self.whole.guard, statement, sql)
         refuse_long_decimals(self.catalog, reads)
         listing, asked = self.listing(statement, reads), list[str]()
         tables = [self.tables()[name] for name in reads]
@@ -64,7 +65,8 @@ class BySqlite:
         self.refuse_many(listing, tables, reads, engines)
         with Progress("listed", self.is_shown) as progress:
             for table in tables:
-                listing.add(table, reads[table.name], engines[table.name], progress.add)
+                with listing.watched():
+                    listing.add(table, reads[table.name], engines[table.name], progress.add)
         for name, engine in engines.items():
             asked += engine.asked[before[name]:]
         return self.run(listing, statement, sql, asked)
@@ -76,7 +78,8 @@ class BySqlite:
                     engines: Mapping[str, Engine]) -> None:
         """Rejects a statement for which too many rows would be listed."""
         count = sum(listing.count(table, engines[table.name]) for table in tables
-                    if listing.missing(table, reads[table.name]))
+                    if table.name not in listing.listed or
+                    listing.missing(table, reads[table.name]))
         if count > MOST_ROWS and not self.is_all:
             raise Refused(f"SQLite would answer this over {count:,} rows, which bw lists: to list "
                           f"more than {MOST_ROWS:,}, use --all, or list_all=True")
@@ -99,14 +102,15 @@ class BySqlite:
 
     def run(self, listing: Listing, statement: Statement, sql: str, asked: list[str]) -> Answer:
         """Runs a statement over what is listed."""
-        guard, listing.functions.raised = listing.guard, None
+        guard = listing.guard
         guard.denied, guard.read, guard.is_off = "", {}, False
         try:
-            cursor = listing.database.execute(sql)
-            rows = cursor.fetchall()
+            with listing.watched():
+                cursor = listing.database.execute(sql)
+                rows = cursor.fetchall()
         except sqlite3.Error as error:
             guard.is_off = True
-            raise self.failure(listing, statement, str(error)) from None
+            raise Refused(self.failure(listing, statement, str(error))) from None
         finally:
             guard.is_off = True
         names = [each[0] for each in cursor.description]
@@ -116,16 +120,11 @@ class BySqlite:
         kinds = [each.plain.kind if each.plain else None for each in outputs]
         return Answer([each.heading for each in outputs], kinds, Rows(rows), 2, asked)
 
-    def failure(self, listing: Listing, statement: Statement, message: str) -> BaseException:
-        """Returns what SQLite's message means, while it runs a statement."""
-        raised = listing.functions.raised
-        # a signal's exception ends the function of ours that it finds
-        if message == "interrupted" or raised is None and "user-defined" in message:
-            return KeyboardInterrupt()
+    def failure(self, listing: Listing, statement: Statement, message: str) -> str:
+        """Returns what to print for SQLite's message, while it ran a statement."""
         if message == "integer overflow":
-            return Refused("a SUM is outside the range of 64 bits")
-        return raised or Refused(listing.guard.denied or told(
-            listing.database, listing.guard, statement, message))
+            return "a SUM is outside the range of 64 bits"
+        return listing.guard.denied or told(listing.database, listing.guard, statement, message)
 
 
 def refuse_long_decimals(catalog: Catalog, reads: Mapping[str, set[str]]) -> None:

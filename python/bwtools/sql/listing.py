@@ -15,15 +15,14 @@ from .engine import Engine
 from .reading import Guard, declare
 from .tokens import quoted_name
 from .values import affinity
+from .watching import watch
 
-# after how many of SQLite's instructions an interrupt is noticed
-INSTRUCTIONS = 20_000
 # so many variables has a statement that inserts rows; any SQLite takes 999
 MOST_VARIABLES = 500
 ROWIDS = ("rowid", "oid", "_rowid_")
 FRESH = "bw:fresh"
-EACH_ROW = ("WITH RECURSIVE n(i) AS (SELECT 1 UNION ALL SELECT i + 1 FROM n WHERE i < ?) "
-            "INSERT INTO {0} ({1}) SELECT i FROM n")
+EACH_ROW = ("WITH RECURSIVE n(i) AS (SELECT 1 WHERE ? > 0 UNION ALL SELECT i + 1 FROM n "
+            "WHERE i < ?) INSERT INTO {0} ({1}) SELECT NULL FROM n")
 
 
 class Listing:
@@ -35,8 +34,6 @@ class Listing:
         self.database = sqlite3.connect(":memory:", isolation_level=None)
         self.guard, self.functions = Guard(catalog), Functions(self.database)
         self.database.set_authorizer(self.guard)
-        # a signal is handled in this function, and raises an exception, which interrupts SQLite
-        self.database.set_progress_handler(lambda: 0, INSTRUCTIONS)
         declare(self.database, catalog)
         # the columns of each table that are listed, by their names, and the number of its rows
         self.listed = dict[str, set[str]]()
@@ -44,6 +41,22 @@ class Listing:
 
     def close(self) -> None:
         self.database.close()
+
+    @contextlib.contextmanager
+    def watched(self) -> Iterator[None]:
+        """Raises what was raised in a callback of SQLite, a refusal or a signal's exception,
+        instead of SQLite's own error."""
+        self.functions.raised = None
+        watch(self.database, self.functions.keep)
+        try:
+            yield
+        except sqlite3.Error as error:
+            if self.functions.raised:
+                raise self.functions.raised from None
+            # a signal's exception ends the function of ours that it finds
+            if "interrupted" in str(error) or "user-defined" in str(error):
+                raise KeyboardInterrupt from None
+            raise
 
     def missing(self, table: Table, names: set[str]) -> list[Column]:
         """Returns the columns among these names in lower case that aren't listed yet."""
@@ -63,31 +76,33 @@ class Listing:
     def add(self, table: Table, names: set[str], engine: Engine,
             progress: Callable[[int], None]) -> None:
         """Lists the columns of these names that aren't listed yet, all of them or none."""
-        columns, before = self.missing(table, names), self.listed.get(table.name)
-        if not columns and before is not None:
+        if table.name in self.listed and not self.missing(table, names):
             return
-        count = self.count(table, engine)
+        before, count = self.listed.get(table.name, set()), self.count(table, engine)
+        columns = self.missing(table, names)
+        if before and not rowid_of(table.columns):
+            # rows can't be joined: all columns are listed again
+            columns = [each for each in table.columns if each.name.lower() in before | names]
+            before = set()
         with self.transaction():
-            if columns:
-                target = FRESH if before else table.name
-                if before is not None and not before:
-                    # rows without columns were counted
-                    self.database.execute(f"DELETE FROM {quoted_name(table.name)}")
-                if before:
-                    self.create(FRESH, columns)
-                found = self.fill(target, table, columns, engine, progress)
-                if found != count:
-                    raise Failed(f"bw listed {found:,} rows of {table.name}, expected {count:,}")
-                if before:
-                    self.join(table, columns)
-            elif count:
-                sql = EACH_ROW.format(quoted_name(table.name), rowid_of(table.columns))
-                self.database.execute(sql, (count,))
-        self.listed[table.name] = (before or set()) | {each.name.lower() for each in columns}
+            if before:
+                self.create(FRESH, columns)
+            else:
+                # rows may be there that were counted
+                self.database.execute(f"DELETE FROM {quoted_name(table.name)}")
+            found = self.fill(FRESH if before else table.name, table, columns, engine, progress)
+            if found != count:
+                raise Failed(f"bw listed {found:,} rows of {table.name}, expected {count:,}")
+            if before:
+                self.join(table, columns)
+        self.listed[table.name] = before | {each.name.lower() for each in columns}
 
     @contextlib.contextmanager
     def transaction(self) -> Iterator[None]:
         """Undoes what isn't done to its end."""
+        if self.database.in_transaction:
+            # a signal ended what should have undone it
+            self.database.execute("ROLLBACK")
         self.database.execute("BEGIN")
         try:
             yield
@@ -102,7 +117,12 @@ class Listing:
 
     def fill(self, target: str, table: Table, columns: Sequence[Column], engine: Engine,
              progress: Callable[[int], None]) -> int:
-        """Lists columns into a table of SQLite. Returns the number of rows."""
+        """Lists columns into a table of SQLite. Returns the number of rows. Without columns it
+        makes as many rows as bw counted."""
+        if not columns:
+            self.database.execute(EACH_ROW.format(quoted_name(target), quoted_name(
+                table.columns[0].name)), (self.rows[table.name], self.rows[table.name]))
+            return self.rows[table.name]
         names = ", ".join(each.name for each in columns)
         parts = engine.rows(f"SELECT {names} FROM {table.bw_name}{self.where()}")
         quoted = ", ".join(quoted_name(each.name) for each in columns)
@@ -146,6 +166,6 @@ class Listing:
 
 
 def rowid_of(columns: Sequence[Column]) -> str:
-    """Returns the name of SQLite's row numbers that no column of a table has."""
+    """Returns the name of SQLite's row numbers that no column of a table has, or nothing."""
     taken = {each.name.lower() for each in columns}
-    return next((name for name in ROWIDS if name not in taken), "rowid")
+    return next((name for name in ROWIDS if name not in taken), "")

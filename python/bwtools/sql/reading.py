@@ -93,6 +93,8 @@ def reads_of(database: sqlite3.Connection, guard: Guard, statement: Statement, s
     try:
         program = explain(database, guard, sql)
     except (sqlite3.Error, sqlite3.Warning) as error:
+        if str(error) == "interrupted":
+            raise
         raise Refused(guard.denied or told(database, guard, statement, str(error))) from None
     found = {name: set(columns) for name, columns in guard.read.items()}
     for name, column in program_reads(database, guard.catalog, program):
@@ -132,8 +134,7 @@ def missing_column(statement: Statement, name: str) -> str:
     last = name.rpartition(".")[2]
     for at, token in enumerate(statement.tokens):
         scope = statement.structure.scopes[at]
-        if scope and last in (token.name, name if token.name == name else last) \
-                and token.name == last and not statement.structure.resolve(at, scope):
+        if scope and token.name == last and not statement.structure.resolve(at, scope):
             reserved = [each for each in scope.names() if each.lower() == f"{last.lower()}_"]
             if reserved:
                 return f"there is no column {last} at character {token.start} of the statement: " \
