@@ -89,7 +89,7 @@ class Sessions:
         def asked(session: Session) -> list[bytes]:
             results, told = session.totals(statements)
             if b"" in results:
-                raise Refused(told.rstrip("\n"))
+                raise refusal(told)
             self.tell(told)
             return results
 
@@ -101,7 +101,7 @@ class Sessions:
             found = kept(answer) if answer else None
             told = session.told()
             if found is None:
-                raise Refused(told.rstrip("\n"))
+                raise refusal(told)
             self.tell(told)
             return found
 
@@ -131,6 +131,13 @@ class Sessions:
         for session in self.sessions:
             session.process.__exit__(None, None, None)
         self.sessions = []
+
+
+def refusal(told: str) -> Exception:
+    """Returns what a statement without an answer raises: that bw rejected it, for a reason."""
+    if told:
+        return Refused(told.rstrip("\n"))
+    return Failed("bw session gave no answer and no reason")
 
 
 class Scheduled:
