@@ -239,7 +239,7 @@ class Statements:
         """Returns an expression over aggregates."""
         found, number = self.aggregate(), self.number().name
         return self.chance.choice((found, found, found, f"{found} AS {'y'}{self.chance.randrange(10 ** 6)}", f"SUM({number}) / COUNT(*)",
-                                   f"COUNT(*) + 1", f"ROUND(AVG({number}), 2)", f"coalesce(MAX({number}), -1)",
+                                   "COUNT(*) + 1", f"ROUND(AVG({number}), 2)", f"coalesce(MAX({number}), -1)",
                                    "CASE WHEN COUNT(*) > 3 THEN 'many' ELSE 'few' END", "CAST(COUNT(*) AS TEXT) || '!'"))
 
     def totals(self):
@@ -248,10 +248,19 @@ class Statements:
         having = f" HAVING COUNT(*) > {self.chance.choice((0, 10))}" if self.chance.random() < .1 else ""
         return f"SELECT {items} FROM {self.table.name}{self.where()}{having}{self.limit() if self.chance.random() < .1 else ''}"
 
+    def key(self, column):
+        """Returns what makes groups: usually a column, else an expression over it."""
+        if self.chance.random() < .85:
+            return column.name
+        if column.is_number:
+            return self.chance.choice((f"{column.name} % 7", f"abs({column.name})", f"{column.name} > 5", f"round({column.name} / 10)"))
+        return self.chance.choice((f"substr({column.name}, 1, 7)", f"length({column.name})", f"upper({column.name})",
+                                   f"strftime('%m', {column.name})", f"{column.name} || '!'"))
+
     def groups(self):
         """Returns a statement with GROUP BY, and the one for sqlite3."""
         chance, table = self.chance, self.table
-        keys = [each.name for each in chance.sample(table.columns, chance.choice((1, 1, 1, 2, 3)))]
+        keys = [self.key(each) for each in chance.sample(table.columns, chance.choice((1, 1, 1, 2, 3)))]
         shown = [key for key in keys if chance.random() < .8]
         items = [*shown, *(self.item() for _ in range(chance.randrange(0 if shown else 1, 3)))]
         if not self.are_plain and chance.random() < .2:

@@ -8,12 +8,11 @@ import re
 from typing import Callable, Dict, Iterator, Sequence, TextIO
 
 from .comments import NUL
-from .fields import columns_of
+from .fields import CHARACTERS_AT_ONCE, columns_of
 from .kind import Column
 from .kinds import Whole
 from .naming import option
 from .progress import Progress
-from .source import CHARACTERS_AT_ONCE
 from .telling import Refused, counted
 
 QUOTE, QUOTED = '"', re.compile('[",\r\n]')

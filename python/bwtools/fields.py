@@ -3,6 +3,9 @@ from __future__ import annotations
 
 from .comments import NUL
 
+# of a text that is split so many characters are read at a time
+CHARACTERS_AT_ONCE = 1 << 18
+
 
 def columns_of(parts: list[str], separator: str, width: int) -> list[list[str]] | None:
     """Returns the columns of a text of complete records, which was split at its quotes, or None.

@@ -25,7 +25,8 @@ SUFFIX = f"[ \u00a0\u202f]?(?:{UNITS}|[{CURRENCIES}])|[ \u00a0\u202f](?:{LETTERS
 # what may separate thousands besides a point and a comma: an apostrophe, a blank of three widths,
 # or a low line
 BETWEEN = "'\u2019 \u00a0\u202f_"
-DRESSED = re.compile(
+# patterns of many words take long to compile, and queries need none of them
+DRESSED = (
     rf"(?P<open>\()?(?P<sign>[+-]?)(?P<prefix>{PREFIX})?(?P<inner>[+-]?)"
     rf"(?P<body>[0-9](?:[0-9.,{BETWEEN}]*[0-9.,])?|[.,][0-9]+)(?P<power>[eE][+-]?[0-9]{{1,6}})?"
     rf"(?P<suffix>{SUFFIX})?(?P<close>\))?")
@@ -108,11 +109,16 @@ class Marks:
     either: str = ""
 
 
+@functools.lru_cache(None)
+def dressed() -> re.Pattern[str]:
+    """Returns the pattern of numbers in any style."""
+    return re.compile(DRESSED)
+
+
 def parts_of(text: str) -> Parts | None:
     """Returns the parts of a text, or None if it isn't a number in any style."""
-    found = DRESSED.fullmatch(text)
+    found = dressed().fullmatch(text)
     if not found or (found["open"] is None) != (found["close"] is None):
-        return None
         return None
     if found["sign"] and found["inner"]:
         return None
@@ -161,10 +167,14 @@ def is_number(text: str) -> bool:
     return found is not None and marks_of(found.body) is not None
 
 
-# lines that may be numbers, and the ranges in which they begin: those from ( to 9, and those with a
-# currency
-LIKE = re.compile("^(?:" + re.sub(r"\?P<[a-z]+>", "?:", DRESSED.pattern) +
-                  "|[+-]?[0-9]+\\.(?:[eE][+-]?[0-9]{1,6})?)$", re.MULTILINE)
+@functools.lru_cache(None)
+def like_number() -> re.Pattern[str]:
+    """Returns the pattern of lines that may be numbers."""
+    return re.compile("^(?:" + re.sub(r"\?P<[a-z]+>", "?:", DRESSED) +
+                      "|[+-]?[0-9]+\\.(?:[eE][+-]?[0-9]{1,6})?)$", re.MULTILINE)
+
+
+# the ranges in which such lines begin: those from ( to 9, and those with a currency
 STARTS = [("$", "%"), ("(", ")"), ("+", "/"), ("0", ":"), ("\u00a2", "\u00a6"),
           ("\u20a0", "\u20d0"),
           *((code, f"{code}\U0010ffff") for code in ISO_CODES.split("|")),

@@ -7,14 +7,12 @@ file has a columns file that names it: TABLE.columns, or the one with its sum.""
 from __future__ import annotations
 
 import contextlib
-import hashlib
 import os
 import pathlib
 import re
 from dataclasses import dataclass
 from typing import Any, BinaryIO, Iterator
 
-from . import placing
 from .regular import open_regular
 from .store import Store, TableFile
 from .telling import Refused
@@ -47,6 +45,8 @@ def marks_of(file: BinaryIO) -> tuple[int, int, int]:
 
 def sum_of(file: BinaryIO) -> str:
     """Returns the SHA-256 of a file's bytes."""
+    # few need it, and it loads slowly
+    import hashlib
     found = hashlib.sha256()
     file.seek(0)
     for part in iter(lambda: file.read(1 << 20), b""):
@@ -165,6 +165,7 @@ def put_pair(folder: pathlib.Path, table: pathlib.Path, columns: pathlib.Path, d
     """Moves a table file with this SHA-256, and its columns file, to their places, after those that
     another import moves at the same time. Whenever it is stopped, the old pair is there or the new
     one."""
+    from . import placing
     place, beside = pathlib.Path(target), pathlib.Path(f"{os.fspath(target)}.columns")
     kept = kept_path(beside, digest)
     with placing.locked(place.parent):

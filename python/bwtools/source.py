@@ -14,12 +14,11 @@ from typing import BinaryIO, Iterator, NoReturn, Sequence, TextIO
 from . import ragged
 from .chunk import BREAK, Chunk
 from .comments import NUL
-from .fields import columns_of
+from .fields import CHARACTERS_AT_ONCE, columns_of
 from .telling import Refused
 from .text import Text
 
 MOST_COLUMNS, MOST_ROWS, ROWS_AT_ONCE, MOST_WAIT = 64, 1 << 24, 8192, 15
-CHARACTERS_AT_ONCE = 1 << 18
 
 
 @dataclass

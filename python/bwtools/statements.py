@@ -16,7 +16,8 @@ from typing import Any, Callable, Iterable, Iterator, NamedTuple, NoReturn
 from .answers import no_sum
 from .kind import Column
 from .kinds import GREATEST, LEAST
-from .naming import RESERVED, option
+from .naming import RESERVED
+from .sql.refusals import held, refuse_other, refuse_unordered
 from .telling import Refused
 
 PIECES = re.compile(r"""(?P<gap>[ \t\r\n]+|--[^\n]*)
@@ -74,33 +75,12 @@ def always(column: Column) -> str:
     return f"{column.name} = {column.name}"
 
 
-def held(column: Column) -> str:
-    """Returns what a column has, in a message."""
-    ends = ""
-    if column.ends and column.kind.name not in ("texts", "truths"):
-        ends = f" from {column.ends[0]} to {column.ends[1]}"
-    return f"{column.name} has {column.kind.plural}{ends}{f' ({column.why})' if column.why else ''}"
-
-
-def refuse_unordered(column: Column, what: str) -> None:
-    """Rejects what needs the order of a column whose texts look like numbers or dates: by code
-    points 10 is before 9."""
-    if column.looks_like:
-        raise Refused(f"{what}: {column.name} has texts ({column.why}), so it has no order: "
-                      "to order it by code points, import the file again with "
-                      f"{option('--text', column.heading)}")
-
-
 def place_of(column: Column, literal: Operand, is_equal: bool = False) -> tuple[int, bool]:
     """Returns the place of a literal among the numbers of a column."""
-    is_null = literal.value == "" or literal.value in column.nulls
-    if is_null and (is_equal or column.kind.name != "texts"):
-        raise Refused(f"{literal.text} is null in {column.name}: use {column.name} IS NULL")
     assert literal.value is not None, "a comparison with NULL is UNKNOWN"
+    refuse_other(column, literal.value, literal.text, is_equal)
     place = column.kind.place(literal.value)
-    if place is None:
-        raise Refused(f"{literal.text} can't be compared with {column.name}: {held(column)}; "
-                      f"write such a literal as {column.kind.example}")
+    assert place is not None
     return place
 
 

@@ -12,8 +12,8 @@ import json
 import operator
 import os
 import pathlib
+import re
 import sqlite3
-import urllib.parse
 from dataclasses import astuple, dataclass, fields
 from typing import Any, Iterable, Iterator, Sequence
 
@@ -42,6 +42,8 @@ FIXED = {
 # of a column whose numbers are places in a list of texts, or of doubles
 LISTED = "CREATE TABLE values_{} (code INTEGER PRIMARY KEY, value {} NOT NULL)"
 TYPES = {str: "TEXT", float: "REAL"}
+# the bytes of a path that a URI has as numbers
+UNSAFE = re.compile(b"[^A-Za-z0-9/._~-]")
 AT_ONCE, JSON_AT_ONCE = 10_000, 4000
 
 
@@ -220,7 +222,8 @@ def opened(path: pathlib.Path) -> sqlite3.Connection:
 
 def uri_of(path: pathlib.Path) -> str:
     """Returns how SQLite opens a file that nobody writes."""
-    return f"file:{urllib.parse.quote(os.fspath(path.absolute()))}?mode=ro&immutable=1"
+    quoted = UNSAFE.sub(lambda found: b"%%%02X" % ord(found[0]), os.fsencode(path.absolute()))
+    return f"file:{quoted.decode()}?mode=ro&immutable=1"
 
 
 def refuse_header(path: pathlib.Path, header: bytes, size: int) -> None:

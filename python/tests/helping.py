@@ -67,7 +67,7 @@ def imported(path: pathlib.Path, data: str, *words: str) -> pathlib.Path:
     """Imports a CSV of these characters as the table file, or the folder, of a path, which it
     returns."""
     raw = path.with_name(f"{path.name}.csv")
-    raw.write_text(data, encoding="utf-8", newline="")
+    raw.write_bytes(data.encode())
     given = import_.parser_of().parse_args([str(raw), str(path), *words])
     with contextlib.redirect_stdout(io.StringIO()), warnings.catch_warnings():
         warnings.simplefilter("ignore", ResourceWarning)

@@ -1,6 +1,7 @@
 """Statements over the files of a table: whole results, and none if a session fails."""
 import os
 import pathlib
+import signal
 import subprocess
 import tempfile
 import threading
@@ -166,6 +167,16 @@ class Failing(Temporary):
         two = "read a; read b; printf 'SUM(x)\\n1\\n\\n'; cat"
         with self.assertRaisesRegex(Failed, "no totals"):
             engine.Engine(self.asker(one, two)).totals(["one"])
+
+    def test_an_interrupt_ends_the_sessions(self):
+        for count in (1, 3):
+            asker = self.asker(*["exec sleep 60"] * count)
+            timer = threading.Timer(.2, os.kill, (os.getpid(), signal.SIGINT))
+            timer.start()
+            with self.subTest(count), self.assertRaises(KeyboardInterrupt):
+                asker.totals(["one"])
+            timer.join()
+            self.assertEqual(asker.sessions, [])
 
     def test_few_statements_are_ahead(self):
         # it answers only what it has read when its input is empty

@@ -62,25 +62,32 @@ class Groups(Asked):
         asked = [f"SELECT COUNT(*) {where} IS NULL)", *(f"SELECT COUNT(*) {where} = {code})" for code in range(3)),
                  f"SELECT COUNT(*), SUM(price) {where} IS NULL)",
                  *(f"SELECT COUNT(*), SUM(price) {where} = {code})" for code in range(3))]
-        self.assertEqual(answer.asked[1:], asked)
+        self.assertEqual(answer.asked[1:], ["SELECT COUNT(*) FROM t", *asked])
         self.assertEqual(answer.asked[0], "SELECT COUNT(*), SUM(price), COUNT(city), MIN(city), MAX(city) FROM t WHERE n > 2")
         self.assertEqual([row[0] for row in answer.rows()], [None, *CITIES])
+
+    def test_all_groups_are_asked_their_totals_at_once(self):
+        answer = self.answer("SELECT city, ok, SUM(n) FROM t GROUP BY city, ok")
+        self.assertEqual(answer.asked[1:5], [f"SELECT COUNT(*) FROM t WHERE city {of}" for of in ("IS NULL", "= 0", "= 1", "= 2")])
+        self.assertEqual(answer.asked[-1], "SELECT COUNT(*), SUM(n) FROM t WHERE city = 2 AND ok = 1")
+        self.assertEqual(len(answer.asked), 1 + 4 + 12)
 
     def test_groups_without_rows_are_asked_no_totals(self):
         answer = self.answer("SELECT n, SUM(price) FROM t WHERE n IN (1, 5) GROUP BY n")
         self.assertEqual([row[0] for row in answer.rows()], [1, 5])
-        self.assertEqual(len(answer.asked), 1 + 5 + 2)
+        self.assertEqual(len(answer.asked), 2 + 5 + 2)
         self.assertEqual(self.answer("SELECT n, SUM(price) FROM t WHERE n > 100 GROUP BY n").asked,
                          ["SELECT COUNT(*), SUM(price), COUNT(n), MIN(n), MAX(n) FROM t WHERE n > 100"])
 
     def test_columns_of_few_groups_are_counted_one_after_another(self):
         answer = self.answer("SELECT city, ok, COUNT(*) FROM t WHERE city = 'Zug' GROUP BY city, ok")
-        self.assertEqual(len(answer.asked), 1 + 1 + 3)
+        self.assertEqual(len(answer.asked), 2 + 1 + 3)
         self.assertEqual([row[:2] for row in answer.rows()], [("Zug", None), ("Zug", 0), ("Zug", 1)])
 
     def test_totals_that_do_not_add_up_fail(self):
-        for sql, at in [("SELECT city, COUNT(*) FROM t GROUP BY city", 2), ("SELECT n, SUM(price) FROM t GROUP BY n", 12),
-                        ("SELECT city, MIN(n) FROM t GROUP BY city", 6), ("SELECT city, MAX(n) FROM t GROUP BY city", 6)]:
+        for sql, at in [("SELECT city, COUNT(*) FROM t GROUP BY city", 2), ("SELECT n, SUM(price) FROM t GROUP BY n", 4),
+                        ("SELECT city, MIN(n) FROM t GROUP BY city", 2), ("SELECT city, MAX(n) FROM t GROUP BY city", 2),
+                        ("SELECT city, SUM(n) FROM t WHERE n > 1 GROUP BY city", 7)]:
             totals, asked = self.engine.totals, []
 
             def wrong(statements):
@@ -125,10 +132,18 @@ class Groups(Asked):
         for most, keys, wanted in [(20, [column], True), (19, [column], False), (20, [other], True), (19, [other], False),
                                    (400, [column, other], True), (399, [column, other], False)]:
             with self.subTest(most), mock.patch.object(groups, "MOST_STATEMENTS", most):
-                found = groups.choices_of(groups.Wanted("t", "", keys), whole)
+                found = groups.choices_of(mock.Mock(), groups.Wanted("t", "", keys), whole)
                 self.assertEqual(bool(found), wanted)
         far = {**whole, "MIN(n)": -(1 << 62), "MAX(n)": 1 << 62}
-        self.assertEqual(groups.choices_of(groups.Wanted("t", "", [other]), far), [])
+        self.assertEqual(groups.choices_of(mock.Mock(), groups.Wanted("t", "", [other]), far), [])
+
+    def test_few_rows_of_many_are_listed(self):
+        column = self.connection.catalog.only.columns[0]
+        whole = {"COUNT(*)": 10, "COUNT(city)": 10, "MIN(city)": 0, "MAX(city)": 19}
+        for rows_of_table, wanted in [(1000, True), (1001, False)]:
+            engine = mock.Mock(**{"totals.return_value": [[rows_of_table]]})
+            found = groups.choices_of(engine, groups.Wanted("t", "n > 5", [column]), whole)
+            self.assertEqual(bool(found), wanted)
 
     def test_too_many_groups_are_refused(self):
         with mock.patch.object(counted, "MOST_GROUPS", 300):
@@ -153,6 +168,20 @@ class Groups(Asked):
         self.assertIn("SELECT ok, f FROM t WHERE (f > 0) AND (f IS NOT NULL)", answer.asked)
         self.assertEqual(list(answer.rows()), self.by_sqlite("SELECT ok, SUM(f) FROM t WHERE f > -100 GROUP BY ok"))
 
+    def test_expressions_make_groups_of_those_of_their_columns(self):
+        answer = self.answer("SELECT n % 3 AS r, COUNT(*), SUM(price), MIN(n), AVG(f) FROM t WHERE f > -9 GROUP BY r")
+        self.assertEqual([row[0] for row in answer.rows()], [None, 0, 1, 2])
+        self.assertIn("SELECT n, f FROM t WHERE (f > 0) AND (f IS NOT NULL)", answer.asked)
+        for most in (groups.MOST_STATEMENTS, 0):
+            for sql in ("SELECT n % 3 AS r, COUNT(*), SUM(price), MIN(n), AVG(f) FROM t WHERE f > -9 GROUP BY r",
+                        "SELECT upper(city), ok, MAX(wide), COUNT(f) FROM t GROUP BY upper(city), ok ORDER BY 3",
+                        "SELECT n > 100, COUNT(*) FROM t WHERE n > 100 GROUP BY n > 100", "SELECT n / 2, n / 2.0 FROM t GROUP BY n / 2.0, n / 2"):
+                with self.subTest(sql, most=most), mock.patch.object(groups, "MOST_STATEMENTS", most):
+                    self.assertEqual(self.rows(sql), self.by_sqlite(sql))
+        with mock.patch.object(counted, "MOST_GROUPS", 300):
+            sql = "SELECT wide % 2, COUNT(*) FROM t GROUP BY wide % 2"
+            self.assertEqual(self.connection.answer(sql).way, 2)
+
     def test_distinct_rows_keep_the_order_of_the_file(self):
         for sql in ("SELECT DISTINCT city, ok FROM t", "SELECT DISTINCT n FROM t WHERE n > 3", "SELECT DISTINCT upper(city) FROM t"):
             with self.subTest(sql):
@@ -176,11 +205,14 @@ class Counted(unittest.TestCase):
 
     def test_counts_are_in_the_order_of_rows(self):
         found = counted.counts(self.parts("2,1\nNULL,1\n2,1\n", "", "0,NULL\n2,1\n"))
-        self.assertEqual(list(found.items()), [((2, 1), 3), ((None, 1), 1), ((0, None), 1)])
-        self.assertEqual(counted.ascending(found), [(None, 1), (0, None), (2, 1)])
+        null = counted.NULL_NUMBER
+        self.assertEqual((found.keys, found.totals), ([(2, 1), (null, 1), (0, null)], {"COUNT(*)": [3, 1, 1]}))
+        found = found.ascending()
+        self.assertEqual((found.keys, found.totals), ([(null, 1), (0, null), (2, 1)], {"COUNT(*)": [1, 1, 3]}))
 
     def test_distinct(self):
-        self.assertEqual(counted.distinct(self.parts("1,5\n1,6\n1,5\n", "2,5\nNULL,5\n")), {(1,): 2, (2,): 1, (None,): 1})
+        self.assertEqual(counted.distinct(self.parts("1,5\n1,6\n1,5\n", "2,5\nNULL,5\n")),
+                         {(1,): 2, (2,): 1, (counted.NULL_NUMBER,): 1})
         self.assertEqual(counted.distinct(self.parts("5\n6\n", "5\n")), {(): 2})
         self.assertEqual(counted.distinct(self.parts("")), {})
 
@@ -188,14 +220,14 @@ class Counted(unittest.TestCase):
         functions = {"a": ["SUM", "MIN", "MAX", "COUNT"], "b": ["SUM"]}
         with mock.patch.object(counted, "AT_ONCE", 4):
             found = counted.totals(self.parts("1,5,1\n2,NULL,1\n1,-7,NULL\n", "1,6,3\nNULL,0,0\n"), 1, functions)
-        names = ("COUNT(*)", "SUM(a)", "MIN(a)", "MAX(a)", "COUNT(a)", "SUM(b)")
-        self.assertEqual({key: tuple(each[name] for name in names) for key, each in found.items()},
-                         {(1,): (3, 4, -7, 6, 3, 4), (2,): (1, None, None, None, 0, 1), (None,): (1, 0, 0, 0, 1, 0)})
+        self.assertEqual(found.columns, [[1, 2, counted.NULL_NUMBER]])
+        self.assertEqual(found.totals, {"COUNT(*)": [3, 1, 1], "SUM(a)": [4, None, 0], "MIN(a)": [-7, None, 0],
+                                        "MAX(a)": [6, None, 0], "COUNT(a)": [3, 0, 1], "SUM(b)": [4, 1, 0]})
 
     def test_extremes_of_64_bits(self):
         least, greatest = -(1 << 63), (1 << 63) - 1
         found = counted.totals(self.parts(f"1,{greatest}\n2,{least}\n"), 1, {"a": ["MIN", "MAX"]})
-        self.assertEqual([list(each.values())[1:] for each in found.values()], [[greatest] * 2, [least] * 2])
+        self.assertEqual((found.totals["MIN(a)"], found.totals["MAX(a)"]), ([greatest, least], [greatest, least]))
 
     def test_lines_of_another_width_fail(self):
         for text in ("1,2,3\n1,2\n", "1\n", "1,2,3"):

@@ -128,6 +128,16 @@ class Literals(Statements):
             self.refused(f"SELECT 1 FROM trips t JOIN stations s ON {condition}", "equal texts mean different values")
         Statement("SELECT 1 FROM trips t JOIN stations s ON t.day = s.day", self.both)
 
+    def test_dates_have_no_arithmetic(self):
+        """SQLite would compute with the year, or with the hour."""
+        for written in ("day + 30", "max(day) - min(day)", "-day", "1 + t.day", '"when" - 5', "clock * 2", "(day) / 2", "id % day",
+                        "(SELECT max(day) FROM stations) - 1", "id - d2"):
+            self.refused(f"SELECT {written} FROM trips t JOIN (SELECT day AS d2 FROM stations)", "has (dates|times).*, which have no")
+        for written in ("julianday(day) - 5", "id - length(day)", "count(*) * 2", "t.id + -1", "id - (5)", "day || 'x'", "date(day, '+1 day')",
+                        "count(DISTINCT day) + 1", "strftime('%Y', day) + 0", "city + 1"):
+            with self.subTest(written):
+                Statement(f"SELECT {written} FROM trips t", self.both)
+
     def test_word_before_a_literal_may_be_a_column(self):
         self.assertEqual(self.sql("SELECT city date FROM trips"), "SELECT city date FROM `trips`")
 
@@ -186,6 +196,11 @@ class Names(Statements):
         self.refused("SELECT 1 FROM tripz", "there is no table tripz: did you mean trips")
         self.refused("SELECT 1 FROM sqlite_master", "there is no table sqlite_master: there are stations, trips")
 
+    def test_tables_of_sqlite_are_never_read(self):
+        for name in ("sqlite_master", "SQLITE_SCHEMA", "pragma_table_info"):
+            with self.assertRaisesRegex(Refused, "there is no table"):
+                Statement(f"SELECT * FROM {name}", self.one)
+
     def test_only_table_may_have_any_name(self):
         self.assertEqual(Statement("SELECT x.id FROM x WHERE id > 5", self.one).sql(),
                          "SELECT x.id FROM  `trips` AS `x`  WHERE id > 5")
@@ -239,6 +254,7 @@ class Kept(Statements):
                                  ("VACUUM INTO 'x'", "found VACUUM"), ("EXPLAIN SELECT 1", "found EXPLAIN"), ("", "is empty"),
                                  (" -- nothing\n;", "is empty"), ("SELECT 1; SELECT 2", "a second statement begins at character 10"),
                                  ("SELECT (1", r"the bracket \( at character 7 of the statement isn't closed"),
+                                 ("SELECT " + "(" * 101 + "1" + ")" * 101, "is in more than 100 others"),
                                  ("SELECT 1)", r"the bracket \) at character 8 of the statement closes none")]:
             self.refused(written, message)
 

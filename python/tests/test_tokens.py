@@ -49,9 +49,28 @@ class Tokens(unittest.TestCase):
         for sql, message in [("SELECT 12ab", "unexpected 12ab at character 7"), ("a!b", "unexpected '!' at character 1"),
                              ("SELECT 'a", "the quote ' at character 7 of the statement isn't closed"),
                              ('"a', 'the quote " at character 0'), ("a [b", r"the quote \[ at character 2"),
-                             ("x'0'", "unexpected x'0'"), ("1e", "unexpected 1e"), ("a \0", "unexpected '.x00'")]:
+                             ("x'0'", "unexpected x'0'"), ("1e", "unexpected 1e"),
+                             ("0x10000000000000000", "more than 64 bits"), ("a \0", "a character that isn't text"),
+                             ("'\ud800'", "a character that isn't text")]:
             with self.subTest(sql), self.assertRaisesRegex(Refused, message):
                 tokens_of(sql)
+
+    def test_letters_of_names(self):
+        """Each character of ASCII, and some beyond, begins or continues a name as in SQLite."""
+        database = sqlite3.connect(":memory:")
+        for character in [*map(chr, range(1, 128)), "\x80", "é", "\uffff", "\U0010ffff"]:
+            for name in (f"{character}zz", f"a{character}zz"):
+                try:
+                    is_name = texts(name) == [("word", name)]
+                except Refused:
+                    is_name = False
+                try:
+                    column, = database.execute(f"SELECT {name} FROM (SELECT 1 AS [{name}])").description if "]" not in name else [("",)]
+                    is_known = column[0] == name
+                except sqlite3.Error:
+                    is_known = False
+                with self.subTest(name):
+                    self.assertEqual(is_name, is_known)
 
     def test_sqlite_agrees(self):
         """Statements are one of SQLite's tokens each: it refuses those that are refused here."""

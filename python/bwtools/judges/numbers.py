@@ -12,7 +12,7 @@ from ..kinds.floats import Floats
 from ..kinds.styled import Numbers, Styled
 from ..kinds.whole import Whole
 from ..naming import option
-from ..numerals import LIKE, SIMPLE, STARTS, ZEROS, Style, is_number
+from ..numerals import SIMPLE, STARTS, ZEROS, Style, is_number, like_number
 from ..plain import Spans
 from ..rounding import Rounding
 from ..telling import shown
@@ -35,8 +35,8 @@ class NumberJudge:
         return not self.has_zeros
 
     def like(self, texts: Sequence[str]) -> list[str]:
-        found = [text for text in matching(LIKE, starting(texts, STARTS)) if text.isdigit() or
-                 is_number(text)]
+        found = [text for text in matching(like_number(), starting(texts, STARTS))
+                 if text.isdigit() or is_number(text)]
         self.has_zeros = self.has_zeros or any(map(ZEROS.match, found))
         return found
 

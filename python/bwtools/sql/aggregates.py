@@ -2,11 +2,12 @@
 expressions, they are `math.fsum`'s. Where OVER follows, SQLite's own are used."""
 from __future__ import annotations
 
+import contextlib
 import functools
 import math
 import sqlite3
 from fractions import Fraction
-from typing import Any, Sequence
+from typing import Any, Iterator, Sequence
 
 from ..kinds import Decimals, Truths, Whole, undressed
 from ..kinds.doubles import nearest
@@ -34,27 +35,32 @@ def summed(values: Sequence[Any]) -> int | float | None:
 
 
 class Functions:
-    """The functions of a connection. SQLite doesn't pass on what they refuse: the last refusal is
-    kept here."""
+    """The functions of a connection. SQLite doesn't pass on what they raise, a refusal or the
+    exception of a signal: it is kept here."""
 
     def __init__(self, database: sqlite3.Connection) -> None:
-        self.refusal: Refused | None = None
+        self.raised: BaseException | None = None
         database.create_aggregate("bw_sum", 1, functools.partial(Sum, self))
         database.create_aggregate("bw_avg", 1, functools.partial(Mean, self))
         database.create_function("bw_total", 3, self.total, deterministic=True)
         database.create_function("bw_mean", 3, mean_of, deterministic=True)
 
-    def kept(self, refusal: Refused) -> Refused:
-        """Keeps a refusal, and returns it."""
-        self.refusal = refusal
-        return refusal
+    @contextlib.contextmanager
+    def kept(self) -> Iterator[None]:
+        """Keeps what is raised."""
+        try:
+            yield
+        except BaseException as error:
+            self.raised = error
+            raise
 
     def total(self, number: int | None, digits: int, name: str) -> float | None:
         """Returns the double of a sum of decimals, or None if there was none."""
-        try:
-            return None if number is None else double_of_sum(name, number, digits)
-        except Refused as refused:
-            raise self.kept(refused)
+        if number is None:
+            return None
+        with self.kept():
+            found = double_of_sum(name, number, digits)
+        return found
 
 
 class Sum:
@@ -68,16 +74,16 @@ class Sum:
     def step(self, value: Any) -> None:
         """Adds a value, unless it is null."""
         if isinstance(value, (str, bytes)):
-            raise self.functions.kept(Refused(f"{self.name} of texts, which can't be summed"))
+            with self.functions.kept():
+                raise Refused(f"{self.name} of texts, which can't be summed")
         if value is not None:
             self.values.append(value)
 
     def finalize(self) -> Any:
         """Returns the sum, or None if there was no value."""
-        try:
-            return summed(self.values) if self.values else None
-        except Refused as refused:
-            raise self.functions.kept(refused)
+        with self.functions.kept():
+            found = summed(self.values) if self.values else None
+        return found
 
 
 class Mean(Sum):

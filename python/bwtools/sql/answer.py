@@ -36,14 +36,5 @@ class Answer:
 
     def python_rows(self) -> Iterator[tuple[Any, ...]]:
         """Yields the rows as Python's objects (`values.python`)."""
-        makers = list(map(values.python, self.kinds))
-        for block in self.blocks():
-            yield from zip(*(made(maker, column) for maker, column in zip(makers, block)))
-
-
-def made(maker: Any, column: Sequence[Any]) -> Sequence[Any]:
-    """Returns Python's objects of a column's values, each distinct one made once."""
-    if maker is values.same:
-        return column
-    known = {value: None if value is None else maker(value) for value in set(column)}
-    return list(map(known.__getitem__, column))
+        for block in self.body.objects(self.kinds):
+            yield from zip(*block)

@@ -1,16 +1,18 @@
 """The rows of an answer, as SQLite computed them or as bw listed them."""
 from __future__ import annotations
 
+import functools
 import io
 import itertools
-from typing import Any, BinaryIO, Iterator, Sequence, Union
+from typing import Any, BinaryIO, Callable, Iterator, Sequence, Union
 
 from ..answers import blocks as blocks_of
 from ..kind import Kind
+from ..kinds import Whole
 from ..telling import Refused
-from .values import Value, field, stored
+from .values import Value, field, objects, python, same, stored
 
-NULL, AT_ONCE = "NULL", 8192
+NULL, AT_ONCE, SAMPLE = "NULL", 8192, 256
 # some columns of values, each of the same rows
 Block = Sequence[Sequence[Value]]
 
@@ -29,6 +31,12 @@ class Rows:
         """Yields the columns of many rows at a time."""
         for start in range(0, len(self.rows), AT_ONCE):
             yield list(zip(*self.rows[start:start + AT_ONCE]))
+
+    def objects(self, kinds: Sequence[Kind | None]) -> Iterator[Sequence[Sequence[Any]]]:
+        """Yields the columns of Python's objects of many rows at a time."""
+        makers = list(map(python, kinds))
+        for block in self.values(kinds):
+            yield [made(maker, column) for maker, column in zip(makers, block)]
 
     def fields(self, kinds: Sequence[Kind | None]) -> Iterator[Sequence[Sequence[str]]]:
         """Yields the columns of the fields of many rows at a time, without quotes."""
@@ -73,6 +81,12 @@ class Numbers:
         for block in self.numbers(len(kinds)):
             yield [decoded(kind, fields) for kind, fields in zip(kinds, block)]
 
+    def objects(self, kinds: Sequence[Kind | None]) -> Iterator[Sequence[Sequence[Any]]]:
+        """Yields the columns of Python's objects of many rows at a time."""
+        for block in self.numbers(len(kinds)):
+            yield [turned(fields, None, functools.partial(objects, kind), kind)
+                   for kind, fields in zip(kinds, block)]
+
     def fields(self, kinds: Sequence[Kind | None]) -> Iterator[Sequence[Sequence[str]]]:
         """Yields the columns of the fields of many rows at a time, without quotes."""
         for block in self.numbers(len(kinds)):
@@ -82,44 +96,56 @@ class Numbers:
 def spelled(kind: Kind | None, values: Sequence[Value]) -> list[str]:
     """Returns the fields of values."""
     if kind is None:
-        return [field(None, value) for value in values]
+        return [value if type(value) is str else field(None, value) for value in values]
     known = {value: field(kind, value) for value in set(values)}
     return list(map(known.__getitem__, values))
 
 
+def made(maker: Callable[[Any], Any], column: Sequence[Any]) -> Sequence[Any]:
+    """Returns Python's objects of a column's values, each distinct one made once."""
+    if maker is same:
+        return column
+    known = {value: None if value is None else maker(value) for value in set(column)}
+    return list(map(known.__getitem__, column))
+
+
 def decoded(kind: Kind | None, fields: Sequence[str]) -> list[Any]:
     """Returns SQLite's values of bw's fields."""
-    numbers, found = distinct(fields)
-    values: Sequence[Any] = numbers
-    if kind is not None:
-        try:
-            values = stored(kind, numbers)
-        except (ValueError, IndexError, OverflowError):
-            raise foreign(kind) from None
-    return list(map({NULL: None, **dict(zip(found, values))}.__getitem__, fields))
+    return turned(fields, None, lambda numbers: numbers if kind is None else stored(kind, numbers),
+                  kind)
 
 
 def written(kind: Kind | None, fields: Sequence[str]) -> list[str]:
     """Returns the fields, in the column's own form, of bw's fields."""
-    numbers, found = distinct(fields)
-    texts: Sequence[str] = found
-    if kind is not None:
-        try:
-            texts = kind.spell(numbers)
-        except (ValueError, IndexError, OverflowError):
-            raise foreign(kind) from None
-    return list(map({NULL: "", **dict(zip(found, texts))}.__getitem__, fields))
+    if kind is None or isinstance(kind, Whole):
+        return ["" if each == NULL else each for each in fields]
+    return turned(fields, "", kind.spell, kind)
 
 
-def distinct(fields: Sequence[str]) -> tuple[list[int], list[str]]:
-    """Returns the distinct numbers of bw's fields, and their fields."""
-    found = list(dict.fromkeys(fields))
-    present = [each for each in found if each != NULL] if NULL in found else found
-    return list(map(int, present)), present
+def turned(fields: Sequence[str], null: Any, turn: Callable[[Sequence[int]], Sequence[Any]],
+           kind: Kind | None) -> list[Any]:
+    """Returns what a function returns for the numbers of bw's fields, and `null` for nulls. Of many
+    equal fields each distinct one is turned once."""
+    sample = fields[:SAMPLE]
+    is_few = len(set(sample)) * 4 < len(sample)
+    known = list(dict.fromkeys(fields)) if is_few else fields
+    has_null = NULL in known
+    present = [each for each in known if each != NULL] if has_null else known
+    try:
+        found = turn(list(map(int, present)))
+    except (ValueError, IndexError, OverflowError):
+        raise foreign(kind) from None
+    if is_few:
+        return list(map({NULL: null, **dict(zip(present, found))}.__getitem__, fields))
+    if not has_null:
+        return list(found)
+    rest = iter(found)
+    return [null if each == NULL else next(rest) for each in fields]
 
 
-def foreign(kind: Kind) -> Refused:
-    return Refused(f"the table has a number that is none of its column's {kind.plural}")
+def foreign(kind: Kind | None) -> Refused:
+    plural = kind.plural if kind else "whole numbers"
+    return Refused(f"the table has a number that is none of its column's {plural}")
 
 
 def rows_of(blocks: Iterator[Block]) -> Iterator[tuple[Any, ...]]:

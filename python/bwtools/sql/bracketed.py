@@ -15,6 +15,8 @@ RESERVED = set(
     "PRIMARY REFERENCES RETURNING SELECT SET TABLE THEN TO TRANSACTION UNION UNIQUE UPDATE USING "
     "VALUES WHEN WHERE".split())
 NO_ALIAS = RESERVED | JOINS | set("END OVER FILTER LIKE GLOB REGEXP MATCH INDEXED WINDOW".split())
+# SQLite takes about so many brackets within one another
+MOST_DEPTH = 100
 ENDS = set("END NULL ISNULL NOTNULL".split())
 
 
@@ -68,6 +70,9 @@ def closing_of(tokens: Sequence[Token]) -> dict[int, int]:
     for at, token in enumerate(tokens):
         if token.is_mark("("):
             opened.append(at)
+            if len(opened) > MOST_DEPTH:
+                raise Refused(f"the bracket at character {token.start} of the statement is in more "
+                              f"than {MOST_DEPTH} others")
         elif token.is_mark(")"):
             if not opened:
                 raise Refused(f"the bracket ) at character {token.start} of the statement closes "

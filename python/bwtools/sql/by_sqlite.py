@@ -7,8 +7,6 @@ import sqlite3
 from dataclasses import dataclass, field
 from typing import Callable, Iterable, Mapping
 
-from ..kind import Column
-from ..kinds import Decimals, undressed
 from ..progress import Progress
 from ..telling import Refused
 from .aggregates import for_sqlite
@@ -16,10 +14,10 @@ from .answer import Answer
 from .bodies import Rows
 from .catalog import Catalog, Table
 from .clauses import Clauses, clauses_of
-from .condition import Condition
+from .condition import MOST_BYTES, Condition
 from .engine import Engine
 from .listing import Listing
-from .predicates import Outside
+from .predicates import Outside, is_long
 from .reader import Reader
 from .reading import reads_of, told
 from .statement import Statement
@@ -58,7 +56,6 @@ class BySqlite:
         can't list a column, and KeyboardInterrupt when it is interrupted."""
         sql = for_sqlite(statement)
         reads = reads_of(self.whole.database, self.whole.guard, statement, sql)
-        reads = {name: set(columns) for name, columns in reads.items()}
         refuse_long_decimals(self.catalog, reads)
         listing, asked = self.listing(statement, reads), list[str]()
         tables = [self.tables()[name] for name in reads]
@@ -102,20 +99,14 @@ class BySqlite:
 
     def run(self, listing: Listing, statement: Statement, sql: str, asked: list[str]) -> Answer:
         """Runs a statement over what is listed."""
-        guard, listing.functions.refusal = listing.guard, None
+        guard, listing.functions.raised = listing.guard, None
         guard.denied, guard.read, guard.is_off = "", {}, False
         try:
             cursor = listing.database.execute(sql)
             rows = cursor.fetchall()
         except sqlite3.Error as error:
-            if str(error) == "interrupted":
-                raise KeyboardInterrupt from None
-            if str(error) == "integer overflow":
-                raise Refused("a SUM is outside the range of 64 bits") from None
-            refusal = listing.functions.refusal or guard.denied
             guard.is_off = True
-            raise Refused(refusal or told(listing.database, guard, statement,
-                                          str(error))) from None
+            raise self.failure(listing, statement, str(error)) from None
         finally:
             guard.is_off = True
         names = [each[0] for each in cursor.description]
@@ -124,6 +115,17 @@ class BySqlite:
             return Answer(names, [None] * len(names), Rows(rows), 2, asked)
         kinds = [each.plain.kind if each.plain else None for each in outputs]
         return Answer([each.heading for each in outputs], kinds, Rows(rows), 2, asked)
+
+    def failure(self, listing: Listing, statement: Statement, message: str) -> BaseException:
+        """Returns what SQLite's message means, while it runs a statement."""
+        raised = listing.functions.raised
+        # a signal's exception ends the function of ours that it finds
+        if message == "interrupted" or raised is None and "user-defined" in message:
+            return KeyboardInterrupt()
+        if message == "integer overflow":
+            return Refused("a SUM is outside the range of 64 bits")
+        return raised or Refused(listing.guard.denied or told(
+            listing.database, listing.guard, statement, message))
 
 
 def refuse_long_decimals(catalog: Catalog, reads: Mapping[str, set[str]]) -> None:
@@ -134,15 +136,6 @@ def refuse_long_decimals(catalog: Catalog, reads: Mapping[str, set[str]]) -> Non
                 raise Refused(f"{column.name} has decimals of more than {EXACT_DIGITS} digits, "
                               "which SQLite doesn't compute with: ask for COUNT, MIN, MAX, or "
                               "compare the column with a number")
-
-
-def is_long(column: Column) -> bool:
-    """Returns whether a column has decimals of too many digits for a double."""
-    kind = undressed(column.kind)
-    if not isinstance(kind, Decimals):
-        return False
-    numbers = [column.kind.number(end) for end in column.ends]
-    return any(number is None or len(str(abs(number))) > EXACT_DIGITS for number in numbers)
 
 
 def pushed(statement: Statement) -> str:
@@ -156,7 +149,8 @@ def pushed(statement: Statement) -> str:
     for first, end in terms(statement, clauses.span("WHERE")):
         condition = condition_of(statement, clauses, first, end)
         found += [condition] if condition else []
-    return " AND ".join(f"({each})" for each in found) if len(found) > 1 else "".join(found)
+    condition = " AND ".join(f"({each})" for each in found) if len(found) > 1 else "".join(found)
+    return condition if len(condition) <= MOST_BYTES else ""
 
 
 def condition_of(statement: Statement, clauses: Clauses, first: int, end: int) -> str:

@@ -2,7 +2,6 @@
 from __future__ import annotations
 
 import contextlib
-import difflib
 import os
 import pathlib
 from dataclasses import dataclass, field
@@ -131,6 +130,7 @@ def open_catalog(paths: Iterable[tuple[str, str]], is_local: bool = True) -> Cat
 
 def missing(what: str, name: str, names: Iterable[str]) -> Refused:
     """Returns the refusal of a name that isn't there, with the nearest ones."""
+    import difflib
     known = sorted(set(names), key=str.lower)
     lower = {each.lower(): each for each in known}
     near = difflib.get_close_matches(name.lower(), lower, 3, 0.6)

@@ -5,12 +5,11 @@ from __future__ import annotations
 
 from typing import Callable
 
-from .. import statements
-from ..answers import no_sum
 from ..kind import Column, Literal
 from ..kinds import Clocks, Dates, Styled, Times, Truths
 from ..moments import read_moment
 from ..telling import Refused
+from . import refusals
 from .operands import EQUAL, Comparison, Operand, Operands
 from .scopes import Scope
 from .structure import Structure
@@ -19,6 +18,7 @@ from .values import ISO_CLOCK, ISO_TIME, plain_of
 
 ROWIDS = ("rowid", "oid", "_rowid_")
 MOMENTS = (Dates, Times, Clocks)
+ARITHMETIC = ("+", "-", "*", "/", "%")
 ORDER_END = ("LIMIT", "ROWS", "RANGE", "GROUPS")
 AFTER_TERM = ("ASC", "DESC", "NULLS", "FIRST", "LAST")
 
@@ -38,8 +38,13 @@ class Checks:
                 self.name(at, token, scope)
             elif token.kind == QUOTED:
                 self.replace(at, QUOTED, quoted_name(token.name))
-        for found in Operands(self.structure).comparisons():
+        operands = Operands(self.structure)
+        for found in operands.comparisons():
             self.comparison(found)
+        for at, scope in enumerate(self.structure.scopes):
+            if scope and self.line.is_mark(at, *ARITHMETIC):
+                for operand in operands.beside(at, scope):
+                    self.arithmetic(at, operand)
         for at, table in self.structure.tables.items():
             self.replace(at, QUOTED, quoted_name(table.name))
         return self.replaced
@@ -93,9 +98,9 @@ class Checks:
             column = self.column(first + (self.line.key(first) in ("DISTINCT", "ALL")), stop,
                                  scope)
             if column and key in ("MIN", "MAX"):
-                statements.refuse_unordered(column, f"{key}({column.name})")
-            elif column and is_without_sum(column):
-                raise Refused(no_sum(column).replace("SUM(", f"{key}(", 1))
+                refusals.refuse_unordered(column, f"{key}({column.name})")
+            elif column:
+                refusals.refuse_sum(column, key)
 
     def column(self, first: int, end: int, scope: Scope, is_alias_first: bool = False
                ) -> Column | None:
@@ -118,19 +123,27 @@ class Checks:
                     0 < int(token.text) <= len(scope.outputs):
                 column = scope.outputs[int(token.text) - 1].plain
             if column:
-                statements.refuse_unordered(column, f"ORDER BY {column.name}")
+                refusals.refuse_unordered(column, f"ORDER BY {column.name}")
 
     def comparison(self, found: Comparison) -> None:
         """Checks a comparison, and gives its literal SQLite's form."""
         for operand in (found.left, found.right):
             if operand.column and found.sign not in EQUAL:
-                statements.refuse_unordered(operand.column, f"{self.text(found.left)} "
+                refusals.refuse_unordered(operand.column, f"{self.text(found.left)} "
                                             f"{found.sign} {self.text(found.right)}")
         for column, literal in ((found.left.column, found.right), (found.right.column, found.left)):
             if column and literal.value is not None:
                 self.literal(column, literal, found.sign in EQUAL)
         if found.left.column and found.right.column:
             self.moments(found.left.column, found.right.column)
+
+    def arithmetic(self, at: int, operand: Operand) -> None:
+        """Rejects arithmetic on dates and times, of which SQLite takes the year or the hour."""
+        column, sign = operand.column, self.line.tokens[at]
+        if column and isinstance(column.kind, MOMENTS):
+            raise Refused(f"{self.text(operand)} has {column.kind.plural}, which have no "
+                          f"{sign.text} (at character {sign.start} of the statement): use "
+                          f"julianday({column.name}) for days, or date({column.name}, '+1 day')")
 
     def text(self, operand: Operand) -> str:
         return self.text_of(operand.first, operand.end)
@@ -140,7 +153,7 @@ class Checks:
         kinds = [column.kind for column in (left, right)]
         if all(isinstance(kind, MOMENTS) for kind in kinds) and not kinds[0].alike(kinds[1]):
             raise Refused(f"{left.name} and {right.name} can't be compared: "
-                          f"{statements.held(left)}, {statements.held(right)}, and equal texts "
+                          f"{refusals.held(left)}, {refusals.held(right)}, and equal texts "
                           "mean different values")
 
     def literal(self, column: Column, operand: Operand, is_equal: bool) -> None:
@@ -148,9 +161,9 @@ class Checks:
         written = self.text(operand)
         if isinstance(operand.value, bytes):
             raise Refused(f"{written} can't be compared with {column.name}: "
-                          f"{statements.held(column)}")
+                          f"{refusals.held(column)}")
         assert operand.value is not None
-        statements.place_of(column, statements.Operand(None, operand.value, written), is_equal)
+        refusals.refuse_other(column, operand.value, written, is_equal)
         form = sqlite_form(column, operand.value)
         at = next(each for each in range(operand.first, operand.end)
                   if self.line.tokens[each].kind == TEXT) if form else 0
@@ -183,11 +196,6 @@ def iso(kind: Dates | Times | Clocks, literal: str) -> str:
     moment = read_moment(kind.form, literal)
     assert moment
     return Times(ISO_TIME, moment.digits).text(moment.number)
-
-
-def is_without_sum(column: Column) -> bool:
-    """Returns whether a column has no sum: one of dates, times and texts."""
-    return not column.kind.is_summable and column.kind.plural != "floats"
 
 
 def where(token: Token) -> str:

@@ -27,8 +27,8 @@ from .reader import Reader
 SIGNS = {"=": "=", "==": "=", "<>": "<>", "!=": "<>", "<": "<", ">": ">", "<=": "<=", ">=": ">="}
 # how deep brackets and NOTs may be: bw has a limit of 100, and a condition over numbers has more
 MOST_DEPTH = 30
-# the bytes of a statement that bw takes
-MOST_BYTES = 65_536
+# the bytes of a condition: a statement of bw has at most 65,536, and 64 columns' names
+MOST_BYTES = 60_000
 OR, AND, NOT, TEST, PRIMARY = range(5)
 
 

@@ -2,18 +2,25 @@
 from __future__ import annotations
 
 import contextlib
+import functools
 import os
+import sqlite3
 from dataclasses import dataclass, field
-from typing import Any, Callable, Sequence
+from typing import TYPE_CHECKING, Any, Callable, Sequence
 
 from . import errors, grammar
 from .answer import Answer
-from .by_sqlite import BySqlite
 from .catalog import Catalog, Table, name_of, open_catalog
-from .cursor import Cursor
 from .engine import Asker, Engine, Scheduled, Sessions
 from .errors import translated
 from .statement import Statement
+
+if TYPE_CHECKING:
+    from .by_sqlite import BySqlite
+    from .cursor import Cursor
+
+# the SQLite of Debian 11
+OLDEST = (3, 34, 0)
 
 
 def nothing(told: str) -> None:
@@ -57,9 +64,6 @@ class Connection:
 
     def __post_init__(self) -> None:
         self.stack.callback(self.catalog.close)
-        self.by_sqlite = BySqlite(self.catalog, self.engine, self.settings.list_all,
-                                  self.settings.is_shown)
-        self.stack.callback(self.by_sqlite.close)
 
     def __enter__(self) -> Connection:
         return self
@@ -72,7 +76,17 @@ class Connection:
         `telling.Refused` for a statement that is rejected, and `session.Failed` if bw fails."""
         self.refuse_closed()
         statement = Statement(sql, self.catalog, parameters)
+        for engine in self.engines.values():
+            engine.asked.clear()
         return grammar.answer(statement, self.engine) or self.by_sqlite.answer(statement)
+
+    @functools.cached_property
+    def by_sqlite(self) -> BySqlite:
+        """SQLite over listed columns, which most statements don't need."""
+        from .by_sqlite import BySqlite
+        found = BySqlite(self.catalog, self.engine, self.settings.list_all, self.settings.is_shown)
+        self.stack.callback(found.close)
+        return found
 
     def engine(self, table: Table) -> Engine:
         """Returns the engine that asks bw about a table, whose sessions begin when they are
@@ -100,6 +114,7 @@ class Connection:
 
     def cursor(self) -> Cursor:
         """Returns a cursor, which doesn't disturb others."""
+        from .cursor import Cursor
         self.refuse_closed()
         return Cursor(self)
 
@@ -127,6 +142,9 @@ def connect(*paths: str | os.PathLike[str], scheduler: str | None = None, list_a
     has the name of its file or folder, or the one of its keyword: connect("trips.bw",
     places="stations.bw"). With `scheduler`, the address of Dask's, shards are asked on its
     workers. A statement that SQLite answers over more than 4 million rows needs `list_all`."""
+    if sqlite3.sqlite_version_info < OLDEST:
+        raise errors.NotSupportedError("SQLite 3.34 or later is needed, and this Python has "
+                                       f"{sqlite3.sqlite_version}")
     with translated():
         given = [*((name_of(path), os.fspath(path)) for path in paths),
                  *((name, os.fspath(path)) for name, path in named.items())]

@@ -5,18 +5,54 @@ from __future__ import annotations
 import itertools
 from array import array
 from collections import Counter
-from typing import BinaryIO, Iterable, Iterator, Mapping, Sequence, Tuple, Union
+from dataclasses import dataclass
+from typing import BinaryIO, Iterable, Iterator, Mapping, Sequence, Tuple
 
 from ..kind import Kind
 from ..runs import Codes
 from ..session import Failed
+from ..shards import total
 from ..telling import Refused
 from . import values
 
 MOST_GROUPS = 1_000_000
-# the numbers of a group's columns, of which None is null
-Key = Tuple[Union[int, None], ...]
-NULL, AT_ONCE = "NULL", 1 << 18
+COUNT = "COUNT(*)"
+# of a group whose number is null: less than each number, all of which are within 64 bits
+NULL_NUMBER, NULL, AT_ONCE = -1 << 64, "NULL", 1 << 18
+# the numbers of a group's columns
+Key = Tuple[int, ...]
+
+
+@dataclass
+class Found:
+    """Groups: the numbers of each column that makes them, and the totals of each group by their
+    names, such as SUM(cents). All lists have the groups' order."""
+
+    columns: Sequence[Sequence[int]]
+    totals: Mapping[str, Sequence[int | None]]
+
+    @property
+    def keys(self) -> list[Key]:
+        """The numbers of each group."""
+        return list(zip(*self.columns)) if self.columns else [()] * len(self.totals[COUNT])
+
+    def coarser(self, places: Sequence[int], groups: int) -> Found:
+        """Returns the totals of so many groups, each of which has some of these: those of its
+        place."""
+        parts: dict[str, list[list[int | None]]] = {name: [[] for _ in range(groups)]
+                                                    for name in self.totals}
+        for name, each in self.totals.items():
+            for place, number in zip(places, each):
+                parts[name][place].append(number)
+        return Found([], {name: [total(name.partition("(")[0], part) for part in each]
+                          for name, each in parts.items()})
+
+    def ascending(self) -> Found:
+        """Returns the groups in ascending order, nulls first."""
+        order = sorted(range(len(self.totals[COUNT])), key=self.keys.__getitem__)
+        columns = [list(map(column.__getitem__, order)) for column in self.columns]
+        return Found(columns, {name: list(map(each.__getitem__, order))
+                               for name, each in self.totals.items()})
 
 
 def blocks(parts: Sequence[BinaryIO]) -> Iterator[str]:
@@ -28,13 +64,13 @@ def blocks(parts: Sequence[BinaryIO]) -> Iterator[str]:
                 yield (block + part.readline()).decode("ascii")
 
 
-def counts(parts: Sequence[BinaryIO]) -> dict[Key, int]:
+def counts(parts: Sequence[BinaryIO]) -> Found:
     """Returns how often each line occurs, in the order of their first places."""
     found: Counter[str] = Counter()
     for lines in blocks(parts):
         found.update(lines.split("\n")[:-1])
         refuse_groups(len(found))
-    return {key_of(line): count for line, count in found.items()}
+    return Found(columns_of(list(found)), {COUNT: list(found.values())})
 
 
 def distinct(parts: Sequence[BinaryIO]) -> dict[Key, int]:
@@ -43,14 +79,18 @@ def distinct(parts: Sequence[BinaryIO]) -> dict[Key, int]:
     for lines in blocks(parts):
         found.update(lines.split("\n")[:-1])
     several = Counter(line.rpartition(",")[0] for line in found)
-    return {key_of(line): count for line, count in several.items()}
+    return dict(zip(keys_of(list(several)), several.values()))
+
+
+class TooMany(Refused):
+    """More groups than may be counted."""
 
 
 class Sums:
     """The totals of a column in each group, by the groups' places: those of some functions."""
 
     def __init__(self, name: str, functions: Sequence[str]) -> None:
-        self.name, self.functions = name, functions
+        self.name = name
         self.found: dict[str, list[int]] = {function: [] for function in functions}
         # how many numbers were added in each group
         self.present: Counter[int] = Counter()
@@ -66,16 +106,15 @@ class Sums:
             found += [STARTS[function]] * (groups - len(found))
             ADDERS[function](found, places, map(int, fields))
 
-    def of(self, place: int) -> Iterator[tuple[str, int | None]]:
-        """Yields the totals of a group by their names, such as SUM(cents)."""
-        count = self.present[place]
-        for function in self.functions:
-            total = self.found[function][place] if count else None
-            yield f"{function}({self.name})", count if function == "COUNT" else total
+    def totals(self, groups: int) -> Iterator[tuple[str, list[int | None]]]:
+        """Yields the totals of all groups by their names."""
+        counts = list(map(self.present.__getitem__, range(groups)))
+        for function, found in self.found.items():
+            totals = [total if count else None for total, count in zip(found, counts)]
+            yield f"{function}({self.name})", list(counts) if function == "COUNT" else totals
 
 
-def totals(parts: Sequence[BinaryIO], keys: int, functions: Mapping[str, Sequence[str]]
-           ) -> dict[Key, dict[str, int | None]]:
+def totals(parts: Sequence[BinaryIO], keys: int, functions: Mapping[str, Sequence[str]]) -> Found:
     """Returns the totals of each group, in the order of their first rows. `functions` are those of
     each column after the groups' own, by its name."""
     groups, rows = Codes(), Counter[int]()
@@ -86,8 +125,9 @@ def totals(parts: Sequence[BinaryIO], keys: int, functions: Mapping[str, Sequenc
         refuse_groups(len(groups))
         for each, column in zip(sums, columns):
             each.add(len(groups), places, column)
-    return {key_of(fields): {"COUNT(*)": rows[place], **dict(itertools.chain.from_iterable(
-        each.of(place) for each in sums))} for fields, place in groups.items()}
+    found = {name: total for each in sums for name, total in each.totals(len(groups))}
+    return Found(columns_of(list(groups)), {COUNT: list(map(rows.__getitem__, range(len(groups)))),
+                                            **found})
 
 
 def doubles(parts: Sequence[BinaryIO], keys: int, kind: Kind) -> dict[Key, array[float]]:
@@ -100,7 +140,7 @@ def doubles(parts: Sequence[BinaryIO], keys: int, kind: Kind) -> dict[Key, array
             except KeyError:
                 found[key] = array("d", [double])
                 refuse_groups(len(found))
-    return {key_of(key): each for key, each in found.items()}
+    return dict(zip(keys_of(list(found)), found.values()))
 
 
 def blocks_of(parts: Sequence[BinaryIO], keys: int, others: int
@@ -144,18 +184,22 @@ ADDERS = {"COUNT": add_nothing, "SUM": add_sums, "MIN": add_least, "MAX": add_gr
 STARTS = {"COUNT": 0, "SUM": 0, "MIN": 1 << 64, "MAX": -1 << 64}
 
 
-def key_of(line: str) -> Key:
-    """Returns the numbers of fields between commas."""
-    return tuple(None if field == NULL else int(field) for field in line.split(",") if field)
+def columns_of(lines: Sequence[str]) -> list[list[int]]:
+    """Returns the columns of numbers of lines, of which all have as many fields."""
+    if not lines or not lines[0]:
+        return []
+    fields = zip(*(line.split(",") for line in lines)) if "," in lines[0] else [lines]
+    return [[NULL_NUMBER if field == NULL else int(field) for field in column]
+            for column in fields]
+
+
+def keys_of(lines: Sequence[str]) -> list[Key]:
+    """Returns the numbers of each line."""
+    columns = columns_of(lines)
+    return list(zip(*columns)) if columns else [()] * len(lines)
 
 
 def refuse_groups(count: int) -> None:
     if count > MOST_GROUPS:
-        raise Refused(f"the statement has more than {MOST_GROUPS:,} groups: use a condition, or "
+        raise TooMany(f"the statement has more than {MOST_GROUPS:,} groups: use a condition, or "
                       "group by fewer columns")
-
-
-def ascending(groups: Mapping[Key, object]) -> list[Key]:
-    """Returns the keys of groups in order, nulls first."""
-    least = -(1 << 64)
-    return sorted(groups, key=lambda key: [least if each is None else each for each in key])

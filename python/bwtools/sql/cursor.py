@@ -4,6 +4,7 @@ from __future__ import annotations
 import itertools
 from typing import TYPE_CHECKING, Any, Iterator, Optional, Sequence, Tuple
 
+from ..telling import Refused
 from .answer import Answer
 from .bodies import Rows
 from .errors import NotSupportedError, ProgrammingError, translated
@@ -85,7 +86,11 @@ class Cursor:
 
     def fetchone(self) -> tuple[Any, ...] | None:
         """Returns the next row, or None after the last one."""
-        return next(iter(self.fetchmany(1)), None)
+        self.answered()
+        try:
+            return next(self.rest, None)
+        except Refused as refused:
+            raise ProgrammingError(str(refused)) from None
 
     def fetchmany(self, size: int | None = None) -> list[tuple[Any, ...]]:
         """Returns the next rows: `size` of them, or `arraysize`, or those that are left."""
@@ -99,9 +104,14 @@ class Cursor:
         with translated():
             return list(self.rest)
 
-    def __iter__(self) -> Iterator[tuple[Any, ...]]:
-        while (row := self.fetchone()) is not None:
-            yield row
+    def __iter__(self) -> Cursor:
+        return self
+
+    def __next__(self) -> tuple[Any, ...]:
+        row = self.fetchone()
+        if row is None:
+            raise StopIteration
+        return row
 
     def setinputsizes(self, sizes: Sequence[Any]) -> None:
         """Does nothing."""

@@ -37,17 +37,31 @@ class Aggregate:
 
 
 @dataclass
+class Group:
+    """What makes groups: a column, or an expression over columns, of which these are the words. A
+    call may be a part of another expression; other expressions only within brackets or commas."""
+
+    column: Column | None
+    words: Sequence[str] = ()
+    is_call: bool = False
+
+
+@dataclass
 class Expressions:
-    """Makes expressions over groups of tokens, and notes which columns make the groups and which
-    aggregates are needed."""
+    """Makes expressions over groups of tokens, and notes what makes the groups and which aggregates
+    are needed."""
 
     statement: Statement
     clauses: Clauses
-    # the columns that make groups
-    keys: list[Column] = field(default_factory=list)
+    groups: list[Group] = field(default_factory=list)
     aggregates: list[Aggregate] = field(default_factory=list)
     # whether any column may make groups, as in SELECT DISTINCT
-    are_keys_free: bool = False
+    are_free: bool = False
+
+    @property
+    def columns(self) -> list[Column]:
+        """The columns that make groups."""
+        return [group.column for group in self.groups if group.column]
 
     def expression(self, first: int, end: int, aliases: Sequence[str] = ()) -> str:
         """Returns the expression of the tokens from one on, up to another. `aliases`, in lower
@@ -61,10 +75,17 @@ class Expressions:
     def word(self, reader: Reader, aliases: Sequence[str]) -> str:
         """Consumes the next tokens, and returns what they are in an expression over groups."""
         token, is_call = reader.next(), reader.next(1).is_mark("(")
+        for place, group in enumerate(self.groups):
+            if self.takes_group(reader, group):
+                return self.name(place)
         if token.key in WORDS and self.clauses.table.column(token.key):
             raise Outside
         if is_call and token.key in AGGREGATES:
             return self.aggregate(reader)
+        if is_call and token.key in FUNCTIONS and reader.next(2).is_mark(")") or \
+                token.value.lower() == "now":
+            # of the present moment
+            raise Outside
         if is_call and token.key in FUNCTIONS or token.key in WORDS:
             return reader.take().text
         if token.key == "AS" and reader.next(1).key in TYPES and reader.next(2).is_mark(")"):
@@ -78,13 +99,31 @@ class Expressions:
             return reader.take().text
         raise Outside
 
+    def takes_group(self, reader: Reader, group: Group) -> bool:
+        """Consumes an expression that makes groups, if it is next."""
+        end = reader.place + len(group.words)
+        if not group.words or end > reader.end or \
+                words_of(self.statement, self.clauses, range(reader.place, end)) != group.words:
+            return False
+        before, after = reader.tokens[reader.place - 1], reader.tokens[end]
+        is_whole = (reader.place == reader.first or before.is_mark("(", ",")) and \
+            (end == reader.end or after.is_mark(")", ","))
+        reader.place += len(group.words) if group.is_call or is_whole else 0
+        return group.is_call or is_whole
+
     def key(self, column: Column) -> str:
         """Returns the name of a column that makes groups."""
-        if column not in self.keys:
-            if not self.are_keys_free:
-                raise Outside
-            self.keys.append(column)
-        return quoted_name(f"{PREFIX}{column.name}")
+        places = [place for place, group in enumerate(self.groups) if group.column is column]
+        if not places and not self.are_free:
+            raise Outside
+        if not places:
+            self.groups.append(Group(column))
+        return self.name(places[0] if places else len(self.groups) - 1)
+
+    def name(self, place: int) -> str:
+        """Returns the name of what makes groups, by its place."""
+        column = self.groups[place].column
+        return quoted_name(f"{PREFIX}{column.name if column else f'group {place}'}")
 
     def aggregate(self, reader: Reader) -> str:
         """Consumes an aggregate, and returns the name of its column."""
@@ -92,6 +131,13 @@ class Expressions:
         if found not in self.aggregates:
             self.aggregates.append(found)
         return quoted_name(f"{PREFIX}{self.aggregates.index(found)}")
+
+
+def words_of(statement: Statement, clauses: Clauses, span: range) -> list[str]:
+    """Returns the words of some tokens, which are equal if the tokens mean the same."""
+    found = [statement.tokens[place] for place in span]
+    return [quoted_name(token.name.lower()) if clauses.table.column(token.name)
+            else token.key or token.text for token in found]
 
 
 def reader_of(statement: Statement, clauses: Clauses, span: range) -> Reader:

@@ -5,39 +5,32 @@
                 [ ORDER BY term { , term } ] [ LIMIT n [ OFFSET n ] | LIMIT n , n ]
     items     = * | table.* | item { , item }
     item      = expression [ [ AS ] alias ]
-    group     = column | alias of a column
+    group     = column | expression over columns | alias of one
     term      = expression [ ASC | DESC ] [ NULLS FIRST | NULLS LAST ]
 
-`condition` has a grammar of its own. An expression is made of columns that make groups, aggregates,
+`condition` has a grammar of its own. An expression is made of what makes groups, aggregates,
 literals, SQLite's operators, CASE, and functions of their arguments alone (`expressions`). Without
 groups and aggregates each item and each term is a column. A statement with any token outside this
 grammar is left to SQLite over listed columns."""
 from __future__ import annotations
 
-import contextlib
-import itertools
-import sqlite3
 from dataclasses import dataclass
-from typing import Callable, Iterator, Sequence
+from typing import Callable, Sequence
 
-from ..kind import Column, Kind
-from ..telling import Refused
-from . import bodies, values
+from ..kind import Column
+from . import bodies
 from .answer import Answer
 from .catalog import Table
 from .clauses import Clauses, clauses_of
-from .condition import Condition
 from .engine import Engine
-from .expressions import AGGREGATES, PREFIX, Expressions, reader_of
-from .groups import Groups, Wanted, groups_of
-from .ordering import Limits, Term, limits_of, terms_of
+from .expressions import AGGREGATES, PREFIX
+from .grouping import GroupsQuestion
+from .items import column_of, columns_of, plain_column, where_of
+from .ordering import Term, limits_of, terms_of
 from .predicates import Outside
 from .rows import Key, Rows
 from .statement import Statement
-from .structure import Item
-from .tokens import NUMBER, quoted_name
-
-GROUPS = quoted_name(f"{PREFIX}groups")
+from .tokens import NUMBER
 
 
 def answer(statement: Statement, engine_of: Callable[[Table], Engine]) -> Answer | None:
@@ -80,51 +73,6 @@ def refuse_names(statement: Statement, clauses: Clauses) -> None:
         raise Outside
 
 
-def plain_column(statement: Statement, clauses: Clauses, first: int, end: int) -> Column | None:
-    """Returns the column that the tokens from one on, up to another, are; or None."""
-    reader = reader_of(statement, clauses, range(first, end))
-    column = reader.takes_column()
-    return column if reader.place == reader.end else None
-
-
-def column_of(statement: Statement, clauses: Clauses, first: int, end: int) -> Column:
-    """Returns the column that the tokens from one on, up to another, are, or name by its alias."""
-    column = plain_column(statement, clauses, first, end) if first < end else None
-    name = statement.tokens[first].name.lower()
-    if not column and end - first == 1 and name and name in clauses.aliases:
-        item = clauses.items[clauses.aliases.index(name)]
-        column = plain_column(statement, clauses, item.first, item.end)
-    if not column:
-        raise Outside
-    return column
-
-
-def columns_of(statement: Statement, clauses: Clauses, item: Item) -> Sequence[Column]:
-    """Returns the columns that an item is: all for a `*`."""
-    if is_star(statement, item):
-        names = [token.name.lower() for token in statement.tokens[item.first:item.end]]
-        if names[:-1] not in ([], [clauses.called.lower(), ""]):
-            raise Outside
-        return clauses.table.columns
-    column = plain_column(statement, clauses, item.first, item.end)
-    if not column:
-        raise Outside
-    return [column]
-
-
-def is_star(statement: Statement, item: Item) -> bool:
-    """Returns whether an item is all columns."""
-    last = statement.tokens[item.end - 1]
-    return last.is_mark("*") and (item.end - item.first == 1 or
-                                  statement.tokens[item.end - 2].is_mark("."))
-
-
-def where_of(statement: Statement, clauses: Clauses) -> str:
-    """Returns the condition of WHERE over numbers, or nothing."""
-    span = clauses.span("WHERE")
-    return Condition(reader_of(statement, clauses, span)).whole() if span else ""
-
-
 @dataclass
 class RowsQuestion:
     """A statement without groups, whose items are columns."""
@@ -133,15 +81,15 @@ class RowsQuestion:
     clauses: Clauses
 
     def body(self, engine: Engine) -> bodies.Numbers:
-        clauses, table = self.clauses, self.clauses.table
-        tokens = self.statement.tokens
+        """Returns the rows that bw lists."""
+        clauses, tokens = self.clauses, self.statement.tokens
         columns = [column for item in clauses.items
                    for column in columns_of(self.statement, clauses, item)]
         line = self.statement.structure.line
         keys = [self.key(term, columns) for term in terms_of(line, clauses.span("ORDER"))]
         limits = limits_of(tokens, clauses.span("LIMIT"))
         where = where_of(self.statement, clauses)
-        return Rows(table.bw_name, columns, where, keys, limits).body(engine)
+        return Rows(clauses.table.bw_name, columns, where, keys, limits).body(engine)
 
     def key(self, term: Term, columns: Sequence[Column]) -> Key:
         """Returns the column of a term of ORDER BY: by its alias, its name, or its place."""
@@ -152,121 +100,3 @@ class RowsQuestion:
         else:
             column = column_of(self.statement, self.clauses, term.span.start, term.span.stop)
         return Key(column, term.is_descending, term.are_nulls_first)
-
-
-class GroupsQuestion:
-    """A statement with groups, or with totals of all rows."""
-
-    def __init__(self, statement: Statement, clauses: Clauses) -> None:
-        self.statement, self.clauses = statement, clauses
-        self.expressions = Expressions(statement, clauses, self.keys())
-        has_free_keys = clauses.is_distinct and not clauses.span("GROUP")
-        self.expressions.are_keys_free = has_free_keys
-        self.limits = limits_of(statement.tokens, clauses.span("LIMIT"))
-        self.sql = self.select()
-        self.is_in_rows_order = has_free_keys and not self.is_ordered
-        has_aggregates = bool(self.expressions.aggregates)
-        if not clauses.span("GROUP") and has_aggregates == bool(self.expressions.keys):
-            # an aggregate makes one group of all rows, HAVING needs one, and DISTINCT columns
-            raise Outside
-        with self.groups(Groups([], [[] for _ in self.expressions.aggregates])) as database:
-            try:
-                database.execute(f"EXPLAIN {self.sql}")
-            except sqlite3.Error:
-                raise Outside from None
-
-    def keys(self) -> list[Column]:
-        """Returns the columns of GROUP BY."""
-        line, span = self.statement.structure.line, self.clauses.span("GROUP")
-        parts = line.split(span.start, span.stop) if span else []
-        return [column_of(self.statement, self.clauses, *part) for part in parts]
-
-    def select(self) -> str:
-        """Returns the statement over the table of groups."""
-        clauses, made = self.clauses, self.expressions
-        aliases = [alias for alias in clauses.aliases if alias]
-        found = [self.items(item) for item in clauses.items]
-        shown = [f"{item} AS {quoted_name(alias)}" if alias else item
-                 for each, alias in zip(found, clauses.aliases) for item in each]
-        sql = f"SELECT {'DISTINCT ' if clauses.is_distinct else ''}{', '.join(shown)} FROM {GROUPS}"
-        having = clauses.span("HAVING")
-        if having:
-            sql += f" WHERE ({made.expression(having.start, having.stop, aliases)})"
-        line = self.statement.structure.line
-        terms = terms_of(line, clauses.span("ORDER"))
-        orders = [made.expression(term.span.start, term.span.stop, aliases) for term in terms]
-        keys = {f"({quoted_name(PREFIX + column.name)})" for column in made.keys}
-        items = list(itertools.chain.from_iterable(found))
-        ordered = {*(f"({order})" for order in orders), *self.named(orders, items)}
-        self.is_ordered = keys <= ordered and keys >= set(items)
-        if orders:
-            sql += " ORDER BY " + ", ".join(
-                [*(f"{order} {term.words}" for order, term in zip(orders, terms)),
-                 f"{GROUPS}.rowid"])
-        if self.limits != Limits():
-            most = -1 if self.limits.most is None else self.limits.most
-            sql += f" LIMIT {most} OFFSET {self.limits.offset}"
-        return sql
-
-    def items(self, item: Item) -> list[str]:
-        """Returns the expressions that an item is."""
-        if is_star(self.statement, item):
-            if not self.expressions.are_keys_free:
-                raise Outside
-            columns = columns_of(self.statement, self.clauses, item)
-            return [f"({self.expressions.key(column)})" for column in columns]
-        # in brackets, so that no name that follows becomes an alias
-        return [f"({self.expressions.expression(item.first, item.end)})"]
-
-    def named(self, orders: Sequence[str], items: Sequence[str]) -> Iterator[str]:
-        """Yields the items that terms of ORDER BY name by their aliases or places."""
-        for order in orders:
-            if order.isdecimal() and 0 < int(order) <= len(items):
-                yield items[int(order) - 1]
-            for item, alias in zip(items, self.clauses.aliases):
-                if alias and len(items) == len(self.clauses.aliases) and \
-                        order.lower() in (alias, quoted_name(alias)):
-                    yield item
-
-    def body(self, engine: Engine) -> bodies.Rows:
-        """Returns the rows that SQLite makes of the groups."""
-        wanted = Wanted(self.clauses.table.bw_name, where_of(self.statement, self.clauses),
-                        self.expressions.keys, self.expressions.aggregates, self.is_in_rows_order)
-        if self.limits.most == 0:
-            return bodies.Rows([])
-        with self.groups(groups_of(engine, wanted)) as database:
-            try:
-                return bodies.Rows(database.execute(self.sql).fetchall())
-            except sqlite3.Error as error:
-                raise Refused(str(error)) from None
-
-    @contextlib.contextmanager
-    def groups(self, groups: Groups) -> Iterator[sqlite3.Connection]:
-        """Yields a database that has the table of groups: the columns that make them, with the type
-        that SQLite compares them by, and the aggregates, which have none."""
-        keys = self.expressions.keys
-        types = [f"{quoted_name(PREFIX + column.name)} {values.affinity(column.kind)}"
-                 for column in keys]
-        types += [quoted_name(f"{PREFIX}{place}") for place in range(len(groups.values))]
-        database = sqlite3.connect(":memory:", isolation_level=None)
-        try:
-            database.execute(f"CREATE TABLE {GROUPS} ({', '.join(types) or 'x'})")
-            stored = [values_of(column.kind, [key[place] for key in groups.keys])
-                      for place, column in enumerate(keys)]
-            marks = ", ".join("?" * len(types)) or "NULL"
-            rows = zip(*stored, *groups.values) if types else [() for _ in groups.keys]
-            database.execute("BEGIN")
-            database.executemany(f"INSERT INTO {GROUPS} VALUES ({marks})", rows)
-            yield database
-        finally:
-            database.close()
-
-
-def values_of(kind: Kind, numbers: Sequence[int | None]) -> list[values.Value]:
-    """Returns SQLite's values of a column's numbers, of which None is null."""
-    distinct = [number for number in dict.fromkeys(numbers) if number is not None]
-    try:
-        found = dict(zip(distinct, values.stored(kind, distinct)))
-    except (ValueError, IndexError, OverflowError):
-        raise bodies.foreign(kind) from None
-    return [None if number is None else found[number] for number in numbers]

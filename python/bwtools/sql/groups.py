@@ -9,26 +9,27 @@ from __future__ import annotations
 import math
 from collections import Counter
 from dataclasses import dataclass, field, replace
-from typing import Mapping, Optional, Sequence
+from typing import Any, Callable, Mapping, Sequence, Tuple
 
-from ..kind import Column
+from ..kind import Column, Kind
 from ..session import Failed
 from ..shards import total
 from . import counted, values
-from .counted import Key
+from .bodies import foreign
+from .counted import COUNT, NULL_NUMBER, Found, Key
 from .engine import Engine, Totals
 from .exact import float_sum
 from .expressions import Aggregate
 from .rows import both, names_of, select
 
-# so many groups are counted by statements at most
-MOST_STATEMENTS = 400
-COUNT = "COUNT(*)"
+# so many groups are counted by statements at most, and only if the rows that those scan are no more
+# than so many times the rows that would be listed: which takes as long
+MOST_STATEMENTS, LISTED_COST = 1000, 2000
 # the totals of bw that an aggregate needs
 NEEDED: Mapping[str, Sequence[str]] = {"COUNT": ("COUNT",), "SUM": ("SUM",), "MIN": ("MIN",),
                                        "MAX": ("MAX",), "AVG": ("SUM", "COUNT")}
-# the totals of a group by their names, such as SUM(cents)
-Found = Mapping[str, "int | None"]
+# the totals of all rows by their names
+Whole = Mapping[str, "int | None"]
 
 
 @dataclass
@@ -58,68 +59,104 @@ class Wanted:
 
 @dataclass
 class Groups:
-    """Groups in order: the numbers of the columns that make them, and SQLite's values of each
-    aggregate for all groups."""
+    """Groups in order: SQLite's values of what makes them, and of each aggregate, for all
+    groups."""
 
-    keys: Sequence[Key]
+    columns: Sequence[Sequence[values.Value]]
     values: Sequence[Sequence[values.Value]]
 
 
-def groups_of(engine: Engine, wanted: Wanted) -> Groups:
-    """Returns the groups of rows."""
+# gets SQLite's values of the columns that make groups, and returns those of what makes fewer
+# groups, and the place among these of each of the others
+Coarse = Callable[[Sequence[Sequence[values.Value]]],
+                  Tuple[Sequence[Sequence[values.Value]], Sequence[int]]]
+
+
+def groups_of(engine: Engine, wanted: Wanted, coarse: Coarse | None = None) -> Groups:
+    """Returns the groups of rows; or those that some of them make together, if `coarse` returns
+    their columns and the place of each of the groups."""
     found = totals_of(engine, wanted)
-    keys = list(found) if wanted.is_in_rows_order else counted.ascending(found)
+    if not wanted.is_in_rows_order:
+        found = found.ascending()
+    keys, columns = found.keys, found.columns
+    made: Sequence[Sequence[Any]] = [stored_of(column.kind, numbers)
+                                     for column, numbers in zip(wanted.keys, columns)]
+    places: Sequence[int] = range(len(keys))
+    if coarse:
+        made, places = coarse(made)
+        found = found.coarser(places, len(made[0]))
+    count = len(found.totals[COUNT])
     # of each column the doubles, or the number of its values, in each group
-    doubles: dict[str, Mapping[Key, Sequence[float]]] = {}
+    doubles: dict[str, Sequence[Sequence[float]]] = {}
     distinct: dict[str, Mapping[Key, int]] = {}
-    columns = list[Sequence[values.Value]]()
+    results = list[Sequence[values.Value]]()
     for each in wanted.aggregates:
         if each.column and each.is_distinct:
             if each.column.name not in distinct:
                 distinct[each.column.name] = distinct_of(engine, wanted, each.column)
-            columns.append([distinct[each.column.name].get(key, 0) for key in keys])
+            results.append([distinct[each.column.name].get(key, 0) for key in keys])
         elif each.column and is_float_sum(each):
             if each.column.name not in doubles:
-                doubles[each.column.name] = doubles_of(engine, wanted, each.column)
-            columns.append([float_total(each.function, doubles[each.column.name].get(key, ()))
-                            for key in keys])
+                of_keys = doubles_of(engine, wanted, each.column)
+                doubles[each.column.name] = together(of_keys, keys, places, count)
+            results.append([float_total(each.function, part)
+                            for part in doubles[each.column.name]])
         else:
-            columns.append(values_of(each, [found[key] for key in keys]))
-    return Groups(keys, columns)
+            results.append(values_of(each, found))
+    return Groups(made, results)
 
 
-def values_of(aggregate: Aggregate, found: Sequence[Found]) -> list[values.Value]:
-    """Returns the values of an aggregate for groups of these totals."""
+def together(doubles: Mapping[Key, Sequence[float]], keys: Sequence[Key], places: Sequence[int],
+             count: int) -> list[Sequence[float]]:
+    """Returns the doubles of so many groups, each of which has those of some keys."""
+    found: list[list[float]] = [[] for _ in range(count)]
+    for key, place in zip(keys, places):
+        found[place] += doubles.get(key, ())
+    return list(found)
+
+
+def values_of(aggregate: Aggregate, found: Found) -> Sequence[values.Value]:
+    """Returns the values of an aggregate for groups."""
     column, function = aggregate.column, aggregate.function
     if column is None:
-        return [each[COUNT] for each in found]
-    needed = [f"{each}({column.name})" for each in NEEDED[function]]
-    numbers = [each[needed[0]] for each in found]
+        return found.totals[COUNT]
+    needed = [found.totals[f"{each}({column.name})"] for each in NEEDED[function]]
+    numbers = needed[0]
     if function == "COUNT":
-        return list(numbers)
+        return numbers
     if function == "AVG":
-        counts = [each[needed[1]] or 0 for each in found]
-        return [None if number is None else values.mean(column, number, count)
-                for number, count in zip(numbers, counts)]
-    present = [number for number in numbers if number is not None]
-    stored = iter([values.total(column, number) for number in present] if function == "SUM"
-                  else values.stored(column.kind, present))
-    return [None if number is None else next(stored) for number in numbers]
+        return [None if number is None else values.mean(column, number, count or 0)
+                for number, count in zip(*needed)]
+    if function == "SUM":
+        return [None if number is None else values.total(column, number) for number in numbers]
+    return stored_of(column.kind, numbers)
 
 
-def totals_of(engine: Engine, wanted: Wanted) -> Mapping[Key, Found]:
+def stored_of(kind: Kind, numbers: Sequence[int | None]) -> list[values.Value]:
+    """Returns SQLite's values of numbers, of which None and NULL_NUMBER are null. Raises Refused if
+    the table isn't the columns' own."""
+    distinct = [each for each in dict.fromkeys(numbers) if each is not None
+                and each != NULL_NUMBER]
+    try:
+        found = dict(zip(distinct, values.stored(kind, distinct)))
+    except (ValueError, IndexError, OverflowError):
+        raise foreign(kind) from None
+    return [None if number is None else found.get(number) for number in numbers]
+
+
+def totals_of(engine: Engine, wanted: Wanted) -> Found:
     """Returns the totals of bw for each group, of which all have rows unless there is only one
     group. Raises Failed if those don't add up to the totals of all rows."""
     names = names_of_ends(wanted)
     whole = dict(zip(names, engine.totals([wanted.select(", ".join(names))])[0]))
     if not wanted.keys:
-        return {(): whole}
+        return Found([], {name: [whole[name]] for name in names})
     if not whole[COUNT]:
-        return {}
-    choices = choices_of(wanted, whole)
+        return Found([[] for _ in wanted.keys], {name: [] for name in wanted.totals})
+    choices = [] if wanted.is_in_rows_order else choices_of(engine, wanted, whole)
     found = by_statements(engine, wanted, choices) if choices else by_rows(engine, wanted)
     for name in wanted.totals:
-        if total(name.partition("(")[0], [each[name] for each in found.values()]) != whole[name]:
+        if total(name.partition("(")[0], found.totals[name]) != whole[name]:
             raise Failed(f"the groups' {name} don't add up to that of all rows, {whole[name]}")
     return found
 
@@ -132,43 +169,53 @@ def names_of_ends(wanted: Wanted) -> list[str]:
     return list(dict.fromkeys([*wanted.totals, *ends]))
 
 
-def choices_of(wanted: Wanted, whole: Found) -> list[list[int | None]]:
+def choices_of(engine: Engine, wanted: Wanted, whole: Whole) -> list[list[int]]:
     """Returns the numbers that each column may have among rows of which these are the totals; none
-    if the groups are many, or must be listed to have their order."""
-    found = list[list[Optional[int]]]()
-    for column in () if wanted.is_in_rows_order else wanted.keys:
+    if there are too many groups to count them by statements."""
+    found = list[list[int]]()
+    for column in wanted.keys:
         least, greatest = (whole[f"{end}({column.name})"] for end in ("MIN", "MAX"))
         numbers = range(0)
         if least is not None and greatest is not None:
             numbers = range(least, min(greatest, least + MOST_STATEMENTS) + 1)
         has_null = whole[COUNT] != whole[f"COUNT({column.name})"]
-        found.append([*([None] if has_null else []), *numbers])
-    return found if math.prod(map(len, found)) <= MOST_STATEMENTS else []
+        found.append([*([NULL_NUMBER] if has_null else []), *numbers])
+    count, rows = math.prod(map(len, found)), whole[COUNT] or 0
+    if count > MOST_STATEMENTS:
+        return []
+    scanned = rows
+    if wanted.where:
+        scanned = engine.totals([select(COUNT, wanted.table, "")])[0][0] or 0
+    return found if count * scanned <= LISTED_COST * rows else []
 
 
-def by_statements(engine: Engine, wanted: Wanted,
-                  choices: Sequence[Sequence[int | None]]) -> dict[Key, Found]:
+def by_statements(engine: Engine, wanted: Wanted, choices: Sequence[Sequence[int]]) -> Found:
     """Returns the totals of each group by statements of bw: first the count of each, column by
-    column, and then the totals of those that have rows."""
-    keys, counts = [()], list[Totals]()  # type: list[Key], list[Totals]
-    for column in choices:
+    column, and then the totals of those that have rows. Without a condition most have rows, so the
+    totals are asked at once with the last column's counts."""
+    keys, items = list[Key]([()]), ", ".join(wanted.totals)
+    totals = list[Totals]()
+    for place, column in enumerate(choices, 1):
+        asked = items if place == len(choices) and not wanted.where else COUNT
         tried = [(*key, number) for key in keys for number in column]
-        counts = engine.totals([wanted.select(COUNT, condition(wanted, key)) for key in tried])
-        keys = [key for key, (count,) in zip(tried, counts) if count]
-    if wanted.totals == [COUNT]:
-        return {key: {COUNT: count} for key, (count,) in zip(tried, counts) if count}
-    items = ", ".join(wanted.totals)
-    found = engine.totals([wanted.select(items, condition(wanted, key)) for key in keys])
-    return {key: dict(zip(wanted.totals, each)) for key, each in zip(keys, found)}
+        found = engine.totals([wanted.select(asked, condition(wanted, key)) for key in tried])
+        keys = [key for key, each in zip(tried, found) if each[0]]
+        totals = [each for each in found if each[0]]
+    if wanted.where and wanted.totals != [COUNT]:
+        totals = engine.totals([wanted.select(items, condition(wanted, key)) for key in keys])
+    columns = list(zip(*keys)) if keys else [()] * len(wanted.keys)
+    return Found(columns, dict(zip(wanted.totals, zip(*totals) if keys else
+                                   [()] * len(wanted.totals))))
 
 
 def condition(wanted: Wanted, key: Key) -> str:
     """Returns the condition of a group's rows, or of those of several whose numbers begin so."""
-    return " AND ".join(f"{column.name} IS NULL" if number is None else f"{column.name} = {number}"
+    return " AND ".join(f"{column.name} IS NULL" if number == NULL_NUMBER
+                        else f"{column.name} = {number}"
                         for column, number in zip(wanted.keys, key))
 
 
-def by_rows(engine: Engine, wanted: Wanted) -> Mapping[Key, Found]:
+def by_rows(engine: Engine, wanted: Wanted) -> Found:
     """Returns the totals of each group, counted here of rows that bw listed."""
     named = {column.name: column for each in wanted.aggregates if (column := each.column)}
     functions: dict[str, list[str]] = {}
@@ -178,7 +225,7 @@ def by_rows(engine: Engine, wanted: Wanted) -> Mapping[Key, Found]:
     columns = [*wanted.keys, *map(named.__getitem__, functions)]
     parts = engine.rows(wanted.select(names_of(columns)))
     if not functions:
-        return {key: {COUNT: count} for key, count in counted.counts(parts).items()}
+        return counted.counts(parts)
     return counted.totals(parts, len(wanted.keys), functions)
 
 
@@ -187,12 +234,12 @@ def distinct_of(engine: Engine, wanted: Wanted, column: Column) -> Mapping[Key, 
     finer = replace(wanted, keys=[*wanted.keys, column], aggregates=(), is_in_rows_order=False)
     names = names_of_ends(finer)
     whole = dict(zip(names, engine.totals([finer.select(", ".join(names))])[0]))
-    choices = choices_of(finer, whole)
+    choices = choices_of(engine, finer, whole)
     if not choices:
         parts = engine.rows(finer.select(names_of(finer.keys), f"{column.name} IS NOT NULL"))
         return counted.distinct(parts)
     found = by_statements(engine, finer, choices)
-    return Counter(key[:-1] for key in found if key[-1] is not None)
+    return Counter(key[:-1] for key in found.keys if key[-1] != NULL_NUMBER)
 
 
 def doubles_of(engine: Engine, wanted: Wanted, column: Column) -> Mapping[Key, Sequence[float]]:

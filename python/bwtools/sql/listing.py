@@ -4,12 +4,12 @@ from __future__ import annotations
 import contextlib
 import itertools
 import sqlite3
-from typing import Any, Callable, Iterator, Sequence
+from typing import Callable, Iterator, Sequence
 
 from ..kind import Column
 from ..session import Failed
 from .aggregates import Functions
-from .bodies import Numbers
+from .bodies import Block, Numbers
 from .catalog import Catalog, Table
 from .engine import Engine
 from .reading import Guard, declare
@@ -18,6 +18,8 @@ from .values import affinity
 
 # after how many of SQLite's instructions an interrupt is noticed
 INSTRUCTIONS = 20_000
+# so many variables has a statement that inserts rows; any SQLite takes 999
+MOST_VARIABLES = 500
 ROWIDS = ("rowid", "oid", "_rowid_")
 FRESH = "bw:fresh"
 EACH_ROW = ("WITH RECURSIVE n(i) AS (SELECT 1 UNION ALL SELECT i + 1 FROM n WHERE i < ?) "
@@ -103,24 +105,29 @@ class Listing:
         """Lists columns into a table of SQLite. Returns the number of rows."""
         names = ", ".join(each.name for each in columns)
         parts = engine.rows(f"SELECT {names} FROM {table.bw_name}{self.where()}")
+        quoted = ", ".join(quoted_name(each.name) for each in columns)
         count = 0
-
-        def rows() -> Iterator[tuple[Any, ...]]:
-            nonlocal count
+        try:
             for block in Numbers(parts).values([each.kind for each in columns]):
-                yield from zip(*block)
+                self.insert(f"INSERT INTO {quoted_name(target)} ({quoted})", block)
                 count += len(block[0])
                 progress(len(block[0]))
-
-        quoted = ", ".join(quoted_name(each.name) for each in columns)
-        marks = ", ".join("?" * len(columns))
-        try:
-            self.database.executemany(
-                f"INSERT INTO {quoted_name(target)} ({quoted}) VALUES ({marks})", rows())
         finally:
             for part in parts:
                 part.close()
         return count
+
+    def insert(self, into: str, block: Block) -> None:
+        """Inserts rows, many by one statement, which takes half of the time."""
+        marks = f"({', '.join('?' * len(block))})"
+        width = len(block)
+        at_once = max(1, MOST_VARIABLES // width)
+        whole = len(block[0]) // at_once * at_once
+        values = itertools.islice(itertools.chain.from_iterable(zip(*block)), whole * width)
+        self.database.executemany(f"{into} VALUES {', '.join([marks] * at_once)}",
+                                  zip(*[values] * (at_once * width)))
+        self.database.executemany(f"{into} VALUES {marks}",
+                                  zip(*(column[whole:] for column in block)))
 
     def join(self, table: Table, fresh: Sequence[Column]) -> None:
         """Makes the table of its rows with the fresh columns beside those listed before."""

@@ -1,6 +1,7 @@
 """The operands of comparisons in a statement's tokens."""
 from __future__ import annotations
 
+import math
 from dataclasses import dataclass
 from fractions import Fraction
 from typing import Iterator, Union
@@ -14,6 +15,8 @@ from .tokens import BLOB, NUMBER, PARAMETER, TEXT
 TIGHTER = ("+", "-", "*", "/", "%", "||", "->", "->>", "<<", ">>", "&", "|", "~", ".")
 COMPARE = ("=", "==", "<>", "!=", "<", "<=", ">", ">=")
 EQUAL = ("=", "==", "<>", "!=", "IS", "IN", "CASE")
+# a number of more digits, or of a greater power of ten, is beyond all columns
+MOST_DIGITS = 400
 LITERAL_WORDS = {"TRUE": Fraction(1), "FALSE": Fraction(0)}
 
 
@@ -128,40 +131,48 @@ class Operands:
 
     def after(self, first: int, scope: Scope) -> Operand:
         """Returns the operand that begins at a place."""
+        found = self.operand(first, self.end_after(first), scope)
+        if self.line.key(found.end) == "COLLATE":
+            found.end += 2
+        return Operand(first, found.end) if self.is_tighter(found.end) else found
+
+    def end_after(self, first: int) -> int:
+        """Returns the end of the column, call, literal or bracket that begins at a place."""
         end, tokens = first, self.line.tokens
         if tokens[end].is_mark("+", "-") and tokens[end + 1].kind == NUMBER:
             end += 1
         if self.line.is_name(end):
             while tokens[end + 1].is_mark("."):
                 end += 2
-        if tokens[end + 1].is_mark("(") and self.line.is_name(end):
-            end += 1
-        end = self.line.closing.get(end, end) + 1
-        found = self.operand(first, min(end, len(tokens)), scope)
-        if tokens[found.end].key == "COLLATE":
-            found.end += 2
-        return Operand(first, found.end) if self.is_tighter(found.end) else found
+            end += tokens[end + 1].is_mark("(")
+        return min(self.line.closing.get(end, end) + 1, len(tokens) - 1)
 
     def before(self, end: int, scope: Scope) -> Operand:
         """Returns the operand that ends before a place."""
-        first, tokens = end - 1, self.line.tokens
-        last = end
-        if self.line.key(first - 1) == "COLLATE":
-            first, last = first - 2, end - 2
-        first = self.opening.get(first, first)
-        if tokens[first].is_mark("(") and \
-                self.line.is_name(first - 1):
-            first -= 1
-        while tokens[first].name and first > 1 and tokens[first - 1].is_mark("."):
-            first -= 2
-        if tokens[first].kind == NUMBER and tokens[first - 1].is_mark("+", "-") and \
-                not self.line.ends_operand(first - 2):
-            first -= 1
-        if self.is_tighter(first - 1) or tokens[first - 1].is_mark(*COMPARE):
+        last = end - 2 if self.line.key(end - 2) == "COLLATE" else end
+        first = self.first_before(last)
+        if self.is_tighter(first - 1) or self.line.is_mark(first - 1, *COMPARE):
             return Operand(first, end)
         found = self.operand(first, last, scope)
         found.end = end
         return found
+
+    def first_before(self, end: int) -> int:
+        """Returns the first token of the column, call, literal or bracket that ends before a
+        place."""
+        tokens, first = self.line.tokens, self.opening.get(end - 1, end - 1)
+        if tokens[first].is_mark("(") and self.line.is_name(first - 1):
+            first -= 1
+        while tokens[first].name and first > 1 and tokens[first - 1].is_mark("."):
+            first -= 2
+        is_signed = tokens[first].kind == NUMBER and tokens[first - 1].is_mark("+", "-")
+        return first - (is_signed and not self.line.ends_operand(first - 2))
+
+    def beside(self, at: int, scope: Scope) -> Iterator[Operand]:
+        """Yields the operands beside an operator of arithmetic."""
+        yield self.operand(at + 1, self.end_after(at + 1), scope)
+        if self.line.ends_operand(at - 1):
+            yield self.operand(self.first_before(at), at, scope)
 
     def is_tighter(self, at: int) -> bool:
         return self.line.is_mark(at, *TIGHTER)
@@ -195,5 +206,12 @@ class Operands:
 
 
 def number_of(text: str) -> Fraction:
-    """Returns the number of a numeral."""
-    return Fraction(int(text, 16)) if text[:2] in ("0x", "0X") else Fraction(text)
+    """Returns the number of a numeral; of one that is longer, or of a greater power of ten, than
+    those of columns one that compares with theirs as it does."""
+    if text[:2] in ("0x", "0X"):
+        return Fraction(int(text, 16))
+    power = text.lower().partition("e")[2]
+    if len(text) <= MOST_DIGITS and abs(int(power or 0)) <= MOST_DIGITS:
+        return Fraction(text)
+    found = float(text)
+    return Fraction(found) if math.isfinite(found) else Fraction(10 ** MOST_DIGITS)

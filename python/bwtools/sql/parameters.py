@@ -42,7 +42,7 @@ def numeral(value: Any, number: int) -> str | None:
     else:
         try:
             # numpy's booleans are none of Python's integers
-            whole = operator.index(value.item() if is_truth(value) else value)
+            whole = int(operator.index(value.item() if is_truth(value) else value))
         except TypeError:
             return None
         if not LEAST <= whole <= GREATEST:

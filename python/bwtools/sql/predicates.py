@@ -11,7 +11,7 @@ import sqlite3
 from typing import Any, Callable, Iterable, NamedTuple, Sequence, Union
 
 from ..kind import Column
-from ..kinds import GREATEST, LEAST
+from ..kinds import GREATEST, LEAST, Decimals, undressed
 from ..stored_list import StoredList
 from . import values
 
@@ -54,9 +54,28 @@ def place_of(column: Column, literal: Operand) -> tuple[int, bool]:
     """Returns the place of a literal among the numbers of a column."""
     assert literal.value is not None, "a comparison with NULL is UNKNOWN"
     place = values.place(column.kind, literal.value)
-    if place is None:
+    if place is None or values.affinity(column.kind) == values.REAL and \
+            not is_long(column) and not is_spelled(literal.value):
         raise Outside
     return place
+
+
+def is_long(column: Column) -> bool:
+    """Returns whether a column has decimals of too many digits for a double."""
+    kind = undressed(column.kind)
+    if not isinstance(kind, Decimals):
+        return False
+    numbers = [column.kind.number(end) for end in column.ends]
+    return any(number is None or len(str(abs(number))) > values.EXACT_DIGITS for number in numbers)
+
+
+def is_spelled(value: Union[str, fractions.Fraction]) -> bool:
+    """Returns whether a number is the shortest spelling of its double, by which SQLite compares it,
+    or is beyond all doubles. Only such numbers are compared with doubles as they are written."""
+    try:
+        return isinstance(value, str) or fractions.Fraction(repr(float(value))) == value
+    except OverflowError:
+        return True
 
 
 def compared(left: Operand, sign: str, right: Operand) -> str:

@@ -22,7 +22,8 @@ class Reader:
     def __init__(self, statement: Statement, table: Table, called: str, first: int,
                  end: int) -> None:
         self.tokens: Sequence[Token] = statement.tokens
-        self.table, self.called, self.place, self.end = table, called, first, end
+        self.table, self.called = table, called
+        self.first, self.place, self.end = first, first, end
 
     def next(self, ahead: int = 0) -> Token:
         """Returns the next token, or one after it."""

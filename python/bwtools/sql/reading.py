@@ -2,11 +2,12 @@
 from __future__ import annotations
 
 import sqlite3
-from typing import Iterable
+from typing import Any, Iterable, Iterator, Sequence
 
 from ..telling import Refused
 from .catalog import Catalog, missing
 from .statement import Statement
+from .structure import HIDDEN
 from .tokens import quoted_name
 from .values import affinity
 
@@ -44,9 +45,11 @@ class Guard:
                  database: str | None, _: str | None) -> int:
         if self.is_off or action in (sqlite3.SQLITE_SELECT, RECURSIVE):
             return sqlite3.SQLITE_OK
-        # of a table whose columns aren't read SQLite names no database
+        # of a table, or a query of WITH, whose columns aren't read SQLite names no database
         if action == sqlite3.SQLITE_READ and database in ("main", None):
             table = self.catalog.get(first or "")
+            if not table and not second and not str(first).lower().startswith(HIDDEN):
+                return sqlite3.SQLITE_OK
             if table:
                 columns = self.read.setdefault(table.name, set())
                 columns |= {second.lower()} if second else set()
@@ -70,27 +73,43 @@ def declare(database: sqlite3.Connection, catalog: Catalog) -> None:
         database.execute(f"CREATE TABLE {quoted_name(table.name)} ({', '.join(columns)})")
 
 
-def explain(database: sqlite3.Connection, guard: Guard, sql: str) -> None:
-    """Has SQLite read a statement, which it doesn't run."""
+def explain(database: sqlite3.Connection, guard: Guard, sql: str) -> list[tuple[Any, ...]]:
+    """Has SQLite read a statement, which it doesn't run. Returns its program."""
     guard.read, guard.denied, guard.is_off = {}, "", False
     # Python keeps statements by their text, and SQLite doesn't authorize one again that was kept
     guard.explained += 1
     try:
-        database.execute(f"EXPLAIN /* {guard.explained} */ {sql}").close()
+        return database.execute(f"EXPLAIN /* {guard.explained} */ {sql}").fetchall()
     finally:
         guard.is_off = True
 
 
 def reads_of(database: sqlite3.Connection, guard: Guard, statement: Statement, sql: str
              ) -> dict[str, set[str]]:
-    """Returns the columns that a statement reads of each table, by name. Raises Refused with
-    SQLite's message, and the place in the statement as it was written, if it isn't one that may
-    run."""
+    """Returns the columns that a statement reads of each table, by name: those that the authorizer
+    was asked for, and those that SQLite's program reads, such as the columns of USING. Raises
+    Refused with SQLite's message, and the place in the statement as it was written, if it isn't one
+    that may run."""
     try:
-        explain(database, guard, sql)
+        program = explain(database, guard, sql)
     except (sqlite3.Error, sqlite3.Warning) as error:
         raise Refused(guard.denied or told(database, guard, statement, str(error))) from None
-    return guard.read
+    found = {name: set(columns) for name, columns in guard.read.items()}
+    for name, column in program_reads(database, guard.catalog, program):
+        found.setdefault(name, set()).add(column)
+    return found
+
+
+def program_reads(database: sqlite3.Connection, catalog: Catalog,
+                  program: Sequence[tuple[Any, ...]]) -> Iterator[tuple[str, str]]:
+    """Yields the tables and the columns that a program of SQLite reads, in lower case."""
+    pages = {page: catalog.get(name) for name, page
+             in database.execute("SELECT name, rootpage FROM sqlite_master WHERE type = 'table'")}
+    opened = {row[2]: pages.get(row[3]) for row in program if row[1] == "OpenRead" and not row[4]}
+    for row in program:
+        table = opened.get(row[2]) if row[1] == "Column" else None
+        if table and row[3] < len(table.columns):
+            yield table.name, table.columns[row[3]].name.lower()
 
 
 def told(database: sqlite3.Connection, guard: Guard, statement: Statement, message: str) -> str:

@@ -7,12 +7,13 @@ from typing import BinaryIO, Iterator, Sequence
 
 from ..kind import Column
 from .bodies import Numbers
-from .condition import MOST_BYTES
 from .engine import Engine
 from .ordering import Limits
 from .predicates import Outside, placed
 
 NULL, HEADING, AT_ONCE = b"NULL", b"\n", 1 << 20
+# the bytes of a statement that bw takes, without its end
+MOST_BYTES = 65_530
 # more rows than these aren't sorted here
 MOST_ROWS = 1_000_000
 # a limit is used to list fewer rows if there are so many

@@ -13,6 +13,8 @@ from .catalog import Catalog, Table, missing
 from .scopes import Output, Scope, Source, output_of
 from .tokens import QUOTED, TEXT, WORD
 
+# how the names of SQLite's own tables begin
+HIDDEN = ("sqlite_", "pragma_")
 CLAUSES = ("FROM", "WHERE", "GROUP", "HAVING", "WINDOW", "ORDER", "LIMIT")
 COMPOUND, QUERY = ("UNION", "INTERSECT", "EXCEPT"), ("SELECT", "WITH", "VALUES")
 TOTALS: dict[str, Kind] = {"COUNT": Whole(), "SUM": Floats(0), "AVG": Floats(0),
@@ -151,7 +153,18 @@ class Structure:
                 self.nested[at] = self.query(at + 1, self.line.closing[at], scope, ctes)
                 at = self.line.closing[at]
                 self.scopes[at] = scope
+            elif self.line.key(at) == "IN" and self.line.tokens[at + 1].name:
+                at = self.listed(at + 1, ctes)
             at += 1
+
+    def listed(self, at: int, ctes: dict[str, list[Output]]) -> int:
+        """Reads the table of one column in which IN looks. Returns its place."""
+        self.has_join = True
+        at += 2 * self.line.is_mark(at + 1, ".")
+        table = self.catalog.get(self.line.tokens[at].name)
+        if table and self.line.tokens[at].name.lower() not in ctes:
+            self.tables[at] = table
+        return at
 
     def item(self, first: int, end: int) -> Item:
         """Returns the item of these tokens."""
@@ -260,7 +273,7 @@ class Structure:
         elif name.lower() in ctes:
             return self.alias(at + 1, end, name, ctes[name.lower()], scope, is_natural)
         table = self.catalog.get(name) or self.catalog.only
-        if table is None:
+        if table is None or name.lower().startswith(HIDDEN):
             raise missing("table", name, self.catalog.names())
         self.tables[place] = table
         after = self.alias(place + 1, end, name, list(map(output_of, table.columns)), scope,

@@ -14,10 +14,13 @@ def tie_edits(statement: Statement) -> dict[int, tuple[int, str]]:
     for at in range(line.end):
         if line.key(at) != "GROUP" or line.key(at + 1) != "BY":
             continue
-        places = {line.key(each): each for each in reversed(level(line, at))}
-        stop = min(level_end(line, at), places.get("LIMIT", line.end))
+        first = start_of_level(line, at)
+        end = level_end(line, at)
+        places = {line.key(each): each for each in reversed([*line.places(at, end)])}
+        is_compound = any(line.key(each) in COMPOUND for each in line.places(first, end))
+        stop = min(end, places.get("LIMIT", line.end))
         start = places.get("ORDER", stop)
-        if start < stop and not set(COMPOUND) & set(places) and not is_distinct(line, at):
+        if start < stop and not is_compound and not is_distinct(line, first, at):
             ends = [places[key] for key in ("HAVING", "WINDOW", "ORDER") if key in places]
             terms = [term(statement, *each) for each in line.split(at + 2, min(ends))]
             token = "" if stop == line.end else statement.tokens[stop].text
@@ -25,9 +28,9 @@ def tie_edits(statement: Statement) -> dict[int, tuple[int, str]]:
     return edits
 
 
-def level(line: Bracketed, at: int) -> list[int]:
-    """Returns the places from one on that are in the same brackets."""
-    return list(line.places(at, level_end(line, at)))
+def start_of_level(line: Bracketed, at: int) -> int:
+    """Returns the first place in the brackets around one."""
+    return max((first for first, end in line.closing.items() if first < at < end), default=-1) + 1
 
 
 def level_end(line: Bracketed, at: int) -> int:
@@ -35,11 +38,9 @@ def level_end(line: Bracketed, at: int) -> int:
     return next((each for each in line.places(at, line.end) if line.is_mark(each, ")")), line.end)
 
 
-def is_distinct(line: Bracketed, at: int) -> bool:
-    """Returns whether the SELECT of a clause has DISTINCT."""
-    opened = [first for first, end in line.closing.items() if first < at < end]
-    first = max(opened, default=-1)
-    selects = [each for each in line.places(first + 1, at) if line.key(each) == "SELECT"]
+def is_distinct(line: Bracketed, first: int, at: int) -> bool:
+    """Returns whether the SELECT of a clause has DISTINCT, in brackets that begin at a place."""
+    selects = [each for each in line.places(first, at) if line.key(each) == "SELECT"]
     return bool(selects) and line.key(selects[-1] + 1) == "DISTINCT"
 
 

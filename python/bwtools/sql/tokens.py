@@ -4,19 +4,21 @@ from __future__ import annotations
 import re
 from typing import NamedTuple
 
+from ..stored_list import is_unicode
 from ..telling import Refused
 
 # the kinds of tokens
 WORD, QUOTED, TEXT, NUMBER, BLOB, PARAMETER, MARK, END = (
     "word", "quoted", "text", "number", "blob", "parameter", "mark", "end")
-# a letter of a name: SQLite counts each character beyond ASCII as one
-LETTER = "A-Za-z_\u0080-\U0010ffff"
-NAME = f"[{LETTER}0-9$]"
+# a letter of a name, and a character after it: SQLite counts each one beyond ASCII as a letter. As
+# what they aren't, these are fast to compile
+LETTER = r"[^\x00-@\[-^`{-\x7f]"
+NAME = r"[^\x00-#%-/:-@\[-^`{-\x7f]"
 PATTERN = re.compile(rf"""(?P<gap>[ \t\n\f\r\ufeff]+|--[^\n]*|/\*(?:.*?\*/|.+\Z))
     |(?P<blob>[xX]'(?:[0-9A-Fa-f]{{2}})*')
     |(?P<number>(?:0[xX][0-9A-Fa-f]+|(?:[0-9]+(?:\.[0-9]*)?|\.[0-9]+)(?:[eE][+-]?[0-9]+)?)
         (?!{NAME}))
-    |(?P<word>(?![xX]')[{LETTER}]{NAME}*)
+    |(?P<word>(?![xX]'){LETTER}{NAME}*)
     |(?P<text>'(?:[^']|'')*')
     |(?P<quoted>"(?:[^"]|"")*"|`(?:[^`]|``)*`|\[[^\]]*\])
     |(?P<parameter>\?[0-9]*|[:@#]{NAME}+|\${NAME}+(?:::{NAME}*)*(?:\([^)\s]*\))?)
@@ -24,6 +26,8 @@ PATTERN = re.compile(rf"""(?P<gap>[ \t\n\f\r\ufeff]+|--[^\n]*|/\*(?:.*?\*/|.+\Z)
 
 # what looks like a number or a blob, and isn't one
 ODD = re.compile(rf"[0-9.]+{NAME}*|[xX]'[^']*'?")
+
+TOO_LONG = re.compile("0[xX]0*[1-9A-Fa-f][0-9A-Fa-f]{16}")
 
 
 class Token(NamedTuple):
@@ -76,12 +80,17 @@ def quoted_name(name: str) -> str:
 def tokens_of(sql: str) -> list[Token]:
     """Returns the tokens of a statement without blanks and comments, the last of which is its end.
     Raises Refused for what isn't a token of SQLite, with its place."""
+    if "\0" in sql or not is_unicode(sql):
+        raise Refused("the statement has a character that isn't text")
     tokens, at = list[Token](), 0
     while at < len(sql):
         found = PATTERN.match(sql, at)
         if not found:
             raise odd(sql, at)
         kind = str(found.lastgroup)
+        if kind == "number" and TOO_LONG.match(found.group()):
+            raise Refused(f"{found.group()} at character {at} of the statement has more than 64 "
+                          "bits")
         if kind != "gap":
             tokens.append(Token(kind, found.group(), at))
         at = found.end()

@@ -16,7 +16,7 @@ from ..kind import Column, Kind, Literal, Place
 from ..kinds import (Clocks, Dates, Decimals, Floats, Ranked, Styled, Times, Truths,
                      undressed)
 from ..kinds.doubles import double_of
-from ..moments import ISO_DATE, spelled_times
+from ..moments import FIRST_DAY, ISO_DATE, spelled_times
 from ..numerals import power_of_ten
 from ..telling import Refused
 
@@ -116,13 +116,25 @@ def python(kind: Kind | None) -> Callable[[Any], Any]:
     if isinstance(plain, Truths):
         return bool
     if isinstance(plain, Decimals):
-        unit = decimal.Decimal(1).scaleb(-plain.digits)
-        return lambda value: decimal.Decimal(repr(value)).quantize(unit)
+        digits = plain.digits
+        return lambda value: decimal.Decimal(f"{value:.{digits}f}")
     if isinstance(plain, Dates):
         return datetime.date.fromisoformat
     if isinstance(plain, (Times, Clocks)) and plain.digits <= 6:
         return functools.partial(moment, isinstance(plain, Times) and plain.zone != "")
     return same
+
+
+def objects(kind: Kind | None, numbers: Sequence[int]) -> list[Any]:
+    """Returns Python's objects of a column's numbers, as `python` makes them of values. Decimals of
+    any number of digits are exact."""
+    plain = None if kind is None else undressed(kind)
+    if isinstance(plain, Decimals):
+        digits = -plain.digits
+        return [decimal.Decimal(number).scaleb(digits) for number in numbers]
+    if isinstance(plain, Dates):
+        return [datetime.date.fromordinal(number + FIRST_DAY) for number in numbers]
+    return list(numbers) if kind is None else list(map(python(kind), stored(kind, numbers)))
 
 
 def same(value: Any) -> Any:

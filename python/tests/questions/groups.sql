@@ -150,3 +150,19 @@ SELECT codename FROM releases WHERE series GLOB '[a-f]*' ORDER BY codename LIMIT
 SELECT place, TOTAL(guests) FROM visits GROUP BY place ORDER BY AVG(guests)
 
 SELECT place, group_concat(DISTINCT member) FROM visits WHERE guests IN (2, 3) GROUP BY place ORDER BY SUM(guests) DESC, place
+
+SELECT strftime('%Y-%m', day) AS month, COUNT(*), SUM(fee), AVG(fee), MIN(arrived), SUM(score) FROM visits GROUP BY month
+
+SELECT substr(arrived, 12, 2), member, COUNT(*) AS n FROM visits WHERE guests > 2 GROUP BY substr(arrived, 12, 2), member ORDER BY n DESC, 1, 2 LIMIT 9
+
+SELECT guests % 3, COUNT(guests), AVG(rate) FROM visits GROUP BY guests % 3 HAVING COUNT(*) > 5
+
+SELECT upper(place) || '?', MAX(guests) FROM visits GROUP BY upper(place)
+
+SELECT length(place) AS l, round(fee / 50) AS f, COUNT(*) FROM visits GROUP BY l, f ORDER BY 3 DESC, 1, 2
+
+SELECT CASE WHEN guests > 4 THEN 'many' WHEN guests IS NULL THEN NULL ELSE 'few' END AS size, COUNT(*), SUM(guests) FROM visits GROUP BY size
+
+SELECT fee > 100, COUNT(*) FROM visits GROUP BY fee > 100
+
+SELECT coalesce(place, '-') AS p, COUNT(DISTINCT guests) FROM visits GROUP BY p

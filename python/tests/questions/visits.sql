@@ -114,3 +114,27 @@ SELECT 'a' AS a, NULL AS n, 1 AS one, 2.5 AS real FROM visits WHERE id = 1
 SELECT MAX(fee) - MIN(fee), MAX(guests) * 2, COUNT(*) + 1, -SUM(guests) FROM visits
 
 SELECT place, MAX(fee) FROM visits WHERE fee IS NOT NULL GROUP BY place ORDER BY MAX(fee) DESC LIMIT 3
+
+SELECT place, COUNT(*) FROM visits GROUP BY place, place
+
+SELECT a.id, b.fee FROM visits a JOIN visits b USING (id) WHERE a.fee > 190 ORDER BY id
+
+SELECT COUNT(*) FROM visits NATURAL JOIN (SELECT place, day FROM visits WHERE id < 50)
+
+SELECT id, day FROM visits a WHERE day = (SELECT MIN(day) FROM visits b WHERE b.place = a.place) ORDER BY id
+
+SELECT MIN(fee), id FROM visits WHERE place = 'Zoo'
+
+SELECT place, member, SUM(fee) FROM visits WHERE place LIKE 'z%' GROUP BY place, member UNION ALL SELECT 'all', NULL, SUM(fee) FROM visits WHERE place LIKE 'z%'
+
+SELECT (SELECT COUNT(*) FROM visits WHERE member), (SELECT COUNT(*) FROM visits WHERE NOT member), (SELECT COUNT(*) FROM visits WHERE member IS NULL)
+
+SELECT CASE member WHEN TRUE THEN 'yes' WHEN FALSE THEN 'no' ELSE 'unknown' END AS m, COUNT(*) FROM visits GROUP BY m
+
+SELECT day, COUNT(*) AS n, SUM(COUNT(*)) OVER (ORDER BY day) AS so_far FROM visits GROUP BY day ORDER BY day LIMIT 10
+
+SELECT place FROM visits GROUP BY place ORDER BY COUNT(*) DESC, MAX(id) LIMIT 4
+
+SELECT DISTINCT place, member FROM visits WHERE guests > 6 ORDER BY place DESC, member
+
+SELECT id FROM visits WHERE (place, member) = ('Zoo', TRUE) OR (id, guests) IN ((1, 2), (3, 4)) ORDER BY id
