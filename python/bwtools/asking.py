@@ -102,7 +102,7 @@ def statements_in(lines: Iterable[str]) -> Iterator[str]:
     for line in lines:
         if not end and not line.strip():
             if not is_empty:
-                yield text
+                yield text.lstrip()
             text, is_empty = "", True
             continue
         at = 0
@@ -114,10 +114,10 @@ def statements_in(lines: Iterable[str]) -> Iterator[str]:
             at += size
             if is_ended:
                 if not is_empty:
-                    yield text
+                    yield text.lstrip()
                 text, is_empty = "", True
     if not is_empty:
-        yield text
+        yield text.lstrip()
 
 
 def piece(line: str, at: int, end: str) -> tuple[int, str, bool]:

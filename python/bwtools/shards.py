@@ -10,7 +10,7 @@ import os
 import pathlib
 import shutil
 import subprocess
-from typing import BinaryIO, Callable, Iterable, Sequence
+from typing import Callable, Iterable, Sequence
 
 from .pairs import is_of
 from .store import Store, TableFile
@@ -74,43 +74,6 @@ def ask_shard(program: str, path: str, record: TableFile, columns: str, options:
 def is_of_statement(reply: Reply) -> bool:
     """Returns whether an error is one of the statement, which each shard would return."""
     return reply[0] == 3 and reply[1].startswith("bw: 4")
-
-
-class Joined:
-    """The results of shards as one: rows follow one another in a file, and totals are stored until
-    the end."""
-
-    def __init__(self, out: BinaryIO) -> None:
-        self.out, self.heading = out, b""
-        self.totals: list[list[int | None]] | None = None
-
-    def add(self, answer: bytes) -> None:
-        """Adds the next shard's result."""
-        heading = answer[:answer.find(b"\n") + 1]
-        if not self.heading:
-            self.heading = heading
-            self.out.write(heading)
-            self.totals = [[] for _ in heading.split(b",")] if b"(" in heading else None
-        if not heading or heading != self.heading:
-            raise Refused(f"the shards' results have several headings: {self.heading!r} and "
-                          f"{heading!r}")
-        if self.totals is None:
-            self.out.write(memoryview(answer)[len(heading):])
-            return
-        fields = answer[len(heading):].decode().rstrip("\n").split(",")
-        if len(fields) != len(self.totals):
-            raise Refused(f"a shard's result has {len(fields)} totals, expected {len(self.totals)}")
-        for values, field in zip(self.totals, fields):
-            values.append(None if field == "NULL" else int(field))
-
-    def end(self) -> None:
-        """Writes the totals, after the last result."""
-        if self.totals is not None:
-            functions = [item.partition("(")[0] for item in self.heading.decode().split(",")]
-            found = [total(function, values) for function, values in zip(functions, self.totals)]
-            self.out.write((",".join("NULL" if value is None else str(value)
-                                     for value in found) + "\n").encode())
-        self.out.seek(0)
 
 
 def total(function: str, values: Iterable[int | None]) -> int | None:

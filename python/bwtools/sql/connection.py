@@ -100,10 +100,11 @@ class Connection:
         settings = self.settings
         if settings.scheduler is None:
             files = [part.file for part in table.parts if part.file]
-            return Sessions(files, settings.options, settings.tell)
+            return Sessions(files, settings.options, settings.tell,
+                            [part.path for part in table.parts])
         from .. import cluster
         files_there = [(os.path.abspath(part.path), part.record) for part in table.parts]
-        joined = cluster.engine(len(table.parts), None, settings.scheduler)
+        joined = cluster.Cluster(settings.scheduler)
         return Scheduled(joined, files_there, table.parts[0].columns, settings.options,
                          settings.tell)
 

@@ -3,7 +3,6 @@ the workers of a cluster. What it returns is whole: a session that ends by itsel
 fails, is an exception."""
 from __future__ import annotations
 
-import functools
 import io
 import tempfile
 import threading
@@ -81,15 +80,17 @@ class Sessions:
     side. If one fails, all are ended, so no result of theirs is taken for another one's."""
 
     def __init__(self, files: Sequence[BinaryIO], options: Sequence[str] = (),
-                 tell: Callable[[str], None] = lambda told: None) -> None:
+                 tell: Callable[[str], None] = lambda told: None,
+                 names: Sequence[str] = ()) -> None:
         self.files, self.options, self.tell = files, options, tell
+        self.names = names or [f"file {place}" for place in range(1, len(files) + 1)]
         self.sessions: list[Session] = []
 
     def totals(self, statements: Sequence[str]) -> list[list[bytes]]:
         def asked(session: Session) -> list[bytes]:
             results, told = session.totals(statements)
             if b"" in results:
-                raise Refused(told.rstrip("\n"))
+                raise refusal(told)
             self.tell(told)
             return results
 
@@ -101,7 +102,7 @@ class Sessions:
             found = kept(answer) if answer else None
             told = session.told()
             if found is None:
-                raise Refused(told.rstrip("\n"))
+                raise refusal(told)
             self.tell(told)
             return found
 
@@ -112,14 +113,28 @@ class Sessions:
         try:
             for file in self.files[len(self.sessions):]:
                 self.sessions.append(Session(file, self.options))
-            return side_by_side([functools.partial(work, each) for each in self.sessions],
-                                self.kill)
+
+            def call(place: int) -> Callable[[], T]:
+                return lambda: self.named(place, work)
+
+            return side_by_side(list(map(call, range(len(self.files)))), self.kill)
         except Refused:
             # every session has answered
             raise
         except BaseException:
             self.close()
             raise
+
+    def named(self, place: int, work: Callable[[Session], T]) -> T:
+        """Returns what a function returns for a session. If it fails, and there are others, its
+        file is named."""
+        try:
+            return work(self.sessions[place])
+        except Failed as failed:
+            if len(self.files) == 1:
+                raise
+            why = failed.told.strip() or str(failed)
+            raise Failed(f"{self.names[place]}: {why}", status=failed.status) from None
 
     def kill(self) -> None:
         """Ends the processes of all sessions, whatever they do."""
@@ -131,6 +146,13 @@ class Sessions:
         for session in self.sessions:
             session.process.__exit__(None, None, None)
         self.sessions = []
+
+
+def refusal(told: str) -> Exception:
+    """Returns what a statement without an answer raises: that bw rejected it, for a reason."""
+    if told:
+        return Refused(told.rstrip("\n"))
+    return Failed("bw session gave no answer and no reason")
 
 
 class Scheduled:
