@@ -98,26 +98,26 @@ def add_options(parser: argparse.ArgumentParser) -> None:
 def statements_in(lines: Iterable[str]) -> Iterator[str]:
     """Yields the statements in these lines, each of which ends with a semicolon, an empty line or
     the last line, but not within a text or a comment. Empty ones are left out."""
-    text, end, is_empty = "", "", True
+    parts, end, is_empty = list[str](), "", True
     for line in lines:
-        if not end and not line.strip():
-            if not is_empty:
-                yield text.lstrip()
-            text, is_empty = "", True
-            continue
         at = 0
-        while at < len(line):
+        is_end = not end and not line.strip()
+        while at < len(line) and not is_end:
             size, end, is_blank = piece(line, at, end)
-            text += line[at:at + size]
-            is_ended = not end and line[at:at + size] == ";"
-            is_empty = is_empty and (is_blank or is_ended)
-            at += size
-            if is_ended:
+            part, at = line[at:at + size], at + size
+            if part == ";" and not end:
                 if not is_empty:
-                    yield text.lstrip()
-                text, is_empty = "", True
+                    yield "".join(parts).lstrip()
+                parts, is_empty = [], True
+            else:
+                parts.append(part)
+                is_empty = is_empty and is_blank
+        if is_end:
+            if not is_empty:
+                yield "".join(parts).lstrip()
+            parts, is_empty = [], True
     if not is_empty:
-        yield text.lstrip()
+        yield "".join(parts).lstrip()
 
 
 def piece(line: str, at: int, end: str) -> tuple[int, str, bool]:
