@@ -24,7 +24,7 @@ from .rows import both, names_of, select
 
 # so many groups are counted by statements at most, and only if the rows that those scan are no more
 # than so many times the rows that would be listed: which takes as long
-MOST_STATEMENTS, LISTED_COST = 1000, 2000
+MOST_STATEMENTS, LISTED_COST, LONG = 1000, 2000, 200
 # the totals of bw that an aggregate needs
 NEEDED: Mapping[str, Sequence[str]] = {"COUNT": ("COUNT",), "SUM": ("SUM",), "MIN": ("MIN",),
                                        "MAX": ("MAX",), "AVG": ("SUM", "COUNT")}
@@ -186,6 +186,8 @@ def choices_of(engine: Engine, wanted: Wanted, whole: Whole) -> list[list[int]]:
     scanned = rows
     if wanted.where:
         scanned = engine.totals([select(COUNT, wanted.table, "")])[0][0] or 0
+    # a long condition takes longer
+    scanned *= 1 + len(wanted.where) // LONG
     return found if count * scanned <= LISTED_COST * rows else []
 
 
