@@ -15,7 +15,6 @@ import tempfile
 from itertools import compress
 from typing import Any, Iterator, NamedTuple, Sequence
 
-LEAST, GREATEST = -1 << 63, (1 << 63) - 1
 # the types of arrays of numbers, each with the bits of its magnitudes
 TYPES = (("b", 7), ("h", 15), ("i", 31), ("q", 63))
 

@@ -7,6 +7,8 @@ import fractions
 from dataclasses import dataclass
 from typing import Dict, Iterator, Protocol, Sequence, Tuple, Union
 
+# the bounds of a column's numbers
+LEAST, GREATEST = -1 << 63, (1 << 63) - 1
 # a literal of a statement: a text, or a number, as which TRUE is 1
 Literal = Union[str, fractions.Fraction]
 # what the store keeps of a kind: at most 16 fields of short texts and of integers of 64 bits

@@ -4,7 +4,8 @@ from __future__ import annotations
 import argparse
 from typing import Any, Sequence
 
-from .text import SEPARATORS
+# separators of fields that have a name
+SEPARATORS = {"comma": ",", "semicolon": ";", "tab": "\t", "bar": "|", "\\t": "\t"}
 
 RAW = "the file to read, or - for standard input; gzip, bzip2 and xz are unpacked"
 

@@ -13,7 +13,8 @@ from dataclasses import dataclass, field
 from typing import Any, Iterable, Sequence
 
 from . import moments
-from .keeping import GREATEST, LEAST, Numbered, packed, split_nulls, values_of
+from .keeping import Numbered, packed, split_nulls, values_of
+from .kind import GREATEST, LEAST
 from .numerals import is_grouped
 
 # a number of more characters doesn't fit 64 bits

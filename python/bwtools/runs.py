@@ -7,19 +7,12 @@ import itertools
 from array import array
 from typing import Iterable, Iterator, NamedTuple, Sequence
 
+from .codes import Codes
 from .keeping import Coded, Place, Store, coded, in_blocks
 
 # a run is full with so many texts, or so many characters; sorted texts are stored so many at a time
 MOST_TEXTS, MOST_CHARACTERS, BLOCK, SAMPLE = 1 << 17, 1 << 24, 1 << 13, 64
 BLANKS = frozenset(" \t")
-
-
-class Codes(dict[str, int]):
-    """A code for each distinct text, in the order in which they were met."""
-
-    def __missing__(self, text: str) -> int:
-        code = self[text] = len(self)
-        return code
 
 
 class Run(NamedTuple):

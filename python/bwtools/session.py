@@ -7,7 +7,7 @@ import os
 import re
 import subprocess
 import sys
-from typing import IO, Any, BinaryIO, NoReturn, Sequence, TextIO
+from typing import IO, Any, BinaryIO, NoReturn, Sequence
 
 from . import command
 
@@ -84,14 +84,9 @@ class Session:
     def __exit__(self, *error: Any) -> None:
         self.process.__exit__(*error)
 
-    def ask(self, statement: str) -> TextIO | None:
+    def result_of(self, statement: str) -> io.BufferedReader | None:
         """Sends a statement. Returns its result, or None if it is rejected; standard error then has
         the reason."""
-        answer = self.result_of(statement)
-        return io.TextIOWrapper(answer, encoding="utf-8", newline="") if answer else None
-
-    def result_of(self, statement: str) -> io.BufferedReader | None:
-        """Sends a statement. Returns its result as bytes, or None if it is rejected."""
         self.told()
         self.send(sent_form(statement))
         self.answer = Answer(self)

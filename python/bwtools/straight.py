@@ -15,7 +15,7 @@ from typing import BinaryIO, Iterator, Optional, Sequence
 
 from . import command, pairs
 from .fields import columns_of
-from .keeping import GREATEST, LEAST
+from .kind import GREATEST, LEAST
 from .naming import names_of
 from .progress import Progress
 from .source import MOST_COLUMNS

@@ -12,9 +12,9 @@ from typing import BinaryIO, Iterable, Iterator, NoReturn, TextIO
 
 from .comments import NUL, Records, Signs, reader_of
 from .inputs import Positioned, name_of, open_input
+from .options import SEPARATORS
 from .telling import Refused
 
-SEPARATORS = {"comma": ",", "semicolon": ";", "tab": "\t", "bar": "|", "\\t": "\t"}
 MARKS = ((b"\xef\xbb\xbf", "utf-8-sig"), (b"\xff\xfe", "utf-16"), (b"\xfe\xff", "utf-16"))
 # the bytes that cp1252 has no character for
 NO_CP1252 = bytes((0x81, 0x8d, 0x8f, 0x90, 0x9d))

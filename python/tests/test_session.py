@@ -74,16 +74,16 @@ class Sessions(unittest.TestCase):
     def test_what_is_said_belongs_to_its_answer(self):
         script = 'for each in 1 2; do read a; read b; echo "$each: $a" >&2; printf "a\\n$each\\n\\n"; done; cat'
         with self.session_of(script) as session:
-            first = session.ask("one")
-            self.assertEqual((first.read(), session.told(), session.told()), ("a\n1\n", "1: one;\n", ""))
-            self.assertEqual(session.ask("two").readline(), "a\n")
+            first = session.result_of("one")
+            self.assertEqual((first.read(), session.told(), session.told()), (b"a\n1\n", "1: one;\n", ""))
+            self.assertEqual(session.result_of("two").readline(), b"a\n")
             self.assertEqual((session.told(), session.end()), ("2: two;\n", 0))
 
     def test_answer_that_is_not_read_is_dropped(self):
         script = "read a; read b; seq 100000; echo old >&2; echo; read a; echo new >&2; echo; cat >/dev/null; exit 3"
         with self.session_of(script) as session:
-            self.assertEqual(session.ask("one").readline(), "1\n")
-            self.assertIsNone(session.ask("two"))
+            self.assertEqual(session.result_of("one").readline(), b"1\n")
+            self.assertIsNone(session.result_of("two"))
             self.assertEqual((session.told(), session.end()), ("new\n", 3))
 
     def test_status_without_a_refused_statement_fails(self):

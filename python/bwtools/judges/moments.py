@@ -4,7 +4,7 @@ from __future__ import annotations
 from dataclasses import dataclass, field
 from typing import ClassVar, Iterable, Optional, Sequence, Union
 
-from ..keeping import GREATEST, LEAST
+from ..kind import GREATEST, LEAST
 from ..kinds.clocks import Clocks
 from ..kinds.dates import Dates
 from ..kinds.times import Times

@@ -5,7 +5,7 @@ import math
 from dataclasses import dataclass
 from typing import ClassVar, Optional, Sequence, Union
 
-from ..keeping import GREATEST, LEAST
+from ..kind import GREATEST, LEAST
 from ..kind import Kind
 from ..kinds.decimals import Decimals
 from ..kinds.floats import Floats

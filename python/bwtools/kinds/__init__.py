@@ -4,7 +4,6 @@ from __future__ import annotations
 
 from typing import Callable
 
-from ..keeping import GREATEST, LEAST
 from ..kind import Kind, Listed, Settings
 from ..numerals import BETWEEN, Style
 from .clocks import Clocks
@@ -64,6 +63,6 @@ CHECKS: dict[str, Callable[[object], bool]] = {
     "grouping": lambda value: value == "" or isinstance(value, str) and value in ".," + BETWEEN,
     "prefix": is_short, "suffix": is_short, "brackets": lambda value: value in (0, 1)}
 
-__all__ = ["Clocks", "Dates", "Decimals", "Floats", "GREATEST", "LEAST", "Nulls", "Ranked",
+__all__ = ["Clocks", "Dates", "Decimals", "Floats", "Nulls", "Ranked",
            "Styled", "Texts", "Times", "Truths", "Whole", "kind_of",
            "undressed"]

@@ -9,6 +9,7 @@ import sqlite3
 from fractions import Fraction
 from typing import Any, Iterator, Sequence
 
+from ..kind import GREATEST, LEAST
 from ..kinds import Decimals, Truths, Whole, undressed
 from ..kinds.doubles import nearest
 from ..numerals import power_of_ten
@@ -17,7 +18,7 @@ from .exact import float_sum
 from .statement import Statement
 from .ties import tie_edits
 from .tokens import text_literal
-from .values import GREATEST, LEAST, double_of_sum
+from .values import double_of_sum
 
 
 def summed(values: Sequence[Any]) -> int | float | None:

@@ -9,7 +9,7 @@ from dataclasses import dataclass
 from typing import BinaryIO, Iterable, Iterator, Mapping, Sequence, Tuple
 
 from ..kind import Kind
-from ..runs import Codes
+from ..codes import Codes
 from ..session import Failed
 from ..shards import total
 from ..telling import Refused

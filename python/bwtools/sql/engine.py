@@ -4,7 +4,6 @@ fails, is an exception."""
 from __future__ import annotations
 
 import io
-import tempfile
 import threading
 from typing import Any, BinaryIO, Callable, Iterator, Protocol, Sequence, TypeVar, Union
 
@@ -233,6 +232,8 @@ def kept(answer: io.BufferedReader) -> BinaryIO:
     while part := answer.read(AT_ONCE):
         found.write(part)
         if isinstance(found, io.BytesIO) and found.tell() > MOST_IN_MEMORY:
+            # it takes long to load, and few results are so long
+            import tempfile
             longer: Any = tempfile.TemporaryFile()
             longer.write(found.getbuffer())
             found = longer

@@ -8,14 +8,14 @@ import importlib
 from dataclasses import dataclass
 from typing import Any, Callable, Sequence
 
-from ..kind import Kind
+from ..kind import GREATEST, LEAST, Kind
 from ..kinds import (Clocks, Dates, Decimals, Floats, Nulls, Ranked, Texts, Times, Truths, Whole,
                      undressed)
 from ..numerals import power_of_ten
 from ..telling import Refused
 from .answer import Answer
 from .bodies import Numbers, foreign
-from .values import GREATEST, LEAST, number_of
+from .values import number_of
 
 # numbers up to this one are doubles
 MOST_EXACT = 1 << 53

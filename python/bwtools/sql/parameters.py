@@ -7,9 +7,9 @@ import math
 import operator
 from typing import Any
 
+from ..kind import GREATEST, LEAST
 from ..telling import Refused
 from .tokens import NUMBER, TEXT, WORD, Token, text_literal
-from .values import GREATEST, LEAST
 
 
 def literal(value: Any, start: int, number: int) -> Token:

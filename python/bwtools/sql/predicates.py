@@ -10,8 +10,8 @@ import operator
 import sqlite3
 from typing import Any, Callable, Iterable, NamedTuple, Sequence, Union
 
-from ..kind import Column
-from ..kinds import GREATEST, LEAST, Decimals, undressed
+from ..kind import GREATEST, LEAST, Column
+from ..kinds import Decimals, undressed
 from ..stored_list import StoredList
 from . import values
 

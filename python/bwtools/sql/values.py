@@ -12,7 +12,7 @@ import operator
 from fractions import Fraction
 from typing import Any, Callable, Sequence, Union
 
-from ..kind import Column, Kind, Literal, Place
+from ..kind import GREATEST, LEAST, Column, Kind, Literal, Place
 from ..kinds import (Clocks, Dates, Decimals, Floats, Ranked, Styled, Times, Truths,
                      undressed)
 from ..kinds.doubles import double_of
@@ -27,8 +27,8 @@ AFFINITIES = {"whole": INTEGER, "truths": INTEGER, "nulls": INTEGER, "decimals":
               "floats": REAL, "ranked": REAL, "dates": TEXT, "times": TEXT, "clocks": TEXT,
               "texts": TEXT}
 ISO_TIME, ISO_CLOCK = f"{ISO_DATE} %H:%M:%S", "%H:%M:%S"
-# doubles have each decimal of so many digits, and sums are within 64 bits
-EXACT_DIGITS, LEAST, GREATEST = 15, -(1 << 63), (1 << 63) - 1
+# doubles have each decimal of so many digits
+EXACT_DIGITS = 15
 UTC = datetime.timezone.utc
 
 
