@@ -72,6 +72,19 @@ class Tables(Temporary):
             self.assertEqual([file.read() for file in asked.rows("SELECT b FROM t")],
                              [b"b\n2\n-3\n", b"b\nNULL\n5\n"])
 
+    def test_more_files_than_memory_has_room_for_are_asked_in_turn(self):
+        for name, value in (("memory", lambda: 100), ("MOST_SESSIONS", 4)):
+            with mock.patch.object(engine, name, value), mock.patch.object(engine, "IN_TURN", 2):
+                asked = self.engine_of(["1,2"], ["2,3"], ["3,4"], ["4,5"], ["5,6"])
+                statements = ["SELECT COUNT(*), SUM(b) FROM t", "SELECT MAX(a) FROM t"]
+                self.assertEqual([list(each) for each in asked.totals(statements)], [[5, 20], [5]])
+                self.assertEqual(asked.asker.sessions, [])
+                found = [file.read() for file in asked.rows("SELECT a FROM t")]
+                self.assertEqual(found, [f"a\n{place}\n".encode() for place in range(1, 6)])
+                with self.assertRaisesRegex(Refused, "^bw: 404 "):
+                    asked.rows("SELECT c FROM t")
+                self.assertEqual(asked.asker.sessions, [])
+
     def test_a_long_result_is_in_a_file(self):
         asked = self.engine_of([f"{place % 10},{place % 7}" for place in range(5000)])
         with mock.patch.object(engine, "MOST_IN_MEMORY", 1000):

@@ -231,7 +231,7 @@ TAKEN = [
     "SELECT substr(city, 1, 1) || '.', SUM(n) FROM t GROUP BY substr(city, 1, 1), paid HAVING SUM(n) > 5",
     "SELECT n % 7, (n % 7) * 2, COUNT(*) FROM t GROUP BY n % 7 ORDER BY n % 7, COUNT(*)",
     "SELECT COUNT(*) FROM t GROUP BY upper(t.city)", "SELECT upper(CITY) FROM t GROUP BY UPPER(city)",
-    "SELECT n FROM t WHERE n = 1;", "SELECT DISTINCT SUM(n) FROM t",
+    "SELECT COUNT(1), COUNT('x') FROM t GROUP BY n", "SELECT n FROM t WHERE n = 1;", "SELECT DISTINCT SUM(n) FROM t",
     "SELECT city AS city, COUNT(*) FROM t GROUP BY city"]
 LEFT = [
     "SELECT 1", "SELECT 1 FROM t", "SELECT n + 1 FROM t", "SELECT n FROM t ORDER BY n + 1",
@@ -239,8 +239,8 @@ LEFT = [
     "SELECT city, MAX(n) FROM t", "SELECT city, n, COUNT(*) FROM t GROUP BY city",
     "SELECT max(n, big) FROM t", "SELECT COUNT(*) FILTER (WHERE n > 1) FROM t",
     "SELECT SUM(DISTINCT n) FROM t", "SELECT SUM(n) OVER () FROM t", "SELECT TOTAL(n) FROM t",
-    "SELECT group_concat(city) FROM t", "SELECT SUM(n + 1) FROM t", "SELECT COUNT(1) FROM t",
-    "SELECT COUNT() FROM t", "SELECT city FROM t ORDER BY city COLLATE NOCASE",
+    "SELECT group_concat(city) FROM t", "SELECT SUM(n + 1) FROM t", "SELECT COUNT(NULL) FROM t", "SELECT COUNT() FROM t",
+    "SELECT COUNT(1 + 1) FROM t", "SELECT SUM(1) FROM t", "SELECT COUNT(DISTINCT 1) FROM t", "SELECT city FROM t ORDER BY city COLLATE NOCASE",
     "SELECT COUNT(*) FROM t GROUP BY 1", "SELECT city, COUNT(*) FROM t GROUP BY upper(city)",
     "SELECT COUNT(*) FROM t GROUP BY -1", "SELECT COUNT(*) FROM t GROUP BY 'x'", "SELECT COUNT(*) FROM t GROUP BY 1 + 1",
     "SELECT COUNT(DISTINCT n) FROM t GROUP BY upper(city)", "SELECT COUNT(*) FROM t GROUP BY CAST(n AS TEXT)",

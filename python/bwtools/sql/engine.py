@@ -4,6 +4,7 @@ fails, is an exception."""
 from __future__ import annotations
 
 import io
+import os
 import threading
 from typing import Any, BinaryIO, Callable, Iterator, Protocol, Sequence, TypeVar, Union
 
@@ -15,6 +16,9 @@ from ..telling import Refused
 
 # a result up to this many bytes is kept in memory, a longer one in a temporary file
 MOST_IN_MEMORY, AT_ONCE = 1 << 26, 1 << 16
+# so many sessions are kept at most; if there are more files, or memory has no room for their
+# tables, so many work at a time
+MOST_SESSIONS, IN_TURN = 64, 4
 # the totals of a statement, of which None is null
 Totals = Sequence[Union[int, None]]
 T = TypeVar("T")
@@ -76,7 +80,9 @@ def added(results: Sequence[bytes]) -> Totals:
 
 class Sessions:
     """A session of bw for each of some open table files, begun when it is needed. They work side by
-    side. If one fails, all are ended, so no result of theirs is taken for another one's."""
+    side, and have the tables in memory: if these are too many or too large for that, a few work at
+    a time, and end after each call. If one fails, all are ended, so no result of theirs is taken
+    for another one's."""
 
     def __init__(self, files: Sequence[BinaryIO], options: Sequence[str] = (),
                  tell: Callable[[str], None] = lambda told: None,
@@ -84,6 +90,8 @@ class Sessions:
         self.files, self.options, self.tell = files, options, tell
         self.names = names or [f"file {place}" for place in range(1, len(files) + 1)]
         self.sessions: list[Session] = []
+        size = sum(os.fstat(file.fileno()).st_size for file in files)
+        self.are_kept = len(files) == 1 or len(files) <= MOST_SESSIONS and size <= memory() // 2
 
     def totals(self, statements: Sequence[str]) -> list[list[bytes]]:
         def asked(session: Session) -> list[bytes]:
@@ -109,14 +117,12 @@ class Sessions:
 
     def each(self, work: Callable[[Session], T]) -> list[T]:
         """Returns what a function returns for each session."""
+        count, found = len(self.files), list[T]()
+        at_once = count if self.are_kept else IN_TURN
         try:
-            for file in self.files[len(self.sessions):]:
-                self.sessions.append(Session(file, self.options))
-
-            def call(place: int) -> Callable[[], T]:
-                return lambda: self.named(place, work)
-
-            return side_by_side(list(map(call, range(len(self.files)))), self.kill)
+            for first in range(0, count, at_once):
+                found += self.some(range(first, min(first + at_once, count)), work)
+            return found
         except Refused:
             # every session has answered
             raise
@@ -124,11 +130,25 @@ class Sessions:
             self.close()
             raise
 
-    def named(self, place: int, work: Callable[[Session], T]) -> T:
+    def some(self, places: range, work: Callable[[Session], T]) -> list[T]:
+        """Returns what a function returns for the sessions of the files of some places."""
+        try:
+            for place in places[len(self.sessions):]:
+                self.sessions.append(Session(self.files[place], self.options))
+
+            def call(place: int, session: Session) -> Callable[[], T]:
+                return lambda: self.named(place, session, work)
+
+            return side_by_side(list(map(call, places, self.sessions)), self.kill)
+        finally:
+            if not self.are_kept:
+                self.close()
+
+    def named(self, place: int, session: Session, work: Callable[[Session], T]) -> T:
         """Returns what a function returns for a session. If it fails, and there are others, its
         file is named."""
         try:
-            return work(self.sessions[place])
+            return work(session)
         except Failed as failed:
             if len(self.files) == 1:
                 raise
@@ -145,6 +165,14 @@ class Sessions:
         for session in self.sessions:
             session.process.__exit__(None, None, None)
         self.sessions = []
+
+
+def memory() -> int:
+    """Returns the bytes of the machine's memory."""
+    try:
+        return os.sysconf("SC_PHYS_PAGES") * os.sysconf("SC_PAGE_SIZE")
+    except (ValueError, OSError):
+        return 1 << 62
 
 
 def refusal(told: str) -> Exception:

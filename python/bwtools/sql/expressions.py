@@ -146,11 +146,15 @@ def reader_of(statement: Statement, clauses: Clauses, span: range) -> Reader:
 
 
 def aggregate_of(reader: Reader) -> Aggregate:
-    """Consumes an aggregate over a column, or COUNT(*)."""
+    """Consumes an aggregate over a column, or COUNT(*), as which COUNT(1) is."""
     function = reader.take().key
     reader.wants_mark("(")
     column, is_distinct = None, False
-    if function != "COUNT" or not reader.takes_mark("*"):
+    is_of_rows = reader.next().is_mark("*") or \
+        reader.next().kind in (tokens.NUMBER, tokens.TEXT) and reader.next(1).is_mark(")")
+    if function == "COUNT" and is_of_rows:
+        reader.take()
+    else:
         is_distinct = function == "COUNT" and reader.takes("DISTINCT")
         column = reader.takes_column()
         if not column:

@@ -166,3 +166,5 @@ SELECT CASE WHEN guests > 4 THEN 'many' WHEN guests IS NULL THEN NULL ELSE 'few'
 SELECT fee > 100, COUNT(*) FROM visits GROUP BY fee > 100
 
 SELECT coalesce(place, '-') AS p, COUNT(DISTINCT guests) FROM visits GROUP BY p
+
+SELECT COUNT(1), place FROM visits WHERE guests > 1 GROUP BY place HAVING COUNT(1) > 20 ORDER BY COUNT('x') DESC, place
