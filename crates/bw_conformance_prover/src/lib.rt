@@ -1,0 +1,5 @@
+//! Tests of the prover across crates.
+#![tactic(auto)]
+
+#[cfg(test)]
+mod first;
