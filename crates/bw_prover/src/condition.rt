@@ -247,7 +247,10 @@ impl Proof<'_> {
     /// bit.
     fn column_outcome(&mut self, compared: ColumnComparison) -> Result<Stated, Stop> {
         let ColumnComparison {
-            kind, left, right, ..
+            kind,
+            left,
+            right,
+            ..
         } = compared;
         let width = width_of(self.facts.schema, left).ok_or(Stop::NoRule)?;
         let other = width_of(self.facts.schema, right).ok_or(Stop::NoRule)?;

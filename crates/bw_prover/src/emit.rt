@@ -126,12 +126,7 @@ fn body_lines(alloc: Global, proof: &Proof<'_>, numbers: &mut LineNumbers) -> Re
 }
 
 /// Returns the line of a chain.
-fn chain_line(
-    schema: &Schema,
-    line: u64,
-    number: u64,
-    link: Link,
-) -> Result<ChainLine<'_>, Stop>
+fn chain_line(schema: &Schema, line: u64, number: u64, link: Link) -> Result<ChainLine<'_>, Stop>
     ensures { IfOk result (λ line. IsTrue (is_chain_named schema.now.columns.items line)) }
 {
     let (kind, len) = (link.kind, u64::from(link.len));

@@ -10,7 +10,7 @@
 //! Function Manipulation, 1986): within one order of variables, equal functions are equal nodes. The
 //! order of variables and the chains are this project's own.
 //!
-//! Read `prove.rt` first, then `condition.rt`, `walk.rt` and `joins.rt`.
+//! Read `prover.rt` first, then `condition.rt`, `walk.rt` and `joins.rt`.
 #![tactic(auto)]
 
 mod chains;
@@ -28,7 +28,7 @@ mod nodes;
 mod order;
 mod products;
 mod proof;
-mod prove;
+mod prover;
 mod registers;
 mod rows;
 mod sequence;
@@ -38,5 +38,5 @@ mod walk;
 
 pub use hints::Hints;
 pub use order::VariableOrder;
-pub use prove::prove;
+pub use prover::prove;
 pub use unproved::{Unproved, Witness};

@@ -61,14 +61,21 @@ impl Question {
     }
 }
 
-/// A product row: what it computes, the number of its node, and, if it isn't a shortcut, the
-/// variable by which it is split, and the numbers of the rows for 0 and for 1. A row with a
-/// certificate's `Reason` would take twice as much memory.
+/// The variable by which a row is split, and the numbers of the rows for 0 and for 1.
+#[derive(Clone, Copy)]
+struct Split {
+    variable: u32,
+    low: u32,
+    high: u32,
+}
+
+/// A product row: what it computes, the number of its node, and, if it isn't a shortcut, how it is
+/// split. A row with a certificate's `Reason` would take twice as much memory.
 #[derive(Clone, Copy)]
 pub(crate) struct ProductRow {
     pub(crate) question: Question,
     pub(crate) node: u32,
-    split: Option<[u32; 3]>,
+    split: Option<Split>,
 }
 
 impl ProductRow {
@@ -76,10 +83,10 @@ impl ProductRow {
     pub(crate) fn reason(self) -> Reason {
         match self.split {
             None => Reason::Shortcut,
-            Some([v, i, j]) => Reason::Cofactors {
-                v: u64::from(v),
-                i: u64::from(i),
-                j: u64::from(j),
+            Some(split) => Reason::Cofactors {
+                v: u64::from(split.variable),
+                i: u64::from(split.low),
+                j: u64::from(split.high),
             },
         }
     }
@@ -197,8 +204,12 @@ impl Products {
             return Ok(Step::Missing(below));
         };
         let node = nodes.choice(variable, low.node, high.node)?;
-        let split = Some([variable, low.number, high.number]);
-        Ok(Step::Row(self.add_row(asked, node, split)?))
+        let split = Split {
+            variable,
+            low: low.number,
+            high: high.number,
+        };
+        Ok(Step::Row(self.add_row(asked, node, Some(split))?))
     }
 
     /// Adds a row.
@@ -206,7 +217,7 @@ impl Products {
         &mut self,
         question: Question,
         node: u32,
-        split: Option<[u32; 3]>,
+        split: Option<Split>,
     ) -> Result<Cited, Stop> {
         let number = self.rows.push(ProductRow {
             question,

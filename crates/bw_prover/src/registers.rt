@@ -1,7 +1,6 @@
 //! What is known of a program's registers at a place, and which of them are read later.
-ghost use Rattle.std.specs.Prelude.{◌<◌, ◌≤◌};
+ghost use Rattle.std.specs.Prelude.{◌<◌, IfSome};
 ghost use Rattle.bw_program.specs.Program.{named_by};
-ghost use Rattle.bw_text.specs.Register.{register_count};
 
 use crate::stop::{Loss, Read, Stop};
 use bw_program::{Instr, Program, Register};
@@ -34,10 +33,7 @@ impl Registers {
             instruction,
             register,
         };
-        match (
-            self.known[register as usize],
-            self.lost[register as usize],
-        ) {
+        match (self.known[register as usize], self.lost[register as usize]) {
             (Some(node), _) => Ok(node),
             (None, Some(loss)) => Err(Stop::Lost(read, loss)),
             (None, None) => Err(Stop::Unwritten(read)),
@@ -69,7 +65,9 @@ impl Registers {
 }
 
 /// Returns the register that an instruction writes, if it writes one.
-pub(crate) fn written_by(instr: Instr) -> Option<Register> {
+pub(crate) fn written_by(instr: Instr) -> Option<Register>
+    ensures { IfSome result (λ register. register < named_by instr) }
+{
     match instr {
         Instr::Load(r, ..) | Instr::Nulls(r, _) | Instr::Fill(r, _) => Some(r),
         Instr::And(r, ..) | Instr::Or(r, ..) | Instr::Xor(r, ..) | Instr::Not(r, _) => Some(r),

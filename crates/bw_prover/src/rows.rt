@@ -13,11 +13,7 @@ use std::alloc::Global;
 type Bits = Vec<bool>;
 
 /// Returns a row that the schema admits and on whose bits a node is 1, if there is one.
-pub(crate) fn row_of(
-    alloc: Global,
-    facts: &mut Facts<'_>,
-    node: u32,
-) -> Result<Option<Row>, Stop> {
+pub(crate) fn row_of(alloc: Global, facts: &mut Facts<'_>, node: u32) -> Result<Option<Row>, Stop> {
     let node = admitted_part(facts, node)?;
     if node == 0 {
         return Ok(None);

@@ -24,7 +24,9 @@ pub enum Unproved {
         witness: Option<Witness>,
     },
     /// The program is wrong on this row, which the schema admits.
-    Differs { row: Row },
+    Differs {
+        row: Row,
+    },
     /// The program is right on every row that the schema admits, but not on every bit pattern,
     /// which a certificate speaks of.
     OnlyUnadmitted,

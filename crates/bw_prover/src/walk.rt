@@ -1,5 +1,5 @@
 //! One walk over a program's instructions, which gives each register its node.
-ghost use Rattle.std.specs.Prelude.{◌<◌, ◌≤◌};
+ghost use Rattle.std.specs.Prelude.{◌<◌, ◌≤◌, IfSome};
 ghost use Rattle.bw_program.specs.Program.{named_by};
 ghost use Rattle.bw_text.specs.Register.{register_count};
 

@@ -1,0 +1,58 @@
+//! Programs without a certificate, each with its reason.
+use crate::judge::{Case, Verdict};
+use crate::tables::{SMALL, small_rows, table};
+use bw_program::Program;
+use bw_sql::parse;
+use std::test::Fail;
+
+/// Conditions, programs, and what becomes of them.
+const REASONS: [(&str, &str, Verdict); 9] = [
+    ("a < 8", "BYTELT r0 a 0 8\nRESULT r0\n", Verdict::Certified),
+    ("a < 8", "BYTELT r0 a 0 9\nRESULT r0\n", Verdict::Differs),
+    // Null is stored as 0, which isn't less than 0.
+    (
+        "b >= 1",
+        "BYTELT r0 b 0 1\nNOT r0 r0\nRESULT r0\n",
+        Verdict::OnlyUnadmitted,
+    ),
+    ("a <= 11", "FILL r0 1\nRESULT r0\n", Verdict::OnlyUnadmitted),
+    ("a < 8", "NOT r0 r1\nRESULT r0\n", Verdict::Unwritten),
+    ("a < 8", "RESULT r0\n", Verdict::Unwritten),
+    // The null plane is missing where the skip is taken.
+    (
+        "b IS NOT NULL OR a < 8",
+        "BYTELT r0 a 0 8\nSKIP r0 4\nNULLS r1 b\nNOT r0 r1\nRESULT r0\n",
+        Verdict::WrongBySkip,
+    ),
+    // The skip is always taken, so what it skips is never reached.
+    (
+        "a < 8",
+        "BYTELT r0 a 0 8\nFILL r1 0\nSKIP r1 4\nFILL r0 1\nRESULT r0\n",
+        Verdict::Unknown,
+    ),
+    (
+        "a < b OR b < a",
+        "FILL r0 0\nRESULT r0\n",
+        Verdict::Unordered,
+    ),
+];
+
+#[test]
+fn programs_without_a_certificate_have_their_reason(rt: HostRuntime) -> Result<(), Fail> {
+    let alloc = rt.alloc();
+    let schema = table(alloc, SMALL)?;
+    let rows = small_rows(alloc)?;
+    for (text, program, wanted) in REASONS {
+        let sql = format!(in alloc; "SELECT COUNT(*) FROM t WHERE {text}")?;
+        let query = parse(alloc, &schema, sql.as_bytes())?;
+        let case = Case {
+            schema: &schema,
+            cond: &query.cond,
+            rows: &rows,
+        };
+        let program = Program::parse(alloc, &schema, program.as_bytes())?;
+        let verdict = case.judge(&rt, alloc, program)?;
+        assert_eq!(rt; verdict, wanted, "{text}");
+    }
+    Ok(())
+}
