@@ -2,9 +2,12 @@
 ghost use Rattle.std.specs.Prelude.{IfOk, IfSome, IsTrue, ◌<◌};
 ghost use Rattle.bw_program.specs.Program.{fits};
 
+use crate::judge::Case;
 use bw_model::Schema;
 use bw_program::{Instr, Program, program_text};
 use std::alloc::{AllocError, Global};
+use std::process::Abort;
+use std::test::Fail;
 
 /// Returns another instruction in place of one.
 fn changed(instr: Instr) -> Instr {
@@ -69,7 +72,7 @@ pub(crate) fn program_of(
 }
 
 /// Returns a program with the instruction of this number changed, if it is a program then.
-pub(crate) fn change(
+fn change(
     alloc: Global,
     schema: &Schema,
     program: &Program,
@@ -81,4 +84,21 @@ pub(crate) fn change(
 {
     let instrs = with_change(alloc, program, number, misdirects)?;
     program_of(alloc, schema, &instrs, program.result())
+}
+
+/// Judges a program with each of its instructions changed in turn.
+pub(crate) fn assert_changes_judged(
+    rt: &impl Abort,
+    alloc: Global,
+    case: Case<'_>,
+    program: &Program,
+) -> Result<(), Fail> {
+    for number in 0..program.len() {
+        for misdirects in [false, true] {
+            if let Some(changed) = change(alloc, case.schema, program, number, misdirects)? {
+                case.judge(rt, alloc, changed)?;
+            }
+        }
+    }
+    Ok(())
 }

@@ -8,7 +8,7 @@ use bw_cert::check;
 use bw_cert_text::Certificate;
 use bw_model::{Cond, Row, Schema};
 use bw_program::Program;
-use bw_prover::{Hints, Unproved, Witness, prove};
+use bw_prover::{Hints, Unproved, VariableOrder, Witness, prove};
 use std::alloc::Global;
 use std::process::Abort;
 use std::test::Fail;
@@ -33,12 +33,13 @@ pub(crate) enum Verdict {
     NoRule,
 }
 
-/// A program's table and condition, and rows of the table.
+/// A program's table and condition, rows of the table, and the orders of variables for the program.
 #[derive(Clone, Copy)]
 pub(crate) struct Case<'a> {
     pub(crate) schema: &'a Schema,
     pub(crate) cond: &'a Cond,
     pub(crate) rows: &'a [Row],
+    pub(crate) orders: &'a [VariableOrder],
     pub ghost names: { IsTrue (names_within (length schema.now.columns.items) cond.now) },
 }
 
@@ -56,7 +57,7 @@ impl Case<'_> {
     {
         let hints = Hints {
             rows: 80_000,
-            orders: &[],
+            orders: self.orders,
         };
         match prove(alloc, self.schema, self.cond, &program, &hints) {
             Ok(certificate) => {

@@ -1,14 +1,10 @@
 //! Programs of the planner, and with one instruction changed.
-ghost use Rattle.std.specs.Prelude.{IsTrue};
-ghost use Rattle.bw_program.specs.Program.{fits};
-
-use crate::changes::change;
+use crate::changes::assert_changes_judged;
 use crate::conditions::condition;
 use crate::judge::{Case, Verdict};
 use crate::tables::{Numbers, SMALL, WIDE, small_rows, table, wide_rows};
 use bw_model::{Row, Schema};
 use bw_plan::propose;
-use bw_program::Program;
 use bw_sql::parse;
 use std::alloc::Global;
 use std::process::Abort;
@@ -30,6 +26,7 @@ fn assert_certified(
         schema,
         cond: &query.cond,
         rows,
+        orders: &[],
     };
     let program = propose(alloc, schema, &query.cond)?.program;
     if changes {
@@ -37,23 +34,6 @@ fn assert_certified(
     }
     let verdict = case.judge(rt, alloc, program)?;
     assert_eq!(rt; verdict, Verdict::Certified, "{text}");
-    Ok(())
-}
-
-/// Judges a program with each of its instructions changed in turn.
-pub(crate) fn assert_changes_judged(
-    rt: &impl Abort,
-    alloc: Global,
-    case: Case<'_>,
-    program: &Program,
-) -> Result<(), Fail> {
-    for number in 0..program.len() {
-        for misdirects in [false, true] {
-            if let Some(changed) = change(alloc, case.schema, program, number, misdirects)? {
-                case.judge(rt, alloc, changed)?;
-            }
-        }
-    }
     Ok(())
 }
 

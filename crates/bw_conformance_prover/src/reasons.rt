@@ -1,7 +1,9 @@
 //! Programs without a certificate, each with its reason.
 use crate::judge::{Case, Verdict};
 use crate::tables::{SMALL, small_rows, table};
+use bw_model::{Row, Schema};
 use bw_program::Program;
+use bw_prover::VariableOrder;
 use bw_sql::parse;
 use std::test::Fail;
 
@@ -49,10 +51,56 @@ fn programs_without_a_certificate_have_their_reason(rt: HostRuntime) -> Result<(
             schema: &schema,
             cond: &query.cond,
             rows: &rows,
+            orders: &[],
         };
         let program = Program::parse(alloc, &schema, program.as_bytes())?;
         let verdict = case.judge(&rt, alloc, program)?;
         assert_eq!(rt; verdict, wanted, "{text}");
+    }
+    Ok(())
+}
+
+/// Two columns of one bit.
+const BITS: &str = "\
+    TABLE t\n\
+    COLUMN x 0 1 NOT NULL\n\
+    COLUMN y 0 1 NOT NULL\n\
+    ";
+
+/// The program of `x < y OR y < x`. Its second comparison has the bit of `y` first.
+const BOTH_WAYS: &str = "\
+    LOAD r0 x 0\n\
+    LOAD r1 y 0\n\
+    NOT r2 r0\n\
+    AND r2 r2 r1\n\
+    NOT r3 r1\n\
+    AND r3 r3 r0\n\
+    OR r2 r2 r3\n\
+    RESULT r2\n\
+    ";
+
+#[test]
+fn hints_order_variables(rt: HostRuntime) -> Result<(), Fail> {
+    let alloc = rt.alloc();
+    let schema = Schema::parse(alloc, BITS.as_bytes())?;
+    let sql = "SELECT COUNT(*) FROM t WHERE x < y OR y < x";
+    let query = parse(alloc, &schema, sql.as_bytes())?;
+    let mut rows = Vec::new(alloc);
+    for (x, y) in [(0, 0), (0, 1), (1, 0), (1, 1)] {
+        let values = Vec::from_slice(alloc, &[Some(x), Some(y)])?;
+        rows.push(Row { values })?;
+    }
+    let mut orders = [VariableOrder::Whole; 8];
+    for wanted in [Verdict::Unordered, Verdict::Certified] {
+        let case = Case {
+            schema: &schema,
+            cond: &query.cond,
+            rows: &rows,
+            orders: &orders,
+        };
+        let program = Program::parse(alloc, &schema, BOTH_WAYS.as_bytes())?;
+        assert_eq!(rt; case.judge(&rt, alloc, program)?, wanted);
+        orders[5] = VariableOrder::Places(0);
     }
     Ok(())
 }

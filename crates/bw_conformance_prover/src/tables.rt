@@ -1,4 +1,6 @@
 //! Tables, numbers, and rows.
+ghost use Rattle.std.specs.Prelude.{◌<◌};
+
 use bw_model::{Row, Schema, Value};
 use std::alloc::Global;
 use std::test::Fail;
@@ -31,7 +33,9 @@ impl Numbers {
     }
 
     /// Returns a number below a limit, or 0 if the limit is 0.
-    pub(crate) fn below(&mut self, limit: u64) -> u64 {
+    pub(crate) fn below(&mut self, limit: u64) -> u64
+        ensures { 0 < limit → result < limit }
+    {
         let mut x = self.0;
         x ^= x << 13;
         x ^= x >> 7;

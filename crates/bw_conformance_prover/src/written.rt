@@ -1,9 +1,6 @@
 //! Programs of other writers than the planner, and with one instruction changed.
-ghost use Rattle.std.specs.Prelude.{IsTrue};
-
-use crate::changes::program_of;
+use crate::changes::{assert_changes_judged, program_of};
 use crate::judge::{Case, Verdict};
-use crate::programs::assert_changes_judged;
 use crate::tables::{Numbers, SMALL, WIDE, small_rows, table, wide_rows};
 use crate::writer::{Part, Style, Writer};
 use bw_model::{Row, Schema};
@@ -109,6 +106,7 @@ fn assert_written(
         schema,
         cond: &query.cond,
         rows,
+        orders: &[],
     };
     let program = program_of(alloc, schema, &writer.instrs, writer.result())?;
     let program = program.ok_or("no program")?;
