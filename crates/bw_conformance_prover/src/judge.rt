@@ -1,14 +1,15 @@
 //! Judges what the prover returns.
-ghost use Rattle.std.specs.Prelude.{◌≡◌, IsTrue, length};
+ghost use Rattle.std.specs.Prelude.{◌≡◌, IfOk, IsTrue, length};
 ghost use Rattle.bw_model.specs.Cond.{names_within};
 ghost use Rattle.bw_program.specs.Program.{fits};
 
 use crate::groups::{is_right_on, segment_of};
 use bw_cert::check;
 use bw_cert_text::Certificate;
-use bw_model::{Cond, Row, Schema};
+use bw_model::{Cond, Query, Row, Schema};
 use bw_program::Program;
 use bw_prover::{Hints, Unproved, VariableOrder, Witness, prove};
+use bw_sql::parse;
 use std::alloc::Global;
 use std::process::Abort;
 use std::test::Fail;
@@ -41,6 +42,15 @@ pub(crate) struct Case<'a> {
     pub(crate) rows: &'a [Row],
     pub(crate) orders: &'a [VariableOrder],
     pub ghost names: { IsTrue (names_within (length schema.now.columns.items) cond.now) },
+}
+
+/// Returns the query that counts the rows of a condition.
+pub(crate) fn query_of(alloc: Global, schema: &Schema, condition: &str) -> Result<Query, Fail>
+    ensures { IfOk result (λ query.
+        IsTrue (names_within (length schema.now.columns.items) query.cond)) }
+{
+    let sql = format!(in alloc; "SELECT COUNT(*) FROM t WHERE {condition}")?;
+    Ok(parse(alloc, schema, sql.as_bytes())?)
 }
 
 impl Case<'_> {

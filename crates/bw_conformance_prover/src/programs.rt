@@ -1,11 +1,10 @@
 //! Programs of the planner, and with one instruction changed.
 use crate::changes::assert_changes_judged;
 use crate::conditions::condition;
-use crate::judge::{Case, Verdict};
+use crate::judge::{Case, Verdict, query_of};
 use crate::tables::{Numbers, SMALL, WIDE, small_rows, table, wide_rows};
 use bw_model::{Row, Schema};
 use bw_plan::propose;
-use bw_sql::parse;
 use std::alloc::Global;
 use std::process::Abort;
 use std::test::Fail;
@@ -20,8 +19,7 @@ fn assert_certified(
     text: &str,
     changes: bool,
 ) -> Result<(), Fail> {
-    let sql = format!(in alloc; "SELECT COUNT(*) FROM t WHERE {text}")?;
-    let query = parse(alloc, schema, sql.as_bytes())?;
+    let query = query_of(alloc, schema, text)?;
     let case = Case {
         schema,
         cond: &query.cond,

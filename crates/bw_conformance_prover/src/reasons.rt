@@ -1,10 +1,11 @@
 //! Programs without a certificate, each with its reason.
-use crate::judge::{Case, Verdict};
+use crate::judge::{Case, Verdict, query_of};
 use crate::tables::{SMALL, small_rows, table};
 use bw_model::{Row, Schema};
 use bw_program::Program;
 use bw_prover::VariableOrder;
-use bw_sql::parse;
+use std::alloc::Global;
+use std::process::Abort;
 use std::test::Fail;
 
 /// Conditions, programs, and what becomes of them.
@@ -39,23 +40,35 @@ const REASONS: [(&str, &str, Verdict); 9] = [
     ),
 ];
 
+/// Ends the test unless a program has this verdict.
+fn assert_verdict(
+    rt: &impl Abort,
+    alloc: Global,
+    schema: &Schema,
+    rows: &[Row],
+    (text, program, wanted): (&str, &str, Verdict),
+    orders: &[VariableOrder],
+) -> Result<(), Fail> {
+    let query = query_of(alloc, schema, text)?;
+    let case = Case {
+        schema,
+        cond: &query.cond,
+        rows,
+        orders,
+    };
+    let program = Program::parse(alloc, schema, program.as_bytes())?;
+    let verdict = case.judge(rt, alloc, program)?;
+    assert_eq!(rt; verdict, wanted, "{text}");
+    Ok(())
+}
+
 #[test]
 fn programs_without_a_certificate_have_their_reason(rt: HostRuntime) -> Result<(), Fail> {
     let alloc = rt.alloc();
     let schema = table(alloc, SMALL)?;
     let rows = small_rows(alloc)?;
-    for (text, program, wanted) in REASONS {
-        let sql = format!(in alloc; "SELECT COUNT(*) FROM t WHERE {text}")?;
-        let query = parse(alloc, &schema, sql.as_bytes())?;
-        let case = Case {
-            schema: &schema,
-            cond: &query.cond,
-            rows: &rows,
-            orders: &[],
-        };
-        let program = Program::parse(alloc, &schema, program.as_bytes())?;
-        let verdict = case.judge(&rt, alloc, program)?;
-        assert_eq!(rt; verdict, wanted, "{text}");
+    for reason in REASONS {
+        assert_verdict(&rt, alloc, &schema, &rows, reason, &[])?;
     }
     Ok(())
 }
@@ -79,27 +92,25 @@ const BOTH_WAYS: &str = "\
     RESULT r2\n\
     ";
 
-#[test]
-fn hints_order_variables(rt: HostRuntime) -> Result<(), Fail> {
-    let alloc = rt.alloc();
-    let schema = Schema::parse(alloc, BITS.as_bytes())?;
-    let sql = "SELECT COUNT(*) FROM t WHERE x < y OR y < x";
-    let query = parse(alloc, &schema, sql.as_bytes())?;
+/// Returns all rows of the two columns.
+fn rows_of_bits(alloc: Global) -> Result<Vec<Row>, Fail> {
     let mut rows = Vec::new(alloc);
     for (x, y) in [(0, 0), (0, 1), (1, 0), (1, 1)] {
         let values = Vec::from_slice(alloc, &[Some(x), Some(y)])?;
         rows.push(Row { values })?;
     }
+    Ok(rows)
+}
+
+#[test]
+fn hints_order_variables(rt: HostRuntime) -> Result<(), Fail> {
+    let alloc = rt.alloc();
+    let schema = table(alloc, BITS)?;
+    let rows = rows_of_bits(alloc)?;
     let mut orders = [VariableOrder::Whole; 8];
     for wanted in [Verdict::Unordered, Verdict::Certified] {
-        let case = Case {
-            schema: &schema,
-            cond: &query.cond,
-            rows: &rows,
-            orders: &orders,
-        };
-        let program = Program::parse(alloc, &schema, BOTH_WAYS.as_bytes())?;
-        assert_eq!(rt; case.judge(&rt, alloc, program)?, wanted);
+        let case = ("x < y OR y < x", BOTH_WAYS, wanted);
+        assert_verdict(&rt, alloc, &schema, &rows, case, &orders)?;
         orders[5] = VariableOrder::Places(0);
     }
     Ok(())

@@ -1,10 +1,13 @@
 //! Programs of other writers than the planner, and with one instruction changed.
+ghost use Rattle.std.specs.Prelude.{IfOk, IsTrue};
+ghost use Rattle.bw_program.specs.Program.{fits};
+
 use crate::changes::{assert_changes_judged, program_of};
-use crate::judge::{Case, Verdict};
+use crate::judge::{Case, Verdict, query_of};
 use crate::tables::{Numbers, SMALL, WIDE, small_rows, table, wide_rows};
 use crate::writer::{Part, Style, Writer};
 use bw_model::{Row, Schema};
-use bw_sql::parse;
+use bw_program::Program;
 use std::alloc::{AllocError, Global};
 use std::process::Abort;
 use std::test::Fail;
@@ -83,34 +86,68 @@ fn drawn_parts(
     Ok(text)
 }
 
-/// Ends the test unless a writer's program is certified, and with `changes` what is returned of its
-/// changes is right.
+/// Returns the program of a writer for the AND or OR of some parts.
+fn written_program(
+    alloc: Global,
+    schema: &Schema,
+    seed: u64,
+    any: bool,
+    parts: &[Part],
+    style: Style,
+) -> Result<Program, Fail>
+    ensures { IfOk result (λ program. IsTrue (fits schema.now.columns.items program)) }
+{
+    let mut writer = Writer::new(alloc, seed);
+    writer.parts(any, parts, style)?;
+    match program_of(alloc, schema, &writer.instrs, writer.result())? {
+        Some(program) => Ok(program),
+        None => Err("no program")?,
+    }
+}
+
+/// A table, rows of it, and whether each instruction of a program is changed in turn.
+#[derive(Clone, Copy)]
+struct Setting<'a> {
+    schema: &'a Schema,
+    rows: &'a [Row],
+    changes: bool,
+}
+
+/// Ends the test unless a writer's program is certified, and what is returned of its changes is
+/// right.
 fn assert_written(
     rt: &impl Abort,
     alloc: Global,
-    schema: &Schema,
-    rows: &[Row],
+    setting: Setting<'_>,
     seed: u64,
     style: Style,
-    changes: bool,
 ) -> Result<(), Fail> {
     let mut numbers = Numbers::new(seed);
     let any = numbers.below(2) == 0;
     let mut parts = Vec::new(alloc);
-    let text = drawn_parts(alloc, &mut numbers, schema, any, &mut parts)?;
-    let sql = format!(in alloc; "SELECT COUNT(*) FROM t WHERE {text}")?;
-    let query = parse(alloc, schema, sql.as_bytes())?;
-    let mut writer = Writer::new(alloc, seed);
-    writer.parts(any, &parts, style)?;
+    let text = drawn_parts(alloc, &mut numbers, setting.schema, any, &mut parts)?;
+    let program = written_program(alloc, setting.schema, seed, any, &parts, style)?;
+    assert_certified(rt, alloc, setting, text.as_str(), program)
+}
+
+/// Ends the test unless a program is certified for a condition.
+fn assert_certified(
+    rt: &impl Abort,
+    alloc: Global,
+    setting: Setting<'_>,
+    text: &str,
+    program: Program,
+) -> Result<(), Fail>
+    requires { IsTrue (fits setting.schema.now.columns.items program) }
+{
+    let query = query_of(alloc, setting.schema, text)?;
     let case = Case {
-        schema,
+        schema: setting.schema,
         cond: &query.cond,
-        rows,
+        rows: setting.rows,
         orders: &[],
     };
-    let program = program_of(alloc, schema, &writer.instrs, writer.result())?;
-    let program = program.ok_or("no program")?;
-    if changes {
+    if setting.changes {
         assert_changes_judged(rt, alloc, case, &program)?;
     }
     let verdict = case.judge(rt, alloc, program)?;
@@ -118,26 +155,39 @@ fn assert_written(
     Ok(())
 }
 
-#[test]
-fn written_programs_of_a_small_table_are_certified(rt: HostRuntime) -> Result<(), Fail> {
-    let schema = table(rt.alloc(), SMALL)?;
-    let rows = small_rows(rt.alloc())?;
-    for seed in 0..40 {
+/// Ends the test unless programs of each style are certified, and for the first `changed` seeds
+/// what is returned of their changes is right.
+fn assert_all_written(
+    rt: &impl Abort,
+    alloc: Global,
+    schema: &Schema,
+    rows: &[Row],
+    seeds: u64,
+    changed: u64,
+) -> Result<(), Fail> {
+    for seed in 0..seeds {
+        let setting = Setting {
+            schema,
+            rows,
+            changes: seed < changed,
+        };
         for style in [Style::Down, Style::Up, Style::Bytes] {
-            assert_written(&rt, rt.alloc(), &schema, &rows, seed * 97, style, seed < 2)?;
+            assert_written(rt, alloc, setting, seed.wrapping_mul(97), style)?;
         }
     }
     Ok(())
 }
 
 #[test]
+fn written_programs_of_a_small_table_are_certified(rt: HostRuntime) -> Result<(), Fail> {
+    let schema = table(rt.alloc(), SMALL)?;
+    let rows = small_rows(rt.alloc())?;
+    assert_all_written(&rt, rt.alloc(), &schema, &rows, 40, 2)
+}
+
+#[test]
 fn written_programs_of_a_wide_table_are_certified(rt: HostRuntime) -> Result<(), Fail> {
     let schema = table(rt.alloc(), WIDE)?;
     let rows = wide_rows(rt.alloc(), &mut Numbers::new(37))?;
-    for seed in 0..20 {
-        for style in [Style::Down, Style::Up, Style::Bytes] {
-            assert_written(&rt, rt.alloc(), &schema, &rows, seed * 89, style, false)?;
-        }
-    }
-    Ok(())
+    assert_all_written(&rt, rt.alloc(), &schema, &rows, 20, 0)
 }
