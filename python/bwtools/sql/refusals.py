@@ -28,7 +28,9 @@ def refuse_other(column: Column, value: Literal, text: str, is_equal: bool) -> N
     is_null = value == "" or value in column.nulls
     if is_null and (is_equal or column.kind.name != "texts"):
         raise Refused(f"{text} is null in {column.name}: use {column.name} IS NULL")
-    if column.kind.place(value) is None:
+    # any text is one of texts: to look for its place takes longer
+    is_text = isinstance(value, str) and column.kind.name == "texts"
+    if not is_text and column.kind.place(value) is None:
         raise Refused(f"{text} can't be compared with {column.name}: {held(column)}; write such a "
                       f"literal as {column.kind.example}")
 
