@@ -6,7 +6,8 @@ import math
 from dataclasses import replace
 from typing import Iterator, Sequence
 
-from .judges.judge import Decision, Fields
+from .judges.fields import Fields
+from .judges.verdict import Decision
 from .keeping import Numbered, values_of
 from .kinds.doubles import bits_of
 from .kinds.floats import Floats

@@ -3,7 +3,7 @@ from __future__ import annotations
 
 from typing import Sequence
 
-from .judges.judge import Fields
+from .judges.fields import Fields
 from .keeping import Place, Store
 from .plain import Plain
 from .runs import Runs

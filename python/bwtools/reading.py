@@ -8,7 +8,7 @@ from typing import NamedTuple
 
 from . import processes
 from .gathering import Gatherer
-from .judges.judge import Fields
+from .judges.fields import Fields
 from .keeping import Place, Store
 from .plain import Plain
 from .progress import Progress

@@ -7,7 +7,8 @@ from typing import Callable, Optional, Sequence
 
 from .deciding import restores
 from .floating import numbered_doubles
-from .judges.judge import Decision, Fields
+from .judges.fields import Fields
+from .judges.verdict import Decision
 from .keeping import Coded, Numbered, spread, values_of
 from .kind import Kind
 from .kinds import Decimals, Floats, Ranked, Times, undressed

@@ -5,7 +5,8 @@ from array import array
 from dataclasses import dataclass
 from typing import Iterable, Iterator, Optional, Sequence
 
-from .judges.judge import Fields, Question
+from .judges.fields import Fields
+from .judges.verdict import Question
 from .keeping import Coded, Place, spread
 from .kinds.texts import TextBlocks, Texts
 from .plain import texts_of

@@ -16,8 +16,10 @@ from ..numerals import SIMPLE, STARTS, ZEROS, Style, is_number, like_number
 from ..plain import Spans
 from ..rounding import Rounding
 from ..telling import shown
-from .judge import Decision, Fields, Question, Verdict, matching, starting
+from .fields import Fields
+from .judge import matching, starting
 from .survey import Survey
+from .verdict import Decision, Question, Verdict
 
 
 @dataclass
