@@ -14,7 +14,7 @@ from .kinds.floats import Floats
 from .kinds.ranked import Ranked
 from .kinds.styled import Numbers, Styled
 from .listed import SortedList
-from .numerals import Style
+from .style import Style
 
 WIDEST = 1 << 63
 

@@ -10,7 +10,7 @@ from .judges.verdict import Question
 from .keeping import Coded, Place, spread
 from .kinds.texts import TextBlocks, Texts
 from .plain import texts_of
-from .runs import SortedRun, merged
+from .sorted_run import SortedRun, merged
 from .wishes import BLANKS
 
 

@@ -10,6 +10,7 @@ import sys
 from typing import Any, BinaryIO, Iterator, NoReturn
 
 from . import processes
+from .counts import Counts
 from .deciding import decide, refuse_heading
 from .kind import Column
 from .naming import names_of
@@ -17,7 +18,7 @@ from .progress import Progress
 from .reading import read
 from .reporting import notes, report_lines
 from .source import MOST_ROWS, Source
-from .tallies import Counts, Tally
+from .tallies import Tally
 from .telling import Refused, counted
 from .textual import sorted_texts
 from .wishes import BLANKS, wishes_of

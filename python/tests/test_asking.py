@@ -15,10 +15,10 @@ import unittest
 from bwtools import aligned, printing
 from bwtools.asking import statements_in
 from bwtools.kinds import Dates, Decimals, Styled, Truths, Whole
-from bwtools.numerals import Style
 from bwtools.programs.ask import split
 from bwtools.sql.answer import Answer
 from bwtools.sql.bodies import Rows
+from bwtools.style import Style
 from bwtools.telling import Refused
 
 from helping import Imported

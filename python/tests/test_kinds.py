@@ -7,7 +7,7 @@ from fractions import Fraction
 
 from bwtools import kinds
 from bwtools.listed import SortedList
-from bwtools.numerals import Style
+from bwtools.style import Style
 from helping import texts
 
 # the day of 2024-05-01, worked out in test_moments

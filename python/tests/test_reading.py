@@ -6,7 +6,8 @@ import time
 import unittest
 from unittest import mock
 
-from bwtools import inputs, processes, reading
+from bwtools import inputs, processes
+from bwtools.stops import Stops
 from bwtools.telling import Refused
 
 from helping import described, table_of
@@ -70,7 +71,7 @@ class Reading(unittest.TestCase):
                       self.same([early, "1,2,3,4", *ROWS, "1,2,3,4,5,6"], *wanted))
 
     def test_a_fault_stops_the_other_processes(self):
-        stops = reading.Stops(2)
+        stops = Stops(2)
         self.assertFalse(stops.are_before(1 << 40))
         stops.chunks[1] = 7
         self.assertEqual([stops.are_before(7), stops.are_before(8)], [False, True])

@@ -11,7 +11,7 @@ from bwtools import kinds, store
 from bwtools.kind import Column
 from bwtools.listed import SortedList
 from bwtools.store import Store, TableFile
-from bwtools.numerals import Style
+from bwtools.style import Style
 from bwtools.telling import Refused
 
 from helping import described, texts

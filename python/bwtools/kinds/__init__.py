@@ -5,7 +5,8 @@ from __future__ import annotations
 from typing import Callable
 
 from ..kind import Kind, Listed, Settings
-from ..numerals import BETWEEN, Style
+from ..numerals import BETWEEN
+from ..style import Style
 from .clocks import Clocks
 from .dates import Dates
 from .decimals import Decimals

@@ -6,7 +6,7 @@ from dataclasses import dataclass
 from typing import Sequence, Union
 
 from ..kind import Kind, Listed, Literal, Place, Settings
-from ..numerals import Style
+from ..style import Style
 from .decimals import Decimals
 from .floats import Floats
 from .ranked import Ranked
