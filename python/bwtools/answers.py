@@ -7,8 +7,8 @@ import itertools
 import re
 from typing import Callable, Dict, Iterator, Sequence, TextIO
 
+from .column import Column
 from .fields import CHARACTERS_AT_ONCE, columns_of
-from .kind import Column
 from .kinds import Whole
 from .naming import option
 from .progress import Progress

@@ -13,7 +13,7 @@ from .kinds.doubles import bits_of
 from .kinds.floats import Floats
 from .kinds.ranked import Ranked
 from .kinds.styled import Numbers, Styled
-from .listed import SortedList
+from .sorted_list import SortedList
 from .style import Style
 
 WIDEST = 1 << 63

@@ -9,8 +9,8 @@ from dataclasses import dataclass
 from typing import BinaryIO, Iterator, Sequence
 
 from . import options, pairs, processes, splitting
+from .column import Column
 from .counts import Counts
-from .kind import Column
 from .kinds import Nulls, Whole
 from .loaded import Loaded, loaded
 from .reporting import report_lines

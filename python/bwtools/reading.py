@@ -6,9 +6,9 @@ import pathlib
 from typing import NamedTuple
 
 from . import processes
+from .field_store import Place, Store
 from .gathering import Gatherer
 from .judges.fields import Fields
-from .keeping import Place, Store
 from .plain import Plain
 from .progress import Progress
 from .runs import Runs

@@ -3,8 +3,8 @@ from __future__ import annotations
 
 from typing import Iterator, Sequence
 
+from .column import Column
 from .counts import Counts
-from .kind import Column
 from .kinds import undressed
 from .naming import option
 from .tallies import Tally

@@ -8,7 +8,8 @@ from array import array
 from typing import Iterable, Iterator, NamedTuple, Sequence
 
 from .codes import Codes
-from .keeping import Coded, Place, Store, coded, in_blocks
+from .field_store import Place, Store
+from .keeping import Coded, coded, in_blocks
 
 # a run is full with so many texts, or so many characters; sorted texts are stored so many at a time
 MOST_TEXTS, MOST_CHARACTERS, BLOCK, SAMPLE = 1 << 17, 1 << 24, 1 << 13, 64

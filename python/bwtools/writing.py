@@ -10,9 +10,9 @@ import sys
 from typing import Any, BinaryIO, Iterator, NoReturn
 
 from . import processes
+from .column import Column
 from .counts import Counts
 from .deciding import decide, refuse_heading
-from .kind import Column
 from .naming import names_of
 from .progress import Progress
 from .reading import read

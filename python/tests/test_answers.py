@@ -3,7 +3,7 @@ import io
 import unittest
 
 from bwtools import answers, kinds
-from bwtools.kind import Column
+from bwtools.column import Column
 from bwtools.telling import Refused
 from helping import texts
 

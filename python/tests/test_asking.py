@@ -17,7 +17,7 @@ from bwtools.asking import statements_in
 from bwtools.kinds import Dates, Decimals, Styled, Truths, Whole
 from bwtools.programs.ask import split
 from bwtools.sql.answer import Answer
-from bwtools.sql.bodies import Rows
+from bwtools.sql.value_rows import Rows
 from bwtools.style import Style
 from bwtools.telling import Refused
 

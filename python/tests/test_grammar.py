@@ -8,14 +8,16 @@ from fractions import Fraction
 from unittest import mock
 
 from bwtools import kinds, store
-from bwtools.kind import Column
-from bwtools.listed import SortedList
+from bwtools.column import Column
+from bwtools.sorted_list import SortedList
 from bwtools.sql import condition as conditions
 from bwtools.sql import grammar, predicates
-from bwtools.sql.catalog import Catalog, Table
-from bwtools.sql.ordering import Limits, limits_of
-from bwtools.sql.predicates import Operand, Outside
+from bwtools.sql.catalog import Catalog
+from bwtools.sql.limits import Limits, limits_of
+from bwtools.sql.outside import Outside
+from bwtools.sql.predicates import Operand
 from bwtools.sql.statement import Statement
+from bwtools.sql.table import Table
 from bwtools.sql.tokens import tokens_of
 from helping import texts
 

@@ -10,8 +10,9 @@ from bwtools import kinds
 from bwtools.session import Failed
 from bwtools.sql import counted, grammar, groups, rows
 from bwtools.sql.exact import float_sum
-from bwtools.sql.ordering import Limits
+from bwtools.sql.limits import Limits
 from bwtools.sql.statement import Statement
+from bwtools.sql.wanted import Wanted
 from bwtools.telling import Refused
 from helping import Imported
 
@@ -132,17 +133,17 @@ class Groups(Asked):
         for most, keys, wanted in [(20, [column], True), (19, [column], False), (20, [other], True), (19, [other], False),
                                    (400, [column, other], True), (399, [column, other], False)]:
             with self.subTest(most), mock.patch.object(groups, "MOST_STATEMENTS", most):
-                found = groups.choices_of(mock.Mock(), groups.Wanted("t", "", keys), whole)
+                found = groups.choices_of(mock.Mock(), Wanted("t", "", keys), whole)
                 self.assertEqual(bool(found), wanted)
         far = {**whole, "MIN(n)": -(1 << 62), "MAX(n)": 1 << 62}
-        self.assertEqual(groups.choices_of(mock.Mock(), groups.Wanted("t", "", [other]), far), [])
+        self.assertEqual(groups.choices_of(mock.Mock(), Wanted("t", "", [other]), far), [])
 
     def test_few_rows_of_many_are_listed(self):
         column = self.connection.catalog.only.columns[0]
         whole = {"COUNT(*)": 10, "COUNT(city)": 10, "MIN(city)": 0, "MAX(city)": 19}
         for rows_of_table, wanted in [(1000, True), (1001, False)]:
             engine = mock.Mock(**{"totals.return_value": [[rows_of_table]]})
-            found = groups.choices_of(engine, groups.Wanted("t", "n > 5", [column]), whole)
+            found = groups.choices_of(engine, Wanted("t", "n > 5", [column]), whole)
             self.assertEqual(bool(found), wanted)
 
     def test_too_many_groups_are_refused(self):

@@ -6,7 +6,7 @@ import unittest
 from fractions import Fraction
 
 from bwtools import kinds
-from bwtools.listed import SortedList
+from bwtools.sorted_list import SortedList
 from bwtools.style import Style
 from helping import texts
 

@@ -9,9 +9,10 @@ from unittest import mock
 import bwtools
 from bwtools.session import Failed
 from bwtools.sql import by_sqlite
-from bwtools.sql.aggregates import for_sqlite, summed
+from bwtools.sql.aggregates import for_sqlite
 from bwtools.sql.by_sqlite import pushed
 from bwtools.sql.statement import Statement
+from bwtools.sql.sum import summed
 from bwtools.telling import Refused
 
 from helping import Imported, imported

@@ -7,7 +7,7 @@ import unittest
 from unittest import mock
 
 from bwtools import pairs, placing, store
-from bwtools.kind import Column
+from bwtools.column import Column
 from bwtools.telling import Refused
 
 from helping import described, texts

@@ -8,8 +8,8 @@ import time
 import unittest
 
 from bwtools import kinds, store
-from bwtools.kind import Column
-from bwtools.listed import SortedList
+from bwtools.column import Column
+from bwtools.sorted_list import SortedList
 from bwtools.store import Store, TableFile
 from bwtools.style import Style
 from bwtools.telling import Refused

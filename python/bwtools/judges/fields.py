@@ -5,7 +5,8 @@ import random
 from dataclasses import dataclass
 from typing import Iterator, Sequence
 
-from ..keeping import Coded, Place, Store, values_of
+from ..field_store import Place, Store
+from ..keeping import Coded, values_of
 from ..plain import Plain
 from ..runs import Runs
 from ..wishes import BLANKS, Wishes

@@ -4,7 +4,8 @@ from __future__ import annotations
 
 from typing import Callable
 
-from ..kind import Kind, Listed, Settings
+from ..kind import Kind, Settings
+from ..listed import Listed
 from ..numerals import BETWEEN
 from ..style import Style
 from .clocks import Clocks

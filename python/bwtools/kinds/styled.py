@@ -5,7 +5,8 @@ from __future__ import annotations
 from dataclasses import dataclass
 from typing import Sequence, Union
 
-from ..kind import Kind, Listed, Literal, Place, Settings
+from ..kind import Kind, Literal, Settings
+from ..listed import Listed, Place
 from ..style import Style
 from .decimals import Decimals
 from .floats import Floats
