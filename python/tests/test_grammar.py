@@ -146,17 +146,20 @@ class Conditions(OverTable):
     def test_like_and_glob_are_runs_of_codes(self):
         self.check([
             ("city LIKE 'bern'", "city IN (0, 4)"), ("city GLOB 'bern'", "city IN (4)"),
-            ("city LIKE '%e%'", "(city BETWEEN 0 AND 2 OR city IN (4, 6))"),
-            ("city NOT LIKE '%e%'", "NOT (city BETWEEN 0 AND 2 OR city IN (4, 6))"),
+            ("city LIKE '%e%'", "city IN (0, 1, 2, 4, 6)"),
+            ("city NOT LIKE '%e%'", "NOT city IN (0, 1, 2, 4, 6)"),
             ("city LIKE 'x!_%' ESCAPE '!'", "city IN (5)"), ("city LIKE '%'", "city = city"),
             ("city LIKE 'Ä%'", "city <> city"), ("city LIKE 'ä%'", "city IN (6)"),
             ("name GLOB 'n1*'", "name BETWEEN 100 AND 199"),
-            ("day LIKE '2024-05%'", "day BETWEEN 19844 AND 19846"),
+            ("day LIKE '2024-05%'", "day IN (19844, 19845, 19846)"),
             ("at LIKE '2024-05-01 00:00:0_'", "at BETWEEN 1714521600 AND 1714521609")])
-        # each tenth text is a run by itself
-        with mock.patch.object(predicates, "MOST_RUNS", 100):
-            self.assertEqual(self.where("name LIKE '%0'").count(","), 99)
-        with mock.patch.object(predicates, "MOST_RUNS", 99):
+        self.assertEqual(self.where("name LIKE '%0'").count(","), 99)
+        # each ten texts of a hundred are a run
+        with mock.patch.object(predicates, "MOST_RUNS", 10):
+            self.assertEqual(self.where("name GLOB 'n?5?'").count("BETWEEN"), 10)
+        with mock.patch.object(predicates, "MOST_RUNS", 9):
+            self.refuse(["name GLOB 'n?5?'"])
+        with mock.patch.object(conditions, "MOST_BYTES", 400):
             self.refuse(["name LIKE '%0'"])
 
     def test_columns_of_several_scales_are_compared_by_value(self):
@@ -194,8 +197,9 @@ class Conditions(OverTable):
 class Runs(unittest.TestCase):
     def test_runs(self):
         column = Column("c", "c", kinds.Whole())
-        for numbers, wanted in [([], "c <> c"), ([3], "c IN (3)"), ([3, 4], "c BETWEEN 3 AND 4"),
-                                ([1, 3, 4, 6], "(c BETWEEN 3 AND 4 OR c IN (1, 6))")]:
+        for numbers, wanted in [([], "c <> c"), ([3], "c IN (3)"), ([3, 4], "c IN (3, 4)"),
+                                ([3, 4, 5, 6], "c BETWEEN 3 AND 6"),
+                                ([1, 3, 4, 5, 6, 8, 9], "(c BETWEEN 3 AND 6 OR c IN (1, 8, 9))")]:
             runs = predicates.runs_of(numbers)
             self.assertEqual((predicates.in_runs(column, runs), sum(map(len, runs))),
                              (wanted, len(numbers)))

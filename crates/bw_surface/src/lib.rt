@@ -19,6 +19,7 @@ pub mod model;
 pub mod plan;
 pub mod planes;
 pub mod program;
+pub mod prover;
 pub mod rowwise;
 pub mod run;
 pub mod segment;

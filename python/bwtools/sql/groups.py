@@ -27,7 +27,7 @@ from .wanted import NEEDED, Wanted, is_float_sum
 
 # so many groups are counted by statements at most, and only if the rows that those scan are no more
 # than so many times the rows that would be listed: which takes as long
-MOST_STATEMENTS, LISTED_COST = 1000, 2000
+MOST_STATEMENTS, LISTED_COST, LONG = 1000, 2000, 200
 # the totals of all rows by their names
 Whole = Mapping[str, "int | None"]
 
@@ -161,6 +161,8 @@ def choices_of(engine: Engine, wanted: Wanted, whole: Whole) -> list[list[int]]:
     scanned = rows
     if wanted.where:
         scanned = engine.totals([select(COUNT, wanted.table, "")])[0][0] or 0
+    # a long condition takes longer
+    scanned *= 1 + len(wanted.where) // LONG
     return found if count * scanned <= LISTED_COST * rows else []
 
 

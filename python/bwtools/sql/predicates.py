@@ -23,9 +23,10 @@ MEANING: dict[str, Callable[[Any, Any], bool]] = {
     "<": operator.lt, ">": operator.gt, "<=": operator.le, ">=": operator.ge, "=": operator.eq,
     "<>": operator.ne}
 UNKNOWN, TRUE, FALSE = "NULL = NULL", "1 = 1", "1 = 0"
-# in how many runs the codes of a condition may be, how many values a column may have that is
-# compared with one of another scale, and how many days or times LIKE may choose from
-MOST_RUNS, MOST_VALUES, MOST_MOMENTS = 200, 100, 50_000
+# in how many runs the codes of a condition may be that have more than so many numbers, how many
+# values a column may have that is compared with one of another scale, and how many days or times
+# LIKE may choose from
+MOST_RUNS, SHORT, MOST_VALUES, MOST_MOMENTS = 200, 3, 100, 50_000
 
 
 class Operand(NamedTuple):
@@ -182,7 +183,7 @@ def like(column: Column, sign: str, pattern: str, escape: str | None) -> str:
     else:
         raise Outside
     runs = runs_of(codes)
-    if len(runs) > MOST_RUNS:
+    if sum(len(run) > SHORT for run in runs) > MOST_RUNS:
         raise Outside
     if sum(len(run) for run in runs) == count:
         return always(column)
@@ -214,10 +215,11 @@ def runs_of(numbers: Iterable[int]) -> list[range]:
 
 
 def in_runs(column: Column, runs: Sequence[range]) -> str:
-    """Returns the condition that a column has a number of one of these runs."""
-    singles = [str(run.start) for run in runs if len(run) == 1]
+    """Returns the condition that a column has a number of one of these runs. Those of short ones
+    are in one list, which bw searches in a time that hardly depends on its length."""
+    listed = [str(number) for run in runs if len(run) <= SHORT for number in run]
     terms = [f"{column.name} BETWEEN {run.start} AND {run.stop - 1}" for run in runs
-             if len(run) > 1]
-    if singles:
-        terms.append(f"{column.name} IN ({', '.join(singles)})")
+             if len(run) > SHORT]
+    if listed:
+        terms.append(f"{column.name} IN ({', '.join(listed)})")
     return f"({' OR '.join(terms)})" if len(terms) > 1 else terms[0] if terms else never(column)

@@ -1,0 +1,119 @@
+//! Facts in the order in which they were added, each of which occurs once and can be found.
+use crate::stop::Stop;
+use std::alloc::Global;
+
+/// What distinguishes an entry from others.
+pub(crate) type Key = (u64, u64);
+
+/// An entry of a ledger, in which its key occurs once.
+pub(crate) trait Entry: Copy {
+    /// Returns its key.
+    fn key(self) -> Key;
+}
+
+/// An entry, and the number of the one before it with the same hash, plus 1, or 0.
+#[derive(Clone, Copy)]
+struct Slot<T: Entry> {
+    entry: T,
+    before: u32,
+}
+
+/// Entries in order, numbered from 0. Those with one hash are chained from the last to the first.
+/// Most of a prover's work is to find and to add entries: this takes a third of the time of an
+/// `IndexMap`.
+#[derive(Drop)]
+pub(crate) struct Ledger<T: Entry> {
+    slots: Vec<Slot<T>>,
+    /// For each hash the number of the last entry that has it, plus 1, or 0.
+    last: Vec<u32>,
+    count: u32,
+    limit: u32,
+}
+
+/// How many hashes there are at first.
+const FEWEST_HASHES: usize = 256;
+
+impl<T: Entry> Ledger<T> {
+    /// Returns no entries, with a limit of their number.
+    pub(crate) fn new(alloc: Global, limit: u32) -> Self {
+        Ledger {
+            slots: Vec::new(alloc),
+            last: Vec::new(alloc),
+            count: 0,
+            limit,
+        }
+    }
+
+    /// Returns how many there are.
+    pub(crate) fn len(&self) -> u32 {
+        self.count
+    }
+
+    /// Returns the entry of a number.
+    pub(crate) fn get(&self, number: u32) -> Option<T> {
+        let slot = self.slots.get(number as usize)?;
+        Some(slot.entry)
+    }
+
+    /// Returns the number of the entry with a key.
+    pub(crate) fn find(&self, wanted: Key) -> Option<u32> {
+        let mut next = *self.last.get(place(wanted, self.last.len()))?;
+        for _ in 0..self.count {
+            let number = next.checked_sub(1)?;
+            let slot = self.slots.get(number as usize)?;
+            let key = slot.entry.key();
+            if key.0 == wanted.0 && key.1 == wanted.1 {
+                return Some(number);
+            }
+            next = slot.before;
+        }
+        None
+    }
+
+    /// Adds an entry with a new key, and returns its number.
+    pub(crate) fn push(&mut self, entry: T) -> Result<u32, Stop> {
+        let number = self.count;
+        if number >= self.limit {
+            return Err(Stop::Limit);
+        }
+        if number as usize >= self.last.len() {
+            self.spread()?;
+        }
+        let slot = Slot { entry, before: 0 };
+        self.slots.push(slot)?;
+        self.count = number + 1;
+        self.chain(number);
+        Ok(number)
+    }
+
+    /// Chains an entry to those with its hash.
+    fn chain(&mut self, number: u32) {
+        let Some(slot) = self.slots.get_mut(number as usize) else {
+            return;
+        };
+        let at = place(slot.entry.key(), self.last.len());
+        if let (Some(last), Some(after)) = (self.last.get_mut(at), number.checked_add(1)) {
+            slot.before = *last;
+            *last = after;
+        }
+    }
+
+    /// Spreads the entries over four times as many hashes.
+    fn spread(&mut self) -> Result<(), Stop> {
+        let hashes = 4 * self.count as usize + FEWEST_HASHES;
+        self.last.clear();
+        self.last.resize(hashes, 0)?;
+        for number in 0..self.count {
+            self.chain(number);
+        }
+        Ok(())
+    }
+}
+
+/// Returns the place of a key's hash among some: bits of products with odd numbers (Knuth, The Art
+/// of Computer Programming, 6.4).
+fn place(key: Key, hashes: usize) -> usize {
+    let mixed = key.0.wrapping_mul(0x9E37_79B9_7F4A_7C15) ^ key.1;
+    let hash = mixed.wrapping_mul(0xD6E8_FEB8_6659_FD93) >> 32;
+    (hash.wrapping_mul(hashes as u64) >> 32) as usize
+}
