@@ -48,8 +48,11 @@ class Moments(unittest.TestCase):
                 fields = []
                 for _ in range(20):
                     day = moments.written_by("%Y-%m-%d", draw.randrange(-9000, 30000), 0)
-                    clock = f"{draw.randrange(24):02}:{draw.randrange(60):02}:{draw.randrange(60):02}"
-                    fields.append(f"{day}T{clock}{f'.{draw.randrange(10 ** digits):0{digits}}' if digits else ''}{zone}")
+                    clock = (
+                        f"{draw.randrange(24):02}:{draw.randrange(60):02}:{draw.randrange(60):02}")
+                    fields.append(
+                        f"{day}T{clock}"
+                        f"{f'.{draw.randrange(10 ** digits):0{digits}}' if digits else ''}{zone}")
                 found = moments.plain_times(fields)
                 self.assertEqual(moments.times_of(found.numbers, found.shape), fields)
                 one = moments.read_moment("%Y-%m-%dT%H:%M:%S", fields[0])
