@@ -11,9 +11,9 @@ from collections import Counter
 from dataclasses import dataclass, field
 from typing import Any, Iterable, Sequence
 
-from . import moments
 from .keeping import Numbered, packed, split_nulls, values_of
 from .numerals import is_grouped
+from .plain_times import plain_times, times_of
 from .spans import LONGEST, MOST_DIGITS, Spans
 
 FLOATS = re.compile(r"(?:-?(?:[0-9]+(?:\.[0-9]+)?)(?:e[+-][0-9]+)?\n)*")
@@ -145,7 +145,7 @@ class Plain:
 
     def times(self, fields: Sequence[str], nulls: bytes) -> Numbered | None:
         """Adds fields that are times of one shape."""
-        found = moments.plain_times(fields)
+        found = plain_times(fields)
         kept = found and packed(found.numbers)
         if not found or not kept or self.shapes and found.shape not in self.shapes:
             return None
@@ -175,7 +175,7 @@ def texts_of(kept: Numbered) -> Sequence[str]:
     nulls."""
     numbers = values_of(kept)
     if kept.form == "time":
-        return moments.times_of(numbers, kept.shape)
+        return times_of(numbers, kept.shape)
     if kept.form == "float":
         texts = list(map(repr, numbers))
         return [text[:-2] if bare else text for text,

@@ -18,8 +18,9 @@ from ..kinds import (Clocks, Dates, Decimals, Floats, Ranked, Styled, Times, Tru
                      undressed)
 from ..kinds.doubles import double_of
 from ..listed import Place
-from ..moments import FIRST_DAY, ISO_DATE, spelled_times
+from ..moments import FIRST_DAY, ISO_DATE
 from ..numerals import power_of_ten
+from ..plain_times import spelled_times
 from ..telling import Refused
 
 # a value as SQLite has it; our tables have no bytes, but expressions may
