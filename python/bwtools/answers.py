@@ -7,12 +7,12 @@ import itertools
 import re
 from typing import Callable, Dict, Iterator, Sequence, TextIO
 
-from .comments import NUL
+from .column import Column
 from .fields import CHARACTERS_AT_ONCE, columns_of
-from .kind import Column
 from .kinds import Whole
 from .naming import option
 from .progress import Progress
+from .signs import NUL
 from .telling import Refused, counted
 
 QUOTE, QUOTED = '"', re.compile('[",\r\n]')

@@ -2,44 +2,10 @@
 from __future__ import annotations
 
 import csv
-from dataclasses import dataclass
-from typing import Any, Iterable, Iterator, Protocol
+from typing import Any, Iterable, Iterator
 
-NUL = "\0"
-
-
-@dataclass(frozen=True)
-class Signs:
-    """The signs of a file: what separates fields, what is around them, what escapes a character,
-    and what begins a line that is a comment."""
-
-    separator: str = ","
-    quote: str = '"'
-    escape: str | None = None
-    comment: str = ""
-
-    @property
-    def is_simple(self) -> bool:
-        """Whether fields may be split without the csv module."""
-        return self.escape is None and len({self.separator, self.quote, NUL, "\n", "\r"}) == 5
-
-    def may_have_comment(self, text: str) -> bool:
-        """Returns whether a line of a text, or a field in quotes, begins as a comment does."""
-        sign = self.comment
-        return bool(sign) and sign in text and (
-            text.startswith(sign) or f"\n{sign}" in text or f"\r{sign}" in text)
-
-
-class Records(Protocol):
-    """The records of a CSV file, as csv.reader returns them, and how many lines were read for
-    them."""
-
-    @property
-    def line_num(self) -> int: ...
-
-    def __iter__(self) -> Iterator[list[str]]: ...
-
-    def __next__(self) -> list[str]: ...
+from .records import Records
+from .signs import Signs
 
 
 def plain_reader(lines: Iterable[str], signs: Signs) -> Any:

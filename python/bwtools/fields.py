@@ -1,7 +1,8 @@
 """Splits a text of complete records into columns, many times as fast as the csv module."""
 from __future__ import annotations
 
-from .comments import NUL
+from .signs import NUL
+
 
 # of a text that is split so many characters are read at a time
 CHARACTERS_AT_ONCE = 1 << 18

@@ -6,14 +6,15 @@ import math
 from dataclasses import replace
 from typing import Iterator, Sequence
 
-from .judges.judge import Decision, Fields
+from .judges.fields import Fields
+from .judges.verdict import Decision
 from .keeping import Numbered, values_of
 from .kinds.doubles import bits_of
 from .kinds.floats import Floats
 from .kinds.ranked import Ranked
 from .kinds.styled import Numbers, Styled
-from .listed import SortedList
-from .numerals import Style
+from .sorted_list import SortedList
+from .style import Style
 
 WIDEST = 1 << 63
 

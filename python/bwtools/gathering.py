@@ -3,8 +3,8 @@ from __future__ import annotations
 
 from typing import Sequence
 
-from .judges.judge import Fields
-from .keeping import Place, Store
+from .field_store import Place, Store
+from .judges.fields import Fields
 from .plain import Plain
 from .runs import Runs
 from .wishes import NULLS, Wishes

@@ -10,8 +10,8 @@ import sys
 from typing import BinaryIO, Sequence
 
 from . import command, inputs, options, pairs, placing, splitting, store
+from .column import Column
 from .importing_straight import Imported, import_straight
-from .kind import Column
 from .regular import open_regular
 from .shards import FILE, Folder, refuse_folder
 from .source import MOST_ROWS

@@ -9,14 +9,15 @@ from dataclasses import dataclass
 from typing import BinaryIO, Iterator, Sequence
 
 from . import options, pairs, processes, splitting
-from .kind import Column
+from .column import Column
+from .counts import Counts
 from .kinds import Nulls, Whole
+from .loaded import Loaded, loaded
 from .reporting import report_lines
 from .shards import shard_file
 from .source import MOST_ROWS
 from .store import TableFile
-from .straight import Loaded, OutOfRange, Part, Straight, Unfit, loaded
-from .tallies import Counts
+from .straight import OutOfRange, Part, Straight, Unfit
 from .telling import Refused, counted
 from .writing import MOST_BYTES
 

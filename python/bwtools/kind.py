@@ -4,8 +4,9 @@ for texts, the list that its numbers are places in."""
 from __future__ import annotations
 
 import fractions
-from dataclasses import dataclass
-from typing import Dict, Iterator, Protocol, Sequence, Tuple, Union
+from typing import Dict, Protocol, Sequence, Union
+
+from .listed import Listed, Place
 
 # the bounds of a column's numbers
 LEAST, GREATEST = -1 << 63, (1 << 63) - 1
@@ -13,26 +14,6 @@ LEAST, GREATEST = -1 << 63, (1 << 63) - 1
 Literal = Union[str, fractions.Fraction]
 # what the store keeps of a kind: at most 16 fields of short texts and of integers of 64 bits
 Settings = Dict[str, Union[int, str]]
-# a place among numbers: the greatest number whose value is at most a literal's, and whether the two
-# are equal
-Place = Tuple[int, bool]
-
-
-class Listed(Protocol):
-    """Values in strictly ascending order, of which each has its place as its code, from 0 on: texts
-    by their code points, or doubles. The store's own list reads a value when it is needed."""
-
-    def __len__(self) -> int: ...
-
-    def __iter__(self) -> Iterator[str] | Iterator[float]:
-        """Yields all values in order."""
-
-    def place(self, value: str | float) -> Place:
-        """Returns the greatest code whose value is at most this one, or -1, and whether the values
-        are equal."""
-
-    def values(self, codes: Sequence[int]) -> list[str] | list[float]:
-        """Returns the values of codes. Raises IndexError for a code that there isn't."""
 
 
 class Kind(Protocol):
@@ -82,21 +63,3 @@ class Kind(Protocol):
 
     def told(self) -> str:
         """Returns what the numbers are, for the report of an import."""
-
-
-@dataclass
-class Column:
-    """A column of a table: its valid name in it, its original heading, and its kind."""
-
-    name: str
-    heading: str
-    kind: Kind
-    # the words that were null, beside the empty field
-    nulls: Sequence[str] = ()
-    # the fields of the minimum and of the maximum, or nothing if all are null
-    ends: Sequence[str] = ()
-    # why it is one of texts, for the report and for messages
-    why: str = ""
-    # what most of its texts look like (`numbers`, `dates`), though it is one of texts; then they
-    # have no order that a reader expects. Empty if `--text` named the column
-    looks_like: str = ""

@@ -4,18 +4,16 @@ from __future__ import annotations
 
 import datetime
 import functools
-import itertools
-import operator
 import re
 from dataclasses import dataclass
-from typing import Callable, Iterable, NamedTuple, Sequence
+from typing import NamedTuple
+
+from .clock import clock_of, hour_of
 
 FIRST_DAY = datetime.date(1970, 1, 1).toordinal()
 LAST_SECOND = (datetime.date(9999, 12, 31).toordinal() - FIRST_DAY + 1) * 86400
 FIRST_SECOND = (1 - FIRST_DAY) * 86400
 MOST_DIGITS, ISO_DATE = 9, "%Y-%m-%d"
-# divmod of two integers
-divide: Callable[[int, int], tuple[int, int]] = divmod
 MONTHS = ("January February March April May June July August September October November "
           "December").split()
 MONTH_OF = {name[:length].lower(): place for place,
@@ -27,10 +25,6 @@ FORMATS = (ISO_DATE, "%Y/%m/%d", "%Y.%m.%d", "%d.%m.%Y", "%d/%m/%Y", "%m/%d/%Y",
            "%d %B %Y", "%d. %b %Y",
            "%d. %B %Y", "%d/%b/%Y", "%b %d, %Y", "%B %d, %Y", "%b %d %Y", "%B %d %Y", "%d-%B-%Y",
            "%Y-%b-%d")
-# one format of a time of day for each clock of 24 and of 12 hours
-CLOCK = re.compile(r"([0-9]{1,2}):([0-9]{2})(?::([0-9]{2})(?:([.,])([0-9]{1,9}))?)?"
-                   "(?:( ?)([AaPp][Mm]))?"
-                   "(Z|[+-][0-9]{2}(?::?[0-9]{2})?)?")
 CLOCK_AT = re.compile(r"(T|,? )(?=[0-9]{1,2}:[0-9]{2})")
 PATTERNS = {"%Y": "(?P<Y>[0-9]{4})", "%y": "(?P<y>[0-9]{2})", "%b": "(?P<b>[A-Za-z]{3})",
             "%B": "(?P<B>[A-Za-z]{3,9})",
@@ -50,16 +44,6 @@ SHAPES = str.maketrans("123456789" + "bcdefghijklmnopqrstuvwxyz" + "ABCDEFGHIJKL
                        "0" * 9 + "a" * 51)
 
 
-class Clock(NamedTuple):
-    """A time of day: its second multiplied by ten to `digits`, its format, the seconds that its
-    zone is ahead of UTC, and whether it has a zone."""
-    part: int
-    digits: int
-    form: str
-    offset: int
-    has_zone: bool
-
-
 @dataclass(frozen=True)
 class Moment:
     """A date, a time or a time of day: the days since 1970 that it may be, by format; the second of
@@ -75,14 +59,6 @@ class Moment:
     @property
     def form(self) -> str:
         return "clock" if not self.days else "time" if self.clock else "date"
-
-
-class PlainTimes(NamedTuple):
-    """The seconds since 1970 of fields that are all times of one shape, multiplied by ten to its
-    digits. The shape is what is between date and time, whether there are seconds, the digits after
-    their point, and the zone."""
-    numbers: list[int]
-    shape: tuple[str, bool, int, str]
 
 
 @functools.lru_cache(64)
@@ -124,11 +100,6 @@ def read_by(form: str, text: str) -> tuple[int, int] | None:
     return day, hour * 3600 + minute * 60 + second
 
 
-def hour_of(hour: int, half: str) -> int | None:
-    """Returns the hour of 24 for one of 12, or None if there is no such hour."""
-    return hour % 12 + 12 * (half.lower() == "pm") if 1 <= hour <= 12 else None
-
-
 @functools.lru_cache(1 << 12)
 def formats_of(shape: str) -> tuple[str, ...]:
     """Returns the formats of dates of a shape, which has 0 for each digit and a for each letter."""
@@ -149,32 +120,6 @@ def is_like_date(text: str) -> bool:
     place = CLOCK_AT.search(text)
     return len(text) <= 60 and bool(formats_of((text[:place.start()] if place
                                                 else text).translate(SHAPES)))
-
-
-@functools.lru_cache(1 << 17)
-def clock_of(text: str) -> Clock | None:
-    """Returns the time of day that a text spells, or None."""
-    found = CLOCK.fullmatch(text)
-    if not found:
-        return None
-    hour, minute, second, _, part, blank, half, zone = found.groups()
-    hours: int | None = hour_of(int(hour), half) if half else int(hour)
-    offset = offset_of(zone)
-    if hours is None or hours > 23 or int(minute) > 59 or int(second or 0) > 59 or offset is None:
-        return None
-    part = part or ""
-    form = f"%{'I' if half else 'H'}:%M{':%S' if second else ''}" + (f"{blank}%p" if half else "")
-    number = (hours * 3600 + int(minute) * 60 + int(second or 0)) * 10 ** len(part) + int(part or 0)
-    return Clock(number, len(part), form, offset, bool(zone))
-
-
-def offset_of(zone: str | None) -> int | None:
-    """Returns the seconds that a zone is ahead of UTC, or None if there is no such zone."""
-    if not zone or zone == "Z":
-        return 0
-    hours, minutes = int(zone[1:3]), int(zone[3:].lstrip(":") or 0)
-    return None if hours > 23 or minutes > 59 else (hours * 3600 +
-                                                    minutes * 60) * (-1 if zone[0] == "-" else 1)
 
 
 def moment_of(text: str) -> Moment | None:
@@ -260,84 +205,3 @@ def unit_of(digits: int) -> str:
     """Returns what times with so many digits after the point count."""
     return {0: "seconds", 3: "milliseconds", 6: "microseconds",
             9: "nanoseconds"}.get(digits, f"seconds times 10^{digits}")
-
-
-MINUTE = re.compile("[0-9]{4}-[0-9]{2}-[0-9]{2}([T ])(?:[01][0-9]|2[0-3]):[0-5][0-9]:?")
-SHAPE = re.compile(r"[0-9]{4}-[0-9]{2}-[0-9]{2}([T ])[0-9]{2}:[0-9]{2}"
-                   r"(:[0-9]{2}(?:\.([0-9]{1,9}))?)?"
-                   "(Z|[+-][0-9]{2}(?::?[0-9]{2})?)?")
-
-
-def plain_times(fields: Sequence[str]) -> PlainTimes | None:
-    """Returns the times of fields that all have the shape of the first, such as 2024-05-01
-    12:30:00, or None if one hasn't."""
-    shape = SHAPE.fullmatch(fields[0])
-    if not shape:
-        return None
-    between, seconds, part, zone = shape.groups("")
-    power, offset, place = 10 ** len(part), offset_of(zone), 17 if seconds else 16
-    if offset is None:
-        return None
-    try:
-        minutes = [field[:place] for field in fields]
-        starts = {minute: (minute_of(minute, between, place) * 60 - offset) * power
-                  for minute in set(minutes)}
-        ends = seconds_of([field[place:] for field in fields], 2 if seconds else 0, len(part), zone)
-    except ValueError:
-        return None
-    numbers = list(map(operator.add, map(starts.__getitem__, minutes), ends))
-    if offset and (min(numbers) < FIRST_SECOND * power or max(numbers) >= LAST_SECOND * power):
-        return None
-    return PlainTimes(numbers, (between, bool(seconds), len(part), zone))
-
-
-def times_of(numbers: Sequence[int], shape: tuple[str, bool, int, str]) -> list[str]:
-    """Returns the texts of plain times."""
-    between, has_seconds, digits, zone = shape
-    offset = (offset_of(zone) or 0) * 10 ** digits
-    form = f"%Y-%m-%d{between}%H:%M{':%S' if has_seconds else ''}"
-    return spelled_times([number + offset for number in numbers] if offset else numbers, form,
-                         digits, zone)
-
-
-def spelled_times(numbers: Sequence[int], form: str, digits: int, zone: str) -> list[str]:
-    """Returns the texts of seconds since 1970, multiplied by ten to `digits`, in a format that
-    begins with that of the day and ends in %H:%M or %H:%M:%S."""
-    power, last = 10 ** digits, ":%S" if form.endswith(":%S") else ""
-    first = form[:-5 - len(last)]
-    parts = list(map(divide, numbers, itertools.repeat(60 * power)))
-    minutes = {minute: written_by(first, minute // 1440, 0) +
-               f"{minute // 60 % 24:02}:{minute % 60:02}"
-               for minute in {minute for minute, _ in parts}}
-    seconds = {second: (f":{second // power:02}" if last else "") +
-               (f".{second % power:0{digits}}" if digits else "") + zone
-               for second in {second for _, second in parts}}
-    return [minutes[minute] + seconds[second] for minute, second in parts]
-
-
-def minute_of(text: str, between: str, length: int) -> int:
-    """Returns the minute since 1970 of the start of a time, such as 2024-05-01 12:30 or 2024-05-01
-    12:30:, with this sign between."""
-    found = MINUTE.fullmatch(text) if len(text) == length else None
-    day = day_of(int(text[:4]), int(text[5:7]),
-                 int(text[8:10])) if found and found[1] == between else None
-    if day is None:
-        raise ValueError
-    return day * 1440 + int(text[11:13]) * 60 + int(text[14:16])
-
-
-def seconds_of(ends: list[str], length: int, digits: int, zone: str) -> Iterable[int]:
-    """Returns the seconds of the ends of times, such as 07.250Z, which have `length` digits before
-    and `digits` after the point, multiplied by ten to the latter."""
-    count, joined = len(ends), "\n".join(ends) + "\n"
-    # the sign at each place of an end, or none for a digit; each place of all ends is a slice
-    signs = [*[""] * length, *["."] * bool(digits), *[""] * digits, *zone, "\n"]
-    places = [joined[place::len(signs)] for place in range(len(signs))]
-    if len(joined) != count * len(signs) or length and places[0].strip("012345"):
-        raise ValueError
-    for sign, place in zip(signs, places):
-        if place != sign * count if sign else not (place.isdigit() and place.isascii()):
-            raise ValueError
-    if not length:
-        return itertools.repeat(0)
-    return map(int, joined.replace(f"{zone}\n", "\n").replace(".", "").split())

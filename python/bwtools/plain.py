@@ -5,72 +5,19 @@ from __future__ import annotations
 import array
 import functools
 import itertools
-import math
 import operator
 import re
 from collections import Counter
 from dataclasses import dataclass, field
 from typing import Any, Iterable, Sequence
 
-from . import moments
 from .keeping import Numbered, packed, split_nulls, values_of
-from .kind import GREATEST, LEAST
 from .numerals import is_grouped
+from .plain_times import plain_times, times_of
+from .spans import LONGEST, MOST_DIGITS, Spans
 
-# a number of more characters doesn't fit 64 bits
-LONGEST, MOST_DIGITS = 100, 18
 FLOATS = re.compile(r"(?:-?(?:[0-9]+(?:\.[0-9]+)?)(?:e[+-][0-9]+)?\n)*")
 FIRST = re.compile("-?[0-9]|[ \t]")
-
-
-@dataclass
-class Spans:
-    """What numbers are stored: the minimum and the maximum of each number of digits after the
-    decimal sign, these numbers of digits, whether one ends in a zero there, whether one is a double
-    or doesn't fit a scale, and the least magnitude of a double above 0, the least and the greatest
-    double."""
-    ends: dict[int, tuple[int, int]] = field(default_factory=dict)
-    lengths: set[int] = field(default_factory=set)
-    has_zero: bool = False
-    is_float: bool = False
-    reach: tuple[float, float, float] = (math.inf, math.inf, -math.inf)
-
-    def add(self, plain: str) -> None:
-        """Adds a number in plain spelling."""
-        whole, _, part = plain.partition(".")
-        if "e" in plain or "E" in plain or len(part) > MOST_DIGITS or len(plain) > LONGEST:
-            self.is_float = True
-            return
-        self.has_zero = self.has_zero or part[-1:] == "0"
-        number = int(f"{whole}{part}")
-        self.widen(len(part), number, number)
-
-    def widen(self, digits: int, least: int, greatest: int) -> None:
-        ends = self.ends.get(digits, (least, greatest))
-        self.ends[digits] = min(ends[0], least), max(ends[1], greatest)
-        self.lengths.add(digits)
-
-    def add_doubles(self, doubles: Sequence[float]) -> None:
-        self.is_float = True
-        least, low, high = self.reach
-        least = min(least, min((abs(each) for each in doubles if each), default=math.inf))
-        self.reach = least, min(low, min(doubles)), max(high, max(doubles))
-
-    def copy(self) -> Spans:
-        return Spans(dict(self.ends), set(self.lengths), self.has_zero, self.is_float, self.reach)
-
-    @property
-    def digits(self) -> int:
-        return max(self.ends, default=0)
-
-    def fits(self) -> bool:
-        """Returns whether all numbers, scaled to the most digits, fit 64 bits and are less than
-        2^63 apart."""
-        least = min((end[0] * 10 ** (self.digits - each) for each, end in self.ends.items()),
-                    default=0)
-        greatest = max((end[1] * 10 ** (self.digits - each) for each, end in self.ends.items()),
-                       default=0)
-        return LEAST <= least and greatest <= GREATEST and greatest - least <= GREATEST
 
 
 @dataclass
@@ -198,7 +145,7 @@ class Plain:
 
     def times(self, fields: Sequence[str], nulls: bytes) -> Numbered | None:
         """Adds fields that are times of one shape."""
-        found = moments.plain_times(fields)
+        found = plain_times(fields)
         kept = found and packed(found.numbers)
         if not found or not kept or self.shapes and found.shape not in self.shapes:
             return None
@@ -228,7 +175,7 @@ def texts_of(kept: Numbered) -> Sequence[str]:
     nulls."""
     numbers = values_of(kept)
     if kept.form == "time":
-        return moments.times_of(numbers, kept.shape)
+        return times_of(numbers, kept.shape)
     if kept.form == "float":
         texts = list(map(repr, numbers))
         return [text[:-2] if bare else text for text,

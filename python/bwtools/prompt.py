@@ -10,7 +10,7 @@ from typing import Callable, Iterator
 from . import printing
 from .asking import Asking, statements_in
 from .naming import is_name
-from .sql.catalog import Table
+from .sql.table import Table
 from .telling import counted
 
 PROMPT, MORE = "bw> ", "...> "

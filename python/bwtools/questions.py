@@ -5,7 +5,8 @@ from __future__ import annotations
 import re
 from typing import NamedTuple, NoReturn, Sequence
 
-from .judges.judge import Fields, Question
+from .judges.fields import Fields
+from .judges.verdict import Question
 from .keeping import Coded, values_of
 from .naming import option
 from .plain import texts_of

@@ -2,36 +2,23 @@
 of it, and stores some of the columns."""
 from __future__ import annotations
 
-import mmap
 import pathlib
 from typing import NamedTuple
 
 from . import processes
+from .field_store import Place, Store
 from .gathering import Gatherer
-from .judges.judge import Fields
-from .keeping import Place, Store
+from .judges.fields import Fields
 from .plain import Plain
 from .progress import Progress
 from .runs import Runs
 from .source import Source
+from .stops import Stops
 from .telling import Refused
 from .wishes import Wishes
 
 # a process takes part if the file has so many bytes for each
 BYTES_A_PART = 32 << 20
-NEVER = (1 << 64) - 1
-
-
-class Stops:
-    """For each process the number of the chunk of rows at which it found a fault, which all of them
-    can read."""
-
-    def __init__(self, parts: int) -> None:
-        self.chunks = memoryview(mmap.mmap(-1, 8 * parts)).cast("Q")
-        self.chunks[:] = memoryview(NEVER.to_bytes(8, "little") * parts).cast("Q")
-
-    def are_before(self, chunk: int) -> bool:
-        return min(self.chunks) < chunk
 
 
 class Fault(NamedTuple):

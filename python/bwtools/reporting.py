@@ -3,10 +3,11 @@ from __future__ import annotations
 
 from typing import Iterator, Sequence
 
-from .kind import Column
+from .column import Column
+from .counts import Counts
 from .kinds import undressed
 from .naming import option
-from .tallies import Counts, Tally
+from .tallies import Tally
 from .telling import counted, shown
 from .wishes import BLANKS, NULLS
 

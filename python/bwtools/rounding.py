@@ -4,7 +4,8 @@ from __future__ import annotations
 import decimal
 from dataclasses import dataclass
 
-from .numerals import Style
+from .style import Style
+
 
 # enough digits for any double, and for what people write
 CONTEXT = decimal.Context(prec=1200, rounding=decimal.ROUND_HALF_EVEN)

@@ -13,8 +13,8 @@ from typing import BinaryIO, Iterator, NoReturn, Sequence, TextIO
 
 from . import ragged
 from .chunk import BREAK, Chunk
-from .comments import NUL
 from .fields import CHARACTERS_AT_ONCE, columns_of
+from .signs import NUL
 from .telling import Refused
 from .text import Text
 

@@ -10,10 +10,11 @@ from dataclasses import dataclass, replace
 from typing import Iterator, Sequence, TextIO
 
 from . import command, pairs, processes
+from .counts import Counts
 from .shards import shard_file
 from .source import MOST_ROWS
 from .store import TableFile
-from .tallies import Counts, Tally
+from .tallies import Tally
 from .telling import counted
 from .writing import MOST_BYTES, Table
 

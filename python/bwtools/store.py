@@ -18,7 +18,8 @@ from dataclasses import astuple, dataclass, fields
 from typing import Any, Iterable, Iterator, Sequence
 
 from . import kinds
-from .kind import Column, Settings
+from .column import Column
+from .kind import Settings
 from .naming import is_name
 from .regular import open_regular
 from .stored_list import StoredList

@@ -7,7 +7,7 @@ import operator
 import sqlite3
 from typing import Any, Iterator, Sequence
 
-from .kind import Place
+from .listed import Place
 from .telling import Refused, shown
 
 # values that are read at once, at most the variables of a statement of any SQLite, and so many are
@@ -16,8 +16,8 @@ AT_ONCE, MOST_KEPT = 500, 1 << 20
 
 
 class StoredList:
-    """A list of texts, or of doubles, in a columns file: a `kind.Listed`. It checks what it reads:
-    that codes follow one another, that values are of one type, and that they ascend."""
+    """A list of texts, or of doubles, in a columns file: a `listed.Listed`. It checks what it
+    reads: that codes follow one another, that values are of one type, and that they ascend."""
 
     def __init__(self, database: sqlite3.Connection, place: int, count: int, type_: type) -> None:
         self.database, self.name, self.count, self.type = database, f"values_{place}", count, type_

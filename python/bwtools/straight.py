@@ -11,13 +11,13 @@ import os
 import pathlib
 import subprocess
 from dataclasses import dataclass
-from typing import BinaryIO, Iterator, Optional, Sequence
+from typing import BinaryIO, Iterator
 
 from . import command, pairs
 from .fields import columns_of
-from .kind import GREATEST, LEAST
 from .naming import names_of
 from .progress import Progress
+from .ranges import Range, range_of
 from .source import MOST_COLUMNS
 from .telling import Refused
 
@@ -50,18 +50,6 @@ class Part:
     start: int
     end: int
     rows: int
-
-
-@dataclass(frozen=True)
-class Range:
-    """The numbers that a column may have, and whether it may be null."""
-    least: int
-    greatest: int
-    may_be_null: bool
-
-    def line(self, name: str) -> str:
-        null = "" if self.may_be_null else " NOT NULL"
-        return f"COLUMN {name} {self.least} {self.greatest}{null}\n"
 
 
 class Straight:
@@ -206,48 +194,3 @@ def write(pipe: BinaryIO, data: bytes) -> None:
     rest = memoryview(data)
     while rest:
         rest = rest[pipe.write(rest):]
-
-
-def range_of(fields: Sequence[str]) -> Range:
-    """Returns the range of some fields of a column, widened to all numbers of as many bits."""
-    numbers = list(map(int, filter(None, fields)))
-    if not numbers:
-        return Range(0, 0, True)
-    least, greatest = min(numbers), max(numbers)
-    spare = (1 << (greatest - least).bit_length()) - 1 - (greatest - least)
-    below = min(spare // 2, least) if least >= 0 else spare // 2
-    if LEAST <= least - below and greatest + spare - below <= GREATEST:
-        least, greatest = least - below, greatest + spare - below
-    return Range(least, greatest, len(numbers) < len(fields))
-
-
-@dataclass(frozen=True)
-class Loaded:
-    """What bw says of one column of a table: how many of its fields aren't null, and the least and
-    the greatest number, if there are any."""
-    count: int
-    least: Optional[int]
-    greatest: Optional[int]
-
-    def added(self, other: Loaded) -> Loaded:
-        """Returns what holds of two tables."""
-        least = [each for each in (self.least, other.least) if each is not None]
-        greatest = [each for each in (self.greatest, other.greatest) if each is not None]
-        return Loaded(self.count + other.count, min(least, default=None),
-                      max(greatest, default=None))
-
-
-def loaded(table: pathlib.Path, name: str, names: Sequence[str]) -> tuple[int, list[Loaded]]:
-    """Returns how many rows a table file has, and what bw says of its columns."""
-    items = ", ".join(f"COUNT({name}), MIN({name}), MAX({name})" for name in names)
-    with open(table, "rb") as file:
-        told = subprocess.run([command.program(), "query", f"/dev/fd/{file.fileno()}",
-                               f"SELECT COUNT(*), {items} FROM {name}"], stdin=subprocess.DEVNULL,
-                              stdout=subprocess.PIPE, pass_fds=[file.fileno()], check=False)
-    if told.returncode:
-        raise command.Ended(told.returncode)
-    rows, *found = told.stdout.decode("ascii").split("\n")[1].split(",")
-    numbers = [None if each == "NULL" else int(each) for each in found]
-    columns = [Loaded(count or 0, least, greatest)
-               for count, least, greatest in zip(numbers[::3], numbers[1::3], numbers[2::3])]
-    return int(rows), columns

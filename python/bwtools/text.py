@@ -10,9 +10,11 @@ import sys
 from dataclasses import replace
 from typing import BinaryIO, Iterable, Iterator, NoReturn, TextIO
 
-from .comments import NUL, Records, Signs, reader_of
+from .comments import reader_of
 from .inputs import Positioned, name_of, open_input
 from .options import SEPARATORS
+from .records import Records
+from .signs import NUL, Signs
 from .telling import Refused
 
 MARKS = ((b"\xef\xbb\xbf", "utf-8-sig"), (b"\xff\xfe", "utf-16"), (b"\xfe\xff", "utf-16"))

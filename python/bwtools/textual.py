@@ -5,11 +5,14 @@ from array import array
 from dataclasses import dataclass
 from typing import Iterable, Iterator, Optional, Sequence
 
-from .judges.judge import Fields, Question
-from .keeping import Coded, Place, spread
-from .kinds.texts import TextBlocks, Texts
+from .field_store import Place
+from .judges.fields import Fields
+from .judges.verdict import Question
+from .keeping import Coded, spread
+from .kinds.text_blocks import TextBlocks
+from .kinds.texts import Texts
 from .plain import texts_of
-from .runs import SortedRun, merged
+from .sorted_run import SortedRun, merged
 from .wishes import BLANKS
 
 

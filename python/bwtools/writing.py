@@ -10,14 +10,15 @@ import sys
 from typing import Any, BinaryIO, Iterator, NoReturn
 
 from . import processes
+from .column import Column
+from .counts import Counts
 from .deciding import decide, refuse_heading
-from .kind import Column
 from .naming import names_of
 from .progress import Progress
 from .reading import read
 from .reporting import notes, report_lines
 from .source import MOST_ROWS, Source
-from .tallies import Counts, Tally
+from .tallies import Tally
 from .telling import Refused, counted
 from .textual import sorted_texts
 from .wishes import BLANKS, wishes_of

@@ -1,4 +1,5 @@
-"""Draws tables, and statements over two of them: joins, subqueries, compound SELECTs, WITH and windows."""
+"""Draws tables, and statements over two of them: joins, subqueries, compound SELECTs, WITH and
+windows."""
 from __future__ import annotations
 
 import random
@@ -7,9 +8,11 @@ import re
 TEXTS = ["a", "b", "B", 'q"q', "c,d", "e\nf", "é", "Zoo", "10%", "x_y", "it's"]
 # the columns of each table: how a field is drawn, by name
 COLUMNS = {"t": ["k", "s", "d", "m", "f", "b", "n"], "u": ["k", "s", "d", "um", "f", "ub", "un"]}
-TYPES = {"k": "INTEGER", "s": "TEXT", "d": "TEXT", "m": "REAL", "f": "REAL", "b": "INTEGER", "n": "INTEGER",
+TYPES = {"k": "INTEGER", "s": "TEXT", "d": "TEXT", "m": "REAL", "f": "REAL", "b": "INTEGER",
+         "n": "INTEGER",
          "um": "REAL", "ub": "INTEGER", "un": "INTEGER"}
-JOINS = ["t a JOIN u b ON a.k = b.k AND {}", "t a LEFT JOIN u b ON a.k = b.k AND {}", "t a JOIN u b USING (k)", "t a LEFT JOIN u b USING (k, s)",
+JOINS = ["t a JOIN u b ON a.k = b.k AND {}", "t a LEFT JOIN u b ON a.k = b.k AND {}",
+         "t a JOIN u b USING (k)", "t a LEFT JOIN u b USING (k, s)",
          "t a, u b", "t a NATURAL JOIN (SELECT k, s, um, ub, un FROM u) b"]
 # as which SQLite gets a date, which a statement may have without zeros
 DATE = re.compile("'2024-([0-9]+)-([0-9]+)'")
@@ -32,11 +35,13 @@ class Drawn:
                 "d": lambda: f"2024-{chosen.randrange(1, 4):02}-{chosen.randrange(1, 29):02}",
                 "m": lambda: f"{chosen.randrange(-300, 900) / 100:.2f}",
                 "f": lambda: repr(chosen.choice([0.1, 1e-7, 2.5, 1e9, chosen.random()])),
-                "b": lambda: chosen.choice(["true", "false"]), "n": lambda: str(chosen.randrange(-5, 50))}[name.lstrip("u")]()
+                "b": lambda: chosen.choice(["true", "false"]),
+                "n": lambda: str(chosen.randrange(-5, 50))}[name.lstrip("u")]()
 
     def rows(self, table: str) -> list[list[str]]:
         """Returns the fields of a table's rows."""
-        return [[self.field(name) for name in COLUMNS[table]] for _ in range(self.random.randrange(20, 120))]
+        return [[self.field(name) for name in COLUMNS[table]]
+                for _ in range(self.random.randrange(20, 120))]
 
     def some(self, *forms: str) -> str:
         return self.random.choice(forms)
@@ -64,18 +69,23 @@ class Drawn:
         if self.random.random() < 0.5:
             return column
         if TYPES[name] != "TEXT":
-            return self.some(f"{column} + 1", f"-{column}", f"coalesce({column}, 0)", f"{column} / 3", f"CAST({column} AS TEXT)",
-                             f"CASE WHEN {self.condition(2)} THEN {column} END", f"{column} IS NULL")
-        return self.some(f"upper({column})", f"{column} || 'z'", f"length({column})", f"substr({column}, 1, 2)",
+            return self.some(f"{column} + 1", f"-{column}", f"coalesce({column}, 0)",
+                             f"{column} / 3", f"CAST({column} AS TEXT)",
+                             f"CASE WHEN {self.condition(2)} THEN {column} END",
+                             f"{column} IS NULL")
+        return self.some(f"upper({column})", f"{column} || 'z'", f"length({column})",
+                         f"substr({column}, 1, 2)",
                          f"CASE {column} WHEN {self.literal(name)} THEN 1 ELSE 2 END")
 
     def condition(self, depth: int = 0) -> str:
         column, name = self.column()
         literal = self.literal(name)
-        forms = [f"{column} {self.some('=', '<>', '<', '<=', '>', '>=', 'IS', 'IS NOT')} {literal}", f"{column} IN ({literal}, NULL)",
+        forms = [f"{column} {self.some('=', '<>', '<', '<=', '>', '>=', 'IS', 'IS NOT')} {literal}",
+                 f"{column} IN ({literal}, NULL)",
                  f"{column} BETWEEN {literal} AND {self.literal(name)}", f"{column} IS NOT NULL"]
         if depth < 2:
-            forms += [f"({self.condition(depth + 1)} {self.some('AND', 'OR')} {self.condition(depth + 1)})",
+            forms += [f"({self.condition(depth + 1)} {self.some('AND', 'OR')} "
+                      f"{self.condition(depth + 1)})",
                       f"NOT {self.condition(depth + 1)}", self.subquery(column, name, depth)]
         return self.some(*forms)
 
@@ -86,15 +96,18 @@ class Drawn:
         self.sources = [("z", table)]
         inner = self.condition(depth + 1)
         self.sources = outer
-        return self.some(f"{column} {self.some('', 'NOT ')}IN (SELECT {name} FROM {table} z WHERE {inner})",
-                         f"EXISTS (SELECT 1 FROM {table} z WHERE z.k = {alias}.k AND {inner})",
-                         f"{column} = (SELECT {self.some('max', 'min')}({name}) FROM {table})")
+        return self.some(
+            f"{column} {self.some('', 'NOT ')}IN (SELECT {name} FROM {table} z WHERE {inner})",
+            f"EXISTS (SELECT 1 FROM {table} z WHERE z.k = {alias}.k AND {inner})",
+            f"{column} = (SELECT {self.some('max', 'min')}({name}) FROM {table})")
 
     def aggregate(self) -> str:
         column, name = self.column()
-        function = self.some("count", "min", "max", *(("sum", "avg") if TYPES[name] != "TEXT" else ()))
+        function = self.some("count", "min", "max",
+                             *(("sum", "avg") if TYPES[name] != "TEXT" else ()))
         only = f" FILTER (WHERE {self.condition(2)})" if self.random.random() < 0.2 else ""
-        return self.some("count(*)", f"{function}({self.some('', 'DISTINCT ')}{column}){only}", f"{function}({column})")
+        return self.some("count(*)", f"{function}({self.some('', 'DISTINCT ')}{column}){only}",
+                         f"{function}({column})")
 
     def source(self) -> tuple[str, str]:
         """Draws what a SELECT reads. Returns its FROM, and a condition that it needs."""
@@ -110,7 +123,8 @@ class Drawn:
     def select(self) -> tuple[str, int]:
         """Returns a SELECT, and how many columns it has."""
         tables, needed = self.source()
-        conditions = [needed] * bool(needed) + [self.condition() for _ in range(self.random.randrange(3))]
+        conditions = [needed] * bool(needed) + [self.condition()
+                                                for _ in range(self.random.randrange(3))]
         where = f" WHERE {' AND '.join(conditions)}" if conditions else ""
         form = self.random.randrange(4)
         if form == 0:
@@ -121,7 +135,8 @@ class Drawn:
             items = [self.aggregate() for _ in range(self.random.randrange(1, 4))]
         elif form == 2:
             column, other = self.column()[0], self.column()[0]
-            items = [column, self.some(f"count(*) OVER (PARTITION BY {other})", f"max({column}) OVER (PARTITION BY {other})",
+            items = [column, self.some(f"count(*) OVER (PARTITION BY {other})",
+                                       f"max({column}) OVER (PARTITION BY {other})",
                                        f"rank() OVER (ORDER BY {other})")]
         else:
             items = [self.expression() for _ in range(self.random.randrange(1, 4))]
@@ -130,13 +145,17 @@ class Drawn:
 
     def statement(self) -> str:
         select, count = self.select()
-        places, names = ", ".join(str(place + 1) for place in range(count)), ", ".join(f"c{place}" for place in range(count))
+        places, names = ", ".join(str(place + 1) for place in range(count)), \
+            ", ".join(f"c{place}" for place in range(count))
         self.sources = [("u", "u")]
         other = ", ".join(self.expression() for _ in range(count))
-        return self.some(select, select, f"{select} ORDER BY {places} LIMIT {self.random.randrange(9)}",
+        return self.some(select, select,
+                         f"{select} ORDER BY {places} LIMIT {self.random.randrange(9)}",
                          f"SELECT * FROM ({select}) ORDER BY {places}",
-                         f"{select} {self.some('UNION', 'UNION ALL', 'EXCEPT', 'INTERSECT')} SELECT {other} FROM u",
-                         f"WITH w({names}) AS ({select}) SELECT {names}, count(*) FROM w GROUP BY {names}")
+                         f"{select} {self.some('UNION', 'UNION ALL', 'EXCEPT', 'INTERSECT')} "
+                         f"SELECT {other} FROM u",
+                         f"WITH w({names}) AS ({select}) SELECT {names}, count(*) FROM w GROUP BY "
+                         f"{names}")
 
 
 def with_iso_dates(statement: str) -> str:

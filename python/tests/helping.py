@@ -12,8 +12,8 @@ import warnings
 
 from bwtools import importing, kinds, writing
 from bwtools.options import add_options
-from bwtools.listed import SortedList
 from bwtools.programs import import_
+from bwtools.sorted_list import SortedList
 from bwtools.source import Source
 
 

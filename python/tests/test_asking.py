@@ -15,10 +15,10 @@ import unittest
 from bwtools import aligned, printing
 from bwtools.asking import statements_in
 from bwtools.kinds import Dates, Decimals, Styled, Truths, Whole
-from bwtools.numerals import Style
 from bwtools.programs.ask import split
 from bwtools.sql.answer import Answer
-from bwtools.sql.bodies import Rows
+from bwtools.sql.value_rows import Rows
+from bwtools.style import Style
 from bwtools.telling import Refused
 
 from helping import Imported
@@ -36,7 +36,8 @@ class Statements(unittest.TestCase):
                 ("a\nb\n\nc\n", ["a\nb\n", "c\n"]), ("  a ; b", ["a ", "b"]),
                 ("'a;\n\nb'; c", ["'a;\n\nb'", "c"]), ('"a;b" c', ['"a;b" c']),
                 ("[a;b]; `c;d`", ["[a;b]", "`c;d`"]), ("'it''s; '; b", ["'it''s; '", "b"]),
-                ("a -- b; '\n; c", ["a -- b; '\n", "c"]), ("a /* ; \n\n */ b; c", ["a /* ; \n\n */ b", "c"]),
+                ("a -- b; '\n; c", ["a -- b; '\n", "c"]),
+                ("a /* ; \n\n */ b; c", ["a /* ; \n\n */ b", "c"]),
                 ("/* a; */", []), ("-- a\nb", ["-- a\nb"]), ("'a;b", ["'a;b"])):
             with self.subTest(text):
                 self.assertEqual(list(statements_in(io.StringIO(text, newline=""))), wanted)
@@ -85,7 +86,8 @@ class Forms(unittest.TestCase):
     def test_forms(self):
         for form, wanted in (
                 ("csv", 'a,b|c,d,e\n1,"x\ty\n",yes,01.05.2024\n2.5,,,\n,"q""|*",no,02.05.2024\n'),
-                ("tsv", 'a\tb|c\td\te\n1\tx\\ty\\n\tyes\t01.05.2024\n2.5\t\t\t\n\tq"|*\tno\t02.05.2024\n'),
+                ("tsv",
+                 'a\tb|c\td\te\n1\tx\\ty\\n\tyes\t01.05.2024\n2.5\t\t\t\n\tq"|*\tno\t02.05.2024\n'),
                 ("markdown", "| a | b\\|c | d | e |\n| ---: | --- | --- | --- |\n"
                              '| 1 | x\ty<br> | yes | 01.05.2024 |\n| 2.5 |  |  |  |\n'
                              '|  | q"\\|\\* | no | 02.05.2024 |\n'),
@@ -178,7 +180,8 @@ class Programs(Imported):
                          (0, "city,n\nUlm,20\n", ""))
 
     def test_what_is_no_table(self):
-        self.assertEqual(self.ask("none.bw")[::2], (5, "bw-ask: none.bw: No such file or directory\n"))
+        self.assertEqual(self.ask("none.bw")[::2],
+                         (5, "bw-ask: none.bw: No such file or directory\n"))
         self.assertEqual(self.ask("SELECT 1")[0], 3)
 
     def at_terminal(self, keys):
@@ -221,7 +224,8 @@ class Programs(Imported):
             ".nothing\n", ".help\n", ".quit\n"])
         self.assertEqual(status, 0)
         for part in ("cities  3 rows\n", "  price  decimals, $0.75 to $12.00\n",
-                     "city   n\n----  --\nUlm   20\n1 row, ", "there is no column x", "city\nBern\n",
+                     "city   n\n----  --\nUlm   20\n1 row, ", "there is no column x",
+                     "city\nBern\n",
                      "there is no format odd: use csv, table, json, markdown, tsv",
                      "there is no command .nothing", ".schema [TABLE]"):
             with self.subTest(part):

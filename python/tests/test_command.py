@@ -17,7 +17,8 @@ def parsed(*words):
 class Arguments(unittest.TestCase):
     def test_names_after_two_dashes_are_names(self):
         for words, wanted in ((["--", "-x.csv", "-x.bw"], ("-x.csv", "-x.bw")),
-                              (["a", "--", "--fill"], ("a", "--fill")), (["--", "--"], ("--", None)),
+                              (["a", "--", "--fill"], ("a", "--fill")),
+                              (["--", "--"], ("--", None)),
                               (["a", "b", "--"], ("a", "b")), (["a", "-"], ("a", "-")),
                               (["--", "-"], ("-", None)), (["a", "--fill", "b"], ("a", "b"))):
             given = parsed(*words)
@@ -29,7 +30,8 @@ class Arguments(unittest.TestCase):
 
     def test_table_names(self):
         for out, wanted in (("trips.bw", "trips"), ("a/b c.bw", "b_c"), ("2024.bw", "_2024"),
-                            ("select.bw", "select_"), ("t.csv", "t_csv"), (None, "t"), ("é%.bw", "e_"),
+                            ("select.bw", "select_"), ("t.csv", "t_csv"), (None, "t"),
+                            ("é%.bw", "e_"),
                             ("%.bw", "_"), ("folder", "folder")):
             self.assertEqual(command.table_name(None, out), wanted)
         self.assertEqual(command.table_name("u", "trips.bw"), "u")

@@ -13,7 +13,8 @@ from helping import Imported
 SEED, STATEMENTS = 7, 600
 DRAWN = Drawn(SEED)
 ROWS = {table: DRAWN.rows(table) for table in COLUMNS}
-READERS = {"INTEGER": lambda field: int({"true": 1, "false": 0}.get(field, field)), "REAL": float, "TEXT": str}
+READERS = {"INTEGER": lambda field: int({"true": 1, "false": 0}.get(field, field)), "REAL": float,
+           "TEXT": str}
 
 
 class Sum:
@@ -29,7 +30,8 @@ class Sum:
     def finalize(self):
         if not self.values:
             return None
-        return sum(self.values) if all(isinstance(value, int) for value in self.values) else math.fsum(self.values)
+        return sum(self.values) if all(isinstance(value, int)
+                                       for value in self.values) else math.fsum(self.values)
 
 
 class Mean(Sum):
@@ -52,8 +54,10 @@ def reference(is_exact):
         database.create_aggregate("avg", 1, Mean)
     for table, rows in ROWS.items():
         types = [TYPES[name] for name in COLUMNS[table]]
-        database.execute(f"CREATE TABLE {table} ({', '.join(map(' '.join, zip(COLUMNS[table], types)))})")
-        values = [[READERS[type_](field) if field else None for field, type_ in zip(row, types)] for row in rows]
+        database.execute(
+            f"CREATE TABLE {table} ({', '.join(map(' '.join, zip(COLUMNS[table], types)))})")
+        values = [[READERS[type_](field) if field else None for field, type_ in zip(row, types)]
+                  for row in rows]
         database.executemany(f"INSERT INTO {table} VALUES ({', '.join('?' * len(types))})", values)
     return database
 
@@ -69,7 +73,8 @@ class DrawnStatements(Imported):
     tables = {"t.bw": (written("t"),), "u": (written("u"), "--shards", "3")}
 
     def test_answers_are_those_of_sqlite(self):
-        """Connections are new again and again, so that each statement is the first one to list some columns."""
+        """Connections are new again and again, so that each statement is the first one to list some
+        columns."""
         exact, plain, ways = reference(True), reference(False), {1: 0, 2: 0}
         self.addCleanup(exact.close)
         self.addCleanup(plain.close)
@@ -79,7 +84,8 @@ class DrawnStatements(Imported):
                 self.addCleanup(connection.close)
             statement = DRAWN.statement()
             with self.subTest(number=number, statement=statement):
-                wanted = (plain if "OVER" in statement else exact).execute(with_iso_dates(statement)).fetchall()
+                wanted = (plain if "OVER" in statement
+                          else exact).execute(with_iso_dates(statement)).fetchall()
                 answer = connection.answer(statement)
                 rows = list(answer.rows())
                 ways[answer.way] += 1

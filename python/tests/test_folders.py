@@ -8,7 +8,7 @@ import unittest
 from unittest import mock
 
 from bwtools import importing, pairs, placing, store
-from bwtools.kind import Column
+from bwtools.column import Column
 from bwtools.shards import FILE, Folder, shard_file
 
 from helping import texts

@@ -8,14 +8,16 @@ from fractions import Fraction
 from unittest import mock
 
 from bwtools import kinds, store
-from bwtools.kind import Column
-from bwtools.listed import SortedList
+from bwtools.column import Column
+from bwtools.sorted_list import SortedList
 from bwtools.sql import condition as conditions
 from bwtools.sql import grammar, predicates
-from bwtools.sql.catalog import Catalog, Table
-from bwtools.sql.ordering import Limits, limits_of
-from bwtools.sql.predicates import Operand, Outside
+from bwtools.sql.catalog import Catalog
+from bwtools.sql.limits import Limits, limits_of
+from bwtools.sql.outside import Outside
+from bwtools.sql.predicates import Operand
 from bwtools.sql.statement import Statement
+from bwtools.sql.table import Table
 from bwtools.sql.tokens import tokens_of
 from helping import texts
 
@@ -100,11 +102,15 @@ class Conditions(OverTable):
             ("n < -99999999999999999999", "n <> n"), ("day < '2024-05-01 12:00'", "day <= 19844")])
 
     def test_numbers_of_many_digits_are_compared_as_doubles_by_sqlite(self):
-        self.check([("price < 12.10000000000001", "price <= 1210"), ("price < 1e300", "price = price"),
-                    ("f = 0.30000000000000004", "f = 4599075939470750516"), ("f < 1e400", "f < 9218868437227405312"),
-                    ("n < 12.10000000000000000001", "n <= 12"), ("long = 1234567890123456.1", "long = 12345678901234561"),
+        self.check([("price < 12.10000000000001", "price <= 1210"),
+                    ("price < 1e300", "price = price"),
+                    ("f = 0.30000000000000004", "f = 4599075939470750516"),
+                    ("f < 1e400", "f < 9218868437227405312"),
+                    ("n < 12.10000000000000000001", "n <= 12"),
+                    ("long = 1234567890123456.1", "long = 12345678901234561"),
                     ("long = 1234567890123456.10000000000000001", "long <> long")])
-        self.refuse(["price = 12.1000000000000000001", "f = 9007199254740993", "f < 0.1000000000000000055"])
+        self.refuse(["price = 12.1000000000000000001", "f = 9007199254740993",
+                     "f < 0.1000000000000000055"])
 
     def test_truth(self):
         self.check([
@@ -137,7 +143,8 @@ class Conditions(OverTable):
             ("n BETWEEN 1 AND 99999999999999999999", "(n >= 1 AND n = n)"),
             ("5 BETWEEN n AND 9", "(n <= 5 AND 1 = 1)"),
             ("city IN ('Zug', 'C')", "city IN (3)"), ("city IN ('C')", "city <> city"),
-            ("city NOT IN ('C')", "NOT city <> city"), ("price IN (1, NULL)", "price IN (100, NULL)"),
+            ("city NOT IN ('C')", "NOT city <> city"),
+            ("price IN (1, NULL)", "price IN (100, NULL)"),
             ("price IN (1, cost)", "(price = cost OR price IN (100))"),
             ("n IN (1, 1.5, 2, 1)", "n IN (1, 2)")])
 
@@ -232,10 +239,13 @@ TAKEN = [
     "SELECT city || '!' AS city_2 FROM t GROUP BY city ORDER BY length(city)",
     "SELECT coalesce(city, '-'), COUNT(*) FROM t GROUP BY city", "SELECT city FROM t GROUP BY city",
     "SELECT strftime('%Y', day) AS y, COUNT(*), AVG(f) FROM t GROUP BY y ORDER BY y DESC",
-    "SELECT substr(city, 1, 1) || '.', SUM(n) FROM t GROUP BY substr(city, 1, 1), paid HAVING SUM(n) > 5",
+    "SELECT substr(city, 1, 1) || '.', SUM(n) FROM t GROUP BY substr(city, 1, 1), paid HAVING "
+    "SUM(n) > 5",
     "SELECT n % 7, (n % 7) * 2, COUNT(*) FROM t GROUP BY n % 7 ORDER BY n % 7, COUNT(*)",
-    "SELECT COUNT(*) FROM t GROUP BY upper(t.city)", "SELECT upper(CITY) FROM t GROUP BY UPPER(city)",
-    "SELECT COUNT(1), COUNT('x') FROM t GROUP BY n", "SELECT n FROM t WHERE n = 1;", "SELECT DISTINCT SUM(n) FROM t",
+    "SELECT COUNT(*) FROM t GROUP BY upper(t.city)",
+    "SELECT upper(CITY) FROM t GROUP BY UPPER(city)",
+    "SELECT COUNT(1), COUNT('x') FROM t GROUP BY n", "SELECT n FROM t WHERE n = 1;",
+    "SELECT DISTINCT SUM(n) FROM t",
     "SELECT city AS city, COUNT(*) FROM t GROUP BY city"]
 LEFT = [
     "SELECT 1", "SELECT 1 FROM t", "SELECT n + 1 FROM t", "SELECT n FROM t ORDER BY n + 1",
@@ -243,21 +253,28 @@ LEFT = [
     "SELECT city, MAX(n) FROM t", "SELECT city, n, COUNT(*) FROM t GROUP BY city",
     "SELECT max(n, big) FROM t", "SELECT COUNT(*) FILTER (WHERE n > 1) FROM t",
     "SELECT SUM(DISTINCT n) FROM t", "SELECT SUM(n) OVER () FROM t", "SELECT TOTAL(n) FROM t",
-    "SELECT group_concat(city) FROM t", "SELECT SUM(n + 1) FROM t", "SELECT COUNT(NULL) FROM t", "SELECT COUNT() FROM t",
-    "SELECT COUNT(1 + 1) FROM t", "SELECT SUM(1) FROM t", "SELECT COUNT(DISTINCT 1) FROM t", "SELECT city FROM t ORDER BY city COLLATE NOCASE",
+    "SELECT group_concat(city) FROM t", "SELECT SUM(n + 1) FROM t", "SELECT COUNT(NULL) FROM t",
+    "SELECT COUNT() FROM t",
+    "SELECT COUNT(1 + 1) FROM t", "SELECT SUM(1) FROM t", "SELECT COUNT(DISTINCT 1) FROM t",
+    "SELECT city FROM t ORDER BY city COLLATE NOCASE",
     "SELECT COUNT(*) FROM t GROUP BY 1", "SELECT city, COUNT(*) FROM t GROUP BY upper(city)",
-    "SELECT COUNT(*) FROM t GROUP BY -1", "SELECT COUNT(*) FROM t GROUP BY 'x'", "SELECT COUNT(*) FROM t GROUP BY 1 + 1",
-    "SELECT COUNT(DISTINCT n) FROM t GROUP BY upper(city)", "SELECT COUNT(*) FROM t GROUP BY CAST(n AS TEXT)",
-    "SELECT n + 1, COUNT(*) FROM t GROUP BY n % 7", "SELECT n % 7 + 1, COUNT(*) FROM t GROUP BY n % 7",
+    "SELECT COUNT(*) FROM t GROUP BY -1", "SELECT COUNT(*) FROM t GROUP BY 'x'",
+    "SELECT COUNT(*) FROM t GROUP BY 1 + 1",
+    "SELECT COUNT(DISTINCT n) FROM t GROUP BY upper(city)",
+    "SELECT COUNT(*) FROM t GROUP BY CAST(n AS TEXT)",
+    "SELECT n + 1, COUNT(*) FROM t GROUP BY n % 7",
+    "SELECT n % 7 + 1, COUNT(*) FROM t GROUP BY n % 7",
     "SELECT COUNT(*) FROM t GROUP BY (city)", "SELECT COUNT(*) FROM t GROUP BY random() + n",
     "SELECT COUNT(*) FROM t GROUP BY date(day, 'NOW')", "SELECT date(), COUNT(*) FROM t GROUP BY n",
-    "SELECT COUNT(*) FROM t GROUP BY MAX(n) + 1", "SELECT strftime('%Y', day), COUNT(*) FROM t GROUP BY strftime('%m', day)",
+    "SELECT COUNT(*) FROM t GROUP BY MAX(n) + 1",
+    "SELECT strftime('%Y', day), COUNT(*) FROM t GROUP BY strftime('%m', day)",
     "SELECT n AS city, COUNT(*) FROM t GROUP BY city", "SELECT n a, city a FROM t",
     "SELECT n FROM t UNION SELECT n FROM t", "WITH x AS (SELECT n FROM t) SELECT n FROM x",
     "SELECT a.n FROM t a, t b", "SELECT n FROM t JOIN t b USING (n)", "SELECT DISTINCT 1 FROM t",
     "SELECT n FROM (SELECT n FROM t)", "SELECT (SELECT MAX(n) FROM t) FROM t",
     "SELECT n FROM t LIMIT 1 + 1", "SELECT n FROM t LIMIT 2.5", "SELECT random() FROM t GROUP BY n",
-    "SELECT n FROM t HAVING n > 1", "SELECT DISTINCT n FROM t HAVING n > 1", "SELECT n FROM t GROUP BY n HAVING city = 'Zug'",
+    "SELECT n FROM t HAVING n > 1", "SELECT DISTINCT n FROM t HAVING n > 1",
+    "SELECT n FROM t GROUP BY n HAVING city = 'Zug'",
     "SELECT * FROM t GROUP BY city", "SELECT COUNT(*) * FROM t", "SELECT COUNT(*) COUNT(*) FROM t",
     "SELECT n AS x FROM t WHERE x = 1", "SELECT SUM(n) s, s + 1 FROM t", "SELECT n, FROM t",
     "SELECT DISTINCT city, SUM(n) FROM t", "SELECT COUNT(*) `bw:0` FROM t", "SELECT ALL n FROM t",
@@ -316,7 +333,8 @@ class Limited(unittest.TestCase):
             tokens = tokens_of(text)
             with self.subTest(text):
                 self.assertEqual(limits_of(tokens, range(len(tokens) - 1)), Limits(*wanted))
-        for text in ("x", "1 2", "1, 2, 3", "1 OFFSET 2 OFFSET 3", "2.5", "'5'", "- - 1", "1, 2 OFFSET 3",
+        for text in ("x", "1 2", "1, 2, 3", "1 OFFSET 2 OFFSET 3", "2.5", "'5'", "- - 1",
+                     "1, 2 OFFSET 3",
                      "9" * 19, "OFFSET 2", "1 OFFSET"):
             tokens = tokens_of(text)
             with self.subTest(text), self.assertRaises(Outside):

@@ -6,8 +6,8 @@ import unittest
 from fractions import Fraction
 
 from bwtools import kinds
-from bwtools.listed import SortedList
-from bwtools.numerals import Style
+from bwtools.sorted_list import SortedList
+from bwtools.style import Style
 from helping import texts
 
 # the day of 2024-05-01, worked out in test_moments
@@ -68,7 +68,8 @@ class ThereAndBack(unittest.TestCase):
                              (texts("a"), -1), (texts("a"), 1), (kinds.Dates(), 10 ** 7)]:
             for spell in (kind.text, lambda each, kind=kind: kind.spell([each])):
                 with self.subTest(kind=kind.name,
-                                  number=number), self.assertRaises((IndexError, ValueError, OverflowError)):
+                                  number=number), \
+                        self.assertRaises((IndexError, ValueError, OverflowError)):
                     spell(number)
 
     def test_settings_give_the_kind_back(self):

@@ -95,14 +95,18 @@ REFUSED = [
     ("a word more frequent than the numbers", "a\n1\n2\n3\n" + "none\n" * 9, (),
      "'none' in line 5 isn't a number, as 3 of 12 fields are"),
     ("two columns at once", "a,b\n1,2024-01-01\n?,2024-01-02\n3,soon\n4,2024-01-04\n", (),
-     "2 columns can't be decided:\n  column 'a': '?' in line 3 isn't a number, as 3 of 4 fields are: use --null 'a=?', or --text a\n"
-     "  column 'b': 'soon' in line 4 isn't a date, as 3 of 4 fields are: use --null b=soon, or --text b"),
+     "2 columns can't be decided:\n  column 'a': '?' in line 3 isn't a number, as 3 of 4 fields "
+     "are: use --null 'a=?', or --text a\n"
+     "  column 'b': 'soon' in line 4 isn't a date, as 3 of 4 fields are: use --null b=soon, or "
+     "--text b"),
     ("no such day", "d\n2024-02-28\n2024-02-30\n2024-02-29\n", (),
      "'2024-02-30' in line 3 isn't a date: use --null d=2024-02-30, or --text d"),
     ("day or month", "d\n03/04/2024\n05/06/2024\n", (),
-     "'03/04/2024' in line 2 may be read in two ways: use --date d=%d/%m/%Y, or --date d=%m/%d/%Y, or --text d"),
+     "'03/04/2024' in line 2 may be read in two ways: use --date d=%d/%m/%Y, or --date d=%m/%d/%Y, "
+     "or --text d"),
     ("some with a zone", "t\n2024-05-01T10:00\n2024-05-01T10:00Z\n", (),
-     "'2024-05-01T10:00' in line 2 and '2024-05-01T10:00Z' in line 3 are of different forms: use --text t"),
+     "'2024-05-01T10:00' in line 2 and '2024-05-01T10:00Z' in line 3 are of different forms: use "
+     "--text t"),
     ("dates of two formats", "d\n13.5.2024\n2024-05-01\n", (),
      "'13.5.2024' in line 2 and '2024-05-01' in line 3 are dates of different forms: use --text d"),
     ("not as --number states", "a\n1\nx\n", ("--number", "a"),
@@ -134,20 +138,23 @@ class Messy(unittest.TestCase):
         self.assertEqual(Import("a;b\n1.000;1.234,00\n12;5,5\n250;7,0\n").greatest(0), "1.000")
 
     def test_formats(self):
-        for form, field in (("%d %B %y", "01 May 24"), ("%b %d %Y %I:%M %p", "May 01 2024 01:30 PM"),
+        for form, field in (("%d %B %y", "01 May 24"),
+                            ("%b %d %Y %I:%M %p", "May 01 2024 01:30 PM"),
                             ("%Y%m%d", "20240501"), ("%I %p", "07 AM")):
             with self.subTest(form):
                 self.assertEqual(Import(f"a\n{field}\n", "--date", f"a={form}").rows, [field])
         for form in ("%d", "%y-%m", "%H:%M %p", "%Y-%m-%d %I:%M", "%Q"):
             with self.subTest(form):
-                self.assertIn("is not a valid format", Import("a\n1\n", "--date", f"a={form}").refusal)
+                self.assertIn("is not a valid format",
+                              Import("a\n1\n", "--date", f"a={form}").refusal)
 
     def test_no_rows(self):
         found = Import("a,b\n")
         self.assertEqual((found.kinds, found.rows), (["nulls", "nulls"], []))
 
     def test_options_contradict(self):
-        for words in (("--text", "a", "--number", "a"), ("--number", "a", "--date", "a=%Y"), ("--digits", "a=2", "--text", "a")):
+        for words in (("--text", "a", "--number", "a"), ("--number", "a", "--date", "a=%Y"),
+                      ("--digits", "a=2", "--text", "a")):
             with self.subTest(words):
                 self.assertIn("give one of --text", Import("a\n1\n", *words).refusal)
 

@@ -4,6 +4,7 @@ import unittest
 
 from bwtools import moments
 from bwtools.moments import moment_of
+from bwtools.plain_times import plain_times, times_of
 
 # 54 years of 365 days since 1970, 13 leap days, and 121 days up to the first of May
 DAY = 54 * 365 + 13 + 121
@@ -48,10 +49,13 @@ class Moments(unittest.TestCase):
                 fields = []
                 for _ in range(20):
                     day = moments.written_by("%Y-%m-%d", draw.randrange(-9000, 30000), 0)
-                    clock = f"{draw.randrange(24):02}:{draw.randrange(60):02}:{draw.randrange(60):02}"
-                    fields.append(f"{day}T{clock}{f'.{draw.randrange(10 ** digits):0{digits}}' if digits else ''}{zone}")
-                found = moments.plain_times(fields)
-                self.assertEqual(moments.times_of(found.numbers, found.shape), fields)
+                    clock = (
+                        f"{draw.randrange(24):02}:{draw.randrange(60):02}:{draw.randrange(60):02}")
+                    fields.append(
+                        f"{day}T{clock}"
+                        f"{f'.{draw.randrange(10 ** digits):0{digits}}' if digits else ''}{zone}")
+                found = plain_times(fields)
+                self.assertEqual(times_of(found.numbers, found.shape), fields)
                 one = moments.read_moment("%Y-%m-%dT%H:%M:%S", fields[0])
                 self.assertEqual((one.number, one.digits), (found.numbers[0], digits))
 

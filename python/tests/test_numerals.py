@@ -2,7 +2,8 @@
 import unittest
 
 from bwtools.naming import is_name, name_like, names_of
-from bwtools.numerals import Marks, Style, is_number, marks_of, parts_of, scaled
+from bwtools.numerals import Marks, is_number, marks_of, parts_of, scaled
+from bwtools.style import Style
 
 
 class Numerals(unittest.TestCase):

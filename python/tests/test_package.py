@@ -8,10 +8,12 @@ import bwtools
 
 
 def functions():
-    """Yields every function and method of the package, by name, without those that named tuples get."""
+    """Yields every function and method of the package, by name, without those that named tuples
+    get."""
     for found in pkgutil.iter_modules(bwtools.__path__):
         module = importlib.import_module(f"bwtools.{found.name}")
-        owners = [module, *(each for each in vars(module).values() if inspect.isclass(each) and each.__module__ == module.__name__)]
+        owners = [module, *(each for each in vars(module).values() if inspect.isclass(each) and
+                            each.__module__ == module.__name__)]
         for owner in owners:
             for name, each in vars(owner).items():
                 if inspect.isfunction(each) and each.__code__.co_filename == module.__file__:
@@ -22,7 +24,8 @@ class Package(unittest.TestCase):
     def test_every_function_has_type_hints(self):
         count = 0
         for name, function in functions():
-            wanted = {each for each in inspect.signature(function).parameters if each not in ("self", "cls")} | {"return"}
+            wanted = {each for each in inspect.signature(function).parameters
+                      if each not in ("self", "cls")} | {"return"}
             with self.subTest(name):
                 self.assertEqual(wanted - function.__annotations__.keys(), set())
             count += 1

@@ -9,7 +9,8 @@ from helping import Imported
 
 PAGE = pathlib.Path(__file__).parents[2] / "docs" / "PYTHON.md"
 STORMS = pathlib.Path(__file__).parents[2] / "examples" / "storms.csv"
-SHOP = "day,city,price,paid\n2024-01-31,Bern,2.50,true\n2024-02-01,Ulm,12.05,false\n2024-02-29,Bern,,true\n2024-03-01,Graz,0.30,true\n"
+SHOP = ("day,city,price,paid\n2024-01-31,Bern,2.50,true\n2024-02-01,Ulm,12.05,false\n"
+        "2024-02-29,Bern,,true\n2024-03-01,Graz,0.30,true\n")
 
 
 class Page(Imported):

@@ -7,7 +7,7 @@ import unittest
 from unittest import mock
 
 from bwtools import pairs, placing, store
-from bwtools.kind import Column
+from bwtools.column import Column
 from bwtools.telling import Refused
 
 from helping import described, texts
@@ -154,7 +154,8 @@ class Pairs(unittest.TestCase):
         (self.columns / "mine").write_text("kept")
         with self.assertRaises(OSError):
             self.put("another one")
-        self.assertEqual((self.table.read_text(), self.left()), ("a table", ["t.bw", "t.bw.columns"]))
+        self.assertEqual((self.table.read_text(), self.left()),
+                         ("a table", ["t.bw", "t.bw.columns"]))
 
     def test_files_that_are_not_regular(self):
         os.mkfifo(self.folder / "fifo")

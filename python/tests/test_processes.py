@@ -50,14 +50,16 @@ class Tables(unittest.TestCase):
         """Returns what `count` processes write of a table, and what they count."""
         data = "a,b,c\n" + "".join(f"{number - 40},{number % 7 / 10},t{number * 7 % 501}\n"
                                    for number in range(3000))
-        with tempfile.TemporaryDirectory() as folder, mock.patch("bwtools.source.CHARACTERS_AT_ONCE", 1 << 10), \
+        with tempfile.TemporaryDirectory() as folder, \
+                mock.patch("bwtools.source.CHARACTERS_AT_ONCE", 1 << 10), \
                 mock.patch("bwtools.processes.processors", lambda: count):
             table = table_of(data.encode())
             table.write(f"{folder}/numbers")
             self.assertEqual(os.listdir(folder), ["numbers"])
             with open(f"{folder}/numbers", encoding="ascii") as numbers:
                 return numbers.read(), [column.ends
-                                        for column in table.columns], [tally.counts for tally in table.tallies]
+                                        for column in table.columns], \
+                    [tally.counts for tally in table.tallies]
 
     def test_processes_write_what_one_writes(self):
         alone = self.written(1)

@@ -1,4 +1,5 @@
-"""Questions over real tables, asked in each way that serves them, and of sqlite3 over the same values."""
+"""Questions over real tables, asked in each way that serves them, and of sqlite3 over the same
+values."""
 import csv
 import datetime
 import fractions
@@ -26,14 +27,20 @@ TIME = ("TEXT", lambda field: field.replace("T", " "))
 CLOCK = ("TEXT", lambda field: f"{field}:00")
 COLUMNS = {
     "storms": [(name, INTEGER) for name in STORMS.read_text().partition("\n")[0].split(",")],
-    "zones": [("codes", TEXT), ("latitude", REAL), ("longitude", REAL), ("zone", TEXT), ("comments", TEXT)],
+    "zones": [("codes", TEXT), ("latitude", REAL), ("longitude", REAL), ("zone", TEXT),
+              ("comments", TEXT)],
     "countries": [("code", TEXT), ("name", TEXT)],
-    "releases": [("distribution", TEXT), ("version", TEXT), ("codename", TEXT), ("series", TEXT), ("created", TEXT),
+    "releases": [("distribution", TEXT), ("version", TEXT), ("codename", TEXT), ("series", TEXT),
+                 ("created", TEXT),
                  ("release", TEXT), ("end_of_life", TEXT), ("lts", TRUTH)],
-    "visits": [("id", INTEGER), ("place", TEXT), ("day", GERMAN), ("arrived", TIME), ("open_at", CLOCK), ("fee", REAL),
-               ("rate", REAL), ("score", REAL), ("member", TRUTH), ("guests", INTEGER), ("code", TEXT)]}
-OPTIONS = {"releases": ["--text", "version"], "visits": ["--text", "code", "--date", "day=%d.%m.%Y"]}
-PLACES = ["Café \"Zur Post\"", "Bar, Grill", "two\nlines", "Ångström", "O'Neil", "straße", "Zoo", "zoo", "in  between", "100%", "a_b",
+    "visits": [("id", INTEGER), ("place", TEXT), ("day", GERMAN), ("arrived", TIME),
+               ("open_at", CLOCK), ("fee", REAL),
+               ("rate", REAL), ("score", REAL), ("member", TRUTH), ("guests", INTEGER),
+               ("code", TEXT)]}
+OPTIONS = {"releases": ["--text", "version"], "visits": ["--text", "code", "--date",
+                                                         "day=%d.%m.%Y"]}
+PLACES = ["Café \"Zur Post\"", "Bar, Grill", "two\nlines", "Ångström", "O'Neil", "straße", "Zoo",
+          "zoo", "in  between", "100%", "a_b",
           "日本", "x"]
 
 
@@ -46,8 +53,10 @@ def visits():
         second = drawn.randrange(86400)
         row = [drawn.choice(PLACES), f"{day:%d.%m.%Y}",
                f"{day}T{second // 3600:02}:{second // 60 % 60:02}:{second % 60:02}",
-               f"{drawn.randrange(7, 12):02}:{drawn.choice((0, 15, 30)):02}", f"{drawn.randrange(-500, 20000) / 100:.2f}",
-               f"{drawn.randrange(3000) / 1000:.3f}", repr(drawn.choice([1e-7, 0.1, 2.5, 1e12, -3.75, drawn.random()])),
+               f"{drawn.randrange(7, 12):02}:{drawn.choice((0, 15, 30)):02}",
+               f"{drawn.randrange(-500, 20000) / 100:.2f}",
+               f"{drawn.randrange(3000) / 1000:.3f}",
+               repr(drawn.choice([1e-7, 0.1, 2.5, 1e12, -3.75, drawn.random()])),
                drawn.choice(["true", "false"]), drawn.randrange(-2, 9), f"{drawn.randrange(40):03}"]
         rows.append([number, *("" if drawn.random() < 0.1 else field for field in row)])
     out = io.StringIO()
@@ -57,7 +66,8 @@ def visits():
 
 def contents():
     """Returns the CSV of each table."""
-    found = {name: (HERE / f"{name}.csv").read_text(encoding="utf-8") for name in ("zones", "countries", "releases")}
+    found = {name: (HERE / f"{name}.csv").read_text(encoding="utf-8")
+             for name in ("zones", "countries", "releases")}
     return {"storms": STORMS.read_text(), "visits": visits(), **found}
 
 
@@ -87,8 +97,8 @@ class ExactMean(Exact):
 
 
 def reference(tables, is_exact):
-    """Returns a database of these tables, which is made of their CSV without the package. Its own SUM and AVG can't be used
-    before OVER."""
+    """Returns a database of these tables, which is made of their CSV without the package. Its own
+    SUM and AVG can't be used before OVER."""
     database = sqlite3.connect(":memory:")
     if is_exact:
         database.create_aggregate("sum", 1, Exact)
@@ -96,14 +106,17 @@ def reference(tables, is_exact):
     for name, data in tables.items():
         columns = COLUMNS[name]
         rows = list(csv.reader(io.StringIO(data, newline="")))[1:]
-        database.execute(f"CREATE TABLE {name} ({', '.join(f'{column} {kind[0]}' for column, kind in columns)})")
-        values = [[None if field == "" else kind[1](field) for field, (_, kind) in zip(row, columns)] for row in rows]
+        database.execute(
+            f"CREATE TABLE {name} ({', '.join(f'{column} {kind[0]}' for column, kind in columns)})")
+        values = [[None if field == "" else kind[1](field) for field,
+                   (_, kind) in zip(row, columns)] for row in rows]
         database.executemany(f"INSERT INTO {name} VALUES ({', '.join('?' * len(columns))})", values)
     return database
 
 
 def questions():
-    """Returns the questions of all files: where each is, what is asked, and what sqlite3 is asked."""
+    """Returns the questions of all files: where each is, what is asked, and what sqlite3 is
+    asked."""
     found = []
     for path in sorted(HERE.glob("*.sql")):
         line = 1
@@ -178,7 +191,8 @@ class Questions(Imported):
             with self.subTest(name):
                 records = list(csv.reader(io.StringIO(data, newline="")))
                 for way in (1, 2):
-                    statement = Statement(f"SELECT * FROM {name.removesuffix('.bw')}", self.connection.catalog)
+                    statement = Statement(f"SELECT * FROM {name.removesuffix('.bw')}",
+                                          self.connection.catalog)
                     answer = grammar.answer(statement, self.connection.engine) if way == 1 else \
                         self.connection.by_sqlite.answer(statement)
                     self.assertEqual(answer.headings, records[0])
@@ -189,7 +203,8 @@ class Questions(Imported):
     def same_doubles(self, name, row):
         """Returns the fields of a row with floats in one spelling."""
         place = 7 if name == "visits.bw" else None
-        return [repr(float(field)) if at == place and field else field for at, field in enumerate(row)]
+        return [repr(float(field)) if at == place and field else field for at,
+                field in enumerate(row)]
 
 
 if __name__ == "__main__":

@@ -6,12 +6,14 @@ import time
 import unittest
 from unittest import mock
 
-from bwtools import inputs, processes, reading
+from bwtools import inputs, processes
+from bwtools.stops import Stops
 from bwtools.telling import Refused
 
 from helping import described, table_of
 
-ROWS = [f"{number - 40},{number % 7 / 10},t{number * 7 % 501},{'' if number % 3 else number},2024-05-{number % 28 + 1:02}"
+ROWS = [f"{number - 40},{number % 7 / 10},t{number * 7 % 501},{'' if number % 3 else number},"
+        f"2024-05-{number % 28 + 1:02}"
         for number in range(3000)]
 HEADING = "a,b,c,d,e"
 
@@ -36,7 +38,8 @@ def found(lines, count, *options):
             return str(refused).partition(": ")[2]
         numbers = ["".join(map(",".join, zip(*columns))) for columns in table.chunks()]
         return [described(column)
-                for column in table.columns], numbers, table.rows, len({id(tally.column.store) for tally in table.tallies})
+                for column in table.columns], numbers, table.rows, \
+            len({id(tally.column.store) for tally in table.tallies})
 
 
 class Reading(unittest.TestCase):
@@ -64,13 +67,14 @@ class Reading(unittest.TestCase):
                       self.same([*ROWS, late], *wanted))
         both = self.same([*ROWS[:9], late, *ROWS, early], *wanted)
         self.assertRegex(both,
-                         "2 columns can't be decided:\n  column 'a': 'x' in line 3012 .*\n  column 'b': 'x' in line 11 ")
+                         "2 columns can't be decided:\n  column 'a': 'x' in line 3012 .*\n"
+                         "  column 'b': 'x' in line 11 ")
         self.assertIn("has 4 fields", self.same([*ROWS, "1,2,3,4", early], *wanted))
         self.assertIn("lines 3 and 3004 have 4 and 6 fields",
                       self.same([early, "1,2,3,4", *ROWS, "1,2,3,4,5,6"], *wanted))
 
     def test_a_fault_stops_the_other_processes(self):
-        stops = reading.Stops(2)
+        stops = Stops(2)
         self.assertFalse(stops.are_before(1 << 40))
         stops.chunks[1] = 7
         self.assertEqual([stops.are_before(7), stops.are_before(8)], [False, True])

@@ -35,7 +35,8 @@ def answer_of(*parts: bytes) -> bytes:
 
 class Answers(unittest.TestCase):
     def test_answer_ends_with_an_empty_line(self):
-        for parts in ([b"a\n1\n\n"], [b"a\n1\n", b"\n"], [b"a\n", b"1", b"\n\n"], [b"a", b"\n", b"1", b"\n", b"\n"]):
+        for parts in ([b"a\n1\n\n"], [b"a\n1\n", b"\n"], [b"a\n", b"1", b"\n\n"],
+                      [b"a", b"\n", b"1", b"\n", b"\n"]):
             with self.subTest(parts):
                 self.assertEqual(answer_of(*parts), b"a\n1\n")
 
@@ -55,7 +56,8 @@ class Answers(unittest.TestCase):
 
 class Statements(unittest.TestCase):
     def test_a_statement_ends_once(self):
-        for given, wanted in [("SELECT a FROM t", "SELECT a FROM t;"), ("SELECT a FROM t ;", "SELECT a FROM t ;"),
+        for given, wanted in [("SELECT a FROM t", "SELECT a FROM t;"),
+                              ("SELECT a FROM t ;", "SELECT a FROM t ;"),
                               ("SELECT ';\n\r;' ;", "SELECT '????' ;")]:
             self.assertEqual(one_statement(given), wanted)
 
@@ -72,25 +74,31 @@ class Sessions(unittest.TestCase):
             return Session(table)
 
     def test_what_is_said_belongs_to_its_answer(self):
-        script = 'for each in 1 2; do read a; read b; echo "$each: $a" >&2; printf "a\\n$each\\n\\n"; done; cat'
+        script = ('for each in 1 2; do read a; read b; echo "$each: $a" >&2; printf "a\\n$each\\n'
+                  '\\n"; done; cat')
         with self.session_of(script) as session:
             first = session.result_of("one")
-            self.assertEqual((first.read(), session.told(), session.told()), (b"a\n1\n", "1: one;\n", ""))
+            self.assertEqual((first.read(), session.told(), session.told()),
+                             (b"a\n1\n", "1: one;\n", ""))
             self.assertEqual(session.result_of("two").readline(), b"a\n")
             self.assertEqual((session.told(), session.end()), ("2: two;\n", 0))
 
     def test_answer_that_is_not_read_is_dropped(self):
-        script = "read a; read b; seq 100000; echo old >&2; echo; read a; echo new >&2; echo; cat >/dev/null; exit 3"
+        script = ("read a; read b; seq 100000; echo old >&2; echo; read a; echo new >&2; echo; cat "
+                  ">/dev/null; exit 3")
         with self.session_of(script) as session:
             self.assertEqual(session.result_of("one").readline(), b"1\n")
             self.assertIsNone(session.result_of("two"))
             self.assertEqual((session.told(), session.end()), ("new\n", 3))
 
     def test_status_without_a_refused_statement_fails(self):
-        with self.session_of("echo broken >&2; exit 3") as session, self.assertRaises(Failed) as failed:
+        with self.session_of("echo broken >&2; exit 3") as session, \
+                self.assertRaises(Failed) as failed:
             session.end()
-        self.assertEqual((str(failed.exception), failed.exception.told, failed.exception.status), ("", "broken\n", 3))
+        self.assertEqual((str(failed.exception), failed.exception.told, failed.exception.status),
+                         ("", "broken\n", 3))
 
     def test_answers_at_the_end_fail(self):
-        with self.session_of("cat >/dev/null; echo more") as session, self.assertRaisesRegex(Failed, SURPLUS):
+        with self.session_of("cat >/dev/null; echo more") as session, \
+                self.assertRaisesRegex(Failed, SURPLUS):
             session.end()

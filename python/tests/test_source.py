@@ -16,7 +16,8 @@ from helping import source_of
 def columns_of(data, *words):
     columns = []
     for chunk in source_of(data, *words).chunks():
-        columns = [[*first, *then] for first, then in zip(columns or [[] for _ in chunk.columns], chunk.columns)]
+        columns = [[*first, *then] for first, then in zip(columns or [[] for _ in chunk.columns],
+                                                          chunk.columns)]
     return columns
 
 
@@ -41,7 +42,8 @@ class Columns(unittest.TestCase):
         self.assertEqual(parts("1|'a|'\n", 2, "|", "'"), [["1"], ["a|"]])
 
     def test_what_is_left_to_the_csv_module(self):
-        for text in ['1,"a""b"\n', '1,a"b"\n', '1,"a"b\n', '1,"a\n', "1\n", "1,2,3\n", "1,2\n\n", "\n1,2\n", "1,2\r3,4\r",
+        for text in ['1,"a""b"\n', '1,a"b"\n', '1,"a"b\n', '1,"a\n', "1\n", "1,2,3\n", "1,2\n\n",
+                     "\n1,2\n", "1,2\r3,4\r",
                      '1, "a"\n',
                      "1,2,3\n1\n"]:
             with self.subTest(text):
@@ -51,7 +53,8 @@ class Columns(unittest.TestCase):
     def test_as_the_csv_module_reads(self):
         draw, found = random.Random(8), 0
         for _ in range(5000):
-            text = "".join(draw.choices(['"', ",", "\n", "a", "\r\n", "1", '","', '"\n', '\n"'], k=draw.randrange(1, 16)))
+            text = "".join(draw.choices(['"', ",", "\n", "a", "\r\n", "1", '","', '"\n', '\n"'],
+                                        k=draw.randrange(1, 16)))
             columns = parts(text, 2)
             if columns is not None:
                 rows = list(csv.reader(io.StringIO(text, newline=""), strict=True))
@@ -68,11 +71,13 @@ class Files(unittest.TestCase):
 
     def test_no_heading(self):
         found = source_of(b"1,2\n3,4\n", "--no-heading")
-        self.assertEqual((found.headings, columns_of(b"1,2\n3,4\n", "--no-heading")), (["c1", "c2"], [["1", "3"], ["2", "4"]]))
+        self.assertEqual((found.headings, columns_of(b"1,2\n3,4\n", "--no-heading")),
+                         (["c1", "c2"], [["1", "3"], ["2", "4"]]))
 
     def test_empty_lines_are_counted(self):
         found = source_of(b"\n\na,b\n\n1,2\n\n\n3,4\n")
-        self.assertEqual([list(map(list, chunk.columns)) for chunk in found.chunks()], [[["1", "3"], ["2", "4"]]])
+        self.assertEqual([list(map(list, chunk.columns)) for chunk in found.chunks()],
+                         [[["1", "3"], ["2", "4"]]])
         self.assertEqual((found.counts.rows, found.counts.empty), (2, 5))
 
     def test_excel_says_its_separator(self):
@@ -87,12 +92,15 @@ class Files(unittest.TestCase):
         try:
             draw = random.Random(9)
             for _ in range(200):
-                rows = [["".join(draw.choices(['"', ",", "\n", "ab", "\r\n", "1"], k=draw.randrange(6))) for _ in range(3)]
+                rows = [["".join(draw.choices(['"', ",", "\n", "ab", "\r\n", "1"],
+                                              k=draw.randrange(6))) for _ in range(3)]
                         for _ in range(draw.randrange(1, 9))]
                 out = io.StringIO(newline="")
-                csv.writer(out, lineterminator=draw.choice(["\n", "\r\n"]), quoting=draw.choice([csv.QUOTE_ALL, csv.QUOTE_MINIMAL])
+                csv.writer(out, lineterminator=draw.choice(["\n", "\r\n"]),
+                           quoting=draw.choice([csv.QUOTE_ALL, csv.QUOTE_MINIMAL])
                            ).writerows([["a", "b", "c"], *rows])
-                self.assertEqual(columns_of(out.getvalue().encode()), [list(each) for each in zip(*rows)], out.getvalue())
+                self.assertEqual(columns_of(out.getvalue().encode()),
+                                 [list(each) for each in zip(*rows)], out.getvalue())
         finally:
             source.CHARACTERS_AT_ONCE = was
 
@@ -101,8 +109,10 @@ class Files(unittest.TestCase):
         self.assertEqual([chunk.line_of(place) for place in range(3)], [3, 6, 7])
 
     def test_refused(self):
-        for data, wanted in [(b"", "there is no heading"), (b"a,b\n1,2\n3\n", "line 3 has 1 field, and the heading has 2"),
-                             (b'a,b\n1,2\n3,"x"y\n', "line 3: "), (b'a,b\n1,"\n2\n', "line 2: unexpected end of data"),
+        for data, wanted in [(b"", "there is no heading"),
+                             (b"a,b\n1,2\n3\n", "line 3 has 1 field, and the heading has 2"),
+                             (b'a,b\n1,2\n3,"x"y\n', "line 3: "),
+                             (b'a,b\n1,"\n2\n', "line 2: unexpected end of data"),
                              (b"a\n1\n\xff\n", "line 3, byte 1 isn't utf-8"),
                              (b",".join([b"a"] * 65), "65 columns: a table"),
                              (b"a\0\n", "has NUL bytes, so it isn't UTF-8 text")]:
@@ -160,12 +170,14 @@ class Forms(unittest.TestCase):
         self.assertEqual(columns_of(b'a,b\n1,"\n# x"\n#,\n2,y\n', "--comment", "#"),
                          [["1", "2"], ["\n# x", "y"]])
         self.assertIn("line 8 has 3 fields", self.refused(data + b"\n3;4;5\n", "--comment", "#"))
-        self.assertEqual(columns_of(b"a,b\n1,#x\n2,y\n", "--comment", "#"), [["1", "2"], ["#x", "y"]])
+        self.assertEqual(columns_of(b"a,b\n1,#x\n2,y\n", "--comment", "#"),
+                         [["1", "2"], ["#x", "y"]])
 
     def test_comments_over_blocks(self):
         was, source.CHARACTERS_AT_ONCE = source.CHARACTERS_AT_ONCE, 16
         try:
-            data = b"# \" one\n" + b'a,b\n1,"x\n#\n"\n# it\"s\n' + b"# x\n" * 9 + b'2,y\n' + b"#\n" * 9
+            data = (b"# \" one\n" + b'a,b\n1,"x\n#\n"\n# it\"s\n' + b"# x\n" * 9 + b'2,y\n' +
+                    b"#\n" * 9)
             self.assertEqual(columns_of(data, "--comment", "#"), [["1", "2"], ["x\n#\n", "y"]])
         finally:
             source.CHARACTERS_AT_ONCE = was
@@ -206,10 +218,13 @@ class Forms(unittest.TestCase):
             self.assertIn(f"it may be {name}: use --encoding {name}", self.refused(data))
             self.assertEqual(columns_of(data, "--encoding", name), self.ROWS)
             self.assertEqual(columns_of(mark + data), self.ROWS)
-        self.assertEqual(columns_of("a,b\n1,€\n".encode("cp1252"), "--encoding", "cp1252"), [["1"], ["€"]])
+        self.assertEqual(columns_of("a,b\n1,€\n".encode("cp1252"), "--encoding", "cp1252"),
+                         [["1"], ["€"]])
 
     def test_nothing_with_a_nul_is_text(self):
         data = b"a,b\n" + b"1,x\n" * 3000 + b"2,y\0\n"
         self.assertIn("line 3002 has a NUL, so it isn't text", self.refused(data))
-        self.assertIn("line 3002 has a NUL", self.refused("\ufeff".encode("utf-16-le") + data.decode().encode("utf-16-le")))
+        self.assertIn("line 3002 has a NUL",
+                      self.refused("\ufeff".encode("utf-16-le") +
+                                   data.decode().encode("utf-16-le")))
         self.assertIn("has NUL bytes", self.refused(b"a,b\n1,\0\n"))

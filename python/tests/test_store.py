@@ -8,10 +8,10 @@ import time
 import unittest
 
 from bwtools import kinds, store
-from bwtools.kind import Column
-from bwtools.listed import SortedList
+from bwtools.column import Column
+from bwtools.sorted_list import SortedList
 from bwtools.store import Store, TableFile
-from bwtools.numerals import Style
+from bwtools.style import Style
 from bwtools.telling import Refused
 
 from helping import described, texts
@@ -19,7 +19,8 @@ from helping import described, texts
 WORDS = ("", "a", "a\0b", "b\n", "é", "\ue000", "\U0001f600")
 COLUMNS = [Column("a", "A é", texts(*WORDS), [], ["", "\U0001f600"], "so", "numbers"),
            Column("n", "n", kinds.Whole(), ["NA", "-"], ["1", "2"]),
-           Column("price", "unit price", kinds.Styled(kinds.Decimals(2, 1), Style(",")), [], ["0,5", "1,5"]),
+           Column("price", "unit price", kinds.Styled(kinds.Decimals(2, 1), Style(",")), [],
+                  ["0,5", "1,5"]),
            Column("at", "at", kinds.Times("%Y-%m-%d %H:%M", 0, "Z")),
            Column("ok", "ok", kinds.Truths("no", "yes")), Column("gone", "gone", kinds.Nulls()),
            Column("none", "none", texts())]
@@ -150,7 +151,8 @@ class Foreign(Files):
                 self.refused("is not a columns file .*")
 
     def test_fields_that_are_checked(self):
-        for sql in ("UPDATE columns SET name = 5 WHERE place = 1", "UPDATE columns SET name = 'a b'",
+        for sql in ("UPDATE columns SET name = 5 WHERE place = 1",
+                    "UPDATE columns SET name = 'a b'",
                     "UPDATE columns SET name = x'00' WHERE place = 1",
                     "UPDATE columns SET name = 'A' WHERE place = 1",
                     "UPDATE columns SET kind = 'other' WHERE place = 1",

@@ -119,7 +119,8 @@ class Imports(unittest.TestCase):
         """What no sample shows: then all is done by columns."""
         rows = [f"{place},{place % 10}" for place in range(8000)]
         middle = len(rows) // 4
-        for name, odd in (("an empty line", ""), ("leading zeros", "1,007"), ("a word for null", "1,NA"),
+        for name, odd in (("an empty line", ""), ("leading zeros", "1,007"),
+                          ("a word for null", "1,NA"),
                           ("too large", "1,99999999999999999999")):
             with self.subTest(name):
                 data = "\n".join(["a,b", *rows[:middle], odd, *rows[middle:]]) + "\n"

@@ -129,14 +129,16 @@ class Files(unittest.TestCase):
             self.assertEqual(folder.parent, self.folder)
         self.assertFalse(folder.exists())
         with self.assertRaisesRegex(Refused,
-                                    "isn't a folder"), placing.new_folder(self.folder / "no" / "out"):
+                                    "isn't a folder"), \
+                placing.new_folder(self.folder / "no" / "out"):
             pass
 
 
 class Progress(unittest.TestCase):
     def test_says_nothing_off_a_terminal(self):
-        with contextlib.redirect_stderr(io.StringIO()) as err, mock.patch("bwtools.progress.FIRST",
-                                                                          0.0), progress.Progress("read") as shown:
+        with contextlib.redirect_stderr(io.StringIO()) as err, \
+                mock.patch("bwtools.progress.FIRST", 0.0), \
+                progress.Progress("read") as shown:
             shown.add(5, 7)
         self.assertEqual(err.getvalue(), "")
 

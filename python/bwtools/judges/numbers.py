@@ -12,12 +12,15 @@ from ..kinds.floats import Floats
 from ..kinds.styled import Numbers, Styled
 from ..kinds.whole import Whole
 from ..naming import option
-from ..numerals import SIMPLE, STARTS, ZEROS, Style, is_number, like_number
-from ..plain import Spans
+from ..numerals import SIMPLE, STARTS, ZEROS, is_number, like_number
 from ..rounding import Rounding
+from ..spans import Spans
+from ..style import Style
 from ..telling import shown
-from .judge import Decision, Fields, Question, Verdict, matching, starting
+from .fields import Fields
+from .judge import matching, starting
 from .survey import Survey
+from .verdict import Decision, Question, Verdict
 
 
 @dataclass

@@ -5,7 +5,8 @@ from __future__ import annotations
 from dataclasses import dataclass, field
 from typing import Sequence
 
-from ..numerals import CODE, SIMPLE, ZEROS, Style, marks_of, parts_of
+from ..numerals import CODE, SIMPLE, ZEROS, marks_of, parts_of
+from ..style import Style
 
 
 @dataclass

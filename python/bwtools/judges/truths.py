@@ -5,7 +5,8 @@ from dataclasses import dataclass
 from typing import ClassVar, Sequence
 
 from ..kinds.truths import TRUTH_OF, TRUTHS, Truths
-from .judge import Decision, Fields, Verdict
+from .fields import Fields
+from .verdict import Decision, Verdict
 
 
 @dataclass(frozen=True)

@@ -5,7 +5,8 @@ from dataclasses import dataclass
 from typing import ClassVar, Sequence
 
 from ..kinds.formats import kind_by
-from .judge import Decision, Fields, Verdict
+from .fields import Fields
+from .verdict import Decision, Verdict
 
 
 @dataclass(frozen=True)

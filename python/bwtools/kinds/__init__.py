@@ -4,8 +4,10 @@ from __future__ import annotations
 
 from typing import Callable
 
-from ..kind import Kind, Listed, Settings
-from ..numerals import BETWEEN, Style
+from ..kind import Kind, Settings
+from ..listed import Listed
+from ..numerals import BETWEEN
+from ..style import Style
 from .clocks import Clocks
 from .dates import Dates
 from .decimals import Decimals

@@ -6,9 +6,11 @@ from dataclasses import dataclass
 from fractions import Fraction
 from typing import ClassVar, Sequence
 
-from ..kind import Kind, Literal, Place, Settings
+from ..clock import clock_of
+from ..kind import Kind, Literal, Settings
+from ..listed import Place
+from ..moments import read_by, unit_of, with_part, written_by
 from ..numerals import power_of_ten
-from ..moments import clock_of, read_by, unit_of, with_part, written_by
 
 
 @dataclass(frozen=True)

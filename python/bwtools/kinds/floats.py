@@ -5,7 +5,8 @@ from dataclasses import dataclass
 from fractions import Fraction
 from typing import ClassVar, Sequence
 
-from ..kind import Kind, Literal, Place, Settings
+from ..kind import Kind, Literal, Settings
+from ..listed import Place
 from ..numerals import PLAIN
 from .doubles import bits_of, double_of, nearest, read
 

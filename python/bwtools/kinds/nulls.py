@@ -4,7 +4,8 @@ from __future__ import annotations
 from dataclasses import dataclass
 from typing import ClassVar, Sequence
 
-from ..kind import Kind, Literal, Place, Settings
+from ..kind import Kind, Literal, Settings
+from ..listed import Place
 
 
 @dataclass(frozen=True)

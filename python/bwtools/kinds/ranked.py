@@ -7,7 +7,8 @@ from dataclasses import dataclass
 from fractions import Fraction
 from typing import ClassVar, Sequence
 
-from ..kind import Kind, Listed, Literal, Place, Settings
+from ..kind import Kind, Literal, Settings
+from ..listed import Listed, Place
 from ..numerals import PLAIN
 from .doubles import nearest, read
 

@@ -5,8 +5,9 @@ from __future__ import annotations
 from dataclasses import dataclass
 from typing import Sequence, Union
 
-from ..kind import Kind, Listed, Literal, Place, Settings
-from ..numerals import Style
+from ..kind import Kind, Literal, Settings
+from ..listed import Listed, Place
+from ..style import Style
 from .decimals import Decimals
 from .floats import Floats
 from .ranked import Ranked

@@ -6,9 +6,11 @@ from dataclasses import dataclass
 from fractions import Fraction
 from typing import ClassVar, Sequence
 
-from ..kind import Kind, Literal, Place, Settings
+from ..kind import Kind, Literal, Settings
+from ..listed import Place
+from ..moments import ISO_DATE, read_moment, unit_of, with_part, written_by
 from ..numerals import power_of_ten
-from ..moments import ISO_DATE, read_moment, spelled_times, unit_of, with_part, written_by
+from ..plain_times import spelled_times
 
 
 @dataclass(frozen=True)

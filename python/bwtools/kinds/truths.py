@@ -5,7 +5,8 @@ import math
 from dataclasses import dataclass
 from typing import ClassVar, Sequence
 
-from ..kind import Kind, Literal, Place, Settings
+from ..kind import Kind, Literal, Settings
+from ..listed import Place
 
 TRUTHS = (("false", "true"), ("False", "True"), ("FALSE", "TRUE"))
 TRUTH_OF = {word: (value, words) for words in TRUTHS for value, word in enumerate(words)}

@@ -6,7 +6,8 @@ from dataclasses import dataclass
 from fractions import Fraction
 from typing import ClassVar, Sequence
 
-from ..kind import Kind, Literal, Place, Settings
+from ..kind import Kind, Literal, Settings
+from ..listed import Place
 from ..numerals import scaled
 
 

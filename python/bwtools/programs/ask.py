@@ -43,8 +43,9 @@ from typing import Iterable, Sequence
 from .. import asking, command, options
 from ..naming import is_name
 from ..session import Failed
-from ..sql.catalog import name_of, open_catalog
+from ..sql.catalog import open_catalog
 from ..sql.connection import Connection, Settings
+from ..sql.table import name_of
 from ..telling import Refused
 
 NAME = "bw-ask"

@@ -24,7 +24,7 @@ import sys
 from typing import Callable
 
 from .. import asking, command, importing, options
-from ..sql.catalog import name_of
+from ..sql.table import name_of
 from . import ask
 
 NAME = "bw-shards"

@@ -6,7 +6,9 @@ from typing import Any, Iterator, Sequence, Union
 
 from ..kind import Kind
 from . import values
-from .bodies import Block, Numbers, Rows, rows_of
+from .blocks import Block, rows_of
+from .number_rows import Numbers
+from .value_rows import Rows
 
 
 @dataclass

@@ -11,17 +11,19 @@ from ..progress import Progress
 from ..telling import Refused
 from .aggregates import for_sqlite
 from .answer import Answer
-from .bodies import Rows
-from .catalog import Catalog, Table
+from .catalog import Catalog
 from .clauses import Clauses, clauses_of
 from .condition import MOST_BYTES, Condition
 from .engine import Engine
 from .listing import Listing
-from .predicates import Outside, is_long
+from .outside import Outside
+from .predicates import is_long
 from .reader import Reader
 from .reading import reads_of, told
 from .statement import Statement
+from .table import Table
 from .tokens import NUMBER
+from .value_rows import Rows
 from .values import EXACT_DIGITS
 
 # so many rows are listed without being asked for, and so many conditions' rows are kept

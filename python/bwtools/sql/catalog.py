@@ -2,87 +2,10 @@
 from __future__ import annotations
 
 import contextlib
-import os
-import pathlib
-from dataclasses import dataclass, field
-from typing import BinaryIO, Iterable, Sequence
+from typing import Iterable
 
-from ..kind import Column
-from ..naming import name_like
-from ..pairs import is_of, open_pair
-from ..regular import open_regular
-from ..shards import FOREIGN, Folder
-from ..store import TableFile
 from ..telling import Refused, shown
-
-
-@dataclass
-class Part:
-    """One table file of a table: its path, its record, the columns file that names it, and the
-    file, open and compared with the record; or None if only a cluster's workers open it."""
-
-    path: str
-    record: TableFile
-    columns: str
-    file: BinaryIO | None
-
-
-@dataclass
-class Table:
-    """A table: its name in statements, the one by which bw knows it, its columns, its files in the
-    rows' order, and the number of its rows if the columns file has it."""
-
-    name: str
-    bw_name: str
-    columns: Sequence[Column]
-    parts: Sequence[Part]
-    rows: int | None = None
-    stack: contextlib.ExitStack = field(default_factory=contextlib.ExitStack)
-
-    def close(self) -> None:
-        """Closes its files; texts can't be read any more."""
-        self.stack.close()
-
-    def column(self, name: str) -> Column | None:
-        """Returns the column of a name, case ignored, or None."""
-        key = name.lower()
-        return next((each for each in self.columns if each.name.lower() == key), None)
-
-
-def open_table(name: str, path: str, is_local: bool = True) -> Table:
-    """Opens a table that bw-import wrote, or a folder of shards. If the shards aren't local, only
-    their records are read. Raises Refused if it isn't one, or was replaced."""
-    return open_folder(name, path, is_local) if os.path.isdir(path) else open_file(name, path)
-
-
-def open_file(name: str, path: str) -> Table:
-    pair = open_pair(path)
-    part = Part(path, pair.store.files[0], str(pair.store.path), pair.file)
-    table = Table(name, pair.store.name, pair.store.columns, [part])
-    table.stack.enter_context(pair)
-    return table
-
-
-def open_folder(name: str, path: str, is_local: bool) -> Table:
-    folder = Folder(path)
-    with contextlib.ExitStack() as stack:
-        stack.callback(folder.close)
-        parts = list[Part]()
-        for place, record in enumerate(folder.shards):
-            file = None
-            if is_local:
-                file = stack.enter_context(open_regular(folder.path_of(place)))
-                if not is_of(record, file):
-                    raise Refused(f"{folder.path_of(place)} {FOREIGN.format(folder.file)}")
-            parts.append(Part(folder.path_of(place), record, folder.file, file))
-        kept = stack.pop_all()
-    rows = sum(record.rows for record in folder.shards)
-    return Table(name, folder.name, folder.columns, parts, rows, kept)
-
-
-def name_of(path: str | os.PathLike[str]) -> str:
-    """Returns the name of a table in statements: that of its file or folder, made valid."""
-    return name_like(pathlib.Path(os.path.abspath(path)).name.removesuffix(".bw"))
+from .table import Table, open_table
 
 
 class Catalog:

@@ -5,7 +5,8 @@ from __future__ import annotations
 
 from typing import Callable
 
-from ..kind import Column, Literal
+from ..column import Column
+from ..kind import Literal
 from ..kinds import Clocks, Dates, Styled, Times, Truths
 from ..moments import read_moment
 from ..telling import Refused

@@ -3,10 +3,10 @@ from __future__ import annotations
 
 from dataclasses import dataclass
 
-from .catalog import Table
-from .predicates import Outside
+from .outside import Outside
 from .statement import Statement
 from .structure import CLAUSES, COMPOUND, Item
+from .table import Table
 from .tokens import TEXT
 
 # those with a word after their first one

@@ -21,7 +21,8 @@ from fractions import Fraction
 from typing import Callable, NamedTuple
 
 from . import tokens, values
-from .predicates import Operand, Outside, among, between, compared, like
+from .outside import Outside
+from .predicates import Operand, among, between, compared, like
 from .reader import Reader
 
 SIGNS = {"=": "=", "==": "=", "<>": "<>", "!=": "<>", "<": "<", ">": ">", "<=": "<=", ">=": ">="}

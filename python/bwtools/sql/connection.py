@@ -10,10 +10,11 @@ from typing import TYPE_CHECKING, Any, Callable, Sequence
 
 from . import errors, grammar
 from .answer import Answer
-from .catalog import Catalog, Table, name_of, open_catalog
+from .catalog import Catalog, open_catalog
 from .engine import Asker, Engine, Scheduled, Sessions
 from .errors import translated
 from .statement import Statement
+from .table import Table, name_of
 
 if TYPE_CHECKING:
     from .by_sqlite import BySqlite

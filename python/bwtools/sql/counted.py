@@ -2,57 +2,21 @@
 counted and added here, exactly."""
 from __future__ import annotations
 
-import itertools
 from array import array
 from collections import Counter
-from dataclasses import dataclass
-from typing import BinaryIO, Iterable, Iterator, Mapping, Sequence, Tuple
+from typing import BinaryIO, Iterator, Mapping, Sequence
 
-from ..kind import Kind
 from ..codes import Codes
+from ..kind import Kind
 from ..session import Failed
-from ..shards import total
 from ..telling import Refused
 from . import values
+from .found_groups import COUNT, Found, Key
+from .group_sums import NULL, Sums
 
 MOST_GROUPS = 1_000_000
-COUNT = "COUNT(*)"
 # of a group whose number is null: less than each number, all of which are within 64 bits
-NULL_NUMBER, NULL, AT_ONCE = -1 << 64, "NULL", 1 << 18
-# the numbers of a group's columns
-Key = Tuple[int, ...]
-
-
-@dataclass
-class Found:
-    """Groups: the numbers of each column that makes them, and the totals of each group by their
-    names, such as SUM(cents). All lists have the groups' order."""
-
-    columns: Sequence[Sequence[int]]
-    totals: Mapping[str, Sequence[int | None]]
-
-    @property
-    def keys(self) -> list[Key]:
-        """The numbers of each group."""
-        return list(zip(*self.columns)) if self.columns else [()] * len(self.totals[COUNT])
-
-    def coarser(self, places: Sequence[int], groups: int) -> Found:
-        """Returns the totals of so many groups, each of which has some of these: those of its
-        place."""
-        parts: dict[str, list[list[int | None]]] = {name: [[] for _ in range(groups)]
-                                                    for name in self.totals}
-        for name, each in self.totals.items():
-            for place, number in zip(places, each):
-                parts[name][place].append(number)
-        return Found([], {name: [total(name.partition("(")[0], part) for part in each]
-                          for name, each in parts.items()})
-
-    def ascending(self) -> Found:
-        """Returns the groups in ascending order, nulls first."""
-        order = sorted(range(len(self.totals[COUNT])), key=self.keys.__getitem__)
-        columns = [list(map(column.__getitem__, order)) for column in self.columns]
-        return Found(columns, {name: list(map(each.__getitem__, order))
-                               for name, each in self.totals.items()})
+NULL_NUMBER, AT_ONCE = -1 << 64, 1 << 18
 
 
 def blocks(parts: Sequence[BinaryIO]) -> Iterator[str]:
@@ -84,34 +48,6 @@ def distinct(parts: Sequence[BinaryIO]) -> dict[Key, int]:
 
 class TooMany(Refused):
     """More groups than may be counted."""
-
-
-class Sums:
-    """The totals of a column in each group, by the groups' places: those of some functions."""
-
-    def __init__(self, name: str, functions: Sequence[str]) -> None:
-        self.name = name
-        self.found: dict[str, list[int]] = {function: [] for function in functions}
-        # how many numbers were added in each group
-        self.present: Counter[int] = Counter()
-
-    def add(self, groups: int, places: Sequence[int], fields: Sequence[str]) -> None:
-        """Adds the fields of some rows, whose groups have these places, of so many ones."""
-        if NULL in fields:
-            kept = [field != NULL for field in fields]
-            places = list(itertools.compress(places, kept))
-            fields = list(itertools.compress(fields, kept))
-        self.present.update(places)
-        for function, found in self.found.items():
-            found += [STARTS[function]] * (groups - len(found))
-            ADDERS[function](found, places, map(int, fields))
-
-    def totals(self, groups: int) -> Iterator[tuple[str, list[int | None]]]:
-        """Yields the totals of all groups by their names."""
-        counts = list(map(self.present.__getitem__, range(groups)))
-        for function, found in self.found.items():
-            totals = [total if count else None for total, count in zip(found, counts)]
-            yield f"{function}({self.name})", list(counts) if function == "COUNT" else totals
 
 
 def totals(parts: Sequence[BinaryIO], keys: int, functions: Mapping[str, Sequence[str]]) -> Found:
@@ -156,32 +92,6 @@ def blocks_of(parts: Sequence[BinaryIO], keys: int, others: int
         own = columns[0] if keys == 1 else list(map(",".join, zip(*columns[:keys]))) if keys else \
             [""] * len(columns[0])
         yield own, columns[keys:]
-
-
-def add_nothing(found: list[int], places: Iterable[int], numbers: Iterable[int]) -> None:
-    """Adds nothing: `Sums` has the counts."""
-
-
-def add_sums(found: list[int], places: Iterable[int], numbers: Iterable[int]) -> None:
-    for place, number in zip(places, numbers):
-        found[place] += number
-
-
-def add_least(found: list[int], places: Iterable[int], numbers: Iterable[int]) -> None:
-    for place, number in zip(places, numbers):
-        if number < found[place]:
-            found[place] = number
-
-
-def add_greatest(found: list[int], places: Iterable[int], numbers: Iterable[int]) -> None:
-    for place, number in zip(places, numbers):
-        if number > found[place]:
-            found[place] = number
-
-
-ADDERS = {"COUNT": add_nothing, "SUM": add_sums, "MIN": add_least, "MAX": add_greatest}
-# what a total is before any number; each number is within 64 bits
-STARTS = {"COUNT": 0, "SUM": 0, "MIN": 1 << 64, "MAX": -1 << 64}
 
 
 def columns_of(lines: Sequence[str]) -> list[list[int]]:

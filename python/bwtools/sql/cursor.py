@@ -6,9 +6,9 @@ from typing import TYPE_CHECKING, Any, Iterator, Optional, Sequence, Tuple
 
 from ..telling import Refused
 from .answer import Answer
-from .bodies import Rows
 from .errors import NotSupportedError, ProgrammingError, translated
 from .types import code_of
+from .value_rows import Rows
 
 if TYPE_CHECKING:
     import numpy

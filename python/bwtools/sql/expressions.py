@@ -5,15 +5,15 @@ from __future__ import annotations
 from dataclasses import dataclass, field
 from typing import Sequence
 
-from ..kind import Column
+from ..column import Column
 from . import tokens
+from .aggregate import AGGREGATES, Aggregate, aggregate_of
 from .clauses import Clauses
-from .predicates import Outside
+from .outside import Outside
 from .reader import Reader
 from .statement import Statement
 from .tokens import quoted_name
 
-AGGREGATES = ("COUNT", "SUM", "MIN", "MAX", "AVG")
 # functions whose value depends on nothing but their arguments
 FUNCTIONS = set("ABS CAST CHAR COALESCE DATE DATETIME HEX IFNULL IIF INSTR JULIANDAY LENGTH LOWER "
                 "LTRIM NULLIF PRINTF QUOTE REPLACE ROUND RTRIM SIGN STRFTIME SUBSTR SUBSTRING TIME "
@@ -25,15 +25,6 @@ MARKS = ("(", ")", ",", "+", "-", "*", "/", "%", "||", "<", "<=", ">", ">=", "="
          "&", "|", "<<", ">>", "~")
 # what names in the table of groups begin with
 PREFIX = "bw:"
-
-
-@dataclass(frozen=True)
-class Aggregate:
-    """An aggregate over the rows of a group: of a column, or COUNT(*)."""
-
-    function: str
-    column: Column | None = None
-    is_distinct: bool = False
 
 
 @dataclass
@@ -143,23 +134,3 @@ def words_of(statement: Statement, clauses: Clauses, span: range) -> list[str]:
 def reader_of(statement: Statement, clauses: Clauses, span: range) -> Reader:
     """Returns a reader of some tokens."""
     return Reader(statement, clauses.table, clauses.called, span.start, span.stop)
-
-
-def aggregate_of(reader: Reader) -> Aggregate:
-    """Consumes an aggregate over a column, or COUNT(*), as which COUNT(1) is."""
-    function = reader.take().key
-    reader.wants_mark("(")
-    column, is_distinct = None, False
-    is_of_rows = reader.next().is_mark("*") or \
-        reader.next().kind in (tokens.NUMBER, tokens.TEXT) and reader.next(1).is_mark(")")
-    if function == "COUNT" and is_of_rows:
-        reader.take()
-    else:
-        is_distinct = function == "COUNT" and reader.takes("DISTINCT")
-        column = reader.takes_column()
-        if not column:
-            raise Outside
-    reader.wants_mark(")")
-    if reader.next().key in ("FILTER", "OVER"):
-        raise Outside
-    return Aggregate(function, column, is_distinct)

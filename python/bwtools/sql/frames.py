@@ -14,7 +14,7 @@ from ..kinds import (Clocks, Dates, Decimals, Floats, Nulls, Ranked, Texts, Time
 from ..numerals import power_of_ten
 from ..telling import Refused
 from .answer import Answer
-from .bodies import Numbers, foreign
+from .number_rows import Numbers, foreign
 from .values import number_of
 
 # numbers up to this one are doubles

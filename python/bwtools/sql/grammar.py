@@ -17,19 +17,21 @@ from __future__ import annotations
 from dataclasses import dataclass
 from typing import Callable, Sequence
 
-from ..kind import Column
-from . import bodies
+from ..column import Column
+from .aggregate import AGGREGATES
 from .answer import Answer
-from .catalog import Table
 from .clauses import Clauses, clauses_of
 from .engine import Engine
-from .expressions import AGGREGATES, PREFIX
+from .expressions import PREFIX
 from .grouping import GroupsQuestion
 from .items import column_of, columns_of, plain_column, where_of
-from .ordering import Term, limits_of, terms_of
-from .predicates import Outside
+from .limits import limits_of
+from .number_rows import Numbers
+from .ordering import Term, terms_of
+from .outside import Outside
 from .rows import Key, Rows
 from .statement import Statement
+from .table import Table
 from .tokens import NUMBER
 
 
@@ -80,7 +82,7 @@ class RowsQuestion:
     statement: Statement
     clauses: Clauses
 
-    def body(self, engine: Engine) -> bodies.Numbers:
+    def body(self, engine: Engine) -> Numbers:
         """Returns the rows that bw lists."""
         clauses, tokens = self.clauses, self.statement.tokens
         columns = [column for item in clauses.items

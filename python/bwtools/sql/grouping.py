@@ -7,18 +7,21 @@ import sqlite3
 from typing import Iterator, Sequence
 
 from ..telling import Refused
-from . import bodies, values
+from . import values
 from .clauses import Clauses
 from .counted import TooMany
 from .engine import Engine
 from .expressions import PREFIX, Expressions, Group, words_of
-from .groups import Wanted, groups_of
+from .groups import groups_of
 from .items import columns_of, is_star, named_item, plain_column, where_of
-from .ordering import Limits, limits_of, terms_of
-from .predicates import Outside
+from .limits import Limits, limits_of
+from .ordering import terms_of
+from .outside import Outside
 from .statement import Statement
 from .structure import Item
 from .tokens import quoted_name
+from .value_rows import Rows
+from .wanted import Wanted
 
 # the small table of groups
 TABLE = quoted_name(f"{PREFIX}groups")
@@ -137,11 +140,11 @@ class GroupsQuestion:
                         order.lower() in (alias, quoted_name(alias)):
                     yield item
 
-    def body(self, engine: Engine) -> bodies.Rows:
+    def body(self, engine: Engine) -> Rows:
         """Returns the rows that SQLite makes of the groups."""
         made, table = self.expressions, self.clauses.table
         if self.limits.most == 0:
-            return bodies.Rows([])
+            return Rows([])
         columns = self.fine.columns if self.is_coarse else made.columns
         wanted = Wanted(table.bw_name, where_of(self.statement, self.clauses), columns,
                         made.aggregates, self.is_in_rows_order)
@@ -151,7 +154,7 @@ class GroupsQuestion:
             if self.is_coarse:
                 raise Outside from None
             raise
-        return bodies.Rows(rows_of(types_of(made), [*groups.columns, *groups.values], self.sql)[0])
+        return Rows(rows_of(types_of(made), [*groups.columns, *groups.values], self.sql)[0])
 
     def coarse(self, columns: Sequence[Sequence[values.Value]]
                ) -> tuple[Sequence[Sequence[values.Value]], Sequence[int]]:

@@ -8,53 +8,28 @@ from __future__ import annotations
 
 import math
 from collections import Counter
-from dataclasses import dataclass, field, replace
+from dataclasses import dataclass, replace
 from typing import Any, Callable, Mapping, Sequence, Tuple
 
-from ..kind import Column, Kind
+from ..column import Column
+from ..kind import Kind
 from ..session import Failed
 from ..shards import total
 from . import counted, values
-from .bodies import foreign
-from .counted import COUNT, NULL_NUMBER, Found, Key
+from .aggregate import Aggregate
+from .counted import NULL_NUMBER
 from .engine import Engine, Totals
 from .exact import float_sum
-from .expressions import Aggregate
-from .rows import both, names_of, select
+from .found_groups import COUNT, Found, Key
+from .number_rows import foreign
+from .rows import names_of, select
+from .wanted import NEEDED, Wanted, is_float_sum
 
 # so many groups are counted by statements at most, and only if the rows that those scan are no more
 # than so many times the rows that would be listed: which takes as long
 MOST_STATEMENTS, LISTED_COST, LONG = 1000, 2000, 200
-# the totals of bw that an aggregate needs
-NEEDED: Mapping[str, Sequence[str]] = {"COUNT": ("COUNT",), "SUM": ("SUM",), "MIN": ("MIN",),
-                                       "MAX": ("MAX",), "AVG": ("SUM", "COUNT")}
 # the totals of all rows by their names
 Whole = Mapping[str, "int | None"]
-
-
-@dataclass
-class Wanted:
-    """Which rows make groups, by which columns, and the aggregates of each group. Groups ascend,
-    nulls first, or have the order of their first rows."""
-
-    table: str
-    where: str
-    keys: Sequence[Column]
-    aggregates: Sequence[Aggregate] = ()
-    is_in_rows_order: bool = False
-    # the totals of bw that the aggregates need
-    totals: list[str] = field(init=False)
-
-    def __post_init__(self) -> None:
-        found = [f"{function}({each.column.name})" for each in self.aggregates
-                 if each.column and not each.is_distinct and not is_float_sum(each)
-                 for function in NEEDED[each.function]]
-        self.totals = list(dict.fromkeys([COUNT, *found]))
-
-    def select(self, items: str, where: str = "") -> str:
-        """Returns the statement of bw over these rows, of which those are wanted that fulfil a
-        condition."""
-        return select(items, self.table, both(self.where, where))
 
 
 @dataclass
@@ -249,13 +224,6 @@ def doubles_of(engine: Engine, wanted: Wanted, column: Column) -> Mapping[Key, S
     columns = [*wanted.keys, column]
     parts = engine.rows(wanted.select(names_of(columns), f"{column.name} IS NOT NULL"))
     return counted.doubles(parts, len(wanted.keys), column.kind)
-
-
-def is_float_sum(aggregate: Aggregate) -> bool:
-    """Returns whether an aggregate adds doubles, which bw doesn't."""
-    column = aggregate.column
-    return column is not None and not column.kind.is_summable and \
-        aggregate.function in ("SUM", "AVG")
 
 
 def float_total(function: str, doubles: Sequence[float]) -> float | None:

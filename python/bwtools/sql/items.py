@@ -4,11 +4,11 @@ from __future__ import annotations
 
 from typing import Sequence
 
-from ..kind import Column
+from ..column import Column
 from .clauses import Clauses
 from .condition import Condition
 from .expressions import reader_of
-from .predicates import Outside
+from .outside import Outside
 from .statement import Statement
 from .structure import Item
 

@@ -6,13 +6,15 @@ import itertools
 import sqlite3
 from typing import Callable, Iterator, Sequence
 
-from ..kind import Column
+from ..column import Column
 from ..session import Failed
-from .aggregates import Functions
-from .bodies import Block, Numbers
-from .catalog import Catalog, Table
+from .blocks import Block
+from .catalog import Catalog
 from .engine import Engine
+from .functions import Functions
+from .number_rows import Numbers
 from .reading import Guard, declare
+from .table import Table
 from .tokens import quoted_name
 from .values import affinity
 from .watching import watch

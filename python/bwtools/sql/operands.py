@@ -6,7 +6,7 @@ from dataclasses import dataclass
 from fractions import Fraction
 from typing import Iterator, Union
 
-from ..kind import Column
+from ..column import Column
 from .scopes import Scope
 from .structure import Structure
 from .tokens import BLOB, NUMBER, PARAMETER, TEXT

@@ -10,10 +10,12 @@ import operator
 import sqlite3
 from typing import Any, Callable, Iterable, NamedTuple, Sequence, Union
 
-from ..kind import GREATEST, LEAST, Column
+from ..column import Column
+from ..kind import GREATEST, LEAST
 from ..kinds import Decimals, undressed
 from ..stored_list import StoredList
 from . import values
+from .outside import Outside
 
 SWAPPED = {"<": ">", ">": "<", "<=": ">=", ">=": "<=", "=": "=", "<>": "<>"}
 # of two texts or of two numbers
@@ -25,11 +27,6 @@ UNKNOWN, TRUE, FALSE = "NULL = NULL", "1 = 1", "1 = 0"
 # values a column may have that is compared with one of another scale, and how many days or times
 # LIKE may choose from
 MOST_RUNS, SHORT, MOST_VALUES, MOST_MOMENTS = 200, 3, 100, 50_000
-
-
-class Outside(Exception):
-    """What isn't in the grammar of statements of bw, or has no condition over numbers: so SQLite
-    answers it over listed columns."""
 
 
 class Operand(NamedTuple):

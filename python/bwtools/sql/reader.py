@@ -4,11 +4,12 @@ from __future__ import annotations
 from fractions import Fraction
 from typing import Sequence
 
-from ..kind import Column
+from ..column import Column
 from . import tokens
-from .catalog import Table
-from .predicates import Operand, Outside
+from .outside import Outside
+from .predicates import Operand
 from .statement import Statement
+from .table import Table
 from .tokens import Token
 
 # numbers of more characters are left to SQLite

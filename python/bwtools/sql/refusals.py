@@ -1,7 +1,8 @@
 """Why a literal can't be compared with a column, or what has no order or sum."""
 from __future__ import annotations
 
-from ..kind import Column, Literal
+from ..column import Column
+from ..kind import Literal
 from ..naming import option
 from ..telling import Refused
 

@@ -5,11 +5,12 @@ import itertools
 from dataclasses import dataclass
 from typing import BinaryIO, Iterator, Sequence
 
-from ..kind import Column
-from .bodies import Numbers
+from ..column import Column
 from .engine import Engine
-from .ordering import Limits
-from .predicates import Outside, placed
+from .limits import Limits
+from .number_rows import Numbers
+from .outside import Outside
+from .predicates import placed
 
 NULL, HEADING, AT_ONCE = b"NULL", b"\n", 1 << 20
 # the bytes of a statement that bw takes, without its end

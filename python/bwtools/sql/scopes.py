@@ -4,29 +4,7 @@ from __future__ import annotations
 from dataclasses import dataclass, field
 from typing import Iterator, Sequence
 
-from ..kind import Column
-
-
-@dataclass
-class Output:
-    """A column of a table or of a query's result: its name, its heading, and the column of a table
-    whose values it has, or None for another expression. A total has a column of its own, which no
-    table has: its kind says what the total can be compared with."""
-
-    name: str
-    heading: str
-    column: Column | None
-    is_total: bool = False
-
-    @property
-    def plain(self) -> Column | None:
-        """The table's column of which it has values."""
-        return None if self.is_total else self.column
-
-
-def output_of(column: Column) -> Output:
-    """Returns the output that a table's column is."""
-    return Output(column.name, column.heading or column.name, column)
+from .output import Output
 
 
 @dataclass

@@ -8,8 +8,8 @@ from .bracketed import Bracketed
 from .catalog import Catalog
 from .checking import Checks
 from .operands import COMPARE
+from .output import Output
 from .parameters import literal
-from .scopes import Output
 from .structure import Structure
 from .tokens import END, PARAMETER, TEXT, Token, quoted_name, tokens_of
 

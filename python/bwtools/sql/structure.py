@@ -6,11 +6,14 @@ from __future__ import annotations
 from dataclasses import dataclass
 from typing import Sequence
 
-from ..kind import Column, Kind
+from ..column import Column
+from ..kind import Kind
 from ..kinds import Floats, Whole
 from .bracketed import JOINS, RESERVED, Bracketed
-from .catalog import Catalog, Table, missing
-from .scopes import Output, Scope, Source, output_of
+from .catalog import Catalog, missing
+from .output import Output, output_of
+from .scopes import Scope, Source
+from .table import Table
 from .tokens import QUOTED, TEXT, WORD
 
 # how the names of SQLite's own tables begin

@@ -12,12 +12,15 @@ import operator
 from fractions import Fraction
 from typing import Any, Callable, Sequence, Union
 
-from ..kind import GREATEST, LEAST, Column, Kind, Literal, Place
+from ..column import Column
+from ..kind import GREATEST, LEAST, Kind, Literal
 from ..kinds import (Clocks, Dates, Decimals, Floats, Ranked, Styled, Times, Truths,
                      undressed)
 from ..kinds.doubles import double_of
-from ..moments import FIRST_DAY, ISO_DATE, spelled_times
+from ..listed import Place
+from ..moments import FIRST_DAY, ISO_DATE
 from ..numerals import power_of_ten
+from ..plain_times import spelled_times
 from ..telling import Refused
 
 # a value as SQLite has it; our tables have no bytes, but expressions may

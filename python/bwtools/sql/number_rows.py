@@ -1,47 +1,18 @@
-"""The rows of an answer, as SQLite computed them or as bw listed them."""
+"""The rows of an answer as bw listed them."""
 from __future__ import annotations
 
 import functools
 import io
-import itertools
 from typing import Any, BinaryIO, Callable, Iterator, Sequence, Union
 
 from ..answers import blocks as blocks_of
 from ..kind import Kind
 from ..kinds import Whole
 from ..telling import Refused
-from .values import Value, field, objects, python, same, stored
+from .blocks import Block
+from .values import objects, stored
 
-NULL, AT_ONCE, SAMPLE = "NULL", 8192, 256
-# some columns of values, each of the same rows
-Block = Sequence[Sequence[Value]]
-
-
-class Rows:
-    """Rows of SQLite's values."""
-
-    def __init__(self, rows: Sequence[tuple[Value, ...]]) -> None:
-        self.rows = rows
-
-    def count(self) -> int:
-        """Returns the number of rows."""
-        return len(self.rows)
-
-    def values(self, kinds: Sequence[Kind | None]) -> Iterator[Block]:
-        """Yields the columns of many rows at a time."""
-        for start in range(0, len(self.rows), AT_ONCE):
-            yield list(zip(*self.rows[start:start + AT_ONCE]))
-
-    def objects(self, kinds: Sequence[Kind | None]) -> Iterator[Sequence[Sequence[Any]]]:
-        """Yields the columns of Python's objects of many rows at a time."""
-        makers = list(map(python, kinds))
-        for block in self.values(kinds):
-            yield [made(maker, column) for maker, column in zip(makers, block)]
-
-    def fields(self, kinds: Sequence[Kind | None]) -> Iterator[Sequence[Sequence[str]]]:
-        """Yields the columns of the fields of many rows at a time, without quotes."""
-        for block in self.values(kinds):
-            yield [spelled(kind, column) for kind, column in zip(kinds, block)]
+NULL, SAMPLE = "NULL", 256
 
 
 class Numbers:
@@ -93,22 +64,6 @@ class Numbers:
             yield [written(kind, fields) for kind, fields in zip(kinds, block)]
 
 
-def spelled(kind: Kind | None, values: Sequence[Value]) -> list[str]:
-    """Returns the fields of values."""
-    if kind is None:
-        return [value if type(value) is str else field(None, value) for value in values]
-    known = {value: field(kind, value) for value in set(values)}
-    return list(map(known.__getitem__, values))
-
-
-def made(maker: Callable[[Any], Any], column: Sequence[Any]) -> Sequence[Any]:
-    """Returns Python's objects of a column's values, each distinct one made once."""
-    if maker is same:
-        return column
-    known = {value: None if value is None else maker(value) for value in set(column)}
-    return list(map(known.__getitem__, column))
-
-
 def decoded(kind: Kind | None, fields: Sequence[str]) -> list[Any]:
     """Returns SQLite's values of bw's fields."""
     return turned(fields, None, lambda numbers: numbers if kind is None else stored(kind, numbers),
@@ -146,8 +101,3 @@ def turned(fields: Sequence[str], null: Any, turn: Callable[[Sequence[int]], Seq
 def foreign(kind: Kind | None) -> Refused:
     plural = kind.plural if kind else "whole numbers"
     return Refused(f"the table has a number that is none of its column's {plural}")
-
-
-def rows_of(blocks: Iterator[Block]) -> Iterator[tuple[Any, ...]]:
-    """Yields the rows of blocks of columns."""
-    return itertools.chain.from_iterable(zip(*block) for block in blocks)

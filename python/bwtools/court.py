@@ -1,0 +1,132 @@
+"""The judges of a column, and what they decide together."""
+from __future__ import annotations
+
+from typing import Iterable, Optional
+
+from .judges.clocks import ClockJudge
+from .judges.dates import DateJudge
+from .judges.fields import Fields
+from .judges.judge import Judge
+from .judges.numbers import NumberJudge
+from .judges.truths import TruthJudge
+from .judges.verdict import Decision, Question, Verdict
+from .judges.wanted import WantedJudge
+from .kinds.nulls import Nulls
+from .moments import is_like_date
+from .naming import option
+from .opinion import DRAWN, MOST_WORDS, Opinion, count_fields, others_of
+from .telling import counted, shown
+from .wishes import BLANKS
+
+# of a run of more texts than these, some are drawn first
+MANY = 1 << 14
+
+
+class Court:
+    """The judges of a column, asked in order, and what they think of it."""
+
+    def __init__(self, column: Fields) -> None:
+        self.column, wishes = column, column.wishes
+        judges: Iterable[Judge] = (TruthJudge(), NumberJudge(), DateJudge(), ClockJudge())
+        is_asked = wishes.form is not None or wishes.is_number or wishes.digits is not None
+        if wishes.form is not None:
+            judges = (WantedJudge(wishes.form),)
+        elif is_asked:
+            judges = (NumberJudge(),)
+        self.opinions = [] if wishes.is_text else list(map(Opinion, judges))
+        self.count = 0
+        may_leave = not is_asked and not column.plain.forms
+        for run, (texts, bare) in enumerate(column.each_run()):
+            self.count += len(bare)
+            drawn = column.drawn(run, texts, DRAWN) if may_leave and len(bare) > MANY else []
+            for opinion in self.opinions:
+                if not drawn or not opinion.leaves(run, bare, drawn):
+                    opinion.add(run, texts, bare)
+        # if other runs have some, all are counted
+        late = [opinion for opinion in self.opinions if opinion.left and opinion.likes]
+        for run, (texts, bare) in enumerate(column.each_run() if late else ()):
+            for opinion in late:
+                if run in opinion.left:
+                    opinion.add(run, texts, bare)
+
+    def winner(self) -> Optional[Judge]:
+        """Returns the first judge to whom all fields are like its own, if there are any."""
+        forms = self.column.plain.forms
+        for opinion in self.opinions:
+            is_own = forms <= set(opinion.judge.forms) and bool(opinion.likes or forms)
+            if not opinion.others and is_own:
+                return opinion.judge
+        return None
+
+    def verdict(self, signs: set[str]) -> Verdict:
+        """Returns what the column becomes."""
+        wishes, winner = self.column.wishes, self.winner()
+        if winner:
+            return winner.decide(self.column, signs)
+        if not self.count and not self.column.plain.forms:
+            return nothing(self.column)
+        if wishes.is_text:
+            return Decision(None, "by --text")
+        if wishes.form is not None or wishes.is_number or wishes.digits is not None:
+            return self.asked_for()
+        return self.mostly() or Decision(None)
+
+    def asked_for(self) -> Question:
+        """Returns why a column isn't what an option says."""
+        opinion, = self.opinions
+        wishes, words = self.column.wishes, others_of(self.column, opinion)[:MOST_WORDS]
+        name = "--number" if wishes.is_number else "--digits"
+        name = "--date" if wishes.form is not None else name
+        what = {"--date": f"a date in the format {wishes.form}"}.get(name, "a number")
+        return Question(f"{listed(len(words))} {verb(len(words))} {what}, as {name} states",
+                        tuple(words), (), True)
+
+    def mostly(self) -> Optional[Verdict]:
+        """Returns what becomes of a column that is mostly of one kind, if it is."""
+        shared = [opinion for opinion in self.opinions if opinion.judge.is_shared and
+                  (opinion.likes or self.column.plain.forms & set(opinion.judge.forms))]
+        shares = [(*count_fields(self.column, opinion), opinion) for opinion in shared]
+        for likes, count, opinion in sorted(shares, key=lambda share: -share[0]):
+            if likes * 2 < count and (opinion.likes * 2 <= self.count or self.column.plain.forms):
+                continue
+            words, heading = others_of(self.column, opinion), self.column.wishes.heading
+            # half of the fields don't show what the others should be, but these have no order
+            if len(words) <= MOST_WORDS and likes * 2 != count:
+                return few_words(opinion.judge, words, likes, count, heading)
+            plural = opinion.judge.plural
+            why = f"{likes:,} of {counted(count, 'field')} look like {plural}"
+            return Decision(None, why, plural)
+        return None
+
+
+def few_words(judge: Judge, words: list[str], likes: int, count: int, heading: str) -> Question:
+    share = f"{likes:,} of {counted(count, 'field')}"
+    what = f"{listed(len(words))} {verb(len(words))} {judge.singular}, as {share} are"
+    if judge.plural == "dates" and all(map(is_like_date, words)):
+        what = f"{listed(len(words))} {verb(len(words))} a date"
+    return Question(what, tuple(words), (option("--text", heading),), True)
+
+
+def listed(count: int) -> str:
+    """Returns places for some texts in a message."""
+    places = [f"{{{place}}}" for place in range(count)]
+    return " and ".join([", ".join(places[:-1]), places[-1]] if count > 1 else places)
+
+
+def verb(count: int) -> str:
+    return "isn't" if count == 1 else "aren't"
+
+
+def nothing(column: Fields) -> Decision:
+    """Returns what becomes of a column of nulls alone, or of words that are null only in other
+    columns."""
+    words = [word for word in words_of(column) if word not in column.wishes.nulls]
+    return Decision(None,
+                    f"only {shown(words[0])} and similar words") if words else Decision(Nulls())
+
+
+def words_of(column: Fields) -> list[str]:
+    """Returns the words for null that occur in a column."""
+    found = {text.strip(BLANKS) for texts in column.runs.each(column.store)
+             for text in texts} | set(column.plain.nulls)
+    return [word for word in column.wishes.words if word in found]

@@ -1,0 +1,80 @@
+"""Dates and times: days since 1970, or seconds and their parts since then."""
+from __future__ import annotations
+
+from dataclasses import dataclass
+from typing import ClassVar, Sequence
+
+from ..kind import GREATEST, LEAST
+from ..kinds.dates import Dates
+from ..kinds.times import Times
+from ..moments import DATE_LINES, DATE_STARTS, ISO_DATE, moment_of
+from ..naming import option
+from .fields import Fields
+from .judge import matching, starting
+from .spellings import Spellings, spellings
+from .verdict import Decision, Question, Verdict
+
+
+@dataclass(frozen=True)
+class DateJudge:
+    """Looks for dates and times."""
+    plural: ClassVar[str] = "dates"
+    singular: ClassVar[str] = "a date"
+    forms: ClassVar[tuple[str, ...]] = ("time",)
+    is_shared: ClassVar[bool] = True
+
+    def like(self, texts: Sequence[str]) -> list[str]:
+        return [text for text in matching(DATE_LINES, starting(texts, DATE_STARTS))
+                if (moment := moment_of(text)) and moment.days]
+
+    def signs(self, column: Fields) -> set[str]:
+        return set()
+
+    def decide(self, column: Fields, signs: set[str]) -> Verdict:
+        found, heading = spellings(column), column.wishes.heading
+        keep = (option("--text", heading),)
+        for texts in (found.forms.values(), found.zones.values()):
+            if len(texts) > 1:
+                first, second, *_ = texts
+                return Question("{0} and {1} are of different forms", (first, second), keep)
+        if found.odd:
+            return Question("{0} and {1} are dates of different forms", (found.first, found.odd),
+                            keep)
+        clock = found.clock()
+        if isinstance(clock, tuple):
+            return Question("{0} and {1} are times of different forms", clock, keep)
+        formats = found.formats or (ISO_DATE,)
+        if len(formats) > 1 and not is_same(formats):
+            return Question("{0} may be read in two ways", (found.first,), tuple(
+                option("--date", f"{heading}={form}{next(iter(found.betweens), '')}{clock}")
+                for form in formats) + keep)
+        return decided(column, found, formats[0], clock)
+
+
+def is_same(formats: Sequence[str]) -> bool:
+    """Returns whether formats read each date alike: those of short and of long names of months
+    do."""
+    return len({form.replace("%B", "%b") for form in formats}) == 1
+
+
+def decided(column: Fields, found: Spellings, form: str, clock: str) -> Verdict:
+    if not clock:
+        return Decision(Dates(form))
+    between = next(iter(found.betweens)) if len(found.betweens) == 1 else "T"
+    kind = Times(f"{form}{between}{clock}", found.digits, "Z" if True in found.zones else "")
+    return kind_that_fits(column, kind, found)
+
+
+def kind_that_fits(column: Fields, kind: Times, found: Spellings) -> Verdict:
+    """Returns the kind of times, or what to do about times that are too far apart for 64 bits in
+    their digits."""
+    if found.digits < 8:
+        return Decision(kind)
+    ends = [end * 10 ** (found.digits - shape[2]) for shape,
+            span in column.plain.shapes.items() for end in span]
+    for texts in column.bare():
+        ends += [number for number in map(kind.number, texts) if number is not None]
+    if min(ends) < LEAST or max(ends) > GREATEST or max(ends) - min(ends) > GREATEST:
+        return Question("its times have too many digits for 64 bits", (),
+                        (option("--text", column.wishes.heading),))
+    return Decision(kind)

@@ -1,0 +1,40 @@
+"""An aggregate over the rows of a group."""
+from __future__ import annotations
+
+from dataclasses import dataclass
+
+from ..column import Column
+from . import tokens
+from .outside import Outside
+from .reader import Reader
+
+AGGREGATES = ("COUNT", "SUM", "MIN", "MAX", "AVG")
+
+
+@dataclass(frozen=True)
+class Aggregate:
+    """An aggregate over the rows of a group: of a column, or COUNT(*)."""
+
+    function: str
+    column: Column | None = None
+    is_distinct: bool = False
+
+
+def aggregate_of(reader: Reader) -> Aggregate:
+    """Consumes an aggregate over a column, or COUNT(*), as which COUNT(1) is."""
+    function = reader.take().key
+    reader.wants_mark("(")
+    column, is_distinct = None, False
+    is_of_rows = reader.next().is_mark("*") or \
+        reader.next().kind in (tokens.NUMBER, tokens.TEXT) and reader.next(1).is_mark(")")
+    if function == "COUNT" and is_of_rows:
+        reader.take()
+    else:
+        is_distinct = function == "COUNT" and reader.takes("DISTINCT")
+        column = reader.takes_column()
+        if not column:
+            raise Outside
+    reader.wants_mark(")")
+    if reader.next().key in ("FILTER", "OVER"):
+        raise Outside
+    return Aggregate(function, column, is_distinct)

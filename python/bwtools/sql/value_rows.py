@@ -1,0 +1,53 @@
+"""The rows of an answer as SQLite computed them."""
+from __future__ import annotations
+
+from typing import Any, Callable, Iterator, Sequence
+
+from ..kind import Kind
+from .blocks import Block
+from .values import Value, field, python, same
+
+AT_ONCE = 8192
+
+
+class Rows:
+    """Rows of SQLite's values."""
+
+    def __init__(self, rows: Sequence[tuple[Value, ...]]) -> None:
+        self.rows = rows
+
+    def count(self) -> int:
+        """Returns the number of rows."""
+        return len(self.rows)
+
+    def values(self, kinds: Sequence[Kind | None]) -> Iterator[Block]:
+        """Yields the columns of many rows at a time."""
+        for start in range(0, len(self.rows), AT_ONCE):
+            yield list(zip(*self.rows[start:start + AT_ONCE]))
+
+    def objects(self, kinds: Sequence[Kind | None]) -> Iterator[Sequence[Sequence[Any]]]:
+        """Yields the columns of Python's objects of many rows at a time."""
+        makers = list(map(python, kinds))
+        for block in self.values(kinds):
+            yield [made(maker, column) for maker, column in zip(makers, block)]
+
+    def fields(self, kinds: Sequence[Kind | None]) -> Iterator[Sequence[Sequence[str]]]:
+        """Yields the columns of the fields of many rows at a time, without quotes."""
+        for block in self.values(kinds):
+            yield [spelled(kind, column) for kind, column in zip(kinds, block)]
+
+
+def spelled(kind: Kind | None, values: Sequence[Value]) -> list[str]:
+    """Returns the fields of values."""
+    if kind is None:
+        return [value if type(value) is str else field(None, value) for value in values]
+    known = {value: field(kind, value) for value in set(values)}
+    return list(map(known.__getitem__, values))
+
+
+def made(maker: Callable[[Any], Any], column: Sequence[Any]) -> Sequence[Any]:
+    """Returns Python's objects of a column's values, each distinct one made once."""
+    if maker is same:
+        return column
+    known = {value: None if value is None else maker(value) for value in set(column)}
+    return list(map(known.__getitem__, column))
