@@ -167,7 +167,8 @@ class Failing(Temporary):
 
     def test_results_that_are_not_the_statements_own(self):
         for script, why in [
-                ("printf 'COUNT(*)\\n1\\n\\nCOUNT(*)\\n2\\n\\nCOUNT(*)\\n3\\n\\n\\n'; cat", SURPLUS),
+                ("printf 'COUNT(*)\\n1\\n\\nCOUNT(*)\\n2\\n\\nCOUNT(*)\\n3\\n\\n\\n'; cat",
+                 SURPLUS),
                 (f"{COUNTS} 5; {COUNTS} 5; {COUNTS} 5; cat >/dev/null", "no totals"),
                 (f"{COUNTS} '5,1\\n5,1'; {COUNTS} 5,1; {COUNTS} 5,1; cat", "no totals")]:
             with self.subTest(script):
