@@ -40,11 +40,6 @@ pub enum CommandArgs<'a> {
         schema: &'a str,
         sql: &'a str,
     },
-    Certify {
-        schema: &'a str,
-        sql: &'a str,
-        program: &'a str,
-    },
     Check {
         schema: &'a str,
         sql: &'a str,
@@ -59,7 +54,6 @@ impl<'a> CommandArgs<'a> {
             CommandArgs::Direct { schema, .. }
             | CommandArgs::Load { schema, .. }
             | CommandArgs::Plan { schema, .. }
-            | CommandArgs::Certify { schema, .. }
             | CommandArgs::Check { schema, .. } => Some(schema),
             _ => None,
         }
@@ -90,7 +84,6 @@ impl<'a> CommandArgs<'a> {
     pub fn program(self) -> Option<&'a str> {
         match self {
             CommandArgs::Query { program, .. } => program,
-            CommandArgs::Certify { program, .. } => Some(program),
             CommandArgs::Check { file, .. } => Some(file),
             _ => None,
         }
@@ -102,7 +95,6 @@ impl<'a> CommandArgs<'a> {
             CommandArgs::Direct { sql, .. }
             | CommandArgs::Query { sql, .. }
             | CommandArgs::Plan { sql, .. }
-            | CommandArgs::Certify { sql, .. }
             | CommandArgs::Check { sql, .. } => Some(sql),
             _ => None,
         }
@@ -127,7 +119,6 @@ impl<'a> CommandArgs<'a> {
             CommandArgs::Info { .. } => "bw info TABLE",
             CommandArgs::Dump { .. } => "bw dump TABLE",
             CommandArgs::Plan { .. } => "bw plan SCHEMA SQL",
-            CommandArgs::Certify { .. } => "bw certify SCHEMA SQL PROGRAM",
             CommandArgs::Check { .. } => "bw check SCHEMA SQL FILE",
         }
     }
