@@ -9,6 +9,7 @@ import shutil
 import signal
 import subprocess
 import sys
+import threading
 import time
 import unittest
 from unittest import mock
@@ -339,7 +340,9 @@ class Failures(Connections):
     def test_interrupt_is_noticed_at_once(self):
         """Ctrl-C ends a statement of SQLite that would take minutes; the connection answers the
         next one."""
-        code = ("import bwtools, sys, time\n"
+        # a shell has background jobs ignore interrupts
+        code = ("import bwtools, signal\n"
+                "signal.signal(signal.SIGINT, signal.default_int_handler)\n"
                 f"connection = bwtools.connect({str(self.folder / 'trips.bw')!r})\n"
                 "print('ready', flush=True)\n"
                 "try:\n"
@@ -355,7 +358,10 @@ class Failures(Connections):
             time.sleep(0.5)
             begun = time.monotonic()
             process.send_signal(signal.SIGINT)
+            timer = threading.Timer(60, process.kill)
+            timer.start()
             self.assertEqual(process.stdout.read(), "[(3,)]\n")
+            timer.cancel()
             self.assertLess(time.monotonic() - begun, 5)
 
 

@@ -183,6 +183,9 @@ class Failing(Temporary):
             engine.Engine(self.asker(one, two)).totals(["one"])
 
     def test_an_interrupt_ends_the_sessions(self):
+        # a shell has background jobs ignore interrupts
+        before = signal.signal(signal.SIGINT, signal.default_int_handler)
+        self.addCleanup(signal.signal, signal.SIGINT, before)
         for count in (1, 3):
             asker = self.asker(*["exec sleep 60"] * count)
             timer = threading.Timer(.2, os.kill, (os.getpid(), signal.SIGINT))
