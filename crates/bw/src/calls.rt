@@ -103,6 +103,18 @@ pub fn plan<K: Sink>(alloc: Global, schema: &[u8], sql: &str, out: &mut K) -> Re
     bw_shell::plan_text(alloc, schema, sql.as_bytes(), out)
 }
 
+pub fn certify<K: Sink>(
+    alloc: Global,
+    schema: &[u8],
+    sql: &str,
+    program: &[u8],
+    out: &mut K,
+) -> Result<(), Fault>
+    requires { (K.state out.old).failures < 2 ^ 64 - 1 }
+{
+    bw_shell::certify_text(alloc, schema, sql.as_bytes(), program, out)
+}
+
 pub fn check(alloc: Global, schema: &[u8], sql: &str, file: &[u8]) -> Result<Accepted, Fault> {
     bw_shell::check_text(alloc, schema, sql.as_bytes(), file)
 }

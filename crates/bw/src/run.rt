@@ -4,7 +4,9 @@ ghost use Rattle.bw_io.specs.ReadAhead.{read_failures};
 ghost use Rattle.bw_memory.specs.MemoryTable.{schema_of};
 ghost use Rattle.bw_query.specs.ProgramCache.{Serves};
 
-use crate::calls::{answer, answer_all, check, direct, dump, infer, info, load, plan, read_table};
+use crate::calls::{
+    answer, answer_all, certify, check, direct, dump, infer, info, load, plan, read_table,
+};
 use crate::in_file::InFile;
 use crate::out_file::{OutFile, is_same_file};
 use crate::out_stream::OutStream;
@@ -121,6 +123,11 @@ fn run_command<'a>(
         CommandArgs::Info { table } => run_info(rt, table)?,
         CommandArgs::Dump { table } => run_dump(rt, table)?,
         CommandArgs::Plan { schema, sql } => run_plan(rt, schema, sql)?,
+        CommandArgs::Certify {
+            schema,
+            sql,
+            program,
+        } => run_certify(rt, schema, sql, program)?,
         CommandArgs::Check { schema, sql, file } => run_check(rt, schema, sql, file)?,
     }
     Ok(0)
@@ -361,6 +368,23 @@ fn run_plan<'a>(
     let schema = read_schema(rt, schema_path, schema)?;
     let mut out = OutStream::new(rt.stdout());
     let done = plan(rt.alloc(), &schema, sql, &mut ToWrite::new(&mut out));
+    or_write_failure(done, &[], out.error())
+}
+
+/// Runs `bw certify`: both files are opened before either is read, and read in this order.
+fn run_certify<'a>(
+    rt: &HostRuntime,
+    schema_path: &'a str,
+    sql: &str,
+    program_path: &'a str,
+) -> Result<(), CommandFailure<'a>> {
+    let (schema, program) = open_both(rt, schema_path, program_path)?;
+    let schema = read_schema(rt, schema_path, schema)?;
+    let program = read_program(rt, program_path, program)?;
+    let mut out = OutStream::new(rt.stdout());
+    let mut sink = ToWrite::new(&mut out);
+    let done = certify(rt.alloc(), &schema, sql, &program, &mut sink);
+    drop(sink);
     or_write_failure(done, &[], out.error())
 }
 

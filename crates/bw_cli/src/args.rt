@@ -40,6 +40,11 @@ pub enum CommandArgs<'a> {
         schema: &'a str,
         sql: &'a str,
     },
+    Certify {
+        schema: &'a str,
+        sql: &'a str,
+        program: &'a str,
+    },
     Check {
         schema: &'a str,
         sql: &'a str,
@@ -54,6 +59,7 @@ impl<'a> CommandArgs<'a> {
             CommandArgs::Direct { schema, .. }
             | CommandArgs::Load { schema, .. }
             | CommandArgs::Plan { schema, .. }
+            | CommandArgs::Certify { schema, .. }
             | CommandArgs::Check { schema, .. } => Some(schema),
             _ => None,
         }
@@ -84,6 +90,7 @@ impl<'a> CommandArgs<'a> {
     pub fn program(self) -> Option<&'a str> {
         match self {
             CommandArgs::Query { program, .. } => program,
+            CommandArgs::Certify { program, .. } => Some(program),
             CommandArgs::Check { file, .. } => Some(file),
             _ => None,
         }
@@ -95,6 +102,7 @@ impl<'a> CommandArgs<'a> {
             CommandArgs::Direct { sql, .. }
             | CommandArgs::Query { sql, .. }
             | CommandArgs::Plan { sql, .. }
+            | CommandArgs::Certify { sql, .. }
             | CommandArgs::Check { sql, .. } => Some(sql),
             _ => None,
         }
@@ -119,6 +127,7 @@ impl<'a> CommandArgs<'a> {
             CommandArgs::Info { .. } => "bw info TABLE",
             CommandArgs::Dump { .. } => "bw dump TABLE",
             CommandArgs::Plan { .. } => "bw plan SCHEMA SQL",
+            CommandArgs::Certify { .. } => "bw certify SCHEMA SQL PROGRAM",
             CommandArgs::Check { .. } => "bw check SCHEMA SQL FILE",
         }
     }

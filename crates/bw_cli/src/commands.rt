@@ -1,8 +1,8 @@
 //! The commands, their arguments and their help: `bw direct SCHEMA CSV SQL`, `bw infer [--table
 //! NAME] CSV`, `bw load [--layout planes|slices] SCHEMA CSV OUT`, `bw query [--program FILE]
 //! [--stats] TABLE SQL`, `bw session [--program FILE]... [--stats] TABLE`, `bw plan SCHEMA SQL`,
-//! `bw check SCHEMA SQL FILE`, `bw info TABLE` and `bw dump TABLE`. Each takes `--explain`, before
-//! the command or after it.
+//! `bw certify SCHEMA SQL PROGRAM`, `bw check SCHEMA SQL FILE`, `bw info TABLE` and `bw dump TABLE`.
+//! Each takes `--explain`, before the command or after it.
 use crate::args::CommandArgs;
 use bw_file::Layout;
 use clap::{Arg, ArgAction, ArgMatches, Command, Error};
@@ -38,6 +38,11 @@ const OUT: ArgSpec = ArgSpec::File("OUT", "The table file to create or replace")
 
 const FILE: ArgSpec = ArgSpec::File("FILE", "A program file, as written by `bw plan`");
 
+const SCAN_PROGRAM: ArgSpec = ArgSpec::File(
+    "PROGRAM",
+    "A scan program; a certificate after it is ignored",
+);
+
 const NAME: ArgSpec = ArgSpec::Valued(
     ArgAction::Set,
     "table",
@@ -69,7 +74,7 @@ struct CommandSpec {
 }
 
 /// The commands, in the order of the help.
-const COMMANDS: [CommandSpec; 9] = [
+const COMMANDS: [CommandSpec; 10] = [
     CommandSpec {
         name: "direct",
         about: "Run a statement over a CSV file",
@@ -105,6 +110,12 @@ const COMMANDS: [CommandSpec; 9] = [
         about: "Write a scan program and its certificate for a statement's condition",
         example: "Example: bw plan trips.schema 'SELECT COUNT(*) FROM trips WHERE cents > 2000' > cents.prog",
         takes: &[SCHEMA, ArgSpec::Statement],
+    },
+    CommandSpec {
+        name: "certify",
+        about: "Find the certificate of a scan program for a statement's condition",
+        example: "Example: bw certify trips.schema 'SELECT COUNT(*) FROM trips WHERE cents > 2000' mine.prog > cents.prog",
+        takes: &[SCHEMA, ArgSpec::Statement, SCAN_PROGRAM],
     },
     CommandSpec {
         name: "check",
@@ -266,6 +277,11 @@ fn text_args<'a>(name: &str, found: &ArgMatches<'a>) -> Option<CommandArgs<'a>> 
             schema,
             csv: found.get_str("CSV")?,
             sql: found.get_str("SQL")?,
+        },
+        "certify" => CommandArgs::Certify {
+            schema,
+            sql: found.get_str("SQL")?,
+            program: found.get_str("PROGRAM")?,
         },
         "check" => CommandArgs::Check {
             schema,

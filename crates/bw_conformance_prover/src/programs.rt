@@ -56,19 +56,19 @@ fn assert_drawn(
 fn planned_programs_of_a_small_table_are_certified(rt: HostRuntime) -> Result<(), Fail> {
     let schema = table(rt.alloc(), SMALL)?;
     let rows = small_rows(rt.alloc())?;
-    assert_drawn(&rt, rt.alloc(), &schema, &rows, 200, false)
+    assert_drawn(&rt, rt.alloc(), &schema, &rows, 100, false)
 }
 
 #[test]
 fn planned_programs_of_a_wide_table_are_certified(rt: HostRuntime) -> Result<(), Fail> {
     let schema = table(rt.alloc(), WIDE)?;
     let rows = wide_rows(rt.alloc(), &mut Numbers::new(31))?;
-    assert_drawn(&rt, rt.alloc(), &schema, &rows, 120, false)
+    assert_drawn(&rt, rt.alloc(), &schema, &rows, 40, false)
 }
 
 #[test]
 fn changed_programs_of_the_planner_are_judged(rt: HostRuntime) -> Result<(), Fail> {
     let schema = table(rt.alloc(), SMALL)?;
     let rows = small_rows(rt.alloc())?;
-    assert_drawn(&rt, rt.alloc(), &schema, &rows, 60, true)
+    assert_drawn(&rt, rt.alloc(), &schema, &rows, 12, true)
 }

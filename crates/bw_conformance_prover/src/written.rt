@@ -182,12 +182,12 @@ fn assert_all_written(
 fn written_programs_of_a_small_table_are_certified(rt: HostRuntime) -> Result<(), Fail> {
     let schema = table(rt.alloc(), SMALL)?;
     let rows = small_rows(rt.alloc())?;
-    assert_all_written(&rt, rt.alloc(), &schema, &rows, 40, 2)
+    assert_all_written(&rt, rt.alloc(), &schema, &rows, 12, 1)
 }
 
 #[test]
 fn written_programs_of_a_wide_table_are_certified(rt: HostRuntime) -> Result<(), Fail> {
     let schema = table(rt.alloc(), WIDE)?;
     let rows = wide_rows(rt.alloc(), &mut Numbers::new(37))?;
-    assert_all_written(&rt, rt.alloc(), &schema, &rows, 20, 0)
+    assert_all_written(&rt, rt.alloc(), &schema, &rows, 8, 0)
 }

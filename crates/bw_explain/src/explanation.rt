@@ -5,6 +5,7 @@ use crate::frontier::of_statement;
 use crate::heading::put_reason;
 use crate::kind::Kind;
 use crate::lines::of_program;
+use crate::uncertified::of_uncertified;
 use crate::visible_bytes::Shown;
 use bw_cli::CommandArgs;
 use bw_file::TableReader;
@@ -227,6 +228,7 @@ fn explain_file(
 ) -> Option<String> {
     match fault.code {
         500..651 => of_program(rt.alloc(), &read_again(rt, file)?, fault).ok(),
+        code::NO_CERTIFICATE => explain_uncertified(rt, words, file, fault),
         100..300 if words.csv() == Some(file) => {
             let csv = read_again(rt, file)?;
             match words.schema() {
@@ -239,6 +241,21 @@ fn explain_file(
         }
         _ => None,
     }
+}
+
+/// Returns why a program has no certificate.
+fn explain_uncertified(
+    rt: &HostRuntime,
+    words: &CommandArgs<'_>,
+    file: &str,
+    fault: &Fault,
+) -> Option<String> {
+    let schema = Schema::parse(rt.alloc(), &read_again(rt, words.schema()?)?).ok()?;
+    let file = read_again(rt, file)?;
+    let mut text = of_program(rt.alloc(), &file, fault).ok()?;
+    let reason = of_uncertified(rt.alloc(), &schema, words.sql()?.as_bytes(), &file).ok()?;
+    text.push_str(reason.as_str()).ok()?;
+    Some(text)
 }
 
 /// Returns the bytes of a file that was read before.

@@ -10,7 +10,7 @@
 //! lines, each ended by a line feed; it is empty if there is nothing to explain. `csv_text.rt`
 //! explains errors of CSV texts, with `record.rt` for records, `heading.rt` for the heading and
 //! `rejected_columns.rt` for the columns that `bw infer` rejects; `frontier.rt` explains errors of
-//! statements, and `lines.rt` those of program files.
+//! statements, `lines.rt` those of program files, and `uncertified.rt` why there is no certificate.
 #![tactic(auto)]
 
 mod csv_text;
@@ -25,6 +25,7 @@ mod names;
 mod record;
 mod rejected_columns;
 mod tokens;
+mod uncertified;
 mod visible_bytes;
 
 pub use explanation::{CommandFailure, Reads, explain, explain_rows, explain_statement};

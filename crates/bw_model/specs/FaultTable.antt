@@ -166,6 +166,9 @@ END = 610
 abbrev pub NO_PROGRAM : ℕ
 NO_PROGRAM = 651
 
+abbrev pub NO_CERTIFICATE : ℕ
+NO_CERTIFICATE = 652
+
 -- of an I/O device
 abbrev pub READ_FAILED : ℕ
 READ_FAILED = 701
@@ -248,6 +251,7 @@ faults =
     ∷ fault_entry REGISTER_UNKNOWN (codes "register unknown") InLines
     ∷ fault_entry END (codes "end") InLines
     ∷ fault_entry NO_PROGRAM (codes "no program within the limits") Unplaced
+    ∷ fault_entry NO_CERTIFICATE (codes "no certificate found") InLines
     ∷ fault_entry READ_FAILED (codes "read failed") Unplaced
     ∷ fault_entry WRITE_FAILED (codes "write failed") Unplaced
     ∷ fault_entry OUT_OF_MEMORY (codes "out of memory") Unplaced

@@ -14,8 +14,8 @@ ghost use Rattle.bw_model.specs.FaultTable.{COLUMN_OR_BIT, SKIP_TARGET, PROGRAM_
 ghost use Rattle.bw_model.specs.FaultTable.{NO_RESULT, NO_NULLS, PROGRAM_FILE_TOO_LONG, NODE};
 ghost use Rattle.bw_model.specs.FaultTable.{PRODUCT_ROW, CHAIN_ROW, LIMIT, CERTIFICATE_FORM};
 ghost use Rattle.bw_model.specs.FaultTable.{CONDITION_LINE, INSTRUCTION_LINE, JOIN};
-ghost use Rattle.bw_model.specs.FaultTable.{REGISTER_UNKNOWN, END, NO_PROGRAM, READ_FAILED};
-ghost use Rattle.bw_model.specs.FaultTable.{WRITE_FAILED, OUT_OF_MEMORY};
+ghost use Rattle.bw_model.specs.FaultTable.{REGISTER_UNKNOWN, END, NO_PROGRAM, NO_CERTIFICATE};
+ghost use Rattle.bw_model.specs.FaultTable.{READ_FAILED, WRITE_FAILED, OUT_OF_MEMORY};
 ghost use Rattle.bw_model.specs.declared.fault.code.TheConstants as constant;
 
 use std::alloc::{AllocError, AllocFailed};
@@ -128,6 +128,8 @@ pub mod code {
     pub const END: u16 = 610;
 
     pub const NO_PROGRAM: u16 = 651;
+
+    pub const NO_CERTIFICATE: u16 = 652;
 
     pub const READ_FAILED: u16 = 701;
 
@@ -286,6 +288,7 @@ pub const fn words_of(code: u16) -> &'static str
         code::REGISTER_UNKNOWN => "register unknown",
         code::END => "end",
         code::NO_PROGRAM => "no program within the limits",
+        code::NO_CERTIFICATE => "no certificate found",
         code::READ_FAILED => "read failed",
         code::WRITE_FAILED => "write failed",
         code::OUT_OF_MEMORY => "out of memory",
@@ -323,7 +326,7 @@ pub fn constants_are_listed()
         × (constant.CONDITION_LINE ≡ CONDITION_LINE)
         × (constant.INSTRUCTION_LINE ≡ INSTRUCTION_LINE) × (constant.JOIN ≡ JOIN)
         × (constant.REGISTER_UNKNOWN ≡ REGISTER_UNKNOWN) × (constant.END ≡ END)
-        × (constant.NO_PROGRAM ≡ NO_PROGRAM) }
+        × (constant.NO_PROGRAM ≡ NO_PROGRAM) × (constant.NO_CERTIFICATE ≡ NO_CERTIFICATE) }
     ensures device { (constant.READ_FAILED ≡ READ_FAILED) × (constant.WRITE_FAILED ≡ WRITE_FAILED) }
     ensures memory { (constant.OUT_OF_MEMORY ≡ OUT_OF_MEMORY) }
 {}

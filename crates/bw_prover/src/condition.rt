@@ -1,15 +1,14 @@
 //! The lines of a condition's steps, operands first, each with the nodes of where it is TRUE and
 //! where it is FALSE.
-ghost use Rattle.std.specs.Prelude.{◌≤◌};
-
-use crate::chains::Compared;
-use crate::columns::width_of;
-use crate::comparison::{ColumnComparison, Comparison, LiteralComparison, compare};
+use crate::columns::column_index;
+use crate::comparison::{CodeComparison, Comparison, compare};
+use crate::facts::Cited;
+use crate::line::ProofLine;
 use crate::order::VariableOrder;
 use crate::proof::Proof;
 use crate::stop::Stop;
 use bw_cert_text::ConditionEntry;
-use bw_diagram::{ChainKind, Connective};
+use bw_diagram::Connective;
 use bw_model::{Cond, Op, Operand, Truth};
 use bw_program::ColumnIndex;
 
@@ -21,25 +20,23 @@ pub(crate) struct TruthNodes {
 }
 
 impl TruthNodes {
+    /// Returns two nodes.
+    fn of(yes: u32, no: u32) -> Self {
+        TruthNodes { yes, no }
+    }
+
     /// Returns the nodes of the condition, or of its opposite if it is negated.
     fn opposite_if(self, negated: bool) -> Self {
         if negated {
-            TruthNodes {
-                yes: self.no,
-                no: self.yes,
-            }
+            TruthNodes::of(self.no, self.yes)
         } else {
             self
         }
     }
 }
 
-/// A node, and the number of the fact that states it, which a terminal needn't have.
-#[derive(Clone, Copy)]
-struct Stated {
-    reference: Option<u64>,
-    node: u32,
-}
+/// The order of variables of a condition's rows.
+const ORDER: VariableOrder = VariableOrder::Whole;
 
 impl Proof<'_> {
     /// Returns the nodes of a condition, and appends the lines of its steps, operands first.
@@ -48,15 +45,18 @@ impl Proof<'_> {
         match cond {
             Cond::Always => self.put_fixed(Truth::Yes),
             Cond::Cmp(op, x, y) => self.put_comparison(*op, *x, *y),
-            Cond::Between(x, y, z) => self.put_between(*x, *y, *z),
+            Cond::Between(x, y, z) => {
+                let lower = self.put_comparison(Op::Ge, *x, *y)?;
+                let upper = self.put_comparison(Op::Le, *x, *z)?;
+                self.put_connective(false, lower, upper)
+            }
             Cond::Among(x, items) => self.put_list(*x, items),
             Cond::IsNull(x) => self.put_null_test(*x),
             Cond::And(parts) => self.put_parts(false, parts),
             Cond::Or(parts) => self.put_parts(true, parts),
             Cond::Not(part) => {
                 let made = self.steps(part)?;
-                self.put_step(ConditionEntry::Not)?;
-                Ok(made.opposite_if(true))
+                self.put_step(ConditionEntry::Not, made.no, made.yes)
             }
             Cond::Test(part, truth) => {
                 let made = self.steps(part)?;
@@ -88,20 +88,17 @@ impl Proof<'_> {
         Ok(made)
     }
 
-    /// Returns the nodes of `x >= y AND x <= z`.
-    fn put_between(&mut self, x: Operand, y: Operand, z: Operand) -> Result<TruthNodes, Stop> {
-        let lower = self.put_comparison(Op::Ge, x, y)?;
-        let upper = self.put_comparison(Op::Le, x, z)?;
-        self.put_connective(false, lower, upper)
+    /// Appends the line of a step, and returns its nodes.
+    fn put_step(&mut self, entry: ConditionEntry, yes: u32, no: u32) -> Result<TruthNodes, Stop> {
+        self.lines.push(ProofLine::Condition(entry))?;
+        Ok(TruthNodes::of(yes, no))
     }
 
     /// Returns the nodes of a step with one truth on every row.
     fn put_fixed(&mut self, truth: Truth) -> Result<TruthNodes, Stop> {
-        self.put_step(ConditionEntry::Fixed)?;
-        Ok(TruthNodes {
-            yes: u32::from(truth == Truth::Yes),
-            no: u32::from(truth == Truth::No),
-        })
+        let yes = u32::from(truth == Truth::Yes);
+        let no = u32::from(truth == Truth::No);
+        self.put_step(ConditionEntry::Fixed, yes, no)
     }
 
     /// Returns the nodes of two parts, combined by OR, or else by AND.
@@ -116,17 +113,15 @@ impl Proof<'_> {
         } else {
             (Connective::And, Connective::Or)
         };
-        let yes = self.facts.row(VariableOrder::Whole, yes, a.yes, b.yes)?;
-        let no = self.facts.row(VariableOrder::Whole, no, a.no, b.no)?;
-        self.put_step(if any {
-            ConditionEntry::Or(yes.reference(), no.reference())
+        let yes = self.facts.row(ORDER, yes, a.yes, b.yes)?;
+        let no = self.facts.row(ORDER, no, a.no, b.no)?;
+        let (i, j) = (yes.reference(), no.reference());
+        let entry = if any {
+            ConditionEntry::Or(i, j)
         } else {
-            ConditionEntry::And(yes.reference(), no.reference())
-        })?;
-        Ok(TruthNodes {
-            yes: yes.node,
-            no: no.node,
-        })
+            ConditionEntry::And(i, j)
+        };
+        self.put_step(entry, yes.node, no.node)
     }
 
     /// Returns the nodes of `IS TRUE`, `IS FALSE` or `IS UNKNOWN`.
@@ -134,24 +129,20 @@ impl Proof<'_> {
         let yes = match truth {
             Truth::Yes => made.yes,
             Truth::No => made.no,
-            Truth::Unknown => return self.put_unknown_test(made),
+            Truth::Unknown => {
+                let known = self.facts.row(ORDER, Connective::Or, made.yes, made.no)?;
+                let other = self.opposite(known.node)?;
+                let entry = ConditionEntry::IsUnknown(known.reference(), other.reference());
+                return self.put_step(entry, other.node, known.node);
+            }
         };
-        let no = self.facts.opposite(VariableOrder::Whole, yes)?;
-        self.put_step(ConditionEntry::Is(no.reference()))?;
-        Ok(TruthNodes { yes, no: no.node })
+        let no = self.opposite(yes)?;
+        self.put_step(ConditionEntry::Is(no.reference()), yes, no.node)
     }
 
-    /// Returns the nodes of `IS UNKNOWN`.
-    fn put_unknown_test(&mut self, made: TruthNodes) -> Result<TruthNodes, Stop> {
-        let order = VariableOrder::Whole;
-        let known = self.facts.row(order, Connective::Or, made.yes, made.no)?;
-        let other = self.facts.opposite(order, known.node)?;
-        let entry = ConditionEntry::IsUnknown(known.reference(), other.reference());
-        self.put_step(entry)?;
-        Ok(TruthNodes {
-            yes: other.node,
-            no: known.node,
-        })
+    /// Returns the row of a node's complement.
+    fn opposite(&mut self, node: u32) -> Result<Cited, Stop> {
+        self.facts.row(ORDER, Connective::Diff, 1, node)
     }
 
     /// Returns the nodes of `IS NULL`.
@@ -159,13 +150,12 @@ impl Proof<'_> {
         let Operand::Col(column) = x else {
             return self.put_fixed(Truth::of(x == Operand::Null));
         };
-        let column = u8::try_from(column).ok().ok_or(Stop::NoRule)?;
+        let column = column_index(self.facts.schema, column).ok_or(Stop::NoRule)?;
         let Some(yes) = self.facts.nulls(column)? else {
             return self.put_fixed(Truth::No);
         };
-        let no = self.facts.opposite(VariableOrder::Whole, yes)?;
-        self.put_step(ConditionEntry::NullTest(no.reference()))?;
-        Ok(TruthNodes { yes, no: no.node })
+        let no = self.opposite(yes)?;
+        self.put_step(ConditionEntry::NullTest(no.reference()), yes, no.node)
     }
 
     /// Returns the nodes of a comparison.
@@ -173,116 +163,68 @@ impl Proof<'_> {
         match compare(self.facts.schema, op, x, y)? {
             Comparison::Fixed(truth) => self.put_fixed(truth),
             Comparison::Literal(compared) => self.put_literal_comparison(compared),
-            Comparison::Columns(compared) => self.put_column_comparison(compared),
+            Comparison::Columns(compared, columns) => self.put_columns(compared, columns),
         }
     }
 
-    /// Returns the node that is 1 if a column has a value: 1, if it always has.
-    fn values(&mut self, column: ColumnIndex) -> Result<Stated, Stop> {
+    /// Returns the row and the node that is 1 if a column has a value: none, and 1, if it always
+    /// has.
+    fn values(&mut self, column: ColumnIndex) -> Result<(Option<u64>, u32), Stop> {
         let Some(nulls) = self.facts.nulls(column)? else {
-            return Ok(Stated {
-                reference: None,
-                node: 1,
-            });
+            return Ok((None, 1));
         };
-        let values = self.facts.opposite(VariableOrder::Whole, nulls)?;
-        Ok(Stated {
-            reference: Some(values.reference()),
-            node: values.node,
-        })
+        let values = self.opposite(nulls)?;
+        Ok((Some(values.reference()), values.node))
     }
 
-    /// Returns the node of a comparison's chain, or the terminal that is its outcome for all codes.
-    fn outcome(
-        &mut self,
-        terminal: Option<u32>,
-        kind: ChainKind,
-        compared: Compared,
-        len: u32,
-    ) -> Result<Stated, Stop>
-        requires { len ≤ 63 }
-    {
-        if let Some(node) = terminal {
-            return Ok(Stated {
-                reference: None,
-                node,
-            });
+    /// Returns the number of a comparison's chain and its node: none, and a terminal, if that is
+    /// its outcome for all codes.
+    fn outcome(&mut self, compared: CodeComparison) -> Result<(Option<u64>, u32), Stop> {
+        if let Some(terminal) = compared.terminal {
+            return Ok((None, terminal));
         }
-        let cited = self.facts.chain(kind, compared, len)?;
-        Ok(Stated {
-            reference: Some(cited.reference()),
-            node: cited.node,
-        })
+        let chain = self.facts.chain(compared.link)?;
+        Ok((Some(chain.reference()), chain.node))
     }
 
     /// Returns the nodes of a comparison of a column with a number.
-    fn put_literal_comparison(&mut self, compared: LiteralComparison) -> Result<TruthNodes, Stop> {
-        let LiteralComparison { column, kind, .. } = compared;
-        let value = self.values(column)?;
-        let width = width_of(self.facts.schema, column).ok_or(Stop::NoRule)?;
-        let with = Compared::Bound {
-            column,
-            slice: 0,
-            bound: u64::try_from(compared.limit).unwrap_or(0),
-        };
-        let outcome = self.outcome(compared.terminal(width), kind, with, width)?;
-        let order = VariableOrder::Whole;
-        let (m, e) = (value.node, outcome.node);
-        let yes = self.facts.row(order, Connective::And, m, e)?;
-        let no = self.facts.row(order, Connective::Diff, m, e)?;
-        self.put_step(ConditionEntry::Compare {
-            chain: outcome.reference,
-            value: value.reference,
+    fn put_literal_comparison(&mut self, compared: CodeComparison) -> Result<TruthNodes, Stop> {
+        let (value, m) = self.values(compared.link.left)?;
+        let (chain, e) = self.outcome(compared)?;
+        let yes = self.facts.row(ORDER, Connective::And, m, e)?;
+        let no = self.facts.row(ORDER, Connective::Diff, m, e)?;
+        let entry = ConditionEntry::Compare {
+            chain,
+            value,
             yes: yes.reference(),
             no: no.reference(),
-        })?;
-        let made = TruthNodes {
-            yes: yes.node,
-            no: no.node,
         };
+        let made = self.put_step(entry, yes.node, no.node)?;
         Ok(made.opposite_if(compared.negated))
     }
 
-    /// Returns the outcome of a comparison of two columns, the shorter one with zeros above its top
-    /// bit.
-    fn column_outcome(&mut self, compared: ColumnComparison) -> Result<Stated, Stop> {
-        let ColumnComparison {
-            kind,
+    /// Returns the nodes of a comparison of two columns.
+    fn put_columns(
+        &mut self,
+        compared: CodeComparison,
+        columns: [ColumnIndex; 2],
+    ) -> Result<TruthNodes, Stop> {
+        let order = VariableOrder::Places(compared.link.right.ok_or(Stop::NoRule)?);
+        let (left, first) = self.values(columns[0])?;
+        let (right, second) = self.values(columns[1])?;
+        let both = self.facts.row(order, Connective::And, first, second)?;
+        let (chain, e) = self.outcome(compared)?;
+        let yes = self.facts.row(order, Connective::And, both.node, e)?;
+        let no = self.facts.row(order, Connective::Diff, both.node, e)?;
+        let entry = ConditionEntry::CompareColumns {
+            chain,
             left,
             right,
-            ..
-        } = compared;
-        let width = width_of(self.facts.schema, left).ok_or(Stop::NoRule)?;
-        let other = width_of(self.facts.schema, right).ok_or(Stop::NoRule)?;
-        let with = Compared::Columns { left, right };
-        self.outcome(compared.terminal(), kind, with, width.max(other))
-    }
-
-    /// Returns the nodes of a comparison of two columns.
-    fn put_column_comparison(&mut self, compared: ColumnComparison) -> Result<TruthNodes, Stop> {
-        let [c, d] = compared.columns;
-        let order = VariableOrder::Places(compared.right);
-        let left = self.values(c)?;
-        let right = self.values(d)?;
-        let both = self
-            .facts
-            .row(order, Connective::And, left.node, right.node)?;
-        let outcome = self.column_outcome(compared)?;
-        let (m, e) = (both.node, outcome.node);
-        let yes = self.facts.row(order, Connective::And, m, e)?;
-        let no = self.facts.row(order, Connective::Diff, m, e)?;
-        self.put_step(ConditionEntry::CompareColumns {
-            chain: outcome.reference,
-            left: left.reference,
-            right: right.reference,
             both: both.reference(),
             yes: yes.reference(),
             no: no.reference(),
-        })?;
-        let made = TruthNodes {
-            yes: yes.node,
-            no: no.node,
         };
+        let made = self.put_step(entry, yes.node, no.node)?;
         Ok(made.opposite_if(compared.negated))
     }
 }

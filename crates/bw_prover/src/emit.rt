@@ -4,7 +4,8 @@ ghost use Rattle.bw_cert_text.specs.CertificateFields.{certificate_fields};
 ghost use Rattle.bw_cert_text.specs.Columns.{has_columns, is_column};
 ghost use Rattle.bw_prover.specs.ChainNames.{is_chain_named, are_chains_named};
 
-use crate::chains::{Chains, Compared, Link};
+use crate::chains::Link;
+use crate::ledger::Ledger;
 use crate::nodes::Nodes;
 use crate::products::Products;
 use crate::proof::Proof;
@@ -15,19 +16,11 @@ use bw_model::Schema;
 use bw_program::ColumnIndex;
 use std::alloc::Global;
 
-/// The numbers of a file's lines, from the next one on.
-#[derive(Clone, Copy)]
-struct LineNumbers {
-    next: u64,
-}
-
-impl LineNumbers {
-    /// Returns the number of the next line.
-    fn take(&mut self) -> Result<u64, Stop> {
-        let line = self.next;
-        self.next = line.checked_add(1).ok_or(Stop::Limit)?;
-        Ok(line)
-    }
+/// Returns the number of the next line, after which the next one is another.
+fn take(next: &mut u64) -> Result<u64, Stop> {
+    let line = *next;
+    *next = line.checked_add(1).ok_or(Stop::Limit)?;
+    Ok(line)
 }
 
 /// Returns the certificate of a proof, numbered as in a program file: its lines come after those of
@@ -42,28 +35,23 @@ pub(crate) fn certificate<'a>(
     ensures { IfOk result (λ certificate.
         IsTrue (has_columns schema.now.columns.items (certificate_fields certificate))) }
 {
-    let next = (instructions as u64).checked_add(3).ok_or(Stop::Limit)?;
-    let mut lines = LineNumbers { next };
-    let nodes = node_lines(alloc, &proof.facts.nodes, &mut lines)?;
-    let chains = chain_lines(alloc, schema, &proof.facts.chains, &mut lines)?;
-    let rows = product_lines(alloc, &proof.facts.products, &mut lines)?;
-    let body = body_lines(alloc, proof, &mut lines)?;
-    let line = lines.take()?;
+    let mut next = (instructions as u64).checked_add(3).ok_or(Stop::Limit)?;
+    let nodes = node_lines(alloc, &proof.facts.nodes, &mut next)?;
+    let chains = chain_lines(alloc, schema, &proof.facts.chains, &mut next)?;
+    let rows = product_lines(alloc, &proof.facts.products, &mut next)?;
+    let body = body_lines(alloc, proof, &mut next)?;
+    let line = take(&mut next)?;
     Ok(Certificate::new(nodes, chains, rows, body, EndLine { line, row }))
 }
 
 /// Returns the lines of nodes.
-fn node_lines(
-    alloc: Global,
-    nodes: &Nodes,
-    numbers: &mut LineNumbers,
-) -> Result<Vec<NodeLine>, Stop> {
+fn node_lines(alloc: Global, nodes: &Nodes, next: &mut u64) -> Result<Vec<NodeLine>, Stop> {
     let mut lines = Vec::with_capacity(alloc, nodes.len() as usize)?;
     for place in 0..nodes.len() {
         let number = place.checked_add(2).ok_or(Stop::Limit)?;
         let node = nodes.node(number).ok_or(Stop::Limit)?;
         lines.push(NodeLine {
-            line: numbers.take()?,
+            line: take(next)?,
             n: u64::from(number),
             v: u64::from(node.v),
             low: u64::from(node.low),
@@ -77,8 +65,8 @@ fn node_lines(
 fn chain_lines<'a>(
     alloc: Global,
     schema: &'a Schema,
-    chains: &Chains,
-    numbers: &mut LineNumbers,
+    chains: &Ledger<Link>,
+    next: &mut u64,
 ) -> Result<Vec<ChainLine<'a>>, Stop>
     ensures { IfOk result (λ lines. IsTrue
         (are_chains_named schema.now.columns.items lines.items)) }
@@ -86,7 +74,7 @@ fn chain_lines<'a>(
     let mut lines = Vec::with_capacity(alloc, chains.len() as usize)?;
     for number in 0..chains.len() {
         let link = chains.get(number).ok_or(Stop::Limit)?;
-        let line = numbers.take()?;
+        let line = take(next)?;
         lines.push(chain_line(schema, line, u64::from(number), link)?)?;
     }
     Ok(lines)
@@ -96,13 +84,13 @@ fn chain_lines<'a>(
 fn product_lines(
     alloc: Global,
     products: &Products,
-    numbers: &mut LineNumbers,
+    next: &mut u64,
 ) -> Result<Vec<ProductLine>, Stop> {
     let mut lines = Vec::with_capacity(alloc, products.len() as usize)?;
     for number in 0..products.len() {
         let row = products.get(number).ok_or(Stop::Limit)?;
         lines.push(ProductLine {
-            line: numbers.take()?,
+            line: take(next)?,
             n: u64::from(number),
             op: row.question.op,
             a: u64::from(row.question.a),
@@ -115,10 +103,10 @@ fn product_lines(
 }
 
 /// Returns the lines of the condition, the instructions and the joins.
-fn body_lines(alloc: Global, proof: &Proof<'_>, numbers: &mut LineNumbers) -> Result<Body, Stop> {
+fn body_lines(alloc: Global, proof: &Proof<'_>, next: &mut u64) -> Result<Body, Stop> {
     let mut lines = Body::new(alloc);
     for entry in &proof.lines {
-        let line = numbers.take()?;
+        let line = take(next)?;
         let entry = entry.entry(&proof.pairs);
         lines.push(&BodyLine { line, entry })?;
     }
@@ -131,23 +119,20 @@ fn chain_line(schema: &Schema, line: u64, number: u64, link: Link) -> Result<Cha
 {
     let (kind, len) = (link.kind, u64::from(link.len));
     let (node, prev) = (u64::from(link.node), link.prev.map(u64::from));
-    let columns = match link.compared {
-        Compared::Bound {
-            column,
-            slice,
-            bound,
-        } => ChainColumns::One {
+    let left = name(schema, link.left)?;
+    let columns = match link.right {
+        None => ChainColumns::One {
             kind,
-            column: name(schema, column)?,
-            start: 8 * u64::from(slice),
+            column: left,
+            start: 8 * u64::from(link.slice),
             len,
-            bound,
+            bound: link.bound,
             node,
             prev,
         },
-        Compared::Columns { left, right } => ChainColumns::Two {
+        Some(right) => ChainColumns::Two {
             kind,
-            left: name(schema, left)?,
+            left,
             right: name(schema, right)?,
             len,
             node,

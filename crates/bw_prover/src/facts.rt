@@ -1,24 +1,40 @@
 //! What a certificate states: nodes, chains and product rows, each once and after those it follows
 //! from. Each is added when it is first requested.
-ghost use Rattle.std.specs.Prelude.{◌≤◌};
-
-use crate::chains::{Chains, Compared};
+use crate::chains::Link;
 use crate::columns::{bit_variable, null_variable};
+use crate::ledger::Ledger;
 use crate::nodes::Nodes;
 use crate::order::{Ranks, VariableOrder};
-use crate::products::{Cited, Products, Question};
+use crate::products::{Products, Question};
 use crate::stop::Stop;
-use bw_diagram::{ChainKind, Connective};
+use bw_diagram::Connective;
 use bw_model::{Cond, Schema};
 use bw_program::ColumnIndex;
 use std::alloc::Global;
+
+/// The most chains of a certificate.
+const MAX_CHAINS: u32 = 65_536;
+
+/// A chain or a product row as a line references it: its number, from 0, and that of its node.
+#[derive(Clone, Copy)]
+pub(crate) struct Cited {
+    pub(crate) number: u32,
+    pub(crate) node: u32,
+}
+
+impl Cited {
+    /// Returns its number as lines have it.
+    pub(crate) fn reference(self) -> u64 {
+        u64::from(self.number)
+    }
+}
 
 /// The nodes, chains and product rows of a certificate, under a schema.
 #[derive(Drop)]
 pub(crate) struct Facts<'a> {
     pub(crate) schema: &'a Schema,
     pub(crate) nodes: Nodes,
-    pub(crate) chains: Chains,
+    pub(crate) chains: Ledger<Link>,
     pub(crate) products: Products,
 }
 
@@ -35,7 +51,7 @@ impl<'a> Facts<'a> {
         Ok(Facts {
             schema,
             nodes: Nodes::new(alloc),
-            chains: Chains::new(alloc),
+            chains: Ledger::new(alloc, MAX_CHAINS),
             products: Products::new(alloc, ranks, rows),
         })
     }
@@ -51,24 +67,6 @@ impl<'a> Facts<'a> {
         let order = self.products.ranks.served(order);
         let asked = Question { order, op, a, b };
         self.products.row(&mut self.nodes, asked)
-    }
-
-    /// Returns the product row of a node's complement.
-    pub(crate) fn opposite(&mut self, order: VariableOrder, node: u32) -> Result<Cited, Stop> {
-        self.row(order, Connective::Diff, 1, node)
-    }
-
-    /// Returns the chain of a comparison.
-    pub(crate) fn chain(
-        &mut self,
-        kind: ChainKind,
-        compared: Compared,
-        len: u32,
-    ) -> Result<Cited, Stop>
-        requires { len ≤ 63 }
-    {
-        self.chains
-            .chain(&mut self.nodes, self.schema, kind, compared, len)
     }
 
     /// Returns the node that is 1 where a bit of a column's code is 1.

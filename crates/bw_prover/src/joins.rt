@@ -11,23 +11,6 @@ use bw_cert_text::EdgeProducts;
 use bw_diagram::Connective;
 use bw_program::Register;
 
-/// What the rows of a skip show of a register.
-#[derive(Clone, Copy)]
-enum Shown {
-    /// That it has the same value as on fall-through.
-    Same(EdgeProducts),
-    /// That it may differ, where this node is 1. None if its value isn't known at the skip.
-    Differs(Option<u32>),
-}
-
-/// A register, and its node on fall-through.
-#[derive(Clone, Copy)]
-struct Held {
-    register: Register,
-    node: u32,
-    pub ghost in_range: { register < 64 },
-}
-
 impl Proof<'_> {
     /// Appends the lines of a place's join, if skips lead there. Each register that is read later
     /// is kept if it has the same value by each skip as on fall-through; else it isn't known.
@@ -44,16 +27,16 @@ impl Proof<'_> {
         }
         self.lines.push(ProofLine::Join(place as u64))?;
         for register in 0..64u8 {
-            let node = registers.known[register as usize];
-            match node {
-                Some(node) if read & set_of(register) != 0 => {
-                    let held = Held { register, node };
-                    if let Some(loss) = self.keep(held, edges, place, order)? {
-                        registers.lose(register, loss);
-                    }
-                }
-                Some(_) => registers.forget(register),
-                None => {}
+            let Some(node) = registers.known[register as usize] else {
+                continue;
+            };
+            if read & set_of(register) == 0 {
+                registers.lose(register, None);
+                continue;
+            }
+            let loss = self.keep(register, node, edges, place, order)?;
+            if loss.is_some() {
+                registers.lose(register, loss);
             }
         }
         Ok(())
@@ -62,61 +45,66 @@ impl Proof<'_> {
     /// Appends the line of a register that a join keeps, or returns how it is lost.
     fn keep(
         &mut self,
-        held: Held,
+        register: Register,
+        node: u32,
         edges: &[Edge],
         place: usize,
         order: VariableOrder,
-    ) -> Result<Option<Loss>, Stop> {
+    ) -> Result<Option<Loss>, Stop>
+        requires { register < 64 }
+    {
         let first = self.pairs.len();
         for edge in edges {
-            match self.shown(held, edge, order)? {
-                Shown::Same(rows) => self.pairs.push(rows)?,
-                Shown::Differs(differs) => {
-                    return Ok(Some(Loss {
-                        join: place,
-                        skip: edge.skip,
-                        differs,
-                        tested: edge.tested,
-                    }));
-                }
+            let loss = self.differs(register, node, edge, place, order)?;
+            if loss.is_some() {
+                return Ok(loss);
             }
         }
-        self.put_keep(held, first, order)?;
-        Ok(None)
-    }
-
-    /// Appends the line of a register that a join keeps. Its pairs are those from `first` on.
-    fn put_keep(&mut self, held: Held, first: usize, order: VariableOrder) -> Result<(), Stop> {
-        let through = self
-            .facts
-            .row(order, Connective::Xor, held.node, held.node)?;
-        let keep = KeepLine {
-            register: held.register,
-            node: u64::from(held.node),
+        let through = self.facts.row(order, Connective::Xor, node, node)?;
+        self.lines.push(ProofLine::Keep(KeepLine {
+            register,
+            node: u64::from(node),
             through: through.reference(),
             first,
             end: self.pairs.len(),
-        };
-        self.lines.push(ProofLine::Keep(keep))?;
-        Ok(())
+        }))?;
+        Ok(None)
     }
 
-    /// Returns what the rows of a skip show of a register: its node there and its node on
-    /// fall-through may differ only where the skip's register is 1.
-    fn shown(&mut self, held: Held, edge: &Edge, order: VariableOrder) -> Result<Shown, Stop> {
-        let Some(node) = edge.known[held.register as usize] else {
-            return Ok(Shown::Differs(None));
+    /// Appends the pair of rows that show that a register has the same value by a skip as on
+    /// fall-through, where its node is this one: its node at the skip may differ only where the
+    /// skip's register is 1. Otherwise returns how the register is lost.
+    fn differs(
+        &mut self,
+        register: Register,
+        node: u32,
+        edge: &Edge,
+        place: usize,
+        order: VariableOrder,
+    ) -> Result<Option<Loss>, Stop>
+        requires { register < 64 }
+    {
+        let mut loss = Loss {
+            join: place,
+            skip: edge.skip,
+            differs: None,
+            tested: edge.tested,
         };
-        let differs = self.facts.row(order, Connective::Xor, node, held.node)?;
+        let Some(held) = edge.known[register as usize] else {
+            return Ok(Some(loss));
+        };
+        let differs = self.facts.row(order, Connective::Xor, held, node)?;
         let within = self
             .facts
             .row(order, Connective::Diff, differs.node, edge.tested)?;
         if within.node != 0 {
-            return Ok(Shown::Differs(Some(within.node)));
+            loss.differs = Some(within.node);
+            return Ok(Some(loss));
         }
-        Ok(Shown::Same(EdgeProducts {
+        self.pairs.push(EdgeProducts {
             differs: differs.reference(),
             within: within.reference(),
-        }))
+        })?;
+        Ok(None)
     }
 }

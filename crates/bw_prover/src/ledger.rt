@@ -55,15 +55,15 @@ impl<T: Entry> Ledger<T> {
         Some(slot.entry)
     }
 
-    /// Returns the number of the entry with a key.
-    pub(crate) fn find(&self, wanted: Key) -> Option<u32> {
+    /// Returns the entry with a key, and its number.
+    pub(crate) fn find(&self, wanted: Key) -> Option<(u32, T)> {
         let mut next = *self.last.get(place(wanted, self.last.len()))?;
         for _ in 0..self.count {
             let number = next.checked_sub(1)?;
             let slot = self.slots.get(number as usize)?;
             let key = slot.entry.key();
             if key.0 == wanted.0 && key.1 == wanted.1 {
-                return Some(number);
+                return Some((number, slot.entry));
             }
             next = slot.before;
         }

@@ -51,7 +51,7 @@ impl Nodes {
     pub(crate) fn test(&mut self, v: u32, low: u32, high: u32) -> Result<u32, Stop> {
         let node = Node { v, low, high };
         let place = match self.tests.find(node.key()) {
-            Some(place) => place,
+            Some((place, _)) => place,
             None => self.tests.push(node)?,
         };
         place.checked_add(2).ok_or(Stop::Limit)

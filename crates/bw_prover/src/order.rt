@@ -36,10 +36,10 @@ pub(crate) struct Ranks {
 impl Ranks {
     /// Returns the ranks under a condition.
     pub(crate) fn new(alloc: Global, schema: &Schema, cond: &Cond) -> Result<Self, Stop> {
-        let groups = groups_of(alloc, schema, cond)?;
+        let (groups, is_total) = groups_of(alloc, schema, cond)?;
         let mut positions = Vec::new(alloc);
         for (column, each) in schema.columns.iter().enumerate() {
-            let group = groups.of[column % 64];
+            let group = groups[column % 64];
             let width = schema.width(column);
             for place in 0..=64 {
                 if place > 64 - width || place == 0 && each.nullable {
@@ -54,7 +54,7 @@ impl Ranks {
         }
         Ok(Ranks {
             positions,
-            is_total: groups.is_total,
+            is_total,
         })
     }
 
@@ -73,8 +73,17 @@ impl Ranks {
         }
     }
 
+    /// Returns which of two variables is tested first.
+    pub(crate) fn first(&self, order: VariableOrder, a: u32, b: u32) -> u32 {
+        if self.rank(order, b) < self.rank(order, a) {
+            b
+        } else {
+            a
+        }
+    }
+
     /// Returns how early a variable is tested.
-    pub(crate) fn rank(&self, order: VariableOrder, variable: u32) -> u32 {
+    fn rank(&self, order: VariableOrder, variable: u32) -> u32 {
         let Some(position) = self.positions.get(variable as usize) else {
             return u32::MAX;
         };
@@ -106,17 +115,9 @@ impl Group {
     }
 }
 
-/// The groups of a schema's columns, and whether in each group every pair of compared columns is
-/// left with right.
-#[derive(Clone, Copy)]
-struct Groups {
-    of: [Group; 64],
-    is_total: bool,
-}
-
 /// Returns for each column the group of those that a condition compares it with, directly or
-/// through others.
-fn groups_of(alloc: Global, schema: &Schema, cond: &Cond) -> Result<Groups, Stop> {
+/// through others, and whether in each group every pair of compared columns is left with right.
+fn groups_of(alloc: Global, schema: &Schema, cond: &Cond) -> Result<([Group; 64], bool), Stop> {
     let mut compared = Pairs {
         schema,
         pairs: Vec::new(alloc),
@@ -134,10 +135,7 @@ fn groups_of(alloc: Global, schema: &Schema, cond: &Cond) -> Result<Groups, Stop
             break;
         }
     }
-    Ok(Groups {
-        of: groups,
-        is_total: are_in_order(&groups, &compared.pairs),
-    })
+    Ok((groups, are_in_order(&groups, &compared.pairs)))
 }
 
 /// Gives both columns of each pair one group, and the right one a higher level than the left one.
@@ -159,8 +157,11 @@ fn spread_groups(groups: &mut [Group; 64], pairs: &[(ColumnIndex, ColumnIndex)])
 
 /// Returns whether the left column of each pair has a lower level than the right one.
 fn are_in_order(groups: &[Group; 64], pairs: &[(ColumnIndex, ColumnIndex)]) -> bool {
-    pairs.iter().all(|(left, right)| {
+    for (left, right) in pairs {
         let (left, right) = (usize::from(*left % 64), usize::from(*right % 64));
-        groups[left].level < groups[right].level
-    })
+        if groups[left].level >= groups[right].level {
+            return false;
+        }
+    }
+    true
 }

@@ -1,27 +1,14 @@
 //! Product rows: connectives of nodes, each computed once.
+use crate::facts::Cited;
 use crate::ledger::{Entry, Key, Ledger};
 use crate::nodes::Nodes;
 use crate::order::{Ranks, VariableOrder};
 use crate::stop::Stop;
-use bw_diagram::{Connective, Node, Reason};
+use bw_diagram::{Connective, Reason};
 use std::alloc::Global;
 
 /// The most product rows of a certificate.
 const MAX_PRODUCTS: u32 = 1_048_576;
-
-/// A chain or a product row as a line references it: its number, from 0, and that of its node.
-#[derive(Clone, Copy)]
-pub(crate) struct Cited {
-    pub(crate) number: u32,
-    pub(crate) node: u32,
-}
-
-impl Cited {
-    /// Returns its number as lines have it.
-    pub(crate) fn reference(self) -> u64 {
-        u64::from(self.number)
-    }
-}
 
 /// What a product row computes: a connective of two nodes, in an order of variables.
 #[derive(Clone, Copy)]
@@ -33,6 +20,16 @@ pub(crate) struct Question {
 }
 
 impl Question {
+    /// Returns its key as a row.
+    fn key(self) -> Key {
+        let order = match self.order {
+            VariableOrder::Whole => 0,
+            VariableOrder::Places(right) => u64::from(right) + 1,
+        };
+        let nodes = u64::from(self.a) << 32 | u64::from(self.b);
+        (nodes, order << 2 | self.op as u64)
+    }
+
     /// Returns the node of a connective that follows from no earlier row, if it is one.
     fn shortcut(self) -> Option<u32> {
         let Question { op, a, b, .. } = self;
@@ -94,25 +91,8 @@ impl ProductRow {
 
 impl Entry for ProductRow {
     fn key(self) -> Key {
-        key_of(self.question)
+        self.question.key()
     }
-}
-
-/// Returns what distinguishes a question from others.
-fn key_of(asked: Question) -> Key {
-    let order = match asked.order {
-        VariableOrder::Whole => 0,
-        VariableOrder::Places(right) => u64::from(right) + 1,
-    };
-    let nodes = u64::from(asked.a) << 32 | u64::from(asked.b);
-    (nodes, order << 2 | asked.op as u64)
-}
-
-/// What becomes of a question: its row, or the first row that it follows from and that is missing.
-#[derive(Clone, Copy)]
-enum Step {
-    Row(Cited),
-    Missing(Question),
 }
 
 /// Product rows, and the places of variables in their orders.
@@ -145,30 +125,22 @@ impl Products {
         self.rows.get(number)
     }
 
-    /// Returns the row of a question, and adds it and those it follows from if they are missing.
+    /// Returns the row of a question, and adds it and those it follows from if they are missing. Of
+    /// the questions that wait, each has its turn at most three times.
     pub(crate) fn row(&mut self, nodes: &mut Nodes, asked: Question) -> Result<Cited, Stop> {
         if let Some(row) = self.known_row(asked)? {
             return Ok(row);
         }
         self.pending.clear();
         self.pending.push(asked)?;
-        self.work_off(nodes)
-    }
-
-    /// Works off the questions that wait, and returns the row of the first of them. Each row has
-    /// its turn at most three times.
-    fn work_off(&mut self, nodes: &mut Nodes) -> Result<Cited, Stop> {
         for _ in 0..4 * u64::from(MAX_PRODUCTS) {
-            let Some(asked) = self.pending.last().copied() else {
+            let Some(next) = self.pending.last().copied() else {
                 break;
             };
-            match self.split_row(nodes, asked)? {
-                Step::Missing(question) => self.pending.push(question)?,
-                Step::Row(row) => {
-                    let _ = self.pending.pop();
-                    if self.pending.is_empty() {
-                        return Ok(row);
-                    }
+            if let Some(row) = self.split_row(nodes, next)? {
+                let _ = self.pending.pop();
+                if self.pending.is_empty() {
+                    return Ok(row);
                 }
             }
         }
@@ -177,8 +149,9 @@ impl Products {
 
     /// Returns the row of a question, if it is known or a shortcut.
     fn known_row(&mut self, asked: Question) -> Result<Option<Cited>, Stop> {
-        if let Some(number) = self.rows.find(key_of(asked)) {
-            return Ok(self.cited(number));
+        if let Some((number, row)) = self.rows.find(asked.key()) {
+            let node = row.node;
+            return Ok(Some(Cited { number, node }));
         }
         match asked.shortcut() {
             Some(node) => Ok(Some(self.add_row(asked, node, None)?)),
@@ -186,22 +159,15 @@ impl Products {
         }
     }
 
-    /// Returns the row of a number as a line references it.
-    fn cited(&self, number: u32) -> Option<Cited> {
-        let node = self.rows.get(number)?.node;
-        Some(Cited { number, node })
-    }
-
-    /// Adds the row that follows from two others, unless one of these is missing.
-    fn split_row(&mut self, nodes: &mut Nodes, asked: Question) -> Result<Step, Stop> {
+    /// Adds the row that follows from two others. If one of these is missing, that waits for its
+    /// turn instead.
+    fn split_row(&mut self, nodes: &mut Nodes, asked: Question) -> Result<Option<Cited>, Stop> {
         let variable = self.first_variable(nodes, asked).ok_or(Stop::NoRule)?;
-        let below = asked.cofactor(nodes, variable, false);
-        let Some(low) = self.known_row(below)? else {
-            return Ok(Step::Missing(below));
+        let Some(low) = self.row_below(asked.cofactor(nodes, variable, false))? else {
+            return Ok(None);
         };
-        let below = asked.cofactor(nodes, variable, true);
-        let Some(high) = self.known_row(below)? else {
-            return Ok(Step::Missing(below));
+        let Some(high) = self.row_below(asked.cofactor(nodes, variable, true))? else {
+            return Ok(None);
         };
         let node = nodes.choice(variable, low.node, high.node)?;
         let split = Split {
@@ -209,7 +175,16 @@ impl Products {
             low: low.number,
             high: high.number,
         };
-        Ok(Step::Row(self.add_row(asked, node, Some(split))?))
+        Ok(Some(self.add_row(asked, node, Some(split))?))
+    }
+
+    /// Returns a row that another follows from, or lets its question wait for its turn.
+    fn row_below(&mut self, asked: Question) -> Result<Option<Cited>, Stop> {
+        let row = self.known_row(asked)?;
+        if row.is_none() {
+            self.pending.push(asked)?;
+        }
+        Ok(row)
     }
 
     /// Adds a row.
@@ -229,10 +204,9 @@ impl Products {
 
     /// Returns the first variable that one of two nodes tests.
     fn first_variable(&self, nodes: &Nodes, asked: Question) -> Option<u32> {
-        let rank = |node: Node| self.ranks.rank(asked.order, node.v);
         match (nodes.node(asked.a), nodes.node(asked.b)) {
-            (Some(a), Some(b)) if rank(b) < rank(a) => Some(b.v),
-            (Some(node), _) | (None, Some(node)) => Some(node.v),
+            (Some(a), Some(b)) => Some(self.ranks.first(asked.order, a.v, b.v)),
+            (Some(node), None) | (None, Some(node)) => Some(node.v),
             (None, None) => None,
         }
     }

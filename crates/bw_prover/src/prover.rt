@@ -38,7 +38,11 @@ pub fn prove<'a>(
         Ok(facts) => facts,
         Err(stop) => return Err(without_rows(stop)),
     };
-    let mut proof = Proof::new(alloc, facts);
+    let mut proof = Proof {
+        facts,
+        lines: Vec::new(alloc),
+        pairs: Vec::new(alloc),
+    };
     match certify(alloc, schema, &mut proof, cond, program, hints) {
         Ok(certificate) => Ok(certificate),
         Err(stop) => Err(explain(alloc, &mut proof.facts, stop)),

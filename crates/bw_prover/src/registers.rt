@@ -48,19 +48,13 @@ impl Registers {
         self.lost[register as usize] = None;
     }
 
-    /// Records that a register that isn't read later isn't known.
-    pub(crate) fn forget(&mut self, register: Register)
+    /// Records that a register's node isn't known from a join on, and how it was lost, if it is read
+    /// later.
+    pub(crate) fn lose(&mut self, register: Register, loss: Option<Loss>)
         requires { register < 64 }
     {
         self.known[register as usize] = None;
-    }
-
-    /// Records that a register's node isn't known from a join on.
-    pub(crate) fn lose(&mut self, register: Register, loss: Loss)
-        requires { register < 64 }
-    {
-        self.known[register as usize] = None;
-        self.lost[register as usize] = Some(loss);
+        self.lost[register as usize] = loss;
     }
 }
 

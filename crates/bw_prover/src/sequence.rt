@@ -1,5 +1,5 @@
 //! The best order of a condition's columns, and which of them it compares with one another.
-use crate::columns::column_index;
+use crate::columns::{column_index, width_of};
 use crate::stop::Stop;
 use bw_model::{Cond, Op, Operand, Schema};
 use bw_program::ColumnIndex;
@@ -14,15 +14,6 @@ pub(crate) struct Sequence {
 }
 
 impl Sequence {
-    /// Returns no columns.
-    fn new() -> Self {
-        Sequence {
-            columns: [0; 64],
-            count: 0,
-            weight: 0,
-        }
-    }
-
     /// Returns the columns.
     pub(crate) fn columns(&self) -> &[ColumnIndex] {
         self.columns.get(..self.count).unwrap_or(&self.columns)
@@ -37,12 +28,6 @@ impl Sequence {
         }
     }
 
-    /// Adds bits that are compared.
-    fn weigh(&mut self, bits: u64) -> Result<(), Stop> {
-        self.weight = self.weight.checked_add(bits).ok_or(Stop::Limit)?;
-        Ok(())
-    }
-
     /// Returns these columns and others, the smaller ones first: the nodes of the larger ones are
     /// then unchanged below them.
     fn join(self, others: Self) -> Result<Self, Stop> {
@@ -54,7 +39,7 @@ impl Sequence {
         for column in last.columns() {
             made.push(*column);
         }
-        made.weigh(last.weight)?;
+        made.weight = made.weight.checked_add(last.weight).ok_or(Stop::Limit)?;
         Ok(made)
     }
 }
@@ -71,78 +56,55 @@ impl Pairs<'_> {
     /// Returns the columns of a condition, and adds its pairs.
     #[cycle(sequence)]
     pub(crate) fn sequence_of(&mut self, cond: &Cond) -> Result<Sequence, Stop> {
-        match cond {
-            Cond::Always => Ok(Sequence::new()),
-            Cond::Cmp(op, x, y) => self.compared(*op, *x, *y),
-            Cond::Between(x, y, z) => {
-                let lower = self.compared(Op::Ge, *x, *y)?;
-                lower.with(self, Op::Le, *x, *z)
-            }
-            Cond::Among(x, items) => self.listed(*x, items),
-            Cond::IsNull(x) => self.compared(Op::Eq, *x, Operand::Null),
-            Cond::And(parts) | Cond::Or(parts) => self.joined(parts),
-            Cond::Not(part) | Cond::Test(part, _) => self.sequence_of(part),
-        }
-    }
-
-    /// Returns the columns of some parts.
-    #[cycle(sequence)]
-    fn joined(&mut self, parts: &[Cond]) -> Result<Sequence, Stop> {
-        let mut made = Sequence::new();
-        for part in parts {
-            made = made.join(self.sequence_of(part)?)?;
-        }
-        Ok(made)
-    }
-
-    /// Returns the columns of a list of equations with one operand.
-    fn listed(&mut self, x: Operand, items: &[Operand]) -> Result<Sequence, Stop> {
-        let mut made = Sequence::new();
-        for item in items {
-            made = made.with(self, Op::Eq, x, *item)?;
-        }
-        Ok(made)
-    }
-
-    /// Returns the columns of a comparison.
-    fn compared(&mut self, op: Op, x: Operand, y: Operand) -> Result<Sequence, Stop> {
-        Sequence::new().with(self, op, x, y)
-    }
-
-    /// Returns the column of an operand, if it is one.
-    fn column_of(&self, operand: Operand) -> Option<ColumnIndex> {
-        match operand {
-            Operand::Col(column) => column_index(self.schema, column),
-            _ => None,
-        }
-    }
-}
-
-impl Sequence {
-    /// Returns these columns and those of a comparison, whose pair is added.
-    fn with(mut self, pairs: &mut Pairs<'_>, op: Op, x: Operand, y: Operand) -> Result<Self, Stop> {
-        let (x, y) = (pairs.column_of(x), pairs.column_of(y));
-        self.append(pairs.schema, x)?;
-        self.append(pairs.schema, y)?;
-        if let (Some(x), Some(y)) = (x, y) {
-            match op {
-                _ if x == y => {}
-                Op::Gt | Op::Le => pairs.pairs.push((y, x))?,
-                _ => pairs.pairs.push((x, y))?,
-            }
-        }
-        Ok(self)
-    }
-
-    /// Appends a column, whose bits are compared once more.
-    fn append(&mut self, schema: &Schema, column: Option<ColumnIndex>) -> Result<(), Stop> {
-        let Some(column) = column else {
-            return Ok(());
+        let mut made = Sequence {
+            columns: [0; 64],
+            count: 0,
+            weight: 0,
         };
-        if let Some(width) = crate::columns::width_of(schema, column) {
-            self.weigh(u64::from(width))?;
+        match cond {
+            Cond::Always => {}
+            Cond::Cmp(op, x, y) => self.add(&mut made, *op, *x, *y)?,
+            Cond::Between(x, y, z) => {
+                self.add(&mut made, Op::Ge, *x, *y)?;
+                self.add(&mut made, Op::Le, *x, *z)?;
+            }
+            Cond::Among(x, items) => {
+                for item in items {
+                    self.add(&mut made, Op::Eq, *x, *item)?;
+                }
+            }
+            Cond::IsNull(x) => self.add(&mut made, Op::Eq, *x, Operand::Null)?,
+            Cond::And(parts) | Cond::Or(parts) => {
+                for part in parts {
+                    made = made.join(self.sequence_of(part)?)?;
+                }
+            }
+            Cond::Not(part) | Cond::Test(part, _) => return self.sequence_of(part),
         }
-        self.push(column);
+        Ok(made)
+    }
+
+    /// Appends the columns of a comparison, and adds their pair.
+    fn add(&mut self, to: &mut Sequence, op: Op, x: Operand, y: Operand) -> Result<(), Stop> {
+        match (self.append(to, x)?, self.append(to, y)?) {
+            (Some(x), Some(y)) if x != y => match op {
+                Op::Gt | Op::Le => self.pairs.push((y, x))?,
+                _ => self.pairs.push((x, y))?,
+            },
+            _ => {}
+        }
         Ok(())
+    }
+
+    /// Appends the column of an operand, whose bits are compared once more, and returns it.
+    fn append(&self, to: &mut Sequence, operand: Operand) -> Result<Option<ColumnIndex>, Stop> {
+        let Operand::Col(column) = operand else {
+            return Ok(None);
+        };
+        let column = column_index(self.schema, column).ok_or(Stop::NoRule)?;
+        let width = width_of(self.schema, column).ok_or(Stop::NoRule)?;
+        to.weight = to.weight.checked_add(u64::from(width)).ok_or(Stop::Limit)?;
+        to.push(column);
+        Ok(Some(column))
     }
 }

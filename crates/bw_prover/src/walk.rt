@@ -1,36 +1,25 @@
 //! One walk over a program's instructions, which gives each register its node.
-ghost use Rattle.std.specs.Prelude.{◌<◌, ◌≤◌, IfSome};
+ghost use Rattle.std.specs.Prelude.{◌≤◌, IfSome};
 ghost use Rattle.bw_program.specs.Program.{named_by};
 ghost use Rattle.bw_text.specs.Register.{register_count};
 
-use crate::chains::Compared;
+use crate::chains::Link;
 use crate::columns::width_of;
 use crate::edges::{Edge, Edges};
 use crate::hints::Hints;
+use crate::line::ProofLine;
 use crate::order::VariableOrder;
 use crate::proof::Proof;
 use crate::registers::{RegisterSet, Registers, read_later, written_by};
 use crate::stop::Stop;
 use bw_cert_text::InstructionEntry;
 use bw_diagram::{ChainKind, Connective};
-use bw_program::{ColumnIndex, Instr, Program, Register, SliceIndex};
+use bw_program::{ColumnIndex, Instr, Program, SliceIndex};
 use std::alloc::Global;
 
-/// What an instruction does: its line, and the node of the register that it writes, or, of a skip,
-/// that it reads.
-#[derive(Clone, Copy)]
-struct Effect {
-    entry: InstructionEntry,
-    node: u32,
-}
-
-/// The operands of a connective: two registers, read by the instruction of this number.
-#[derive(Clone, Copy)]
-struct Operands {
-    instruction: usize,
-    x: Register,
-    y: Register,
-}
+/// The line of an instruction, and the node of the register that it writes, or, of a skip, that it
+/// reads.
+type Effect = (InstructionEntry, u32);
 
 /// Appends the lines of a program's instructions and joins, and returns what is known at its end.
 pub(crate) fn known_at_end(
@@ -76,17 +65,17 @@ impl Proof<'_> {
     ) -> Result<(), Stop>
         requires { named_by instr ≤ register_count }
     {
-        let effect = self.effect(registers, number, instr, order)?;
-        self.put_instruction(effect.entry)?;
+        let (entry, node) = self.effect(registers, number, instr, order)?;
+        self.lines.push(ProofLine::Instruction(entry))?;
         if let Instr::Skip(_, target) = instr {
             let edge = Edge {
                 skip: number,
-                tested: effect.node,
+                tested: node,
                 known: registers.known,
             };
             edges.add(target, edge)?;
         } else if let Some(register) = written_by(instr) {
-            registers.set(register, effect.node);
+            registers.set(register, node);
         }
         Ok(())
     }
@@ -101,78 +90,48 @@ impl Proof<'_> {
     ) -> Result<Effect, Stop>
         requires { named_by instr ≤ register_count }
     {
-        let operands = |x: Register, y: Register| Operands {
-            instruction: number,
-            x,
-            y,
+        let (op, x, y) = match instr {
+            Instr::And(_, x, y) => (Connective::And, x, y),
+            Instr::Or(_, x, y) => (Connective::Or, x, y),
+            Instr::Xor(_, x, y) => (Connective::Xor, x, y),
+            Instr::Not(_, x) => {
+                return self.operation(order, Connective::Diff, 1, registers.read(number, x)?);
+            }
+            Instr::Skip(x, _) => return Ok((InstructionEntry::Skip, registers.read(number, x)?)),
+            _ => return self.constant(instr),
         };
-        match instr {
-            Instr::Load(_, col, bit) => self.load(col, u32::from(bit)),
-            Instr::Nulls(_, col) => self.load_nulls(col),
-            Instr::Fill(_, bit) => Ok(Effect {
-                entry: InstructionEntry::Fill,
-                node: u32::from(bit),
-            }),
-            Instr::And(_, x, y) => {
-                self.connective(registers, Connective::And, operands(x, y), order)
-            }
-            Instr::Or(_, x, y) => self.connective(registers, Connective::Or, operands(x, y), order),
-            Instr::Xor(_, x, y) => {
-                self.connective(registers, Connective::Xor, operands(x, y), order)
-            }
-            Instr::Not(_, x) => self.complement(registers.read(number, x)?, order),
-            Instr::ByteLt(_, col, slice, k) => self.byte(ChainKind::Less, col, slice, k),
-            Instr::ByteEq(_, col, slice, k) => self.byte(ChainKind::Equal, col, slice, k),
-            Instr::Skip(x, _) => Ok(Effect {
-                entry: InstructionEntry::Skip,
-                node: registers.read(number, x)?,
-            }),
-        }
+        let a = registers.read(number, x)?;
+        let b = registers.read(number, y)?;
+        self.operation(order, op, a, b)
     }
 
-    /// Returns the effect of loading the plane of a column's bit.
-    fn load(&mut self, column: ColumnIndex, bit: u32) -> Result<Effect, Stop> {
-        let node = self.facts.bit(column, bit)?;
-        let entry = InstructionEntry::Load(u64::from(node));
-        Ok(Effect { entry, node })
-    }
-
-    /// Returns the effect of loading a column's null plane.
-    fn load_nulls(&mut self, column: ColumnIndex) -> Result<Effect, Stop> {
-        let node = self.facts.nulls(column)?.ok_or(Stop::NoRule)?;
-        let entry = InstructionEntry::Load(u64::from(node));
-        Ok(Effect { entry, node })
-    }
-
-    /// Returns the effect of a connective of two registers.
-    fn connective(
+    /// Returns the effect of a connective of two nodes.
+    fn operation(
         &mut self,
-        registers: &Registers,
-        op: Connective,
-        operands: Operands,
         order: VariableOrder,
-    ) -> Result<Effect, Stop>
-        requires { (operands.x < 64) × (operands.y < 64) }
-    {
-        let a = registers.read(operands.instruction, operands.x)?;
-        let b = registers.read(operands.instruction, operands.y)?;
+        op: Connective,
+        a: u32,
+        b: u32,
+    ) -> Result<Effect, Stop> {
         let row = self.facts.row(order, op, a, b)?;
-        Ok(Effect {
-            entry: InstructionEntry::Op(row.reference()),
-            node: row.node,
-        })
+        Ok((InstructionEntry::Op(row.reference()), row.node))
     }
 
-    /// Returns the effect of a complement.
-    fn complement(&mut self, node: u32, order: VariableOrder) -> Result<Effect, Stop> {
-        let row = self.facts.opposite(order, node)?;
-        Ok(Effect {
-            entry: InstructionEntry::Op(row.reference()),
-            node: row.node,
-        })
+    /// Returns the effect of an instruction that reads no register.
+    fn constant(&mut self, instr: Instr) -> Result<Effect, Stop> {
+        let node = match instr {
+            Instr::Load(_, col, bit) => self.facts.bit(col, u32::from(bit))?,
+            Instr::Nulls(_, col) => self.facts.nulls(col)?.ok_or(Stop::NoRule)?,
+            Instr::Fill(_, bit) => return Ok((InstructionEntry::Fill, u32::from(bit))),
+            Instr::ByteLt(_, col, slice, k) => return self.byte(ChainKind::Less, col, slice, k),
+            Instr::ByteEq(_, col, slice, k) => return self.byte(ChainKind::Equal, col, slice, k),
+            _ => return Err(Stop::NoRule),
+        };
+        Ok((InstructionEntry::Load(u64::from(node)), node))
     }
 
-    /// Returns the effect of a byte comparison.
+    /// Returns the effect of a byte comparison. One with a number that is greater than each byte
+    /// has no chain.
     fn byte(
         &mut self,
         kind: ChainKind,
@@ -181,35 +140,14 @@ impl Proof<'_> {
         byte: u8,
     ) -> Result<Effect, Stop> {
         let width = width_of(self.facts.schema, column).ok_or(Stop::NoRule)?;
-        let left = width.checked_sub(8 * u32::from(slice));
-        let len = left.ok_or(Stop::NoRule)?.min(8);
-        if len == 0 {
-            return Err(Stop::NoRule);
-        }
+        let above = width.checked_sub(8 * u32::from(slice));
+        let len = above.ok_or(Stop::NoRule)?.min(8);
         if u32::from(byte) >= 1 << len {
-            return Ok(past_byte(kind));
+            let node = u32::from(kind == ChainKind::Less);
+            return Ok((InstructionEntry::Byte(None), node));
         }
-        let compared = Compared::Bound {
-            column,
-            slice,
-            bound: u64::from(byte),
-        };
-        let chain = self.facts.chain(kind, compared, len)?;
-        Ok(Effect {
-            entry: InstructionEntry::Byte(Some(chain.reference())),
-            node: chain.node,
-        })
-    }
-}
-
-/// Returns the effect of a comparison of bytes with a number that is greater than each of them.
-fn past_byte(kind: ChainKind) -> Effect {
-    let node = match kind {
-        ChainKind::Less => 1,
-        ChainKind::Equal => 0,
-    };
-    Effect {
-        entry: InstructionEntry::Byte(None),
-        node,
+        let link = Link::of(kind, column, slice, len, u64::from(byte));
+        let chain = self.facts.chain(link)?;
+        Ok((InstructionEntry::Byte(Some(chain.reference())), chain.node))
     }
 }

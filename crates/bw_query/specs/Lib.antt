@@ -1,5 +1,6 @@
 pub mod ProgramChoice
 pub mod AnswerText
+pub mod Certification
 pub mod MemoryAnswer
 pub mod Plan
 pub mod ProgramCache

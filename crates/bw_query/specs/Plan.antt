@@ -31,6 +31,12 @@ pub record IsPrinted (columns : List Column) (file : List ℕ) : Type 0 where
   pub states : (first : ℕ) → IsCertificateText first (certificate_text.print_text columns stated)
       (renumber first (certificate_text.respell columns stated))
 
+-- the file is so printed from this program
+pub record IsPrintedFrom (columns : List Column) (program : ProgramShape) (file : List ℕ) : Type 0
+  where
+    pub printed : IsPrinted columns file
+    pub shown : printed.shown ≡ program
+
 -- The first text spells a schema, and the statement a query under it. The file, which is printed as
 -- above, spells a program and a certificate that is valid for it and the query's condition.
 pub record IsPlan (text sql file : List ℕ) : Type 0 where

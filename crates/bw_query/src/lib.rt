@@ -9,6 +9,7 @@
 //! `specs/MemoryAnswer.antt`.
 #![tactic(auto)]
 
+mod certify_call;
 mod file_text;
 mod memory_calls;
 mod memory_text;
@@ -20,6 +21,7 @@ mod table_calls;
 mod table_text;
 mod trial;
 
+pub use certify_call::certify_text;
 pub use memory_calls::{answer_in_memory, answer_with_programs};
 pub use plan_call::plan_text;
 pub use program_cache::{ProgramCache, RejectedFile};

@@ -11,12 +11,14 @@ ghost use Rattle.bw_cert_text.specs.CertificateShape.{CertificateShape};
 ghost use Rattle.bw_cert_text.specs.Columns.{has_columns};
 ghost use Rattle.bw_cert.specs.FileVerdict.{Certifies};
 ghost use Rattle.bw_io.specs.Sink.{WriteOutcome, none_aside};
-ghost use Rattle.bw_query.specs.Plan.{IsPlanned, IsPrinted};
+ghost use Rattle.bw_query.specs.Plan.{IsPlanned, IsPrinted, IsPrintedFrom};
 
 use bw_cert::certify;
+use bw_cert_text::Certificate;
 use bw_io::{Sink, write_whole};
 use bw_model::{Cond, Fault, Place, Schema, code};
 use bw_plan::{Proposal, propose};
+use bw_program::Program;
 use bw_sql::parse;
 use std::alloc::Global;
 
@@ -67,21 +69,30 @@ fn propose_file(alloc: Global, schema: &Schema, cond: &Cond) -> Result<Vec<u8>, 
     ensures printed { IfOk result (λ file. IsPrinted schema.now.columns.items file.items) }
     ensures fault { IfErr result (λ fault. is_memory fault ≡ false → fault ≡ nowhere NO_PROGRAM) }
 {
-    let proposal = propose(alloc, schema, cond)?;
-    file_of(alloc, schema, &proposal)
+    let Proposal {
+        program,
+        certificate,
+    } = propose(alloc, schema, cond)?;
+    file_of(alloc, schema, &program, &certificate)
 }
 
 /// Returns the text of a program, the line CERTIFICATE, and the text of a certificate.
-fn file_of(alloc: Global, schema: &Schema, proposal: &Proposal<'_>) -> Result<Vec<u8>, Fault>
-    requires program { IsTrue (fits schema.now.columns.items proposal.now.program) }
+pub(crate) fn file_of(
+    alloc: Global,
+    schema: &Schema,
+    program: &Program,
+    certificate: &Certificate<'_>,
+) -> Result<Vec<u8>, Fault>
+    requires program { IsTrue (fits schema.now.columns.items program.now) }
     requires certificate { IsTrue
-        (has_columns schema.now.columns.items (certificate_fields proposal.now.certificate)) }
-    ensures printed { IfOk result (λ file. IsPrinted schema.now.columns.items file.items) }
+        (has_columns schema.now.columns.items (certificate_fields certificate.now)) }
+    ensures printed { IfOk result (λ file.
+        IsPrintedFrom schema.now.columns.items program.now file.items) }
     ensures only_oom { IfErr result (λ fault. IsTrue (is_memory fault)) }
 {
-    let mut file = proposal.program.print(alloc, schema)?;
+    let mut file = program.print(alloc, schema)?;
     file.extend_from_slice(b"CERTIFICATE\n")?;
-    file.extend_from_slice(&proposal.certificate.print(alloc, schema)?)?;
+    file.extend_from_slice(&certificate.print(alloc, schema)?)?;
     Ok(file)
 }
 

@@ -5,7 +5,8 @@
 //! - over a table file: [`answer`], [`dump`]
 //! - over a table that is read once, for many statements: [`MemoryTable`], [`answer_in_memory`],
 //! [`ProgramCache`], [`answer_with_programs`], [`answer_statements`]
-//! - over the texts of a schema, a statement and a program file: [`check_text`], [`plan_text`]
+//! - over the texts of a schema, a statement and a program file: [`check_text`], [`plan_text`],
+//! [`certify_text`]
 //! - to write a schema text: [`infer`], [`info`]
 //!
 //! All of these share [`read_limited`], which reads an input up to a limit, [`split_file`], which
@@ -21,7 +22,8 @@ pub use bw_csv_calls::{direct, load};
 pub use bw_io::{Input, read_limited};
 pub use bw_memory::MemoryTable;
 pub use bw_query::{
-    ProgramCache, RejectedFile, answer, answer_in_memory, answer_with_programs, dump, plan_text,
+    ProgramCache, RejectedFile, answer, answer_in_memory, answer_with_programs, certify_text, dump,
+    plan_text,
 };
 pub use bw_report::{Accepted, By, Served, accepted_line, report, stats_line};
 pub use bw_schemas::{infer, info};

@@ -1,0 +1,175 @@
+//! Writes program files for programs of any writer, with certificates that the prover finds.
+ghost use Rattle.std.specs.Prelude.{◌≡◌, ◌-◌, ◌^◌, ◌<◌, ℕ, List, Result, true, false, length, IfOk};
+ghost use Rattle.std.specs.Prelude.{IfErr, IsTrue};
+ghost use Rattle.bw_model.specs.FaultTable.{NO_CERTIFICATE};
+ghost use Rattle.bw_model.specs.declared.fault.Fault.{Fault};
+ghost use Rattle.bw_model.specs.Cond.{names_within};
+ghost use Rattle.bw_model.specs.Fault.{is_memory, at_line};
+ghost use Rattle.bw_program.specs.Program.{ProgramShape, fits};
+ghost use Rattle.bw_program.specs.ProgramText.{IsProgramText};
+ghost use Rattle.bw_cert_text.specs.CertificateShape.{CertificateShape};
+ghost use Rattle.bw_cert.specs.FileVerdict.{Certifies};
+ghost use Rattle.bw_io.specs.Sink.{WriteOutcome, none_aside};
+ghost use Rattle.bw_query.specs.Certification.{IsCertified, IsCertificationOf, IsUncertified};
+ghost use Rattle.bw_query.specs.Certification.{is_certification_fault, IsNotFound};
+ghost use Rattle.bw_query.specs.Plan.{IsPrintedFrom};
+
+use crate::plan_call::file_of;
+use bw_cert::{certify, split_file};
+use bw_io::{Sink, write_whole};
+use bw_model::{Cond, Fault, Place, Schema, code};
+use bw_program::Program;
+use bw_prover::{Hints, Unproved, prove};
+use bw_sql::parse;
+use bw_text::Lines;
+use std::alloc::{AllocError, Global};
+
+/// The most product rows of a certificate that is looked for: as many as a certificate may have.
+const MAX_ROWS: u32 = 1_048_576;
+
+/// Finds a certificate of a program for a statement under the schema of a schema text, and writes
+/// the program file: the program's canonical text, the line CERTIFICATE, and the certificate's
+/// text. A check accepts it for the same schema and statement. What the program's text has from a
+/// line CERTIFICATE on is ignored.
+///
+/// Errors, in this order: the schema text's (106, 101 to 105), the statement's (401 to 408), the
+/// program text's (501 to 507), 652 if no certificate is found, and the sink's (702); 801 at any
+/// time, if memory is refused. 652 is at the line of the instruction that reads a register which
+/// isn't known, else at that of the result. The sink's count of errors must be able to rise.
+pub fn certify_text<K: Sink>(
+    alloc: Global,
+    schema: &[u8],
+    sql: &[u8],
+    program: &[u8],
+    sink: &mut K,
+) -> Result<(), Fault>
+    requires { (K.state sink.old).failures < 2 ^ 64 - 1 }
+    ensures certified { (given : Result (List ℕ) Fault)
+        × IsCertified schema.now sql.now program.now given
+        × WriteOutcome none_aside (K.state sink.old) (K.state sink.new) given result }
+{
+    let schema = Schema::parse(alloc, schema)?;
+    let query = parse(alloc, &schema, sql)?;
+    let file = certified_file(alloc, &schema, &query.cond, program)?;
+    write_whole(sink, &file)
+}
+
+/// Returns the program file of a program's text for a condition, once the checker has accepted it.
+fn certified_file(
+    alloc: Global,
+    schema: &Schema,
+    cond: &Cond,
+    text: &[u8],
+) -> Result<Vec<u8>, Fault>
+    requires { IsTrue (names_within (length schema.now.columns.items) cond.now) }
+    ensures made { IfOk result (λ file.
+        IsCertificationOf schema.now.columns.items cond.now text.now file.items) }
+    ensures fault { IfErr result (λ fault. is_memory fault ≡ false
+        → IsUncertified schema.now.columns.items text.now fault) }
+    ensures code { IfErr result (λ fault. is_certification_fault fault ≡ true) }
+{
+    let parts = split_file(text);
+    let program = Program::parse(alloc, schema, parts.program)?;
+    let file = accepted_file(alloc, schema, cond, parts.program, &program)?;
+    Ok(file)
+}
+
+/// Returns the program file of a program for a condition, once the checker has accepted it.
+fn accepted_file(
+    alloc: Global,
+    schema: &Schema,
+    cond: &Cond,
+    text: &[u8],
+    program: &Program,
+) -> Result<Vec<u8>, Fault>
+    requires names { IsTrue (names_within (length schema.now.columns.items) cond.now) }
+    requires fits { IsTrue (fits schema.now.columns.items program.now) }
+    ensures printed { IfOk result (λ file.
+        IsPrintedFrom schema.now.columns.items program.now file.items) }
+    ensures certifies { IfOk result (λ file. (program : ProgramShape)
+        × (certificate : CertificateShape)
+        × Certifies schema.now.columns.items cond.now file.items program certificate) }
+    ensures fault { IfErr result IsNotFound }
+{
+    let file = proved_file(alloc, schema, cond, text, program)?;
+    match certify(alloc, schema, cond, &file) {
+        Ok(_) => Ok(file),
+        Err(fault) if is_memory(fault) => Err(fault),
+        Err(_) => Err(not_found(alloc, text, program.len())),
+    }
+}
+
+/// Returns the program file of a program for a condition, which isn't checked yet.
+fn proved_file(
+    alloc: Global,
+    schema: &Schema,
+    cond: &Cond,
+    text: &[u8],
+    program: &Program,
+) -> Result<Vec<u8>, Fault>
+    requires fits { IsTrue (fits schema.now.columns.items program.now) }
+    ensures printed { IfOk result (λ file.
+        IsPrintedFrom schema.now.columns.items program.now file.items) }
+    ensures fault { IfErr result IsNotFound }
+{
+    let hints = Hints {
+        rows: MAX_ROWS,
+        orders: &[],
+    };
+    match prove(alloc, schema, cond, program, &hints) {
+        Ok(certificate) => Ok(file_of(alloc, schema, program, &certificate)?),
+        Err(unproved) => Err(fault_of(alloc, text, program.len(), &unproved)),
+    }
+}
+
+/// Returns whether memory was refused.
+fn is_memory(fault: Fault) -> bool
+    ensures { result ≡ is_memory fault }
+{
+    matches!(
+        fault,
+        Fault {
+            code: code::OUT_OF_MEMORY,
+            place: Place::Nowhere,
+        }
+    )
+}
+
+/// Returns the error of a program without a certificate. `end` is the number after the last
+/// instruction's.
+fn fault_of(alloc: Global, text: &[u8], end: usize, unproved: &Unproved) -> Fault
+    ensures { IsNotFound result }
+{
+    match unproved {
+        Unproved::Memory => Fault::new(code::OUT_OF_MEMORY),
+        Unproved::Unwritten { instruction, .. } | Unproved::Unknown { instruction, .. } => {
+            not_found(alloc, text, *instruction)
+        }
+        _ => not_found(alloc, text, end),
+    }
+}
+
+/// Returns the error of a program without a certificate, at the line of an instruction, or at that
+/// of the result after the last one.
+fn not_found(alloc: Global, text: &[u8], instruction: usize) -> Fault
+    ensures { IsNotFound result }
+{
+    match line_of(alloc, text, instruction) {
+        Ok(line) => Fault::at_line(code::NO_CERTIFICATE, line),
+        Err(_) => Fault::new(code::OUT_OF_MEMORY),
+    }
+}
+
+/// Returns the number of an instruction's line, or of the result's after the last instruction.
+fn line_of(alloc: Global, text: &[u8], instruction: usize) -> Result<u64, AllocError> {
+    let mut lines = Lines::new(text);
+    for _ in 0..instruction {
+        if lines.next_line(alloc)?.is_none() {
+            break;
+        }
+    }
+    match lines.next_line(alloc)? {
+        Some(line) => Ok(line.number),
+        None => Ok(lines.number()),
+    }
+}
