@@ -39,7 +39,7 @@ fn of_condition(
     requires { IsTrue (names_within (length schema.now.columns.items) cond.now) }
 {
     let hints = Hints {
-        rows: u32::MAX,
+        rows: 1_048_576,
         orders: &[],
     };
     let mut text = String::new(alloc);
@@ -146,14 +146,17 @@ struct ShownRow<'a> {
 
 impl fmt::Display for ShownRow<'_> {
     fn fmt<W: fmt::Write>(&self, f: &mut fmt::Formatter<W>) -> fmt::Result {
-        let mut before = "";
+        let mut is_first = true;
         for (column, value) in self.columns.iter().zip(&self.row.values) {
-            write!(f, "{before}{} = ", Shown(column.name.as_bytes()))?;
+            if !is_first {
+                f.write_str(", ")?;
+            }
+            is_first = false;
+            write!(f, "{} = ", Shown(column.name.as_bytes()))?;
             match value {
                 Some(n) => write!(f, "{n}")?,
                 None => f.write_str("NULL")?,
             }
-            before = ", ";
         }
         Ok(())
     }

@@ -11,7 +11,7 @@ use crate::facts::Facts;
 use crate::refusal::Refusal;
 use bw_cert_text::{Body, BodyLine, Certificate, ChainLine, EndLine, NodeLine, ProductLine};
 use bw_diagram::ChainColumns;
-use bw_model::{Schema, code};
+use bw_model::Schema;
 use bw_program::{ColumnIndex, Program, Register, program_text};
 
 /// Returns the program of the instructions and a result register, by its text.
@@ -25,7 +25,7 @@ pub(crate) fn program(
     let text = program_text(code.facts.alloc, schema, &code.instrs, answer)?;
     match Program::parse(code.facts.alloc, schema, &text) {
         Ok(program) => Ok(program),
-        Err(fault) if fault.code == code::OUT_OF_MEMORY => Err(Refusal::NoMemory),
+        Err(fault) if fault.is_memory() => Err(Refusal::NoMemory),
         Err(_) => Err(Refusal::NoProgram),
     }
 }
