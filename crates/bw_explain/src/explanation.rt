@@ -7,6 +7,7 @@ use crate::kind::Kind;
 use crate::lines::of_program;
 use crate::uncertified::of_uncertified;
 use crate::visible_bytes::Shown;
+use bw_cert::split_file;
 use bw_cli::CommandArgs;
 use bw_file::TableReader;
 use bw_io::{FromRead, Input, read_limited};
@@ -181,6 +182,18 @@ pub fn explain_statement(rt: &HostRuntime, schema: &Schema, sql: &[u8], fault: &
 /// Prints on standard error why a query went row by row, if the table can be read again.
 pub fn explain_rows(rt: &HostRuntime, table: &str, sql: &str) {
     print_explanation(rt, "", explain_row_by_row(rt, table, sql));
+}
+
+/// Prints on standard error that the certificate of a program file is ignored, if it has one.
+pub fn explain_ignored(rt: &HostRuntime, path: &str, file: &[u8]) {
+    let parts = split_file(file);
+    if parts.program.len() < file.len() {
+        let line = parts.first_line - 1;
+        let _ = eprintln!(rt;
+            "    {} line {}: this certificate is ignored, another is found",
+            path, line
+        );
+    }
 }
 
 /// Returns why a query went row by row.

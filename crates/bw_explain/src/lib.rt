@@ -3,8 +3,8 @@
 //!
 //! The program calls [`explain`] at a terminal, or with `--explain`. It reads the file or the
 //! statement again, and prints on standard error. [`explain_rows`] explains why a query went row by
-//! row. Nothing depends on these lines: what can't be read again, or doesn't fit in memory, is left
-//! out.
+//! row, and [`explain_ignored`] says that a certificate wasn't read. Nothing depends on these lines:
+//! what can't be read again, or doesn't fit in memory, is left out.
 //!
 //! Read `explanation.rt` first, which finds the text with the error. Each explanation is a text of
 //! lines, each ended by a line feed; it is empty if there is nothing to explain. `csv_text.rt`
@@ -28,4 +28,6 @@ mod tokens;
 mod uncertified;
 mod visible_bytes;
 
-pub use explanation::{CommandFailure, Reads, explain, explain_rows, explain_statement};
+pub use explanation::{
+    CommandFailure, Reads, explain, explain_ignored, explain_rows, explain_statement,
+};

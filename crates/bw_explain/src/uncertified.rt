@@ -2,7 +2,7 @@
 ghost use Rattle.std.specs.Prelude.{length, IsTrue};
 ghost use Rattle.bw_model.specs.Cond.{names_within};
 
-use crate::visible_bytes::Shown;
+use crate::record::Named;
 use bw_cert::split_file;
 use bw_model::{Column, Cond, Row, Schema, Truth};
 use bw_program::Program;
@@ -152,7 +152,7 @@ impl fmt::Display for ShownRow<'_> {
                 f.write_str(", ")?;
             }
             is_first = false;
-            write!(f, "{} = ", Shown(column.name.as_bytes()))?;
+            write!(f, "{} = ", Named(column.name.as_bytes()))?;
             match value {
                 Some(n) => write!(f, "{n}")?,
                 None => f.write_str("NULL")?,
