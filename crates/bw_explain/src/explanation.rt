@@ -263,12 +263,10 @@ fn explain_uncertified(
     file: &str,
     fault: &Fault,
 ) -> Option<String> {
-    let schema = Schema::parse(rt.alloc(), &read_again(rt, words.schema()?)?).ok()?;
+    let sql = words.sql()?;
+    let schema = read_again(rt, words.schema()?)?;
     let file = read_again(rt, file)?;
-    let mut text = of_program(rt.alloc(), &file, fault).ok()?;
-    let reason = of_uncertified(rt.alloc(), &schema, words.sql()?.as_bytes(), &file).ok()?;
-    text.push_str(reason.as_str()).ok()?;
-    Some(text)
+    of_uncertified(rt.alloc(), &schema, sql.as_bytes(), &file, fault).ok()
 }
 
 /// Returns the bytes of a file that was read before.

@@ -2,9 +2,10 @@
 ghost use Rattle.std.specs.Prelude.{length, IsTrue};
 ghost use Rattle.bw_model.specs.Cond.{names_within};
 
+use crate::lines::of_program;
 use crate::record::Named;
 use bw_cert::split_file;
-use bw_model::{Column, Cond, Row, Schema, Truth};
+use bw_model::{Column, Cond, Fault, Row, Schema, Truth};
 use bw_program::Program;
 use bw_prover::{Hints, Unproved, Witness, prove};
 use bw_rowwise::truth;
@@ -12,41 +13,82 @@ use bw_sql::parse;
 use std::alloc::{AllocError, Global};
 use std::fmt::{self, Write};
 
-/// Returns why a program has no certificate for a statement. The text is empty if it has one, or if
-/// the statement or the program is rejected.
+/// Returns the line of a program file at which no certificate was found, and why. The text ends
+/// after the line if the schema, the statement or the program is rejected, or if there is one.
 pub(crate) fn of_uncertified(
     alloc: Global,
+    schema: &[u8],
+    sql: &[u8],
+    file: &[u8],
+    fault: &Fault,
+) -> Result<String, AllocError> {
+    let mut text = of_program(alloc, file, fault)?;
+    put_why(alloc, &mut text, schema, sql, file)?;
+    Ok(text)
+}
+
+/// Appends why a program has no certificate for a statement under the schema of a schema text.
+fn put_why(
+    alloc: Global,
+    text: &mut String,
+    schema: &[u8],
+    sql: &[u8],
+    file: &[u8],
+) -> Result<(), AllocError> {
+    match Schema::parse(alloc, schema) {
+        Ok(schema) => put_why_for_statement(alloc, text, &schema, sql, file),
+        Err(_) => Ok(()),
+    }
+}
+
+/// Appends why a program has no certificate for a statement.
+fn put_why_for_statement(
+    alloc: Global,
+    text: &mut String,
     schema: &Schema,
     sql: &[u8],
     file: &[u8],
-) -> Result<String, AllocError> {
-    let Ok(query) = parse(alloc, schema, sql) else {
-        return Ok(String::new(alloc));
-    };
-    let Ok(program) = Program::parse(alloc, schema, split_file(file).program) else {
-        return Ok(String::new(alloc));
-    };
-    of_condition(alloc, schema, &query.cond, &program)
+) -> Result<(), AllocError> {
+    match parse(alloc, schema, sql) {
+        Ok(query) => put_why_for_condition(alloc, text, schema, &query.cond, file),
+        Err(_) => Ok(()),
+    }
 }
 
-/// Returns why a program has no certificate for a condition.
-fn of_condition(
+/// Appends why a program has no certificate for a condition.
+fn put_why_for_condition(
     alloc: Global,
+    text: &mut String,
+    schema: &Schema,
+    cond: &Cond,
+    file: &[u8],
+) -> Result<(), AllocError>
+    requires { IsTrue (names_within (length schema.now.columns.items) cond.now) }
+{
+    match Program::parse(alloc, schema, split_file(file).program) {
+        Ok(program) => put_why_for_program(alloc, text, schema, cond, &program),
+        Err(_) => Ok(()),
+    }
+}
+
+/// Appends why no certificate is found.
+fn put_why_for_program(
+    alloc: Global,
+    text: &mut String,
     schema: &Schema,
     cond: &Cond,
     program: &Program,
-) -> Result<String, AllocError>
+) -> Result<(), AllocError>
     requires { IsTrue (names_within (length schema.now.columns.items) cond.now) }
 {
     let hints = Hints {
-        rows: 1_048_576,
+        rows: u32::MAX,
         orders: &[],
     };
-    let mut text = String::new(alloc);
-    if let Err(unproved) = prove(alloc, schema, cond, program, &hints) {
-        put_reason(&mut text, schema, cond, &unproved)?;
+    match prove(alloc, schema, cond, program, &hints) {
+        Ok(_) => Ok(()),
+        Err(unproved) => put_reason(text, schema, cond, &unproved),
     }
-    Ok(text)
 }
 
 /// Appends a reason.
