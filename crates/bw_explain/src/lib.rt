@@ -10,7 +10,8 @@
 //! lines, each ended by a line feed; it is empty if there is nothing to explain. `csv_text.rt`
 //! explains errors of CSV texts, with `record.rt` for records, `heading.rt` for the heading and
 //! `rejected_columns.rt` for the columns that `bw infer` rejects; `frontier.rt` explains errors of
-//! statements, `lines.rt` those of program files, and `uncertified.rt` why there is no certificate.
+//! statements, `lines.rt` those of program files, and `uncertified.rt` why there is no
+//! certificate, with the rows that `trial.rt` shows.
 #![tactic(auto)]
 
 mod csv_text;
@@ -24,7 +25,9 @@ mod missing_syntax;
 mod names;
 mod record;
 mod rejected_columns;
+mod shown_row;
 mod tokens;
+mod trial;
 mod uncertified;
 mod visible_bytes;
 
