@@ -146,4 +146,3 @@ fn first_of(first: Option<Fault>, other: Option<Fault>) -> Option<Fault>
         (Some(fault), _) => Some(fault),
     }
 }
-
