@@ -8,14 +8,11 @@ from __future__ import annotations
 
 import contextlib
 import itertools
-import json
 import operator
 import os
-import pathlib
 import re
 import sqlite3
-from dataclasses import astuple, dataclass, fields
-from typing import Any, Iterable, Iterator, Sequence
+from typing import Any, Iterable, Iterator, NamedTuple, Sequence
 
 from . import kinds
 from .column import Column
@@ -48,8 +45,7 @@ UNSAFE = re.compile(b"[^A-Za-z0-9/._~-]")
 AT_ONCE, JSON_AT_ONCE = 10_000, 4000
 
 
-@dataclass
-class TableFile:
+class TableFile(NamedTuple):
     """What identifies a table file: its size, time of change and inode, else its SHA-256. Of a
     shard also its name in the folder, and its rows."""
 
@@ -65,7 +61,7 @@ class Store:
     """An open columns file."""
 
     def __init__(self, path: str | os.PathLike[str]) -> None:
-        self.path = pathlib.Path(path)
+        self.path = os.fspath(path)
         self.database = opened(self.path)
         try:
             with self.reading():
@@ -125,7 +121,7 @@ class Store:
         return self.text(name, "the table's name")
 
     def read_files(self) -> list[TableFile]:
-        names = [field.name for field in fields(TableFile)]
+        names = TableFile._fields
         found = self.rows(f"SELECT {', '.join(names)} FROM files ORDER BY place", MOST_TABLES)
         for row in found:
             for name, value in zip(names, row):
@@ -205,7 +201,7 @@ class Store:
                     pass
 
 
-def opened(path: pathlib.Path) -> sqlite3.Connection:
+def opened(path: str) -> sqlite3.Connection:
     """Opens a columns file, which must be a regular file, to be read only. SQLite opens a file by
     its path: if another one is put there at that moment, it is opened again."""
     for _ in range(100):
@@ -221,13 +217,14 @@ def opened(path: pathlib.Path) -> sqlite3.Connection:
     raise Refused(f"{path} is replaced again and again")
 
 
-def uri_of(path: pathlib.Path) -> str:
+def uri_of(path: str) -> str:
     """Returns how SQLite opens a file that nobody writes."""
-    quoted = UNSAFE.sub(lambda found: b"%%%02X" % ord(found[0]), os.fsencode(path.absolute()))
+    whole = path if os.path.isabs(path) else os.path.join(os.getcwd(), path)
+    quoted = UNSAFE.sub(lambda found: b"%%%02X" % ord(found[0]), os.fsencode(whole))
     return f"file:{quoted.decode()}?mode=ro&immutable=1"
 
 
-def refuse_header(path: pathlib.Path, header: bytes, size: int) -> None:
+def refuse_header(path: str, header: bytes, size: int) -> None:
     """Rejects a file whose first bytes aren't those of a columns file of this version."""
     if header.startswith(EARLIER):
         raise Refused(f"{path} is a columns file of an earlier version: "
@@ -260,7 +257,7 @@ def write(path: str | os.PathLike[str], columns: Sequence[Column], name: str = "
             database.execute(sql)
         database.execute("INSERT INTO named VALUES (?)", (name,))
         database.executemany("INSERT INTO files VALUES (?, ?, ?, ?, ?, ?, ?)",
-                             [(place, *astuple(file)) for place, file in enumerate(files)])
+                             [(place, *file) for place, file in enumerate(files)])
         for place, column in enumerate(columns):
             write_column(database, place, column)
         database.execute("COMMIT")
@@ -312,6 +309,8 @@ def as_json(database: sqlite3.Connection, table: str, first: int, texts: Sequenc
     if "\0" in "".join(texts):
         one_by_one(database, table, first, texts)
         return
+    # to write alone, not to read
+    import json
     for start in range(0, len(texts), JSON_AT_ONCE):
         part = json.dumps(texts[start:start + JSON_AT_ONCE], ensure_ascii=False)
         database.execute(f"INSERT INTO {table} SELECT key + ?, value FROM json_each(?)",

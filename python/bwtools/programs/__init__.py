@@ -1,1 +1,6 @@
-"""The programs: each module has the `main` of one."""
+"""The programs: each module has the `main` of one. Their runs are short, and few of the many objects
+that they make, while modules are imported as well, are in a cycle of references: so nobody looks
+for such cycles."""
+import gc
+
+gc.disable()

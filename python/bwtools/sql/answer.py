@@ -1,18 +1,17 @@
 """The answer to a statement."""
 from __future__ import annotations
 
-from dataclasses import dataclass, field
-from typing import Any, Iterator, Sequence, Union
+from typing import TYPE_CHECKING, Any, Iterator, NamedTuple, Sequence, Union
 
 from ..kind import Kind
-from . import values
-from .blocks import Block, rows_of
-from .number_rows import Numbers
-from .value_rows import Rows
+from .blocks import Block, Value, rows_of
+
+if TYPE_CHECKING:
+    from .number_rows import Numbers
+    from .value_rows import Rows
 
 
-@dataclass
-class Answer:
+class Answer(NamedTuple):
     """The answer to a statement: its headings; of each column the kind if it is a plain column, or
     the minimum or maximum of one, else None; its rows; which way served it, 1 (statements of bw) or
     2 (SQLite over listed columns); and the statements that bw ran for it."""
@@ -21,13 +20,13 @@ class Answer:
     kinds: Sequence[Kind | None]
     body: Union[Rows, Numbers]
     way: int
-    asked: Sequence[str] = field(default_factory=list)
+    asked: Sequence[str] = ()
 
     def blocks(self) -> Iterator[Block]:
         """Yields the columns of SQLite's values, many rows at a time."""
         return self.body.values(self.kinds)
 
-    def rows(self) -> Iterator[tuple[values.Value, ...]]:
+    def rows(self) -> Iterator[tuple[Value, ...]]:
         """Yields the rows as SQLite's values."""
         return rows_of(self.blocks())
 
@@ -37,6 +36,6 @@ class Answer:
         return self.body.fields(self.kinds)
 
     def python_rows(self) -> Iterator[tuple[Any, ...]]:
-        """Yields the rows as Python's objects (`values.python`)."""
+        """Yields the rows as Python's objects (`conversions.python`)."""
         for block in self.body.objects(self.kinds):
             yield from zip(*block)

@@ -1,7 +1,7 @@
 """The clauses of a statement that is one SELECT over one table."""
 from __future__ import annotations
 
-from dataclasses import dataclass
+from typing import NamedTuple
 
 from .outside import Outside
 from .statement import Statement
@@ -13,8 +13,7 @@ from .tokens import TEXT
 WORDS = {"GROUP": 2, "ORDER": 2}
 
 
-@dataclass
-class Clauses:
+class Clauses(NamedTuple):
     """The clauses of a SELECT over one table: its items, their aliases in lower case or nothing,
     and of each other clause the places of its tokens after the words that begin it. `called` is the
     table's name before the point of a column's name."""

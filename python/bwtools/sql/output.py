@@ -1,13 +1,12 @@
 """A column of a query's result."""
 from __future__ import annotations
 
-from dataclasses import dataclass
+from typing import NamedTuple
 
 from ..column import Column
 
 
-@dataclass
-class Output:
+class Output(NamedTuple):
     """A column of a table or of a query's result: its name, its heading, and the column of a table
     whose values it has, or None for another expression. A total has a column of its own, which no
     table has: its kind says what the total can be compared with."""
