@@ -1,7 +1,7 @@
 """The options that say how answers are computed and printed."""
 from __future__ import annotations
 
-from typing import TYPE_CHECKING, NamedTuple
+from typing import TYPE_CHECKING
 
 from .formats import FORMATS
 
@@ -9,16 +9,15 @@ if TYPE_CHECKING:
     import argparse
 
 
-class AnswerOptions(NamedTuple):
+class AnswerOptions:
     """What the options say: the format, if one was named; whether numbers lose their signs; whether
     it is told which way served an answer; whether bw's statistics are printed; and whether SQLite
     may get any number of rows."""
 
-    form: str | None = None
-    is_plain: bool = False
-    is_told: bool = False
-    has_stats: bool = False
-    is_all: bool = False
+    def __init__(self, form: str | None = None, is_plain: bool = False, is_told: bool = False,
+                 has_stats: bool = False, is_all: bool = False) -> None:
+        self.form, self.is_plain, self.is_told = form, is_plain, is_told
+        self.has_stats, self.is_all = has_stats, is_all
 
 
 def options_of(given: argparse.Namespace) -> AnswerOptions:

@@ -35,8 +35,7 @@ class Asking:
         if self.is_told:
             tell(answer)
         if self.is_plain:
-            kinds = [each and undressed(each) for each in answer.kinds]
-            answer = answer._replace(kinds=kinds)
+            answer.kinds = [each and undressed(each) for each in answer.kinds]
         count = writer_of(self.form)(answer, sys.stdout, width_of_terminal())
         took = f", {time.monotonic() - begun:.2f} s" if self.is_timed else ""
         if self.form == "table" or took:

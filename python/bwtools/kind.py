@@ -10,10 +10,12 @@ from .listed import Listed, Place
 if TYPE_CHECKING:
     from fractions import Fraction
 
+    from typing_extensions import TypeAlias
+
 # the bounds of a column's numbers
 LEAST, GREATEST = -1 << 63, (1 << 63) - 1
 # a literal of a statement: a text, or a number, as which TRUE is 1
-Literal = Union[str, "Fraction"]
+Literal: TypeAlias = "Union[str, Fraction]"
 # what the store keeps of a kind: at most 16 fields of short texts and of integers of 64 bits
 Settings = Dict[str, Union[int, str]]
 

@@ -12,7 +12,7 @@ import operator
 import os
 import re
 import sqlite3
-from typing import Any, Iterable, Iterator, NamedTuple, Sequence
+from typing import Any, Iterable, Iterator, Sequence
 
 from . import kinds
 from .column import Column
@@ -21,6 +21,7 @@ from .naming import is_name
 from .regular import open_regular
 from .stored_list import StoredList
 from .telling import Refused, counted
+from .valued import Valued
 
 VERSION, APPLICATION, MAGIC = 3, 0x62776331, b"SQLite format 3\0"
 # the first bytes of a columns file of the versions before, which was JSON
@@ -45,16 +46,14 @@ UNSAFE = re.compile(b"[^A-Za-z0-9/._~-]")
 AT_ONCE, JSON_AT_ONCE = 10_000, 4000
 
 
-class TableFile(NamedTuple):
+class TableFile(Valued):
     """What identifies a table file: its size, time of change and inode, else its SHA-256. Of a
     shard also its name in the folder, and its rows."""
 
-    file: str
-    rows: int
-    size: int
-    changed: int
-    inode: int
-    sha256: str
+    def __init__(self, file: str, rows: int, size: int, changed: int, inode: int,
+                 sha256: str) -> None:
+        self.file, self.rows, self.size = file, rows, size
+        self.changed, self.inode, self.sha256 = changed, inode, sha256
 
 
 class Store:
@@ -121,7 +120,7 @@ class Store:
         return self.text(name, "the table's name")
 
     def read_files(self) -> list[TableFile]:
-        names = TableFile._fields
+        names = ("file", "rows", "size", "changed", "inode", "sha256")
         found = self.rows(f"SELECT {', '.join(names)} FROM files ORDER BY place", MOST_TABLES)
         for row in found:
             for name, value in zip(names, row):
@@ -257,7 +256,7 @@ def write(path: str | os.PathLike[str], columns: Sequence[Column], name: str = "
             database.execute(sql)
         database.execute("INSERT INTO named VALUES (?)", (name,))
         database.executemany("INSERT INTO files VALUES (?, ?, ?, ?, ?, ?, ?)",
-                             [(place, *file) for place, file in enumerate(files)])
+                             [(place, *vars(file).values()) for place, file in enumerate(files)])
         for place, column in enumerate(columns):
             write_column(database, place, column)
         database.execute("COMMIT")

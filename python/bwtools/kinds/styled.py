@@ -2,20 +2,24 @@
 brackets."""
 from __future__ import annotations
 
-from typing import TYPE_CHECKING, Sequence, Union
+from typing import TYPE_CHECKING, Sequence
 
 from ..kind import Kind, Literal, Settings
 from ..listed import Listed, Place
 from ..valued import Valued
 
 if TYPE_CHECKING:
+    from typing import Union
+
+    from typing_extensions import TypeAlias
+
     from ..style import Style
     from .decimals import Decimals
     from .floats import Floats
     from .ranked import Ranked
     from .whole import Whole
 
-Numbers = Union["Whole", "Decimals", "Floats", "Ranked"]
+Numbers: TypeAlias = "Union[Whole, Decimals, Floats, Ranked]"
 
 
 class Styled(Valued):

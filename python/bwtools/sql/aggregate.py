@@ -1,9 +1,8 @@
 """An aggregate over the rows of a group."""
 from __future__ import annotations
 
-from typing import NamedTuple
-
 from ..column import Column
+from ..valued import Valued
 from . import tokens
 from .outside import Outside
 from .reader import Reader
@@ -14,12 +13,12 @@ AGGREGATES = ("COUNT", "SUM", "MIN", "MAX", "AVG")
 PREFIX = "bw:"
 
 
-class Aggregate(NamedTuple):
+class Aggregate(Valued):
     """An aggregate over the rows of a group: of a column, or COUNT(*)."""
 
-    function: str
-    column: Column | None = None
-    is_distinct: bool = False
+    def __init__(self, function: str, column: Column | None = None,
+                 is_distinct: bool = False) -> None:
+        self.function, self.column, self.is_distinct = function, column, is_distinct
 
     @property
     def totals(self) -> list[str]:

@@ -1,7 +1,7 @@
 """SQLite's values of aggregates, from totals of bw."""
 from __future__ import annotations
 
-from typing import Mapping, Sequence
+from typing import Mapping, Optional, Sequence
 
 from ..kind import Kind
 from .aggregate import Aggregate
@@ -10,7 +10,7 @@ from .blocks import Value
 # of a group whose number is null: less than each number, all of which are within 64 bits
 NULL_NUMBER = -1 << 64
 # totals of bw by their names, each of all groups
-Totals = Mapping[str, Sequence["int | None"]]
+Totals = Mapping[str, Sequence[Optional[int]]]
 
 
 def values_of(aggregate: Aggregate, totals: Totals) -> Sequence[Value]:

@@ -1,7 +1,7 @@
 """The answer to a statement."""
 from __future__ import annotations
 
-from typing import TYPE_CHECKING, Any, Iterator, NamedTuple, Sequence, Union
+from typing import TYPE_CHECKING, Any, Iterator, Sequence
 
 from ..kind import Kind
 from .blocks import Block, Value, rows_of
@@ -11,16 +11,15 @@ if TYPE_CHECKING:
     from .value_rows import Rows
 
 
-class Answer(NamedTuple):
+class Answer:
     """The answer to a statement: its headings; of each column the kind if it is a plain column, or
     the minimum or maximum of one, else None; its rows; which way served it, 1 (statements of bw) or
     2 (SQLite over listed columns); and the statements that bw ran for it."""
 
-    headings: Sequence[str]
-    kinds: Sequence[Kind | None]
-    body: Union[Rows, Numbers]
-    way: int
-    asked: Sequence[str] = ()
+    def __init__(self, headings: Sequence[str], kinds: Sequence[Kind | None],
+                 body: Rows | Numbers, way: int, asked: Sequence[str] = ()) -> None:
+        self.headings, self.kinds, self.body = headings, kinds, body
+        self.way, self.asked = way, asked
 
     def blocks(self) -> Iterator[Block]:
         """Yields the columns of SQLite's values, many rows at a time."""

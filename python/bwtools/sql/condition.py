@@ -17,7 +17,7 @@ Tests after BETWEEN, IN and LIKE need brackets around these. A column of numbers
 number, is a predicate by itself: it is TRUE if it isn't 0."""
 from __future__ import annotations
 
-from typing import Callable, NamedTuple
+from typing import Callable
 
 from . import tokens, values
 from .outside import Outside
@@ -32,11 +32,11 @@ MOST_BYTES = 60_000
 OR, AND, NOT, TEST, PRIMARY = range(5)
 
 
-class Part(NamedTuple):
+class Part:
     """A part of a condition over numbers: its text, and how strongly its operator binds."""
 
-    text: str
-    level: int
+    def __init__(self, text: str, level: int) -> None:
+        self.text, self.level = text, level
 
     def within(self, level: int) -> str:
         """Returns the text as an operand of an operator of this level."""

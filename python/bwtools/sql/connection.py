@@ -5,7 +5,7 @@ import contextlib
 import functools
 import os
 import sqlite3
-from typing import TYPE_CHECKING, Any, Callable, NamedTuple, Sequence
+from typing import TYPE_CHECKING, Any, Callable, Sequence
 
 from . import errors, grammar
 from .answer import Answer
@@ -28,16 +28,16 @@ def nothing(told: str) -> None:
     """Drops what bw prints beside an answer."""
 
 
-class Settings(NamedTuple):
+class Settings:
     """How a connection asks: the scheduler of a cluster, or None for sessions on this machine; bw's
     options; what gets that which bw prints beside its answers; whether SQLite may get any number of
     rows; and whether progress is shown at a terminal."""
 
-    scheduler: str | None = None
-    options: Sequence[str] = ()
-    tell: Callable[[str], None] = nothing
-    list_all: bool = False
-    is_shown: bool = False
+    def __init__(self, scheduler: str | None = None, options: Sequence[str] = (),
+                 tell: Callable[[str], None] = nothing, list_all: bool = False,
+                 is_shown: bool = False) -> None:
+        self.scheduler, self.options, self.tell = scheduler, options, tell
+        self.list_all, self.is_shown = list_all, is_shown
 
 
 class Connection:
@@ -55,8 +55,9 @@ class Connection:
     ProgrammingError = errors.ProgrammingError
     NotSupportedError = errors.NotSupportedError
 
-    def __init__(self, catalog: Catalog, settings: Settings = Settings()) -> None:
-        self.catalog, self.settings, self.is_closed = catalog, settings, False
+    def __init__(self, catalog: Catalog, settings: Settings | None = None) -> None:
+        self.catalog, self.settings = catalog, settings or Settings()
+        self.is_closed = False
         # the engines of tables that were asked, by the tables' names
         self.engines = dict[str, Engine]()
         self.stack = contextlib.ExitStack()

@@ -1,7 +1,7 @@
 """The operands of comparisons in a statement's tokens."""
 from __future__ import annotations
 
-from typing import TYPE_CHECKING, Iterator, NamedTuple, Union
+from typing import TYPE_CHECKING, Iterator
 
 from ..column import Column
 from .scopes import Scope
@@ -10,12 +10,15 @@ from .tokens import BLOB, NUMBER, PARAMETER, TEXT
 
 if TYPE_CHECKING:
     from fractions import Fraction
+    from typing import Union
+
+    from typing_extensions import TypeAlias
 
 # operators that bind tighter than a comparison
 TIGHTER = ("+", "-", "*", "/", "%", "||", "->", "->>", "<<", ">>", "&", "|", "~", ".")
 COMPARE = ("=", "==", "<>", "!=", "<", "<=", ">", ">=")
 EQUAL = ("=", "==", "<>", "!=", "IS", "IN", "CASE")
-Value = Union[None, str, "Fraction", bytes]
+Value: TypeAlias = "Union[None, str, Fraction, bytes]"
 
 
 class Operand:
@@ -31,13 +34,12 @@ class Operand:
         return self.column is not None or self.value is not None
 
 
-class Comparison(NamedTuple):
+class Comparison:
     """A comparison of two operands by an operator, which is IN for a member of a list, CASE for a
     WHEN, and <= for an end of BETWEEN."""
 
-    left: Operand
-    sign: str
-    right: Operand
+    def __init__(self, left: Operand, sign: str, right: Operand) -> None:
+        self.left, self.sign, self.right = left, sign, right
 
 
 class Operands:

@@ -7,7 +7,7 @@ from __future__ import annotations
 
 import operator
 import sqlite3
-from typing import TYPE_CHECKING, Any, Callable, Iterable, NamedTuple, Sequence, Union
+from typing import TYPE_CHECKING, Any, Callable, Iterable, Sequence, Union
 
 from ..column import Column
 from ..kind import GREATEST, LEAST
@@ -30,11 +30,13 @@ UNKNOWN, TRUE, FALSE = "NULL = NULL", "1 = 1", "1 = 0"
 MOST_RUNS, SHORT, MOST_VALUES, MOST_MOMENTS = 200, 3, 100, 50_000
 
 
-class Comparand(NamedTuple):
+class Comparand:
     """An operand of a comparison: a column, or the value of a literal, or neither, which is
     NULL."""
-    column: Column | None = None
-    value: Union[str, Fraction, None] = None
+
+    def __init__(self, column: Column | None = None,
+                 value: Union[str, Fraction, None] = None) -> None:
+        self.column, self.value = column, value
 
     @property
     def is_null(self) -> bool:

@@ -135,6 +135,6 @@ def placed(tokens: Sequence[Token], parameters: Sequence[Any]) -> list[Token]:
             token = literal(value, token.start, number)
         elif token.kind == TEXT:
             # without the word before it
-            token = token._replace(text=token.text[token.text.index("'"):])
+            token = Token(TEXT, token.text[token.text.index("'"):], token.start)
         found.append(token)
     return found

@@ -3,7 +3,7 @@ that: the clauses, what FROM names, the items and their aliases. All else, and a
 to SQLite."""
 from __future__ import annotations
 
-from typing import NamedTuple, Sequence
+from typing import Sequence
 
 from .. import kinds
 from ..column import Column
@@ -22,13 +22,12 @@ COMPOUND, QUERY = ("UNION", "INTERSECT", "EXCEPT"), ("SELECT", "WITH", "VALUES")
 TOTALS = ("COUNT", "SUM", "AVG", "TOTAL")
 
 
-class Item(NamedTuple):
+class Item:
     """An item of a SELECT: its first token, the end of its expression, and the place of its
     alias."""
 
-    first: int
-    end: int
-    alias: int | None
+    def __init__(self, first: int, end: int, alias: int | None) -> None:
+        self.first, self.end, self.alias = first, end, alias
 
 
 class Structure:

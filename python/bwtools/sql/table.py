@@ -3,7 +3,7 @@ from __future__ import annotations
 
 import contextlib
 import os
-from typing import BinaryIO, NamedTuple, Sequence
+from typing import BinaryIO, Sequence
 
 from ..column import Column
 from ..naming import name_like
@@ -13,14 +13,12 @@ from ..store import TableFile
 from ..telling import Refused
 
 
-class Part(NamedTuple):
+class Part:
     """One table file of a table: its path, its record, the columns file that names it, and the
     file, open and compared with the record; or None if only a cluster's workers open it."""
 
-    path: str
-    record: TableFile
-    columns: str
-    file: BinaryIO | None
+    def __init__(self, path: str, record: TableFile, columns: str, file: BinaryIO | None) -> None:
+        self.path, self.record, self.columns, self.file = path, record, columns, file
 
 
 class Table:
