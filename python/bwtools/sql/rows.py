@@ -15,7 +15,7 @@ from .selects import COUNT, both, names_of, select
 NULL, HEADING, AT_ONCE = b"NULL", b"\n", 1 << 20
 # more rows than these aren't sorted here
 MOST_ROWS = 1_000_000
-# a limit is used to list fewer rows if there are so many
+# a limit is used to list fewer rows if there are more, and to read no others if it is less
 MANY_ROWS = 100_000
 
 
@@ -41,7 +41,11 @@ class WantedRows:
             return Numbers([])
         where = self.narrowed(engine) if self.keys else self.where
         sorting = [key.column for key in self.keys]
-        parts = engine.rows(select(names_of([*self.columns, *sorting]), self.table, where))
+        statement = select(names_of([*self.columns, *sorting]), self.table, where)
+        most = self.limits.end
+        if not self.keys and most is not None and most <= MANY_ROWS:
+            return Numbers([limited(engine.beginning(statement, most), self.limits)])
+        parts = engine.rows(statement)
         if self.keys:
             return Numbers([self.sorted(parts)])
         if self.limits.most is None and not self.limits.offset:
