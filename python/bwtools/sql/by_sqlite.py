@@ -4,11 +4,10 @@ from __future__ import annotations
 import collections
 import re
 import sqlite3
-from dataclasses import dataclass, field
 from typing import Callable, Iterable, Mapping
 
-from ..progress import Progress
 from ..telling import Refused
+from ..waiting import Waiting
 from .aggregates import for_sqlite
 from .answer import Answer
 from .catalog import Catalog
@@ -31,22 +30,17 @@ MOST_ROWS, MOST_CONDITIONS = 4_000_000, 8
 EngineOf = Callable[[Table], Engine]
 
 
-@dataclass
 class BySqlite:
-    """SQLite over the listed columns of a catalog's tables, which are kept."""
+    """SQLite over the listed columns of a catalog's tables, which are kept. `is_all` says whether
+    any number of rows may be listed."""
 
-    catalog: Catalog
-    engine_of: EngineOf
-    # whether any number of rows may be listed, and whether progress is shown at a terminal
-    is_all: bool = False
-    is_shown: bool = False
-    whole: Listing = field(init=False)
-    # the rows of conditions, the last one used last
-    parts: collections.OrderedDict[str, Listing] = field(
-        default_factory=collections.OrderedDict)
-
-    def __post_init__(self) -> None:
-        self.whole = Listing(self.catalog)
+    def __init__(self, catalog: Catalog, engine_of: EngineOf, is_all: bool,
+                 waiting: Waiting) -> None:
+        self.catalog, self.engine_of = catalog, engine_of
+        self.is_all, self.waiting = is_all, waiting
+        self.whole = Listing(catalog)
+        # the rows of conditions, the last one used last
+        self.parts = collections.OrderedDict[str, Listing]()
 
     def close(self) -> None:
         """Forgets what was listed."""
@@ -64,11 +58,11 @@ class BySqlite:
         tables = [self.tables()[name] for name in reads]
         engines = {table.name: self.engine_of(table) for table in tables}
         before = {name: len(engine.asked) for name, engine in engines.items()}
+        self.waiting.begin("bw lists")
         self.refuse_many(listing, tables, reads, engines)
-        with Progress("listed", self.is_shown) as progress:
-            for table in tables:
-                with listing.watched():
-                    listing.add(table, reads[table.name], engines[table.name], progress.add)
+        for table in tables:
+            with listing.watched():
+                listing.add(table, reads[table.name], engines[table.name], self.waiting.add)
         for name, engine in engines.items():
             asked += engine.asked[before[name]:]
         return self.run(listing, statement, sql, asked)
@@ -105,6 +99,7 @@ class BySqlite:
     def run(self, listing: Listing, statement: Statement, sql: str, asked: list[str]) -> Answer:
         """Runs a statement over what is listed."""
         guard = listing.guard
+        self.waiting.begin("SQLite computes")
         guard.denied, guard.read, guard.is_off = "", {}, False
         try:
             with listing.watched():
