@@ -51,8 +51,8 @@ class Query:
         return result, self.ended()
 
     def beginning(self, rows: int) -> bytes:
-        """Returns its result's heading and first rows, up to so many, as `result` does. If there are
-        more of them, it is ended by `close`."""
+        """Returns its result's heading and first rows, up to so many, as `result` does. If there
+        are more of them, it is ended by `close`."""
         found = list(itertools.islice(self.outputs[0], rows + 1))
         if len(found) <= rows:
             self.ended()

@@ -17,7 +17,7 @@ from bwtools.asking import statements_in
 from bwtools.kinds import Dates, Decimals, Styled, Truths, Whole
 from bwtools.programs.ask import split
 from bwtools.sql.answer import Answer
-from bwtools.sql.value_rows import Rows
+from bwtools.sql.value_rows import ValueRows
 from bwtools.style import Style
 from bwtools.telling import Refused
 
@@ -69,7 +69,7 @@ class Words(unittest.TestCase):
 
 
 def answer(headings, kinds, rows):
-    return Answer(headings, kinds, Rows(rows), 2)
+    return Answer(headings, kinds, ValueRows(rows), 2)
 
 
 def printed(form, found, width=None):

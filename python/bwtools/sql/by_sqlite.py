@@ -17,12 +17,12 @@ from .engine import Engine
 from .listing import Listing
 from .outside import Outside
 from .predicates import is_long
-from .reader import Reader
+from .reader import TokenReader
 from .reading import reads_of, told
 from .statement import Statement
 from .table import Table
 from .tokens import NUMBER
-from .value_rows import Rows
+from .value_rows import ValueRows
 from .values import EXACT_DIGITS
 
 # so many rows are listed without being asked for, and so many conditions' rows are kept
@@ -113,9 +113,9 @@ class BySqlite:
         names = [each[0] for each in cursor.description]
         outputs = statement.outputs
         if len(outputs) != len(names):
-            return Answer(names, [None] * len(names), Rows(rows), 2, asked)
+            return Answer(names, [None] * len(names), ValueRows(rows), 2, asked)
         kinds = [each.plain.kind if each.plain else None for each in outputs]
-        return Answer([each.heading for each in outputs], kinds, Rows(rows), 2, asked)
+        return Answer([each.heading for each in outputs], kinds, ValueRows(rows), 2, asked)
 
     def failure(self, listing: Listing, statement: Statement, message: str) -> str:
         """Returns what to print for SQLite's message, while it ran a statement."""
@@ -155,7 +155,7 @@ def condition_of(statement: Statement, clauses: Clauses, first: int, end: int) -
            if token.kind == NUMBER):
         return ""
     try:
-        return Condition(Reader(statement, clauses.table, clauses.called, first, end)).whole()
+        return Condition(TokenReader(statement, clauses.table, clauses.called, first, end)).whole()
     except Outside:
         return ""
 

@@ -21,7 +21,7 @@ from .outside import Outside
 from .statement import Statement
 from .structure import Item
 from .tokens import NUMBER, quoted_name
-from .value_rows import Rows
+from .value_rows import ValueRows
 from .values import affinity
 from .wanted import Wanted
 
@@ -154,11 +154,11 @@ class GroupsQuestion:
                         order.lower() in (alias, quoted_name(alias)):
                     yield item
 
-    def body(self, engine: Engine) -> Rows:
+    def body(self, engine: Engine) -> ValueRows:
         """Returns the rows that SQLite makes of the groups."""
         made, table = self.expressions, self.clauses.table
         if self.limits.most == 0:
-            return Rows([])
+            return ValueRows([])
         columns = self.fine.columns if self.is_coarse else made.columns
         wanted = Wanted(table.bw_name, where_of(self.statement, self.clauses), columns,
                         made.aggregates, self.is_in_rows_order)
@@ -168,7 +168,7 @@ class GroupsQuestion:
             if self.is_coarse:
                 raise Outside from None
             raise
-        return Rows(rows_of(types_of(made), [*groups.columns, *groups.values], self.sql)[0])
+        return ValueRows(rows_of(types_of(made), [*groups.columns, *groups.values], self.sql)[0])
 
     def coarse(self, columns: Sequence[Sequence[Value]]
                ) -> tuple[Sequence[Sequence[Value]], Sequence[int]]:
