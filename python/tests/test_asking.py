@@ -198,7 +198,7 @@ class Programs(Imported):
             os.close(theirs)
             shown = self.until(ours, process, "SQLite computes, 1 s")
             if process.poll() is None:
-                process.send_signal(signal.SIGINT)
+                process.send_signal(signal.SIGTERM)
                 shown += self.until(ours, process)
             out = process.stdout.read()
         os.close(ours)
@@ -206,7 +206,7 @@ class Programs(Imported):
 
     def test_what_is_waited_for_is_shown_after_a_second(self):
         slow = f"sleep 1.5; exec {BW} \"$@\""
-        # it is interrupted once the line is there
+        # it is ended once the line is there
         endless = "WITH RECURSIVE n(i) AS (SELECT 1 UNION ALL SELECT i + 1 FROM n) " \
                   "SELECT COUNT(*) FROM n, cities WHERE cities.n = 20"
         for words, program, what, wanted in (
