@@ -267,7 +267,8 @@ class Statements:
             items.append(f"upper({self.column('texts').name})" if chance.random() < 0 else f"length({keys[0]})")
         having = f" HAVING {chance.choice(('COUNT(*) > 2', f'{self.aggregate()} IS NOT NULL', f'{keys[0]} IS NOT NULL'))}"
         terms = [*keys, "COUNT(*)", "1", self.aggregate()]
-        found = (f"SELECT {', '.join(items)} FROM {table.name}{self.where()} GROUP BY {', '.join(keys)}"
+        named = [str(shown.index(key) + 1) if key in shown and chance.random() < .1 else key for key in keys]
+        found = (f"SELECT {', '.join(items)} FROM {table.name}{self.where()} GROUP BY {', '.join(named)}"
                  f"{having if chance.random() < .3 else ''}")
         order, limit = self.order(terms), self.limit()
         return f"{found}{order}{limit}", f"{found}{order}{', ' + ', '.join(keys) if order else ''}{limit}"
