@@ -15,10 +15,11 @@ from . import ragged
 from .chunk import BREAK, Chunk
 from .fields import CHARACTERS_AT_ONCE, columns_of
 from .signs import NUL
+from .table_limits import MOST_COLUMNS, MOST_ROWS
 from .telling import Refused
 from .text import Text
 
-MOST_COLUMNS, MOST_ROWS, ROWS_AT_ONCE, MOST_WAIT = 64, 1 << 24, 8192, 15
+ROWS_AT_ONCE, MOST_WAIT = 8192, 15
 
 
 @dataclass
