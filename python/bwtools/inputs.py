@@ -99,11 +99,13 @@ def copied(file: BinaryIO) -> BinaryIO:
 def unpacked(file: BinaryIO, name: str, module: Any, path: str) -> BinaryIO:
     """Returns a temporary file with what a compressed file holds, which a module opens."""
     file.seek(0)
+    damaged: tuple[type[Exception], ...] = (
+        EOFError, zlib.error, getattr(module, "LZMAError", EOFError))
     try:
-        # reading may raise EOFError or zlib.error, opening doesn't
+        # reading may raise one of these, opening doesn't
         with module.open(file) as text:
             return copied(text)
-    except (EOFError, zlib.error, getattr(module, "LZMAError", EOFError)) as error:
+    except damaged as error:
         raise Refused(f"{path} is not a whole {name} file: {error}") from None
     except OSError as error:
         # gzip and bz2 report a damaged file as one without a number

@@ -3,8 +3,8 @@ empty fields for nulls. Its table is then the one that an import by columns give
 
 Some of the rows show which ranges the columns may have; `bw infer` finds them if a row is outside.
 Most files of anything else show it in these rows, and are left to the import by columns. The others
-are found out once they are loaded: each other spelling that bw reads is longer than the one it prints,
-so only a file of the latter has just as many bytes as bw prints for its table."""
+are found out once they are loaded: any other spelling that bw reads is longer than the one that it
+prints, so only a file of the latter has just as many bytes as bw prints for its table."""
 from __future__ import annotations
 
 import functools

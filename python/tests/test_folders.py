@@ -7,7 +7,7 @@ import tempfile
 import unittest
 from unittest import mock
 
-from bwtools import importing, pairs, placing, putting, store
+from bwtools import pairs, placing, putting, store
 from bwtools.column import Column
 from bwtools.shards import FILE, Folder, shard_file
 
