@@ -6,7 +6,6 @@ import argparse
 import contextlib
 import os
 import pathlib
-from dataclasses import replace
 from typing import BinaryIO
 
 from . import command, inputs, options, pairs, placing
@@ -14,7 +13,7 @@ from .importing_straight import Imported, import_straight
 from .putting import put_many, put_one, refuse_out
 from .regular import open_regular
 from .shards import FILE, Folder
-from .store import MOST_TABLES
+from .store import MOST_TABLES, TableFile
 from .table_limits import MOST_ROWS
 from .telling import Refused
 
@@ -55,8 +54,8 @@ def put_straight(found: Imported, room: pathlib.Path, name: str, path: str,
     """Moves what was loaded as it is to its place, and prints what an import reports."""
     record = found.records[0]
     if len(found.records) == 1 and not is_folder:
-        told = put_one(room / "made" / record.file, found.columns, room, name, path,
-                       replace(record, file="", rows=0))
+        alone = TableFile("", 0, record.size, record.changed, record.inode, record.sha256)
+        told = put_one(room / "made" / record.file, found.columns, room, name, path, alone)
     else:
         told = put_many(found.records, found.columns, room, name, path)
     for line in found.report():

@@ -129,10 +129,12 @@ def load_parts(straight: Straight, room: pathlib.Path, name: str,
         for place in range(process, len(parts), count):
             path, size = shard_file(room / "made", place), straight.length(parts[place])
             load_part(straight, parts[place], schema, path, process == 0)
+            adding = processes.Aside(functools.partial(pairs.digest_of, path))
             found = contents_of(path, name, straight.names, straight.ranges, size)
             if found.length != size:
                 raise Unfit
-            shards.append(Shard(pairs.record_of(path, path.name, found.rows), found.columns))
+            record = pairs.record_of(path, path.name, found.rows, adding.result())
+            shards.append(Shard(record, found.columns))
         return shards
 
     found = processes.do_parts(count, load_some)
