@@ -5,7 +5,6 @@ from __future__ import annotations
 import datetime
 import functools
 import re
-from dataclasses import dataclass
 from typing import NamedTuple
 
 from .clock import clock_of, hour_of
@@ -44,8 +43,7 @@ SHAPES = str.maketrans("123456789" + "bcdefghijklmnopqrstuvwxyz" + "ABCDEFGHIJKL
                        "0" * 9 + "a" * 51)
 
 
-@dataclass(frozen=True)
-class Moment:
+class Moment(NamedTuple):
     """A date, a time or a time of day: the days since 1970 that it may be, by format; the second of
     its day in UTC multiplied by ten to `digits`; what is between day and second; the format of the
     latter; and whether it has a zone."""

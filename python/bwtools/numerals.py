@@ -7,7 +7,7 @@ from __future__ import annotations
 
 import functools
 import re
-from dataclasses import dataclass
+from typing import NamedTuple
 
 PLAIN = re.compile(r"[+-]?(?:[0-9]+\.?[0-9]*|\.[0-9]+)(?:[eE][+-]?[0-9]{1,6})?")
 CURRENCIES = "$\u00a2\u00a3\u00a4\u00a5\u20a0-\u20cf"
@@ -38,8 +38,7 @@ ZEROS = re.compile("[+-]?0[0-9]")
 WHOLE = re.compile("[+-]?[0-9]+")
 
 
-@dataclass(frozen=True)
-class Parts:
+class Parts(NamedTuple):
     """The parts of a text that is a number: its sign, its digits with the marks among them, and
     what is around it."""
     sign: str
@@ -50,8 +49,7 @@ class Parts:
     has_brackets: bool
 
 
-@dataclass(frozen=True)
-class Marks:
+class Marks(NamedTuple):
     """What the marks among a number's digits show: the sign between its thousands, its decimal
     sign, and a mark that may be either of them, each of them or nothing."""
     grouping: str = ""

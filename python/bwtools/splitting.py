@@ -145,4 +145,5 @@ def placed(room: pathlib.Path, place: int, record: TableFile) -> TableFile:
     """Moves a table file to its place among the shards, and returns its record there."""
     path = shard_file(room / "made", place)
     os.rename(room / record.file, path)
-    return replace(record, file=path.name)
+    return TableFile(path.name, record.rows, record.size, record.changed, record.inode,
+                     record.sha256)

@@ -1,13 +1,12 @@
 """The style that all numbers of a column share."""
 from __future__ import annotations
 
-from dataclasses import dataclass
+from typing import NamedTuple
 
 from .numerals import PLAIN, is_grouped, parts_of
 
 
-@dataclass(frozen=True)
-class Style:
+class Style(NamedTuple):
     """What is written around and between the digits of a column's numbers."""
     mark: str = "."
     grouping: str = ""

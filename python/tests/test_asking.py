@@ -12,7 +12,7 @@ import tempfile
 import time
 import unittest
 
-from bwtools import aligned, printing
+from bwtools import aligned, formats
 from bwtools.asking import statements_in
 from bwtools.kinds import Dates, Decimals, Styled, Truths, Whole
 from bwtools.programs.ask import split
@@ -74,7 +74,7 @@ def answer(headings, kinds, rows):
 
 def printed(form, found, width=None):
     out = io.StringIO()
-    count = printing.FORMATS[form](found, out, width)
+    count = formats.writer_of(form)(found, out, width)
     return out.getvalue(), count
 
 

@@ -11,11 +11,11 @@ from bwtools import kinds, store
 from bwtools.column import Column
 from bwtools.sorted_list import SortedList
 from bwtools.sql import condition as conditions
-from bwtools.sql import grammar, predicates
+from bwtools.sql import grammar, items, predicates
 from bwtools.sql.catalog import Catalog
 from bwtools.sql.limits import Limits, limits_of
 from bwtools.sql.outside import Outside
-from bwtools.sql.predicates import Operand
+from bwtools.sql.predicates import Comparand
 from bwtools.sql.statement import Statement
 from bwtools.sql.table import Table
 from bwtools.sql.tokens import tokens_of
@@ -65,7 +65,7 @@ class OverTable(unittest.TestCase):
     def where(self, condition, *parameters):
         """Returns the condition over numbers."""
         question = self.question(f"SELECT n FROM t WHERE {condition}", *parameters)
-        return grammar.where_of(question.statement, question.clauses)
+        return items.where_of(question.statement, question.clauses)
 
     def check(self, pairs):
         for condition, wanted in pairs:
@@ -214,7 +214,7 @@ class Runs(unittest.TestCase):
         self.assertEqual(predicates.like(column, "LIKE", "A", None), "c IN (0)")
 
     def test_literals_are_compared_with_each_other(self):
-        one, text = Operand(None, Fraction(1)), Operand(None, "1")
+        one, text = Comparand(None, Fraction(1)), Comparand(None, "1")
         self.assertEqual(predicates.compared(one, ">", one), "1 = 0")
         with self.assertRaises(Outside):
             predicates.compared(one, "=", text)

@@ -7,7 +7,7 @@ import unittest
 from unittest import mock
 
 import bwtools
-from bwtools.session import Failed
+from bwtools.failed import Failed
 from bwtools.sql import by_sqlite
 from bwtools.sql.aggregates import for_sqlite
 from bwtools.sql.by_sqlite import pushed

@@ -6,7 +6,8 @@ import tempfile
 import unittest
 from unittest import mock
 
-from bwtools.session import AT_ONCE, SURPLUS, Answer, Failed, Session, one_statement
+from bwtools.failed import Failed
+from bwtools.session import AT_ONCE, SURPLUS, Answer, Session, one_statement
 
 
 class Parts(io.RawIOBase):

@@ -2,12 +2,14 @@
 from __future__ import annotations
 
 import re
-from typing import Union
+from typing import TYPE_CHECKING, Union
 
 from ..telling import Refused, shown
-from .clocks import Clocks
-from .dates import Dates
-from .times import Times
+
+if TYPE_CHECKING:
+    from .clocks import Clocks
+    from .dates import Dates
+    from .times import Times
 
 LETTERS = set("YymbBdHIpMS")
 
@@ -21,6 +23,8 @@ def kind_by(form: str) -> Union[Dates, Times, Clocks]:
     if letters <= LETTERS and (has_day or
                                not letters & set("YymbBd")) and (has_day or has_clock) and \
             (not has_clock or hours in ({"H"}, {"I", "p"})):
+        # a query's column that has a format has a kind, too: so it imports one of these alone
+        from . import Clocks, Dates, Times
         return Dates(form) if not has_clock else Times(form) if has_day else Clocks(form)
     raise Refused(f"--date: {shown(form)} is not a valid format: use %Y or %y, %m, %b or %B, and "
                   "%d, and for a time %H, or %I and %p, and %M and %S")

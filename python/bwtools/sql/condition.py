@@ -17,12 +17,11 @@ Tests after BETWEEN, IN and LIKE need brackets around these. A column of numbers
 number, is a predicate by itself: it is TRUE if it isn't 0."""
 from __future__ import annotations
 
-from fractions import Fraction
-from typing import Callable, NamedTuple
+from typing import Callable
 
 from . import tokens, values
 from .outside import Outside
-from .predicates import Operand, among, between, compared, like
+from .predicates import Comparand, among, between, compared, like
 from .reader import Reader
 
 SIGNS = {"=": "=", "==": "=", "<>": "<>", "!=": "<>", "<": "<", ">": ">", "<=": "<=", ">=": ">="}
@@ -33,11 +32,11 @@ MOST_BYTES = 60_000
 OR, AND, NOT, TEST, PRIMARY = range(5)
 
 
-class Part(NamedTuple):
+class Part:
     """A part of a condition over numbers: its text, and how strongly its operator binds."""
 
-    text: str
-    level: int
+    def __init__(self, text: str, level: int) -> None:
+        self.text, self.level = text, level
 
     def within(self, level: int) -> str:
         """Returns the text as an operand of an operator of this level."""
@@ -125,7 +124,7 @@ class Condition:
                 return found
             found = Part(f"{found.within(PRIMARY)} IS {negated}{truth}", TEST)
 
-    def after(self, operand: Operand) -> Part:
+    def after(self, operand: Comparand) -> Part:
         """Consumes what follows an operand that isn't compared, and returns the predicate."""
         column = operand.column
         if column and (self.reader.takes("IS", "NULL") or self.reader.takes("ISNULL")):
@@ -141,7 +140,7 @@ class Condition:
             raise Outside
         return Part(f"NOT {found}", NOT) if is_negated else Part(found, PRIMARY)
 
-    def choice(self, operand: Operand) -> str:
+    def choice(self, operand: Comparand) -> str:
         """Consumes BETWEEN, IN, LIKE or GLOB and what follows it, and returns the predicate, or
         nothing if none of them is next."""
         if self.reader.takes("BETWEEN"):
@@ -159,9 +158,9 @@ class Condition:
             return like(column, sign, pattern, self.text() if self.reader.takes("ESCAPE") else None)
         return ""
 
-    def members(self) -> list[Operand]:
+    def members(self) -> list[Comparand]:
         """Consumes the operands in brackets."""
-        found, mark = list[Operand](), self.reader.wants_mark("(")
+        found, mark = list[Comparand](), self.reader.wants_mark("(")
         while mark != ")":
             operand = self.reader.takes_operand()
             if not operand:
@@ -178,10 +177,11 @@ class Condition:
         return token.value
 
 
-def truth_of(operand: Operand) -> str:
+def truth_of(operand: Comparand) -> str:
     """Returns the condition that a number isn't 0."""
     column = operand.column
     if operand.is_null or isinstance(operand.value, str) or \
             column and values.affinity(column.kind) == values.TEXT:
         raise Outside
-    return compared(operand, "<>", Operand(None, Fraction(0)))
+    from .literals import TRUTHS
+    return compared(operand, "<>", Comparand(None, TRUTHS["FALSE"]))

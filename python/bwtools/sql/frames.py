@@ -5,8 +5,7 @@ from __future__ import annotations
 import collections
 import decimal
 import importlib
-from dataclasses import dataclass
-from typing import Any, Callable, Sequence
+from typing import Any, Callable, NamedTuple, Sequence
 
 from ..kind import GREATEST, LEAST, Kind
 from ..kinds import (Clocks, Dates, Decimals, Floats, Nulls, Ranked, Texts, Times, Truths, Whole,
@@ -14,8 +13,8 @@ from ..kinds import (Clocks, Dates, Decimals, Floats, Nulls, Ranked, Texts, Time
 from ..numerals import power_of_ten
 from ..telling import Refused
 from .answer import Answer
-from .number_rows import Numbers, foreign
-from .values import number_of
+from .conversions import foreign, number_of
+from .number_rows import Numbers
 
 # numbers up to this one are doubles
 MOST_EXACT = 1 << 53
@@ -24,8 +23,7 @@ NANOSECONDS = 9
 FIRST_YEAR, LAST_YEAR = 1678, 2261
 
 
-@dataclass
-class Array:
+class Array(NamedTuple):
     """A column: its values, or their places among the categories, and which of them are null."""
 
     values: Any

@@ -7,11 +7,12 @@ import sqlite3
 from typing import Iterator, Sequence
 
 from ..telling import Refused
-from . import values
+from .aggregate import PREFIX
+from .blocks import Value
 from .clauses import Clauses
 from .counted import TooMany
 from .engine import Engine
-from .expressions import PREFIX, Expressions, Group, words_of
+from .expressions import Expressions, Group, words_of
 from .groups import groups_of
 from .items import columns_of, is_star, named_item, plain_column, where_of
 from .limits import Limits, limits_of
@@ -21,6 +22,7 @@ from .statement import Statement
 from .structure import Item
 from .tokens import quoted_name
 from .value_rows import Rows
+from .values import affinity
 from .wanted import Wanted
 
 # the small table of groups
@@ -156,8 +158,8 @@ class GroupsQuestion:
             raise
         return Rows(rows_of(types_of(made), [*groups.columns, *groups.values], self.sql)[0])
 
-    def coarse(self, columns: Sequence[Sequence[values.Value]]
-               ) -> tuple[Sequence[Sequence[values.Value]], Sequence[int]]:
+    def coarse(self, columns: Sequence[Sequence[Value]]
+               ) -> tuple[Sequence[Sequence[Value]], Sequence[int]]:
         """Returns the values of the expressions that make groups, in order, and the place among
         them of each group that the columns make."""
         items = ", ".join(self.made)
@@ -172,7 +174,7 @@ class GroupsQuestion:
 def types_of(expressions: Expressions) -> list[str]:
     """Returns the columns of the table of groups: those that make them, with the type that SQLite
     compares them by; expressions and aggregates have none."""
-    groups = [f"{expressions.name(place)} {values.affinity(group.column.kind)}" if group.column
+    groups = [f"{expressions.name(place)} {affinity(group.column.kind)}" if group.column
               else expressions.name(place) for place, group in enumerate(expressions.groups)]
     return groups + [quoted_name(f"{PREFIX}{place}")
                      for place in range(len(expressions.aggregates))]
@@ -199,8 +201,8 @@ def explain(types: Sequence[str], sql: str) -> None:
         raise Outside from None
 
 
-def rows_of(types: Sequence[str], columns: Sequence[Sequence[values.Value]],
-            *statements: str) -> list[list[tuple[values.Value, ...]]]:
+def rows_of(types: Sequence[str], columns: Sequence[Sequence[Value]],
+            *statements: str) -> list[list[tuple[Value, ...]]]:
     """Returns the rows of statements over the table of groups of these columns."""
     try:
         with table_of(types) as database:

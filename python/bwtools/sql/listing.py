@@ -7,7 +7,7 @@ import sqlite3
 from typing import Callable, Iterator, Sequence
 
 from ..column import Column
-from ..session import Failed
+from ..failed import Failed
 from .blocks import Block
 from .catalog import Catalog
 from .engine import Engine

@@ -2,8 +2,7 @@
 from __future__ import annotations
 
 import itertools
-from dataclasses import dataclass
-from typing import BinaryIO, Iterator, Sequence
+from typing import BinaryIO, Iterator, NamedTuple, Sequence
 
 from ..column import Column
 from .engine import Engine
@@ -11,18 +10,16 @@ from .limits import Limits
 from .number_rows import Numbers
 from .outside import Outside
 from .predicates import placed
+from .selects import COUNT, both, names_of, select
 
 NULL, HEADING, AT_ONCE = b"NULL", b"\n", 1 << 20
-# the bytes of a statement that bw takes, without its end
-MOST_BYTES = 65_530
 # more rows than these aren't sorted here
 MOST_ROWS = 1_000_000
 # a limit is used to list fewer rows if there are so many
 MANY_ROWS = 100_000
 
 
-@dataclass
-class Key:
+class Key(NamedTuple):
     """A column by which rows are put in order."""
 
     column: Column
@@ -30,15 +27,13 @@ class Key:
     are_nulls_first: bool
 
 
-@dataclass
-class Rows:
+class WantedRows:
     """Which rows are wanted, of which columns."""
 
-    table: str
-    columns: Sequence[Column]
-    where: str
-    keys: Sequence[Key]
-    limits: Limits
+    def __init__(self, table: str, columns: Sequence[Column], where: str, keys: Sequence[Key],
+                 limits: Limits) -> None:
+        self.table, self.columns, self.where = table, columns, where
+        self.keys, self.limits = keys, limits
 
     def body(self, engine: Engine) -> Numbers:
         """Returns the rows."""
@@ -59,7 +54,7 @@ class Rows:
         are too many to be sorted."""
         key, wanted, where = self.keys[0], self.limits.end, self.where
         name = key.column.name
-        items = f"COUNT(*), COUNT({name}), MIN({name}), MAX({name})"
+        items = f"{COUNT}, COUNT({name}), MIN({name}), MAX({name})"
         rows, present, least, greatest = engine.totals([select(items, self.table, where)])[0]
         assert rows is not None and present is not None
         if wanted is not None and rows >= MANY_ROWS and wanted <= rows // 2:
@@ -90,7 +85,7 @@ class Rows:
 
     def count(self, engine: Engine, where: str) -> int:
         """Returns how many rows fulfil a condition."""
-        return engine.totals([select("COUNT(*)", self.table, where)])[0][0] or 0
+        return engine.totals([select(COUNT, self.table, where)])[0][0] or 0
 
     def sorted(self, parts: Sequence[BinaryIO]) -> bytes:
         """Returns the rows of a result in order, within the limits, after an empty heading."""
@@ -125,20 +120,3 @@ def lines_of(parts: Sequence[BinaryIO]) -> Iterator[bytes]:
             part.readline()
             while block := part.read(AT_ONCE):
                 yield from (block + part.readline()).split(b"\n")[:-1]
-
-
-def names_of(columns: Sequence[Column]) -> str:
-    return ", ".join(column.name for column in columns)
-
-
-def both(one: str, other: str) -> str:
-    """Returns the conditions of both, of which either may be empty."""
-    return f"({one}) AND ({other})" if one and other else one or other
-
-
-def select(items: str, table: str, where: str) -> str:
-    """Returns a statement of bw. Raises Outside if it is too long for it."""
-    statement = f"SELECT {items} FROM {table}{f' WHERE {where}' if where else ''}"
-    if len(statement) > MOST_BYTES:
-        raise Outside
-    return statement

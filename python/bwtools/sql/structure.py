@@ -3,12 +3,11 @@ that: the clauses, what FROM names, the items and their aliases. All else, and a
 to SQLite."""
 from __future__ import annotations
 
-from dataclasses import dataclass
 from typing import Sequence
 
+from .. import kinds
 from ..column import Column
 from ..kind import Kind
-from ..kinds import Floats, Whole
 from .bracketed import JOINS, RESERVED, Bracketed
 from .catalog import Catalog, missing
 from .output import Output, output_of
@@ -20,18 +19,15 @@ from .tokens import QUOTED, TEXT, WORD
 HIDDEN = ("sqlite_", "pragma_")
 CLAUSES = ("FROM", "WHERE", "GROUP", "HAVING", "WINDOW", "ORDER", "LIMIT")
 COMPOUND, QUERY = ("UNION", "INTERSECT", "EXCEPT"), ("SELECT", "WITH", "VALUES")
-TOTALS: dict[str, Kind] = {"COUNT": Whole(), "SUM": Floats(0), "AVG": Floats(0),
-                           "TOTAL": Floats(0)}
+TOTALS = ("COUNT", "SUM", "AVG", "TOTAL")
 
 
-@dataclass
 class Item:
     """An item of a SELECT: its first token, the end of its expression, and the place of its
     alias."""
 
-    first: int
-    end: int
-    alias: int | None
+    def __init__(self, first: int, end: int, alias: int | None) -> None:
+        self.first, self.end, self.alias = first, end, alias
 
 
 class Structure:
@@ -223,7 +219,7 @@ class Structure:
         key = tokens[first].name.upper()
         if key in TOTALS:
             name = self.line.text(first, end)
-            return Output(name, name, Column(name, name, TOTALS[key]), True)
+            return Output(name, name, Column(name, name, kind_of_total(key)), True)
         inner = first + 2 + (self.line.key(first + 2) == "DISTINCT")
         return self.meaning(inner, end - 1, scope) if key in ("MIN", "MAX") else None
 
@@ -299,9 +295,16 @@ class Structure:
         return at
 
 
+def kind_of_total(function: str) -> Kind:
+    """Returns the kind with which a total is compared."""
+    if function == "COUNT":
+        return kinds.Whole()
+    return kinds.Floats(0)
+
+
 def union(first: Output, second: Output) -> Output:
     """Returns the column of a compound SELECT, which has a kind if both have it."""
-    kinds = [output.column.kind for output in (first, second) if output.column]
-    if len(kinds) == 2 and (kinds[0] == kinds[1] or {each.name for each in kinds} == {"texts"}):
+    both = [output.column.kind for output in (first, second) if output.column]
+    if len(both) == 2 and (both[0] == both[1] or {each.name for each in both} == {"texts"}):
         return first
     return Output(first.name, first.heading, None)
