@@ -11,7 +11,7 @@ import unittest
 import warnings
 
 from bwtools import importing, kinds, writing
-from bwtools.options import add_options
+from bwtools.options import add_options, parsed
 from bwtools.programs import import_
 from bwtools.sorted_list import SortedList
 from bwtools.source import Source
@@ -22,7 +22,7 @@ def options(*words: str) -> argparse.Namespace:
     """Returns the options that arguments of the command line give."""
     parser = argparse.ArgumentParser()
     add_options(parser)
-    return parser.parse_args(list(words))
+    return parsed(parser, words)
 
 
 def in_file(data: bytes, work):

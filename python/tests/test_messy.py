@@ -15,6 +15,11 @@ READ = [
      ["2024-01-01", "2024-02-01", "2024-03-01"], "blanks dropped in 1 field"),
     ("blanks around texts", "city,n\n Bern,1\nUlm ,2\n", (), "texts whole", ["Bern,1", "Ulm,2"],
      "blanks dropped in 2 fields"),
+    ("blanks of one column kept", "a,b\nx ,x \nx,y\n", ("--keep-blanks=a",), "texts texts",
+     ["x ,x", "x,y"], "blanks dropped in 1 field"),
+    ("blanks of all columns but one dropped", "a,b\nx ,x \nx,x\n",
+     ("--drop-blanks", "--keep-blanks=b"), "texts texts", ["x,x ", "x,x"],
+     "blanks dropped in 1 field"),
     ("blanks around booleans and times",
      "a,b,c\ntrue , 10:00,2024-05-01 10:00 \nfalse,11:30,2024-05-02 11:00\n", (),
      "truths clocks times", ["true,10:00,2024-05-01 10:00", "false,11:30,2024-05-02 11:00"],
@@ -73,7 +78,8 @@ READ = [
 # each file with the options, and what the refusal says
 REFUSED = [
     ("blanks that make two texts", "a,b\nx ,1\nx,2\n", (),
-     "'x ' in line 2 and 'x' in line 3 differ only in blanks: use --drop-blanks, or --keep-blanks"),
+     "'x ' in line 2 and 'x' in line 3 differ only in blanks: use --drop-blanks=a, or "
+     "--keep-blanks=a"),
     ("not a number", "x\n1.5e-3\nNaN\n2.5\n", (),
      "'NaN' in line 3 isn't a number, as 2 of 3 fields are: use --null x=NaN, or --text x"),
     ("infinity", "x\n1.5e-3\n2\n-inf\n", (),
@@ -111,6 +117,10 @@ REFUSED = [
      "'13.5.2024' in line 2 and '2024-05-01' in line 3 are dates of different forms: use --text d"),
     ("not as --number states", "a\n1\nx\n", ("--number", "a"),
      "'x' in line 3 isn't a number, as --number states: use --null a=x"),
+    ("blanks both kept and dropped", "a\n1\n", ("--keep-blanks=a", "--drop-blanks=a"),
+     "can't have its blanks both kept and dropped"),
+    ("no column to keep blanks of", "a\n1\n", ("--keep-blanks=b",),
+     "--keep-blanks: no column has the heading 'b'"),
     ("no column of the option", "a\n1\n", ("--null", "b=x"), "no column has the heading 'b'"),
 ]
 
