@@ -92,7 +92,8 @@ def add_meaning(parser: argparse.ArgumentParser) -> None:
                              "comma as the decimal sign")
     parser.add_argument("--date", metavar="COLUMN=FORMAT", action=Format, default={},
                         help="the format of a column's dates or times, of %%d, %%m, %%b, %%B, %%Y "
-                             "and %%y, and %%H, %%I, %%p, %%M and %%S")
+                             "and %%y, and %%H, %%I, %%p, %%M and %%S, with .%%f for parts of "
+                             "seconds and %%z for a zone at the end, which becomes UTC")
     parser.add_argument("--digits", metavar="COLUMN=N", action=Digits, default={},
                         help="round a column's numbers to N digits after the point, at most 18")
     parser.add_argument("--thousands", metavar="SIGN", type=one_character,

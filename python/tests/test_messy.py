@@ -118,9 +118,9 @@ REFUSED = [
     ("not as --number states", "a\n1\nx\n", ("--number", "a"),
      "'x' in line 3 isn't a number, as --number states: use --null a=x"),
     ("blanks both kept and dropped", "a\n1\n", ("--keep-blanks=a", "--drop-blanks=a"),
-     "can't have its blanks both kept and dropped"),
+     "give one of --keep-blanks and --drop-blanks for it"),
     ("no column to keep blanks of", "a\n1\n", ("--keep-blanks=b",),
-     "--keep-blanks: no column has the heading 'b'"),
+     "no column has the heading 'b'; there are 'a'"),
     ("no column of the option", "a\n1\n", ("--null", "b=x"), "no column has the heading 'b'"),
 ]
 
@@ -153,10 +153,59 @@ class Messy(unittest.TestCase):
                             ("%Y%m%d", "20240501"), ("%I %p", "07 AM")):
             with self.subTest(form):
                 self.assertEqual(Import(f"a\n{field}\n", "--date", f"a={form}").rows, [field])
-        for form in ("%d", "%y-%m", "%H:%M %p", "%Y-%m-%d %I:%M", "%Q"):
+        for form in ("%d", "%y-%m", "%H:%M %p", "%Y-%m-%d %I:%M", "%Q", "%H:%M:%f", "%f", "%z",
+                     "%Y-%m-%d%z", "%H:%M%z", "%z %Y-%m-%d %H:%M", "%H:%M %Y-%m-%d %z",
+                     "%Y-%m-%d %H:%M:%S.%%f%z%z"):
             with self.subTest(form):
                 self.assertIn("is not a valid format",
                               Import("a\n1\n", "--date", f"a={form}").refusal)
+
+    def test_parts_of_seconds(self):
+        for form, fields, wanted in (
+                ("%d/%m/%Y %H:%M:%S.%f", "01/05/2024 10:00:00.50", "01/05/2024 10:00:00.50"),
+                ("%d/%m/%Y %H:%M:%S.%f", "01/05/2024 10:00:00.5\n02/05/2024 10:00:00",
+                 "01/05/2024 10:00:00.5\n02/05/2024 10:00:00.0"),
+                ("%Y%m%d %H%M%S.%f", "20240501 100000.123456789", "20240501 100000.123456789"),
+                ("%Y%m%d %H%M%S,%f", "20240501 100000,25", "20240501 100000.25"),
+                ("%d/%m/%Y %I:%M:%S.%f %p", "01/05/2024 10:00:00.25 PM",
+                 "01/05/2024 10:00:00.25 PM"),
+                ("%H%M%S.%f", "100000.25\n235959.5", "100000.25\n235959.50")):
+            with self.subTest(form):
+                rows = "".join(f'"{field}"\n' for field in fields.split("\n"))
+                found = Import(f"a\n{rows}", "--date", f"a={form}")
+                self.assertEqual((found.refusal, "\n".join(found.rows)), ("", wanted))
+        for form, field in (("%d/%m/%Y %H:%M:%S", "01/05/2024 10:00:00.50"),
+                            ("%d/%m/%Y %H:%M:%S.%f", "01/05/2024 10:00:00.1234567891"),
+                            ("%Y%m%d %H%M", "20240501 1000.5"), ("%H%M%S", "100000.25")):
+            with self.subTest(form):
+                self.assertIn("as --date states",
+                              Import(f"a\n{field}\n", "--date", f"a={form}").refusal)
+        many = "01/01/1000 10:00:00.123456789\n01/01/3000 10:00:00.1\n"
+        self.assertIn("too many digits for 64 bits", Import(
+            f"a\n{many}", "--date", "a=%d/%m/%Y %H:%M:%S.%f").refusal)
+
+    def test_zones(self):
+        for form, fields, wanted in (
+                ("%d/%m/%Y %H:%M %z", "01/05/2024 10:00 +0200", "01/05/2024 08:00Z"),
+                ("%d/%m/%Y %H:%M%z", "01/05/2024 10:00+02:00\n01/05/2024 23:30-01\n"
+                 "01/05/2024 10:00Z", "01/05/2024 08:00Z\n02/05/2024 00:30Z\n01/05/2024 10:00Z"),
+                ("%Y%m%d%H%M%S.%f%z", "20240501100000.25+0530", "20240501043000.25Z"),
+                ("%d %b %Y %I:%M %p %z", "01 May 2024 10:00 PM -0500", "02 May 2024 03:00 AMZ")):
+            with self.subTest(form):
+                found = Import(f"a\n{fields}\n", "--date", f"a={form}")
+                self.assertEqual((found.refusal, "\n".join(found.rows)), ("", wanted))
+                self.assertIn("of UTC", found.report)
+                # what is printed can be asked for
+                kind = found.columns[0].kind
+                for row, number in zip(found.rows, found.numbers[0]):
+                    self.assertEqual((kind.number(row), kind.place(row)), (number, (number, True)))
+        for form, field in (("%d/%m/%Y %H:%M %z", "01/05/2024 10:00"),
+                            ("%d/%m/%Y %H:%M", "01/05/2024 10:00+02:00"),
+                            ("%d/%m/%Y %H:%M %z", "01/05/2024 10:00 +24:00"),
+                            ("%d/%m/%Y %H:%M %z", "01/01/0001 10:00 +20:00")):
+            with self.subTest(field):
+                self.assertIn("as --date states",
+                              Import(f"a\n{field}\n", "--date", f"a={form}").refusal)
 
     def test_no_rows(self):
         found = Import("a,b\n")
