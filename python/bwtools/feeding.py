@@ -10,7 +10,7 @@ from typing import Iterator
 
 from . import command
 from .progress import Progress
-from .straight import Part, Straight, Unfit
+from .straight import FilePart, Straight, Unfit
 from .telling import Refused
 
 AT_ONCE = 1 << 20
@@ -24,7 +24,7 @@ class OutOfRange(Exception):
     """Rows of which a field isn't in the range that was guessed for its column."""
 
 
-def load_part(straight: Straight, part: Part, schema: pathlib.Path, out: pathlib.Path,
+def load_part(straight: Straight, part: FilePart, schema: pathlib.Path, out: pathlib.Path,
               is_shown: bool) -> None:
     """Loads a part as a table file. Raises Unfit if bw rejects it for anything else than a field
     out of range."""

@@ -17,7 +17,7 @@ from .loaded import Loaded, contents_of
 from .reporting import report_lines
 from .shards import shard_file
 from .store import TableFile
-from .straight import Part, Straight, Unfit
+from .straight import FilePart, Straight, Unfit
 from .table_limits import MOST_BYTES, MOST_ROWS
 from .telling import Refused, counted
 
@@ -98,7 +98,7 @@ def load(straight: Straight, given: argparse.Namespace, room: pathlib.Path, name
     return imported(straight, shards)
 
 
-def parts_of(straight: Straight, given: argparse.Namespace, is_folder: bool) -> list[Part]:
+def parts_of(straight: Straight, given: argparse.Namespace, is_folder: bool) -> list[FilePart]:
     """Returns the parts of a file that become a table each."""
     # lines are counted only if their number matters
     if not is_folder and straight.size <= MOST_BYTES and straight.rows_about < MOST_ROWS * 7 // 8:
@@ -117,7 +117,7 @@ def parts_of(straight: Straight, given: argparse.Namespace, is_folder: bool) -> 
 
 
 def load_parts(straight: Straight, room: pathlib.Path, name: str,
-               parts: Sequence[Part]) -> list[Shard]:
+               parts: Sequence[FilePart]) -> list[Shard]:
     """Loads each part, several side by side. Returns the shards in the order of rows. Raises Unfit
     if a number isn't spelled as bw prints it."""
     schema = room / "schema"

@@ -15,7 +15,7 @@ from .shards import shard_file
 from .store import TableFile
 from .table_limits import MOST_BYTES
 from .tallies import Tally
-from .writing import Table
+from .writing import NumberTable
 
 
 @dataclass
@@ -30,7 +30,7 @@ class Loads:
     """Consumes the lines of a CSV file of numbers, as a file does, and loads each piece of it as a
     table in a folder. The table files' names are those of a part of all pieces."""
 
-    def __init__(self, table: Table, room: pathlib.Path, name: str, most_rows: int,
+    def __init__(self, table: NumberTable, room: pathlib.Path, name: str, most_rows: int,
                  part: int = 0) -> None:
         self.table, self.room, self.name = table, room, name
         self.most_rows, self.part = most_rows, part
@@ -90,7 +90,7 @@ class Loads:
             self.load(self.piece or self.begin())
 
 
-def lines_between(table: Table, first: int, end: int) -> Iterator[str]:
+def lines_between(table: NumberTable, first: int, end: int) -> Iterator[str]:
     """Yields the lines of numbers of a range of rows, many at a time. What is counted of rows that
     were read together is counted with the first of them."""
     rows = 0
@@ -117,7 +117,8 @@ def recount(tally: Tally, counts: Counts) -> None:
     tally.may_have_null = tally.may_have_null or bool(nulls)
 
 
-def load_shards(table: Table, room: pathlib.Path, name: str, most_rows: int) -> list[TableFile]:
+def load_shards(table: NumberTable, room: pathlib.Path, name: str,
+                most_rows: int) -> list[TableFile]:
     """Loads all rows of a table, so many a shard, side by side. Returns the records of the table
     files in the folder `made`, in the order of rows."""
     shards = max(1, -(-table.rows // most_rows))

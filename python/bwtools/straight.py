@@ -42,7 +42,7 @@ def is_plain(data: bytes) -> bool:
 
 
 @dataclass(frozen=True)
-class Part:
+class FilePart:
     """Some rows of a file: the offsets of their bytes."""
     start: int
     end: int
@@ -123,11 +123,11 @@ class Straight:
         """Returns how many lines there are after the heading."""
         return sum(self.line_counts) + self.is_open
 
-    def whole(self) -> Part:
+    def whole(self) -> FilePart:
         """Returns all rows."""
-        return Part(self.first, self.size)
+        return FilePart(self.first, self.size)
 
-    def parts(self, rows: int) -> list[Part]:
+    def parts(self, rows: int) -> list[FilePart]:
         """Returns parts of so many rows each, but the last."""
         ends, before, count = [self.first], 0, self.count()
         for place, lines in enumerate(self.line_counts):
@@ -138,9 +138,9 @@ class Straight:
                 left = len(ends) * rows - before
                 ends.append(offset + end_of_line(block, left))
             before += lines
-        return list(map(Part, ends, [*ends[1:], self.size]))
+        return list(map(FilePart, ends, [*ends[1:], self.size]))
 
-    def length(self, part: Part) -> int:
+    def length(self, part: FilePart) -> int:
         """Returns how many bytes a part has, each line with a line feed."""
         return part.end - part.start + (part.end == self.size and self.is_open)
 

@@ -32,7 +32,7 @@ class TooLong(Refused):
     """A file whose numbers don't fit one table."""
 
 
-class Table:
+class NumberTable:
     """A file's rows as numbers, and what they mean."""
 
     def __init__(self, path: str | os.PathLike[str], given: argparse.Namespace,

@@ -38,9 +38,9 @@ def source_of(data: bytes, *words: str) -> Source:
     return in_file(data, lambda path: Source(path, options(*words)))
 
 
-def table_of(data: bytes, *words: str) -> writing.Table:
+def table_of(data: bytes, *words: str) -> writing.NumberTable:
     """Returns the table of a file of these bytes."""
-    return in_file(data, lambda path: writing.Table(path, options(*words)))
+    return in_file(data, lambda path: writing.NumberTable(path, options(*words)))
 
 
 def numbers_of(data: bytes, *words: str) -> list[list[str]]:

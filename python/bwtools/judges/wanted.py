@@ -4,7 +4,7 @@ from __future__ import annotations
 from dataclasses import dataclass
 from typing import ClassVar, Sequence
 
-from ..kinds.formats import Format, format_of
+from ..kinds.formats import DateFormat, format_of
 from ..kinds.times import Times
 from ..moments import MOST_DIGITS, read_moment
 from .dates import kind_that_fits
@@ -44,7 +44,7 @@ class WantedJudge:
         return kind_that_fits(column, kind) if isinstance(kind, Times) else Decision(kind)
 
 
-def digits_of(form: Format, text: str) -> int:
+def digits_of(form: DateFormat, text: str) -> int:
     """Returns how many digits a text has after the point of its seconds."""
     read = read_moment(form.form, text)
     return read.digits if read else 0

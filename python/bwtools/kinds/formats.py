@@ -17,7 +17,7 @@ LETTERS = set("YymbBdHIpMS")
 ENDED = re.compile(r"(.*?)((?<=%S)[.,]%f)?((?: ?%p)?)( ?%z)?", re.DOTALL)
 
 
-class Format(NamedTuple):
+class DateFormat(NamedTuple):
     """A format of dates or times as an option gives it: the part that a kind has, whether parts of
     seconds may be in it, and whether zones must be."""
     form: str
@@ -40,7 +40,7 @@ def has_any(form: str, letters: str) -> bool:
     return not set(letters).isdisjoint(re.findall("%(.)", form))
 
 
-def format_of(text: str) -> Format:
+def format_of(text: str) -> DateFormat:
     """Returns the format that an option gives."""
     found = ENDED.fullmatch(text)
     assert found, "each part may be missing"
@@ -52,7 +52,7 @@ def format_of(text: str) -> Format:
     is_zoned = found[4] is None or has_day and ENDS.search(form)
     if letters <= LETTERS and (has_day or not letters & set("YymbBd")) and \
             (has_day or has_clock) and (not has_clock or hours in ({"H"}, {"I", "p"})) and is_zoned:
-        return Format(form, found[2] is not None, found[4] is not None)
+        return DateFormat(form, found[2] is not None, found[4] is not None)
     raise Refused(f"--date: {shown(text)} is not a valid format: use %Y or %y, %m, %b or %B, and "
                   "%d, and for a time %H, or %I and %p, and %M and %S, which .%f may follow; %z "
                   "must be behind the time, at the end")
