@@ -308,8 +308,10 @@ class Statements:
         having = chance.choice(("COUNT(*) > 2", f"{self.aggregate()} IS NOT NULL",
                                 f"{keys[0]} IS NOT NULL"))
         terms = [*keys, "COUNT(*)", "1", self.aggregate()]
+        named = [str(shown.index(key) + 1) if key in shown and chance.random() < .1 else key
+                 for key in keys]
         found = (f"SELECT {', '.join(items)} FROM {table.name}{self.where()} GROUP BY "
-                 f"{', '.join(keys)}"
+                 f"{', '.join(named)}"
                  f"{f' HAVING {having}' if chance.random() < .3 else ''}")
         order, limit = self.order(terms), self.limit()
         more = ", " + ", ".join(keys) if order else ""

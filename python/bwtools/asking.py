@@ -1,6 +1,7 @@
 """Asks statements, one after another, and prints their answers."""
 from __future__ import annotations
 
+import contextlib
 import os
 import sys
 import time
@@ -31,12 +32,17 @@ class Asking:
     def ask(self, sql: str) -> None:
         """Runs a statement, and writes its answer to standard output. Raises Refused or Failed."""
         begun = time.monotonic()
-        answer = self.connection.answer(sql)
+        waiting = self.connection.settings.waiting
+        with waiting.shown("bw answers"):
+            answer = self.connection.answer(sql)
         if self.is_told:
             tell(answer)
         if self.is_plain:
             answer.kinds = [each and undressed(each) for each in answer.kinds]
-        count = writer_of(self.form)(answer, sys.stdout, width_of_terminal())
+        write, width = writer_of(self.form), width_of_terminal()
+        # rows at a terminal show themselves that they come
+        with contextlib.nullcontext() if width else waiting.shown("the answer is written"):
+            count = write(answer, sys.stdout, width)
         took = f", {time.monotonic() - begun:.2f} s" if self.is_timed else ""
         if self.form == "table" or took:
             where = sys.stdout if self.form == "table" else sys.stderr

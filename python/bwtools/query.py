@@ -1,10 +1,13 @@
 """A run of `bw query`, which answers one statement over a table file. It reads the file while it
 scans; a session first has all of it in memory, which takes longer for one statement.
 
+It writes a result when it has all of it, and nothing if it fails.
+
 It is started by posix_spawn: the module subprocess takes as long to import as bw's whole answer to
 a small question."""
 from __future__ import annotations
 
+import itertools
 import os
 import signal
 from typing import BinaryIO, Sequence
@@ -44,7 +47,23 @@ class Query:
     def result(self) -> tuple[bytes, str]:
         """Waits for its end. Returns its result, and what it printed on standard error, which is
         short. Raises Refused if bw rejects the statement, and Failed if bw fails."""
-        result, told = (output.read() for output in self.outputs)
+        result = self.outputs[0].read()
+        return result, self.ended()
+
+    def beginning(self, rows: int) -> bytes:
+        """Returns its result's heading and first rows, up to so many, as `result` does. If there
+        are more of them, it is ended by `close`."""
+        found = list(itertools.islice(self.outputs[0], rows + 1))
+        if len(found) <= rows:
+            self.ended()
+        if not found:
+            raise Failed("bw query gave no answer and no reason")
+        return b"".join(found)
+
+    def ended(self) -> str:
+        """Waits for its end. Returns what it printed on standard error, and raises as `result`
+        does."""
+        told = self.outputs[1].read()
         status, lines = self.wait(), told.decode("utf-8", "replace")
         if status == 3 and lines.startswith("bw: 4"):
             raise Refused(lines.rstrip("\n"))
@@ -52,7 +71,7 @@ class Query:
             raise Failed(f"bw query was ended by signal {-status}", lines, 128 - status)
         if status:
             raise Failed("" if lines else f"bw query ended with status {status}", lines, status)
-        return result, lines
+        return lines
 
     def wait(self) -> int:
         """Waits for its end. Returns its status, or less than 0 if a signal ended it."""

@@ -19,7 +19,7 @@ RESULT = re.compile(rb"((?:[^\n]+\n)*)\n")
 SURPLUS = "bw session returned more results than it was sent statements"
 
 
-class Answer(io.RawIOBase):
+class Result(io.RawIOBase):
     """The bytes of one result, up to the empty line that ends it. No result has an empty line in
     it."""
 
@@ -60,7 +60,7 @@ class Session:
                                                              self.process.stdout,
                                                              self.process.stderr))
         os.set_blocking(self.stderr.fileno(), False)
-        self.answer: Answer | None = None
+        self.answer: Result | None = None
         self.has_refused = False
 
     def __enter__(self) -> Session:
@@ -74,7 +74,7 @@ class Session:
         the reason."""
         self.told()
         self.send(sent_form(statement))
-        self.answer = Answer(self)
+        self.answer = Result(self)
         answer = io.BufferedReader(self.answer, AT_ONCE)
         if answer.peek(1):
             return answer

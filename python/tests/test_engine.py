@@ -75,7 +75,8 @@ class Tables(Temporary):
 
     def test_more_files_than_memory_has_room_for_are_asked_in_turn(self):
         for name, value in (("memory", lambda: 100), ("MOST_SESSIONS", 4)):
-            with mock.patch.object(sessions, name, value), mock.patch.object(sessions, "IN_TURN", 2):
+            with mock.patch.object(sessions, name, value), \
+                    mock.patch.object(sessions, "IN_TURN", 2):
                 asked = self.engine_of(["1,2"], ["2,3"], ["3,4"], ["4,5"], ["5,6"])
                 statements = ["SELECT COUNT(*), SUM(b) FROM t", "SELECT MAX(a) FROM t"]
                 self.assertEqual([list(each) for each in asked.totals(statements)], [[5, 20], [5]])

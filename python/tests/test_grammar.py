@@ -246,7 +246,9 @@ TAKEN = [
     "SELECT upper(CITY) FROM t GROUP BY UPPER(city)",
     "SELECT COUNT(1), COUNT('x') FROM t GROUP BY n", "SELECT n FROM t WHERE n = 1;",
     "SELECT DISTINCT SUM(n) FROM t",
-    "SELECT city AS city, COUNT(*) FROM t GROUP BY city"]
+    "SELECT city AS city, COUNT(*) FROM t GROUP BY city",
+    "SELECT city, COUNT(*) FROM t GROUP BY 1 ORDER BY 2 DESC, 1",
+    "SELECT COUNT(*), upper(city) u, paid FROM t GROUP BY 2, 3 HAVING COUNT(*) > 1 ORDER BY u"]
 LEFT = [
     "SELECT 1", "SELECT 1 FROM t", "SELECT n + 1 FROM t", "SELECT n FROM t ORDER BY n + 1",
     "SELECT n FROM t ORDER BY 2", "SELECT n FROM t ORDER BY 'x'", "SELECT upper(city) FROM t",
@@ -259,7 +261,9 @@ LEFT = [
     "SELECT city FROM t ORDER BY city COLLATE NOCASE",
     "SELECT COUNT(*) FROM t GROUP BY 1", "SELECT city, COUNT(*) FROM t GROUP BY upper(city)",
     "SELECT COUNT(*) FROM t GROUP BY -1", "SELECT COUNT(*) FROM t GROUP BY 'x'",
-    "SELECT COUNT(*) FROM t GROUP BY 1 + 1",
+    "SELECT COUNT(*) FROM t GROUP BY 1 + 1", "SELECT city, COUNT(*) FROM t GROUP BY 2",
+    "SELECT city, COUNT(*) FROM t GROUP BY (1)", "SELECT city FROM t GROUP BY 0",
+    "SELECT *, COUNT(*) FROM t GROUP BY 1", "SELECT n % 7 + 1, 1, city FROM t GROUP BY 2, city",
     "SELECT COUNT(DISTINCT n) FROM t GROUP BY upper(city)",
     "SELECT COUNT(*) FROM t GROUP BY CAST(n AS TEXT)",
     "SELECT n + 1, COUNT(*) FROM t GROUP BY n % 7",

@@ -25,7 +25,7 @@ OWN = set("""
     sql.checking sql.clauses sql.condition sql.connection sql.engine sql.errors sql.grammar
     sql.items sql.local sql.operands sql.outside sql.output sql.predicates sql.reader sql.refusals
     sql.scopes sql.selects sql.statement sql.structure sql.table sql.tokens sql.totals_question
-    sql.value_rows sql.values store stored_list telling valued""".split())
+    sql.value_rows sql.values store stored_list telling valued waiting""".split())
 # what takes long to import, and what nobody needs who counts
 SLOW = set("argparse csv dataclasses decimal distributed fractions gettext hashlib inspect json "
            "locale numpy pandas pathlib random shutil statistics subprocess tempfile threading "

@@ -47,6 +47,7 @@ from ..sql.catalog import open_catalog
 from ..sql.connection import Connection, Settings
 from ..sql.table import name_of
 from ..telling import Refused
+from ..waiting import Waiting
 
 if TYPE_CHECKING:
     import argparse
@@ -80,7 +81,9 @@ def split(words: Sequence[str]) -> tuple[list[tuple[str, str]], str | None]:
 
 def settings_of(given: AnswerOptions, scheduler: str | None = None) -> Settings:
     """Returns how a connection asks."""
-    return Settings(scheduler, ["--stats"] if given.has_stats else [], tell, given.is_all, True)
+    # bw's statistics come while it answers
+    waiting = Waiting(not given.has_stats)
+    return Settings(scheduler, ["--stats"] if given.has_stats else [], tell, given.is_all, waiting)
 
 
 def tell(told: str) -> None:

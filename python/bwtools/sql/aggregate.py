@@ -5,7 +5,7 @@ from ..column import Column
 from ..valued import Valued
 from . import tokens
 from .outside import Outside
-from .reader import Reader
+from .reader import TokenReader
 from .selects import COUNT
 
 AGGREGATES = ("COUNT", "SUM", "MIN", "MAX", "AVG")
@@ -40,7 +40,7 @@ class Aggregate(Valued):
         return not self.is_distinct and not self.is_float_sum
 
 
-def aggregate_of(reader: Reader) -> Aggregate:
+def aggregate_of(reader: TokenReader) -> Aggregate:
     """Consumes an aggregate over a column, or COUNT(*), as which COUNT(1) is."""
     function = reader.take().key
     reader.wants_mark("(")

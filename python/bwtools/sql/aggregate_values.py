@@ -10,10 +10,10 @@ from .blocks import Value
 # of a group whose number is null: less than each number, all of which are within 64 bits
 NULL_NUMBER = -1 << 64
 # totals of bw by their names, each of all groups
-Totals = Mapping[str, Sequence[Optional[int]]]
+GroupTotals = Mapping[str, Sequence[Optional[int]]]
 
 
-def values_of(aggregate: Aggregate, totals: Totals) -> Sequence[Value]:
+def values_of(aggregate: Aggregate, totals: GroupTotals) -> Sequence[Value]:
     """Returns the values of an aggregate for groups."""
     column, function = aggregate.column, aggregate.function
     needed = [totals[name] for name in aggregate.totals]

@@ -7,8 +7,8 @@ from ..kind import Kind
 from .blocks import Block, Value, rows_of
 
 if TYPE_CHECKING:
-    from .number_rows import Numbers
-    from .value_rows import Rows
+    from .number_rows import NumberRows
+    from .value_rows import ValueRows
 
 
 class Answer:
@@ -17,7 +17,7 @@ class Answer:
     2 (SQLite over listed columns); and the statements that bw ran for it."""
 
     def __init__(self, headings: Sequence[str], kinds: Sequence[Kind | None],
-                 body: Rows | Numbers, way: int, asked: Sequence[str] = ()) -> None:
+                 body: ValueRows | NumberRows, way: int, asked: Sequence[str] = ()) -> None:
         self.headings, self.kinds, self.body = headings, kinds, body
         self.way, self.asked = way, asked
 

@@ -11,8 +11,8 @@ Block = Sequence[Sequence[Value]]
 
 
 def spelled(value: Value) -> str:
-    """Returns the text of a value: doubles in the shortest spelling, bytes as the literal of a blob,
-    nothing for null."""
+    """Returns the text of a value: doubles in the shortest spelling, bytes as the literal of a
+    blob, nothing for null."""
     if isinstance(value, str):
         return value
     if isinstance(value, bytes):

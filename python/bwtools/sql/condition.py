@@ -22,7 +22,7 @@ from typing import Callable
 from . import tokens, values
 from .outside import Outside
 from .predicates import Comparand, among, between, compared, like
-from .reader import Reader
+from .reader import TokenReader
 
 SIGNS = {"=": "=", "==": "=", "<>": "<>", "!=": "<>", "<": "<", ">": ">", "<=": "<=", ">=": ">="}
 # how deep brackets and NOTs may be: bw has a limit of 100, and a condition over numbers has more
@@ -32,7 +32,7 @@ MOST_BYTES = 60_000
 OR, AND, NOT, TEST, PRIMARY = range(5)
 
 
-class Part:
+class Fragment:
     """A part of a condition over numbers: its text, and how strongly its operator binds."""
 
     def __init__(self, text: str, level: int) -> None:
@@ -46,7 +46,7 @@ class Part:
 class Condition:
     """Translates the tokens of a condition."""
 
-    def __init__(self, reader: Reader) -> None:
+    def __init__(self, reader: TokenReader) -> None:
         self.reader, self.depth = reader, 0
 
     def whole(self) -> str:
@@ -56,32 +56,32 @@ class Condition:
             raise Outside
         return text
 
-    def condition(self) -> Part:
+    def condition(self) -> Fragment:
         """Consumes a condition."""
         terms = [self.term()]
         while self.reader.takes("OR"):
             terms.append(self.term())
         if len(terms) == 1:
             return terms[0]
-        return Part(" OR ".join(term.within(AND) for term in terms), OR)
+        return Fragment(" OR ".join(term.within(AND) for term in terms), OR)
 
-    def term(self) -> Part:
+    def term(self) -> Fragment:
         """Consumes the operands of AND."""
         factors = [self.factor()]
         while self.reader.takes("AND"):
             factors.append(self.factor())
         if len(factors) == 1:
             return factors[0]
-        return Part(" AND ".join(factor.within(NOT) for factor in factors), AND)
+        return Fragment(" AND ".join(factor.within(NOT) for factor in factors), AND)
 
-    def factor(self) -> Part:
+    def factor(self) -> Fragment:
         """Consumes the operand of AND, with NOT before it."""
         if not self.reader.takes("NOT"):
             return self.test()
         with_not = self.deeper(self.factor)
-        return Part(f"NOT {with_not.within(TEST)}", NOT)
+        return Fragment(f"NOT {with_not.within(TEST)}", NOT)
 
-    def deeper(self, take: Callable[[], Part]) -> Part:
+    def deeper(self, take: Callable[[], Fragment]) -> Fragment:
         """Consumes what is within brackets or after NOT."""
         self.depth += 1
         if self.depth > MOST_DEPTH:
@@ -90,7 +90,7 @@ class Condition:
         self.depth -= 1
         return found
 
-    def test(self) -> Part:
+    def test(self) -> Fragment:
         """Consumes a predicate, or a condition in brackets, and tests after it."""
         if self.reader.takes_mark("("):
             found = self.deeper(self.condition)
@@ -104,10 +104,10 @@ class Condition:
             other = self.reader.takes_operand()
             if not other:
                 raise Outside
-            return self.tested(Part(compared(operand, SIGNS[sign], other), PRIMARY))
+            return self.tested(Fragment(compared(operand, SIGNS[sign], other), PRIMARY))
         return self.after(operand)
 
-    def tested(self, found: Part) -> Part:
+    def tested(self, found: Fragment) -> Fragment:
         """Consumes tests of a condition's truth."""
         while True:
             if self.reader.takes("IS"):
@@ -122,23 +122,23 @@ class Condition:
                 negated, truth = "NOT ", "UNKNOWN"
             else:
                 return found
-            found = Part(f"{found.within(PRIMARY)} IS {negated}{truth}", TEST)
+            found = Fragment(f"{found.within(PRIMARY)} IS {negated}{truth}", TEST)
 
-    def after(self, operand: Comparand) -> Part:
+    def after(self, operand: Comparand) -> Fragment:
         """Consumes what follows an operand that isn't compared, and returns the predicate."""
         column = operand.column
         if column and (self.reader.takes("IS", "NULL") or self.reader.takes("ISNULL")):
-            return self.tested(Part(f"{column.name} IS NULL", PRIMARY))
+            return self.tested(Fragment(f"{column.name} IS NULL", PRIMARY))
         if column and (self.reader.takes("IS", "NOT", "NULL") or self.reader.takes("NOTNULL") or
                        self.reader.takes("NOT", "NULL")):
-            return self.tested(Part(f"{column.name} IS NOT NULL", PRIMARY))
+            return self.tested(Fragment(f"{column.name} IS NOT NULL", PRIMARY))
         is_negated = self.reader.takes("NOT")
         found = self.choice(operand)
         if not found and not is_negated:
-            return self.tested(Part(truth_of(operand), PRIMARY))
+            return self.tested(Fragment(truth_of(operand), PRIMARY))
         if not found or self.reader.next().key in ("IS", "ISNULL", "NOTNULL", "NOT"):
             raise Outside
-        return Part(f"NOT {found}", NOT) if is_negated else Part(found, PRIMARY)
+        return Fragment(f"NOT {found}", NOT) if is_negated else Fragment(found, PRIMARY)
 
     def choice(self, operand: Comparand) -> str:
         """Consumes BETWEEN, IN, LIKE or GLOB and what follows it, and returns the predicate, or

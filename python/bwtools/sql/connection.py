@@ -7,6 +7,7 @@ import os
 import sqlite3
 from typing import TYPE_CHECKING, Any, Callable, Sequence
 
+from ..waiting import Waiting
 from . import errors, grammar
 from .answer import Answer
 from .catalog import Catalog, open_catalog
@@ -31,13 +32,13 @@ def nothing(told: str) -> None:
 class Settings:
     """How a connection asks: the scheduler of a cluster, or None for sessions on this machine; bw's
     options; what gets that which bw prints beside its answers; whether SQLite may get any number of
-    rows; and whether progress is shown at a terminal."""
+    rows; and what shows what an answer waits for."""
 
     def __init__(self, scheduler: str | None = None, options: Sequence[str] = (),
                  tell: Callable[[str], None] = nothing, list_all: bool = False,
-                 is_shown: bool = False) -> None:
+                 waiting: Waiting | None = None) -> None:
         self.scheduler, self.options, self.tell = scheduler, options, tell
-        self.list_all, self.is_shown = list_all, is_shown
+        self.list_all, self.waiting = list_all, waiting or Waiting(False)
 
 
 class Connection:
@@ -82,7 +83,7 @@ class Connection:
     def by_sqlite(self) -> BySqlite:
         """SQLite over listed columns, which most statements don't need."""
         from .by_sqlite import BySqlite
-        found = BySqlite(self.catalog, self.engine, self.settings.list_all, self.settings.is_shown)
+        found = BySqlite(self.catalog, self.engine, self.settings.list_all, self.settings.waiting)
         self.stack.callback(found.close)
         return found
 

@@ -1,5 +1,5 @@
-"""Makes the values that SQLite computes with, the fields of a CSV and Python's objects of a column's
-numbers (`values` says which ones)."""
+"""Makes the values that SQLite computes with, the fields of a CSV and Python's objects of a
+column's numbers (`values` says which ones)."""
 from __future__ import annotations
 
 import datetime

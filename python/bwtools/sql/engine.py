@@ -2,6 +2,7 @@
 What it returns is whole: a file of the table that can't be asked is an exception."""
 from __future__ import annotations
 
+import io
 from typing import BinaryIO, Protocol, Sequence, Union
 
 from ..failed import Failed
@@ -23,6 +24,10 @@ class Asker(Protocol):
 
     def rows(self, statement: str) -> list[BinaryIO]:
         """Returns the results of a statement of rows, one for each file."""
+
+    def beginnings(self, statement: str, rows: int) -> list[bytes]:
+        """Returns the results of a statement of rows, of which some after so many may be missing,
+        for each file."""
 
     def close(self) -> None:
         """Ends what it has started."""
@@ -54,6 +59,12 @@ class Engine:
         is an open file of lines of CSV, the first of which is the heading."""
         self.asked.append(statement)
         return self.asker.rows(statement)
+
+    def beginning(self, statement: str, rows: int) -> list[BinaryIO]:
+        """Returns the results of a statement of rows as `rows` does; those after so many of a file
+        may be missing. A file that can't be asked is an exception here, too."""
+        self.asked.append(statement)
+        return list(map(io.BytesIO, self.asker.beginnings(statement, rows)))
 
     def close(self) -> None:
         """Ends the sessions. A later statement begins others."""

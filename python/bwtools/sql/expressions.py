@@ -9,7 +9,7 @@ from . import tokens
 from .aggregate import AGGREGATES, PREFIX, Aggregate, aggregate_of
 from .clauses import Clauses
 from .outside import Outside
-from .reader import Reader, reader_of
+from .reader import TokenReader, reader_of
 from .statement import Statement
 from .tokens import quoted_name
 
@@ -58,7 +58,7 @@ class Expressions:
             words.append(self.word(reader, aliases))
         return " ".join(words)
 
-    def word(self, reader: Reader, aliases: Sequence[str]) -> str:
+    def word(self, reader: TokenReader, aliases: Sequence[str]) -> str:
         """Consumes the next tokens, and returns what they are in an expression over groups."""
         token, is_call = reader.next(), reader.next(1).is_mark("(")
         for place, group in enumerate(self.groups):
@@ -85,7 +85,7 @@ class Expressions:
             return reader.take().text
         raise Outside
 
-    def takes_group(self, reader: Reader, group: Group) -> bool:
+    def takes_group(self, reader: TokenReader, group: Group) -> bool:
         """Consumes an expression that makes groups, if it is next."""
         end = reader.place + len(group.words)
         if not group.words or end > reader.end or \
@@ -111,7 +111,7 @@ class Expressions:
         column = self.groups[place].column
         return quoted_name(f"{PREFIX}{column.name if column else f'group {place}'}")
 
-    def aggregate(self, reader: Reader) -> str:
+    def aggregate(self, reader: TokenReader) -> str:
         """Consumes an aggregate, and returns the name of its column."""
         found = aggregate_of(reader)
         if found not in self.aggregates:

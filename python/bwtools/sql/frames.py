@@ -14,7 +14,7 @@ from ..numerals import power_of_ten
 from ..telling import Refused
 from .answer import Answer
 from .conversions import foreign, number_of
-from .number_rows import Numbers
+from .number_rows import NumberRows
 
 # numbers up to this one are doubles
 MOST_EXACT = 1 << 53
@@ -141,7 +141,7 @@ def doubles_of(numpy: Any, kind: Floats, numbers: Any) -> Any:
 def columns_of(answer: Answer, numpy: Any) -> list[Array]:
     """Returns the columns of an answer."""
     body = answer.body
-    if isinstance(body, Numbers):
+    if isinstance(body, NumberRows):
         parts = [parsed(numpy, data, len(answer.kinds)) for data in body.contents()]
         numbers = numpy.concatenate([values for values, _ in parts])
         masks = numpy.concatenate([mask for _, mask in parts])

@@ -5,7 +5,7 @@
                 [ ORDER BY term { , term } ] [ LIMIT n [ OFFSET n ] | LIMIT n , n ]
     items     = * | table.* | item { , item }
     item      = expression [ [ AS ] alias ]
-    group     = column | expression over columns | alias of one
+    group     = column | expression over columns | alias, or number, of an item that is one
     term      = expression [ ASC | DESC ] [ NULLS FIRST | NULLS LAST ]
 
 `condition` has a grammar of its own. An expression is made of what makes groups, aggregates,

@@ -20,8 +20,8 @@ from .ordering import terms_of
 from .outside import Outside
 from .statement import Statement
 from .structure import Item
-from .tokens import quoted_name
-from .value_rows import Rows
+from .tokens import NUMBER, quoted_name
+from .value_rows import ValueRows
 from .values import affinity
 from .wanted import Wanted
 
@@ -69,19 +69,31 @@ class GroupsQuestion:
     def group(self, first: int, end: int) -> tuple[str, Group]:
         """Returns what makes groups, as an expression over the columns of `fine`, and as what it is
         in the statement."""
-        span = named_item(self.statement, self.clauses, first, end)
+        span = self.placed_item(first, end) or named_item(self.statement, self.clauses, first, end)
         column = plain_column(self.statement, self.clauses, span.start, span.stop)
         if column:
             return self.fine.key(column), Group(column)
         made = f"({self.fine.expression(span.start, span.stop)})"
         words = words_of(self.statement, self.clauses, span)
-        # a number alone is a place, and only the value of a CAST is compared as of a type
+        # what has no column makes one group, and only the value of a CAST is compared as of a type
         if self.fine.aggregates or words[0] in ("CAST", "(") or \
                 not any(word in self.names for word in words):
             raise Outside
         line = self.statement.structure.line
         is_call = line.is_mark(span.start + 1, "(") and line.closing[span.start + 1] == span[-1]
         return made, Group(None, words, is_call)
+
+    def placed_item(self, first: int, end: int) -> range:
+        """Returns the places of the item whose number the tokens from one on, up to another, are;
+        none if they aren't one."""
+        token, items = self.statement.tokens[first], self.clauses.items
+        if end - first != 1 or token.kind != NUMBER or not token.text.isdecimal():
+            return range(0)
+        if any(is_star(self.statement, item) for item in items) or \
+                not 0 < int(token.text) <= len(items):
+            raise Outside
+        item = items[int(token.text) - 1]
+        return range(item.first, item.end)
 
     def refuse_mixed(self) -> None:
         """Raises Outside if groups are missing or surplus: an aggregate makes one group of all
@@ -142,11 +154,11 @@ class GroupsQuestion:
                         order.lower() in (alias, quoted_name(alias)):
                     yield item
 
-    def body(self, engine: Engine) -> Rows:
+    def body(self, engine: Engine) -> ValueRows:
         """Returns the rows that SQLite makes of the groups."""
         made, table = self.expressions, self.clauses.table
         if self.limits.most == 0:
-            return Rows([])
+            return ValueRows([])
         columns = self.fine.columns if self.is_coarse else made.columns
         wanted = Wanted(table.bw_name, where_of(self.statement, self.clauses), columns,
                         made.aggregates, self.is_in_rows_order)
@@ -156,7 +168,7 @@ class GroupsQuestion:
             if self.is_coarse:
                 raise Outside from None
             raise
-        return Rows(rows_of(types_of(made), [*groups.columns, *groups.values], self.sql)[0])
+        return ValueRows(rows_of(types_of(made), [*groups.columns, *groups.values], self.sql)[0])
 
     def coarse(self, columns: Sequence[Sequence[Value]]
                ) -> tuple[Sequence[Sequence[Value]], Sequence[int]]:

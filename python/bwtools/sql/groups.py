@@ -8,7 +8,7 @@ from __future__ import annotations
 
 import math
 from collections import Counter
-from typing import Any, Callable, Mapping, NamedTuple, Sequence, Tuple
+from typing import Any, Callable, Mapping, NamedTuple, Optional, Sequence, Tuple
 
 from ..column import Column
 from ..failed import Failed
@@ -26,7 +26,7 @@ from .wanted import Wanted
 # than so many times the rows that would be listed: which takes as long
 MOST_STATEMENTS, LISTED_COST, LONG = 1000, 2000, 200
 # the totals of all rows by their names
-Whole = Mapping[str, "int | None"]
+WholeTotals = Mapping[str, Optional[int]]
 
 
 class Groups(NamedTuple):
@@ -111,7 +111,7 @@ def names_of_ends(wanted: Wanted) -> list[str]:
     return list(dict.fromkeys([*wanted.totals, *ends]))
 
 
-def choices_of(engine: Engine, wanted: Wanted, whole: Whole) -> list[list[int]]:
+def choices_of(engine: Engine, wanted: Wanted, whole: WholeTotals) -> list[list[int]]:
     """Returns the numbers that each column may have among rows of which these are the totals; none
     if there are too many groups to count them by statements."""
     found = list[list[int]]()

@@ -2,7 +2,7 @@
 from __future__ import annotations
 
 import functools
-from typing import TYPE_CHECKING, BinaryIO, Callable, Sequence
+from typing import TYPE_CHECKING, BinaryIO, Callable, Sequence, TypeVar
 
 from ..failed import Failed
 from ..query import Query
@@ -11,11 +11,15 @@ if TYPE_CHECKING:
     from .sessions import Sessions
 
 Tell = Callable[[str], None]
+T = TypeVar("T")
+# so many queries run at a time, of totals, and of rows, which are in memory
+TOTALS_AT_ONCE, ROWS_AT_ONCE = 64, 4
 
 
 class Local:
-    """Runs statements on each of some open table files: a first statement of totals, which may be
-    the only one, by `bw query`, and all others in sessions, which stay open."""
+    """Runs statements on each of some open table files: by `bw query` a first statement of totals,
+    which may be the only one, and one of which the first rows are read; all others in sessions,
+    which stay open."""
 
     def __init__(self, files: Sequence[BinaryIO], options: Sequence[str], tell: Tell,
                  names: Sequence[str]) -> None:
@@ -34,23 +38,40 @@ class Local:
         if self.is_asked:
             return [result for result, in self.totals([statement])]
         self.is_asked = True
-        queries = list[Query]()
-        try:
-            for file in self.files:
-                queries.append(Query(file, statement, self.options))
-            return [self.result(place, query) for place, query in enumerate(queries)]
-        finally:
-            for query in queries:
-                query.close()
+        found = self.queries(statement, self.options, TOTALS_AT_ONCE, Query.result)
+        for _, told in found:
+            self.tell(told)
+        return [result for result, _ in found]
 
-    def result(self, place: int, query: Query) -> bytes:
-        """Returns the result of a file. If bw fails, and there are others, the file is named."""
+    def beginnings(self, statement: str, rows: int) -> list[bytes]:
+        if self.options:
+            # what they print comes at the end
+            return [part.read() for part in self.rows(statement)]
+        return self.queries(statement, (), ROWS_AT_ONCE, lambda query: query.beginning(rows))
+
+    def queries(self, statement: str, options: Sequence[str], at_once: int,
+                read: Callable[[Query], T]) -> list[T]:
+        """Returns what a function returns for a query of each file, some of which run at a time."""
+        found = list[T]()
+        for first in range(0, len(self.files), at_once):
+            running = list[Query]()
+            try:
+                for file in self.files[first:first + at_once]:
+                    running.append(Query(file, statement, options))
+                for query in running:
+                    found.append(self.named(len(found), query, read))
+            finally:
+                for query in running:
+                    query.close()
+        return found
+
+    def named(self, place: int, query: Query, read: Callable[[Query], T]) -> T:
+        """Returns what a function returns for the query of a file. If bw fails, and there are other
+        files, it is named."""
         try:
-            result, told = query.result()
+            return read(query)
         except Failed as failed:
             raise failed.of(self.names[place]) if len(self.files) > 1 else failed from None
-        self.tell(told)
-        return result
 
     def totals(self, statements: Sequence[str]) -> list[list[bytes]]:
         return self.sessions.totals(statements)

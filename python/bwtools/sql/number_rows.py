@@ -14,7 +14,7 @@ from .conversions import foreign, objects, stored
 NULL, SAMPLE = "NULL", 256
 
 
-class Numbers:
+class NumberRows:
     """Rows of whole numbers as bw listed them, one CSV with a heading for each file of the table,
     which is decoded when it is read."""
 

@@ -18,7 +18,7 @@ if TYPE_CHECKING:
 TIGHTER = ("+", "-", "*", "/", "%", "||", "->", "->>", "<<", ">>", "&", "|", "~", ".")
 COMPARE = ("=", "==", "<>", "!=", "<", "<=", ">", ">=")
 EQUAL = ("=", "==", "<>", "!=", "IS", "IN", "CASE")
-Value: TypeAlias = "Union[None, str, Fraction, bytes]"
+LiteralValue: TypeAlias = "Union[None, str, Fraction, bytes]"
 
 
 class Operand:
@@ -26,7 +26,7 @@ class Operand:
     literal that it is, or neither."""
 
     def __init__(self, first: int, end: int, column: Column | None = None,
-                 value: Value = None) -> None:
+                 value: LiteralValue = None) -> None:
         self.first, self.end, self.column, self.value = first, end, column, value
 
     @property
@@ -188,7 +188,7 @@ class Operands:
         meaning = self.structure.meaning(first, end, scope)
         return Operand(first, end, meaning.column if meaning else None)
 
-    def value(self, first: int, end: int) -> Value:
+    def value(self, first: int, end: int) -> LiteralValue:
         """Returns the value of the literal that these tokens are, or None."""
         token, count = self.line.tokens[end - 1], end - first
         sign = self.line.is_mark(first, "+", "-")

@@ -13,7 +13,7 @@ from .table import Table
 from .tokens import Token
 
 
-class Reader:
+class TokenReader:
     """A place among the tokens of a statement, up to an end. `called` is the name before the point
     of a column's name."""
 
@@ -90,6 +90,6 @@ class Reader:
         return Comparand(None, -number if sign == "-" else number)
 
 
-def reader_of(statement: Statement, clauses: Clauses, span: range) -> Reader:
+def reader_of(statement: Statement, clauses: Clauses, span: range) -> TokenReader:
     """Returns a reader of some tokens."""
-    return Reader(statement, clauses.table, clauses.called, span.start, span.stop)
+    return TokenReader(statement, clauses.table, clauses.called, span.start, span.stop)

@@ -7,7 +7,7 @@ from typing import BinaryIO, Iterator, NamedTuple, Sequence
 from ..column import Column
 from .engine import Engine
 from .limits import Limits
-from .number_rows import Numbers
+from .number_rows import NumberRows
 from .outside import Outside
 from .predicates import placed
 from .selects import COUNT, both, names_of, select
@@ -15,11 +15,11 @@ from .selects import COUNT, both, names_of, select
 NULL, HEADING, AT_ONCE = b"NULL", b"\n", 1 << 20
 # more rows than these aren't sorted here
 MOST_ROWS = 1_000_000
-# a limit is used to list fewer rows if there are so many
+# a limit is used to list fewer rows if there are more, and to read no others if it is less
 MANY_ROWS = 100_000
 
 
-class Key(NamedTuple):
+class SortKey(NamedTuple):
     """A column by which rows are put in order."""
 
     column: Column
@@ -30,23 +30,27 @@ class Key(NamedTuple):
 class WantedRows:
     """Which rows are wanted, of which columns."""
 
-    def __init__(self, table: str, columns: Sequence[Column], where: str, keys: Sequence[Key],
+    def __init__(self, table: str, columns: Sequence[Column], where: str, keys: Sequence[SortKey],
                  limits: Limits) -> None:
         self.table, self.columns, self.where = table, columns, where
         self.keys, self.limits = keys, limits
 
-    def body(self, engine: Engine) -> Numbers:
+    def body(self, engine: Engine) -> NumberRows:
         """Returns the rows."""
         if self.limits.most == 0:
-            return Numbers([])
+            return NumberRows([])
         where = self.narrowed(engine) if self.keys else self.where
         sorting = [key.column for key in self.keys]
-        parts = engine.rows(select(names_of([*self.columns, *sorting]), self.table, where))
+        statement = select(names_of([*self.columns, *sorting]), self.table, where)
+        most = self.limits.end
+        if not self.keys and most is not None and most <= MANY_ROWS:
+            return NumberRows([limited(engine.beginning(statement, most), self.limits)])
+        parts = engine.rows(statement)
         if self.keys:
-            return Numbers([self.sorted(parts)])
+            return NumberRows([self.sorted(parts)])
         if self.limits.most is None and not self.limits.offset:
-            return Numbers(parts)
-        return Numbers([limited(parts, self.limits)])
+            return NumberRows(parts)
+        return NumberRows([limited(parts, self.limits)])
 
     def narrowed(self, engine: Engine) -> str:
         """Returns a condition on which all rows that are wanted are, and few others: if there is a
@@ -98,7 +102,7 @@ class WantedRows:
         return HEADING + b"".join([fields[row][0] + b"\n" for row in chosen])
 
 
-def ordered(key: Key, order: Sequence[int], fields: Sequence[bytes]) -> list[int]:
+def ordered(key: SortKey, order: Sequence[int], fields: Sequence[bytes]) -> list[int]:
     """Returns rows in the order of a column, of which these are the fields."""
     present = [row for row in order if fields[row] != NULL]
     nulls = [row for row in order if fields[row] == NULL]

@@ -8,9 +8,9 @@ from .clauses import Clauses
 from .engine import Engine
 from .items import column_of, columns_of, where_of
 from .limits import limits_of
-from .number_rows import Numbers
+from .number_rows import NumberRows
 from .ordering import Term, terms_of
-from .rows import Key, WantedRows
+from .rows import SortKey, WantedRows
 from .statement import Statement
 from .tokens import NUMBER
 
@@ -21,7 +21,7 @@ class RowsQuestion:
     def __init__(self, statement: Statement, clauses: Clauses) -> None:
         self.statement, self.clauses = statement, clauses
 
-    def body(self, engine: Engine) -> Numbers:
+    def body(self, engine: Engine) -> NumberRows:
         """Returns the rows that bw lists."""
         clauses, tokens = self.clauses, self.statement.tokens
         columns = [column for item in clauses.items
@@ -32,7 +32,7 @@ class RowsQuestion:
         where = where_of(self.statement, clauses)
         return WantedRows(clauses.table.bw_name, columns, where, keys, limits).body(engine)
 
-    def key(self, term: Term, columns: Sequence[Column]) -> Key:
+    def key(self, term: Term, columns: Sequence[Column]) -> SortKey:
         """Returns the column of a term of ORDER BY: by its alias, its name, or its place."""
         token = self.statement.tokens[term.span.start]
         if len(term.span) == 1 and token.kind == NUMBER and token.text.isdecimal() and \
@@ -40,4 +40,4 @@ class RowsQuestion:
             column = columns[int(token.text) - 1]
         else:
             column = column_of(self.statement, self.clauses, term.span.start, term.span.stop)
-        return Key(column, term.is_descending, term.are_nulls_first)
+        return SortKey(column, term.is_descending, term.are_nulls_first)

@@ -33,6 +33,9 @@ class Scheduled:
     def rows(self, statement: str) -> list[BinaryIO]:
         return [io.BytesIO(answer) for answer in self.answers([statement])]
 
+    def beginnings(self, statement: str, rows: int) -> list[bytes]:
+        return list(self.answers([statement]))
+
     def answers(self, statements: Sequence[str]) -> Iterator[bytes]:
         """Yields the result of each statement on each file, statement by statement."""
         program = command.whole_path()

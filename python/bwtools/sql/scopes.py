@@ -6,7 +6,7 @@ from typing import Iterable, Iterator, Sequence
 from .output import Output
 
 
-class Source:
+class FromItem:
     """A table or a query that FROM names: the name by which columns are qualified, its columns, and
     those among them, in lower case, that `*` leaves out since a source before has them."""
 
@@ -19,7 +19,7 @@ class Scope:
     """A SELECT: what it reads from, the columns of its result, those among them that have an alias,
     and the SELECT around it."""
 
-    def __init__(self, sources: list[Source], outer: Scope | None,
+    def __init__(self, sources: list[FromItem], outer: Scope | None,
                  outputs: Iterable[Output] = ()) -> None:
         self.sources, self.outer = sources, outer
         self.outputs, self.aliases = list(outputs), list[Output]()

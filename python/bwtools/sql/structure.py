@@ -11,7 +11,7 @@ from ..kind import Kind
 from .bracketed import JOINS, RESERVED, Bracketed
 from .catalog import Catalog, missing
 from .output import Output, output_of
-from .scopes import Scope, Source
+from .scopes import FromItem, Scope
 from .table import Table
 from .tokens import QUOTED, TEXT, WORD
 
@@ -72,7 +72,7 @@ class Structure:
                 outputs[:] = [union(*pair) for pair in zip(outputs, found)]
             start = stop + 1 + (self.line.key(stop + 1) == "ALL" if stop < end else 0)
         if ends:
-            scope = Scope([Source("", outputs)], outer, outputs)
+            scope = Scope([FromItem("", outputs)], outer, outputs)
         self.mark(tail, end, scope, ctes)
         return outputs
 
@@ -291,7 +291,7 @@ class Structure:
             name, at = token.value if token.kind == TEXT else token.name, at + 1
         self.has_join = self.has_join or bool(scope.sources)
         before = {output.name.lower() for source in scope.sources for output in source.outputs}
-        scope.sources.append(Source(name, outputs, before if is_natural else set()))
+        scope.sources.append(FromItem(name, outputs, before if is_natural else set()))
         return at
 
 

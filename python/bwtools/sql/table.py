@@ -13,7 +13,7 @@ from ..store import TableFile
 from ..telling import Refused
 
 
-class Part:
+class TablePart:
     """One table file of a table: its path, its record, the columns file that names it, and the
     file, open and compared with the record; or None if only a cluster's workers open it."""
 
@@ -25,8 +25,8 @@ class Table:
     """A table: its name in statements, the one by which bw knows it, its columns, its files in the
     rows' order, and the number of its rows if the columns file has it."""
 
-    def __init__(self, name: str, bw_name: str, columns: Sequence[Column], parts: Sequence[Part],
-                 rows: int | None = None) -> None:
+    def __init__(self, name: str, bw_name: str, columns: Sequence[Column],
+                 parts: Sequence[TablePart], rows: int | None = None) -> None:
         self.name, self.bw_name, self.columns = name, bw_name, columns
         self.parts, self.rows = parts, rows
         # what is closed with the table
@@ -50,7 +50,7 @@ def open_table(name: str, path: str, is_local: bool = True) -> Table:
 
 def open_file(name: str, path: str) -> Table:
     pair = open_pair(path)
-    part = Part(path, pair.store.files[0], pair.store.path, pair.file)
+    part = TablePart(path, pair.store.files[0], pair.store.path, pair.file)
     table = Table(name, pair.store.name, pair.store.columns, [part])
     table.stack.enter_context(pair)
     return table
@@ -62,14 +62,14 @@ def open_folder(name: str, path: str, is_local: bool) -> Table:
     folder = Folder(path)
     with contextlib.ExitStack() as stack:
         stack.callback(folder.close)
-        parts = list[Part]()
+        parts = list[TablePart]()
         for place, record in enumerate(folder.shards):
             file = None
             if is_local:
                 file = stack.enter_context(open_regular(folder.path_of(place)))
                 if not is_of(record, file):
                     raise Refused(f"{folder.path_of(place)} {FOREIGN.format(folder.file)}")
-            parts.append(Part(folder.path_of(place), record, folder.file, file))
+            parts.append(TablePart(folder.path_of(place), record, folder.file, file))
         rows = sum(record.rows for record in folder.shards)
         table = Table(name, folder.name, folder.columns, parts, rows)
         table.stack = stack.pop_all()

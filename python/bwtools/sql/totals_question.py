@@ -12,7 +12,7 @@ from .outside import Outside
 from .reader import reader_of
 from .selects import select
 from .statement import Statement
-from .value_rows import Rows
+from .value_rows import ValueRows
 
 
 class TotalsQuestion:
@@ -23,13 +23,13 @@ class TotalsQuestion:
                  aggregates: Sequence[Aggregate]) -> None:
         self.statement, self.clauses, self.aggregates = statement, clauses, aggregates
 
-    def body(self, engine: Engine) -> Rows:
+    def body(self, engine: Engine) -> ValueRows:
         """Returns the row."""
         names = list(dict.fromkeys(name for each in self.aggregates for name in each.totals))
         where = where_of(self.statement, self.clauses)
         asked = select(", ".join(names), self.clauses.table.bw_name, where)
         found = {name: [value] for name, value in zip(names, engine.once(asked))}
-        return Rows([tuple(values_of(each, found)[0] for each in self.aggregates)])
+        return ValueRows([tuple(values_of(each, found)[0] for each in self.aggregates)])
 
 
 def totals_of(statement: Statement, clauses: Clauses) -> list[Aggregate]:

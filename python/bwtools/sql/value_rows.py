@@ -9,7 +9,7 @@ from .blocks import Block, Value, spelled
 AT_ONCE = 8192
 
 
-class Rows:
+class ValueRows:
     """Rows of SQLite's values."""
 
     def __init__(self, rows: Sequence[tuple[Value, ...]]) -> None:
