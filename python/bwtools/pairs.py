@@ -55,10 +55,17 @@ def sum_of(file: BinaryIO) -> str:
     return found.hexdigest()
 
 
-def record_of(path: str | os.PathLike[str], name: str = "", rows: int = 0) -> TableFile:
-    """Returns a table file's record for a columns file."""
+def digest_of(path: str | os.PathLike[str]) -> str:
+    """Returns the SHA-256 of a table file."""
     with open_regular(path) as file:
-        return TableFile(name, rows, *marks_of(file), sum_of(file))
+        return sum_of(file)
+
+
+def record_of(path: str | os.PathLike[str], name: str = "", rows: int = 0,
+              digest: str = "") -> TableFile:
+    """Returns a table file's record for a columns file. Its SHA-256 may be known."""
+    with open_regular(path) as file:
+        return TableFile(name, rows, *marks_of(file), digest or sum_of(file))
 
 
 def is_of(record: TableFile, file: BinaryIO) -> bool:

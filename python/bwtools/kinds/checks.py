@@ -3,7 +3,7 @@ from __future__ import annotations
 
 from typing import Callable
 
-from ..numerals import BETWEEN
+from ..numerals import BETWEEN, LAKHS
 from .formats import is_format
 
 
@@ -17,5 +17,5 @@ CHECKS: dict[str, Callable[[object], bool]] = {
     "gap": lambda value: isinstance(value, int) and 0 <= value < 1 << 63, "form": is_format,
     "zone": lambda value: value in ("", "Z"), "false": lambda value: isinstance(value, str),
     "true": lambda value: isinstance(value, str), "mark": lambda value: value in (".", ","),
-    "grouping": lambda value: value == "" or isinstance(value, str) and value in ".," + BETWEEN,
+    "grouping": lambda value: value in ("", LAKHS, *".,", *BETWEEN),
     "prefix": is_short, "suffix": is_short, "brackets": lambda value: value in (0, 1)}

@@ -8,7 +8,7 @@ from typing import ClassVar, Sequence
 from ..clock import clock_of
 from ..kind import Kind, Literal, Settings
 from ..listed import Place
-from ..moments import read_by, unit_of, with_part, written_by
+from ..moments import read_by, read_ended, unit_of, with_part, written_by
 from ..numerals import power_of_ten
 from ..valued import Valued
 
@@ -34,6 +34,9 @@ class Clocks(Valued):
         found = read_by(self.form, text)
         if found:
             return found[1], 0
+        ended = read_ended(self.form, text)
+        if ended:
+            return None if ended.has_zone else (ended.number, ended.digits)
         clock = clock_of(text)
         return (clock.part, clock.digits) if clock and not clock.has_zone else None
 
