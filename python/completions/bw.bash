@@ -12,7 +12,7 @@ _bw() {
         load:--layout) words='planes slices' ;;
         infer:--table) return ;;
         query:--program|session:--program) ;;
-        :*) words='infer load query session direct dump info plan check --explain --help --version' ;;
+        :*) words='infer load query session direct dump info plan certify check --explain --help --version' ;;
         infer:*) words='--table --explain --help' ;;
         load:*) words='--layout --explain --help' ;;
         query:*) words='--program --stats --explain --help' ;;
