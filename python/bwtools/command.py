@@ -53,9 +53,10 @@ def own_program() -> str | None:
 
 def runs(path: str) -> bool:
     """Returns whether a program runs here."""
-    import subprocess
-    return subprocess.run([path, "--version"], stdin=subprocess.DEVNULL, stdout=subprocess.DEVNULL,
-                          stderr=subprocess.DEVNULL, check=False).returncode == 0
+    # subprocess takes longer to import than a small question
+    actions = [(os.POSIX_SPAWN_OPEN, number, os.devnull, os.O_RDWR, 0) for number in range(3)]
+    process = os.posix_spawn(path, [path, "--version"], os.environ, file_actions=actions)
+    return os.waitstatus_to_exitcode(os.waitpid(process, 0)[1]) == 0
 
 
 def is_program(path: str) -> bool:
