@@ -77,8 +77,8 @@ def fertility():
     for number in range(1, 254_655):
         genders = [draw.choice(("male", "female")) for _ in range(2)]
         others = [draw.choice(YES) for _ in range(3)]
-        yield number, draw.choice(YES), *genders, draw.randrange(21,
-                                                                 36), *others, draw.randrange(53)
+        yield (number, draw.choice(YES), *genders, draw.randrange(21, 36), *others,
+               draw.randrange(53))
 
 
 def million():

@@ -54,8 +54,8 @@ class Tally:
         it counted."""
         passed, failed, skipped = part.counts
         failed = max(failed, int(part.status != 0))
-        self.passed, self.failed, self.skipped = self.passed + passed, self.failed \
-            + failed, self.skipped + skipped
+        self.passed, self.failed = self.passed + passed, self.failed + failed
+        self.skipped += skipped
         self.names += [name] * bool(failed)
         left = f", {skipped} skipped" if skipped else ""
         print(f"== {name}: {passed} passed, {failed} failed{left}, {part.took:.0f} s, "

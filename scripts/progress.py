@@ -25,8 +25,8 @@ def processes():
                 fields = file.read().rpartition(")")[2].split()
         except OSError:
             continue
-        found[int(name)] = int(fields[1]), (int(fields[11])
-                                            + int(fields[12])) / TICKS, int(fields[19])
+        worked = (int(fields[11]) + int(fields[12])) / TICKS
+        found[int(name)] = int(fields[1]), worked, int(fields[19])
     return found
 
 
