@@ -1,20 +1,10 @@
-//! Comparisons, in the form in which certificates state them.
-use crate::facts::Facts;
-use crate::order::VariableOrder;
+//! Comparisons of operands, as codes are compared.
 use crate::refusal::Refusal;
+use crate::sets::Set;
 use bw_diagram::ChainKind;
-use bw_model::{Op, Operand, Truth};
+use bw_model::{Op, Operand, Schema, Truth};
 use bw_program::ColumnIndex;
-
-/// A comparison of a column's code with a number: the code is less than (equal to) `limit`, or
-/// isn't if `negated`.
-#[derive(Clone, Copy)]
-pub(crate) struct LiteralComparison {
-    pub(crate) column: ColumnIndex,
-    pub(crate) kind: ChainKind,
-    pub(crate) limit: i128,
-    pub(crate) negated: bool,
-}
+use std::alloc::Global;
 
 /// A comparison of the codes of two columns: the left one is less than (equal to) the right one, or
 /// isn't if `negated`.
@@ -28,90 +18,98 @@ pub(crate) struct ColumnComparison {
     pub(crate) columns: [ColumnIndex; 2],
 }
 
-impl LiteralComparison {
-    /// Returns the terminal that says whether a number of this many bits is less than (equal to)
-    /// the limit, if none or every such number is.
-    pub(crate) fn terminal(self, width: u32) -> Option<u32> {
-        let past = self.limit >= 1 << width.min(63);
-        match self.kind {
-            ChainKind::Less if self.limit <= 0 => Some(0),
-            ChainKind::Less if past => Some(1),
-            ChainKind::Equal if self.limit < 0 || past => Some(0),
-            _ => None,
+impl ColumnComparison {
+    /// Returns the comparison, or its opposite if it is negated.
+    pub(crate) fn opposite_if(self, negated: bool) -> Self {
+        ColumnComparison {
+            negated: self.negated != negated,
+            ..self
         }
     }
-}
 
-impl ColumnComparison {
-    /// Returns the terminal that says how a column's code compares to itself.
-    pub(crate) fn terminal(self) -> Option<u32> {
-        (self.left == self.right).then_some(u32::from(self.kind == ChainKind::Equal))
-    }
-
-    /// Returns the order in which the comparison's nodes test variables.
-    pub(crate) fn order(self) -> VariableOrder {
-        VariableOrder::Places(self.right)
+    /// Returns how a column's code compares to itself, if both columns are one.
+    pub(crate) fn fixed(self) -> Option<bool> {
+        (self.left == self.right).then_some(self.kind == ChainKind::Equal)
     }
 }
 
 /// A comparison of operands.
-#[derive(Clone, Copy)]
+#[derive(Drop)]
 pub(crate) enum Comparison {
     /// The same truth on every row.
     Fixed(Truth),
-    Literal(LiteralComparison),
+    /// Whether a column's code is in a set.
+    Codes(Set),
     Columns(ColumnComparison),
 }
 
-/// Returns what a comparison of operands means for codes. Refuses columns that the schema lacks, and
-/// two columns of unequal minimums.
-pub(crate) fn compare(facts: &mut Facts<'_>, op: Op, x: Operand, y: Operand) -> Comparison {
+/// Returns what a comparison of operands means for codes. Refuses columns that the schema lacks,
+/// and two columns of unequal minimums.
+pub(crate) fn compare(
+    alloc: Global,
+    schema: &Schema,
+    op: Op,
+    x: Operand,
+    y: Operand,
+) -> Result<Comparison, Refusal> {
     match (x, y) {
-        (Operand::Col(column), Operand::Lit(n)) => with_literal(facts, op, column, n),
+        (Operand::Col(column), Operand::Lit(n)) => with_literal(alloc, schema, op, column, n),
         (Operand::Lit(n), Operand::Col(column)) => {
-            with_literal(facts, op.swap_operands(), column, n)
+            with_literal(alloc, schema, op.swap_operands(), column, n)
         }
-        (Operand::Col(left), Operand::Col(right)) => with_column(facts, op, left, right),
-        (Operand::Lit(m), Operand::Lit(n)) => Comparison::Fixed(Truth::of(op.holds(m, n))),
-        _ => Comparison::Fixed(Truth::Unknown),
+        (Operand::Col(left), Operand::Col(right)) => with_column(schema, op, left, right),
+        (Operand::Lit(m), Operand::Lit(n)) => Ok(Comparison::Fixed(Truth::of(op.holds(m, n)))),
+        _ => Ok(Comparison::Fixed(Truth::Unknown)),
     }
 }
 
-/// Returns the kind of the chains of a comparison.
-fn kind_of(op: Op) -> ChainKind {
-    match op {
-        Op::Eq | Op::Ne => ChainKind::Equal,
-        _ => ChainKind::Less,
-    }
+/// Returns a column's number as instructions have it, and its minimum.
+pub(crate) fn column_of(schema: &Schema, column: usize) -> Result<(ColumnIndex, i64), Refusal> {
+    let found = schema.columns.get(column).ok_or(Refusal::NoProgram)?;
+    let index = u8::try_from(column).map_err(|_| Refusal::NoProgram)?;
+    Ok((index, found.lo))
 }
 
 /// Returns the comparison of a column with a literal.
-fn with_literal(facts: &mut Facts<'_>, op: Op, column: usize, n: i64) -> Comparison {
-    let (column, lo) = facts.column(column);
-    let is_past = matches!(op, Op::Le | Op::Gt);
-    Comparison::Literal(LiteralComparison {
-        column,
-        kind: kind_of(op),
-        limit: (i128::from(n) - i128::from(lo)).saturating_add(i128::from(is_past)),
-        negated: matches!(op, Op::Ge | Op::Gt | Op::Ne),
-    })
+fn with_literal(
+    alloc: Global,
+    schema: &Schema,
+    op: Op,
+    column: usize,
+    n: i64,
+) -> Result<Comparison, Refusal> {
+    let (index, lo) = column_of(schema, column)?;
+    let code = i128::from(n) - i128::from(lo);
+    let limits = match op {
+        Op::Eq | Op::Ne => [code, code + 1],
+        Op::Lt | Op::Ge => [0, code],
+        Op::Le | Op::Gt => [0, code + 1],
+    };
+    let inverted = matches!(op, Op::Ge | Op::Gt | Op::Ne);
+    let width = schema.width(column);
+    Ok(Comparison::Codes(Set::between(alloc, index, width, limits, inverted)?))
 }
 
 /// Returns the comparison of two columns of the same minimum.
-fn with_column(facts: &mut Facts<'_>, op: Op, c: usize, d: usize) -> Comparison {
-    let ((c, lo), (d, other)) = (facts.column(c), facts.column(d));
+fn with_column(schema: &Schema, op: Op, c: usize, d: usize) -> Result<Comparison, Refusal> {
+    let (c, lo) = column_of(schema, c)?;
+    let (d, other) = column_of(schema, d)?;
     if lo != other {
-        facts.refuse(Refusal::NoProgram);
+        return Err(Refusal::NoProgram);
     }
     let (left, right) = match op {
         Op::Gt | Op::Le => (d, c),
         _ => (c, d),
     };
-    Comparison::Columns(ColumnComparison {
-        kind: kind_of(op),
+    let kind = match op {
+        Op::Eq | Op::Ne => ChainKind::Equal,
+        _ => ChainKind::Less,
+    };
+    Ok(Comparison::Columns(ColumnComparison {
+        kind,
         left,
         right,
         negated: matches!(op, Op::Ge | Op::Le | Op::Ne),
         columns: [c, d],
-    })
+    }))
 }

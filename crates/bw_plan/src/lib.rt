@@ -23,26 +23,20 @@
 //! Read `planner.rt` first, then `facts.rt` and `steps.rt`, and then `truths.rt`.
 #![tactic(auto)]
 
-mod chains;
 mod code;
 mod comparison;
+mod compile;
 mod digits;
-mod emit;
-mod facts;
-mod growth;
-mod ledger;
-mod line;
-mod order;
+mod limits;
 mod parts;
+mod plan;
 mod planner;
-mod products;
 mod refusal;
+mod registers;
 mod relations;
 mod select;
-mod sequence;
 mod sets;
 mod skips;
-mod steps;
 mod truth_pair;
 mod truths;
 

@@ -6,15 +6,15 @@ ghost use Rattle.bw_cert_text.specs.CertificateFields.{certificate_fields};
 ghost use Rattle.bw_cert_text.specs.Columns.{has_columns};
 ghost use Rattle.bw_plan.specs.Refusal.{IsRefusal};
 
-use crate::code::Code;
-use crate::emit;
-use crate::parts::{Part, part_of};
+use crate::compile::{Compiled, compile};
+use crate::limits::MAX_SQUARES;
+use crate::parts::{Part, Reader};
+use crate::plan::Plan;
 use crate::refusal::Refusal;
-use crate::truth_pair::TruthPair;
 use bw_cert_text::Certificate;
-use bw_diagram::Connective;
-use bw_model::{Cond, Fault, Schema};
-use bw_program::{Program, Register};
+use bw_model::{Cond, Fault, Schema, code};
+use bw_program::{Program, program_text};
+use bw_prover::{Hints, Unproved, prove};
 use std::alloc::Global;
 
 /// A program for a condition, and a certificate that is to prove that it selects the right rows.
@@ -58,44 +58,119 @@ pub fn propose_in_order<'a>(
         IsTrue (has_columns schema.now.columns.items (certificate_fields proposal.certificate))) }
     ensures fault { IfErr result IsRefusal }
 {
-    let mut code = Code::begin(alloc, schema, cond, true)?;
-    let part = part_of(&mut code.facts, order, false)?;
-    code.facts.check_refusal()?;
-    let mut made = program_of(schema, &part, &mut code);
-    if matches!(made, Err(Refusal::NoProgram)) {
-        drop(code);
-        code = Code::begin(alloc, schema, cond, false)?;
-        made = program_of(schema, &part, &mut code);
-    }
-    let (program, row) = made?;
-    let certificate = emit::certificate(schema, &code, row)?;
-    Ok(Proposal {
-        program,
-        certificate,
-    })
+    let part = Reader { alloc, schema }.part_of(order, false)?;
+    Ok(proposal_of(alloc, schema, cond, &part)?)
 }
 
-/// Returns the program of a condition, and the number of the row that proves that its result has
-/// the condition's node.
-fn program_of(schema: &Schema, part: &Part, code: &mut Code<'_>) -> Result<(Program, u64), Refusal>
-    ensures { IfOk result (λ made. IsTrue (fits schema.now.columns.items made.0)) }
+/// Why there is no proposal by a plan.
+#[derive(Clone, Copy)]
+enum Failure {
+    /// There is none by another plan either.
+    Final(Refusal),
+    /// The program has too many instructions, or takes too many registers.
+    Long,
+    /// A value isn't known for a skip, maybe this one.
+    Skip(Option<usize>),
+}
+
+impl From<Refusal> for Failure {
+    fn from(refusal: Refusal) -> Self {
+        Failure::Final(refusal)
+    }
+}
+
+/// Returns a program of a condition with all skips, or else with fewer ones: without the one that
+/// can't be proved, without those between parts, and with none.
+fn proposal_of<'a>(
+    alloc: Global,
+    schema: &'a Schema,
+    cond: &Cond,
+    part: &Part,
+) -> Result<Proposal<'a>, Refusal>
+    ensures program { IfOk result (λ proposal.
+        IsTrue (fits schema.now.columns.items proposal.program)) }
+    ensures certificate { IfOk result (λ proposal.
+        IsTrue (has_columns schema.now.columns.items (certificate_fields proposal.certificate))) }
 {
-    code.keeps_planes = part.repeats_column(&mut 0);
-    let answer = code.truths(part, TruthPair::of(true, false)).yes;
-    let answer = code.facts.expect(answer, 0);
-    code.meet();
-    if code.skip_count == 0 {
-        // A skip at the end lets counts show empty segments.
-        let first = code.open_skips();
-        code.skip(answer);
-        code.meet_from(first);
-        code.meet();
+    let each = MAX_SQUARES / part.relations().max(1);
+    let mut plan = Plan {
+        skips: true,
+        between_parts: true,
+        without: None,
+        top_bits: each.isqrt().min(63) as u32,
+    };
+    for _ in 0..4 {
+        match proposal_by(alloc, schema, cond, part, plan) {
+            Ok(proposal) => return Ok(proposal),
+            Err(Failure::Final(refusal)) => return Err(refusal),
+            Err(Failure::Skip(Some(skip))) if plan.between_parts && plan.without.is_none() => {
+                plan.without = Some(skip);
+            }
+            Err(Failure::Skip(_)) if plan.between_parts => {
+                plan.between_parts = false;
+                plan.without = None;
+            }
+            Err(_) if plan.skips => {
+                plan.skips = false;
+                plan.between_parts = false;
+                plan.top_bits = 0;
+            }
+            Err(_) => return Err(Refusal::NoProgram),
+        }
     }
-    let made = code.node(answer);
-    let row = code.row(Connective::Xor, made, code.condition);
-    code.facts.check_refusal()?;
-    if row.node != 0 {
-        return Err(Refusal::NoProgram);
+    Err(Refusal::NoProgram)
+}
+
+/// Returns a program of a condition by one plan.
+fn proposal_by<'a>(
+    alloc: Global,
+    schema: &'a Schema,
+    cond: &Cond,
+    part: &Part,
+    plan: Plan,
+) -> Result<Proposal<'a>, Failure>
+    ensures program { IfOk result (λ proposal.
+        IsTrue (fits schema.now.columns.items proposal.program)) }
+    ensures certificate { IfOk result (λ proposal.
+        IsTrue (has_columns schema.now.columns.items (certificate_fields proposal.certificate))) }
+{
+    let compiled = match compile(alloc, schema, part, plan) {
+        Ok(compiled) => compiled,
+        Err(Refusal::NoProgram) => return Err(Failure::Long),
+        Err(refusal) => return Err(Failure::Final(refusal)),
+    };
+    let program = program_of(alloc, schema, &compiled)?;
+    let hints = Hints {
+        rows: u32::MAX,
+        orders: &compiled.orders,
+    };
+    match prove(alloc, schema, cond, &program, &hints) {
+        Ok(certificate) => Ok(Proposal {
+            program,
+            certificate,
+        }),
+        Err(unproved) => Err(failure_of(unproved)),
     }
-    Ok((emit::program(schema, code, answer)?, row.reference()))
+}
+
+/// Returns what follows if a program has no certificate.
+fn failure_of(unproved: Unproved) -> Failure {
+    match unproved {
+        Unproved::Memory => Failure::Final(Refusal::NoMemory),
+        Unproved::Limit | Unproved::NoRule => Failure::Final(Refusal::NoProgram),
+        Unproved::Unknown { skip, .. } => Failure::Skip(Some(skip)),
+        _ => Failure::Skip(None),
+    }
+}
+
+/// Returns the program of the instructions, by its text.
+fn program_of(alloc: Global, schema: &Schema, compiled: &Compiled) -> Result<Program, Refusal>
+    ensures { IfOk result (λ program. IsTrue (fits schema.now.columns.items program)) }
+{
+    let text = program_text(alloc, schema, &compiled.instrs, compiled.answer)?;
+    match Program::parse(alloc, schema, &text) {
+        Ok(program) => Ok(program),
+        Err(fault) if fault.code == code::OUT_OF_MEMORY => Err(Refusal::NoMemory),
+        Err(_) => Err(Refusal::NoProgram),
+    }
 }

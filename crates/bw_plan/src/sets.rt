@@ -1,13 +1,10 @@
 //! Sets of a column's codes.
-use crate::comparison::LiteralComparison;
-use crate::facts::Facts;
+use crate::code::width_of;
+use crate::limits::LONG_SET;
 use crate::refusal::Refusal;
-use bw_diagram::ChainKind;
+use bw_model::Schema;
 use bw_program::{ColumnIndex, SliceIndex};
 use std::alloc::Global;
-
-/// A set that takes more instructions is long.
-const FEW_INSTRUCTIONS: usize = 1200;
 
 /// A set of a column's codes: those with an odd number of bounds above them or, if it is inverted,
 /// with an even number. The bounds are sorted and different, and above 0.
@@ -19,30 +16,41 @@ pub(crate) struct Set {
 }
 
 impl Set {
-    /// Returns the codes of which a comparison with a literal is true, or the others if it is
-    /// negated.
-    pub(crate) fn of(
-        facts: &Facts<'_>,
-        compared: LiteralComparison,
-        negated: bool,
+    /// Returns the codes of a column of so many bits that are at least the first limit and below the
+    /// second, or the others if `inverted`.
+    pub(crate) fn between(
+        alloc: Global,
+        column: ColumnIndex,
+        width: u32,
+        limits: [i128; 2],
+        inverted: bool,
     ) -> Result<Self, Refusal> {
-        let limits = match compared.kind {
-            ChainKind::Less => [0, compared.limit],
-            ChainKind::Equal => [compared.limit, compared.limit.saturating_add(1)],
-        };
         let mut set = Set {
-            column: compared.column,
-            bounds: Vec::new(facts.alloc),
-            inverted: compared.negated != negated,
+            column,
+            bounds: Vec::new(alloc),
+            inverted,
         };
         for limit in limits {
-            if limit >= 1 << facts.width(set.column).min(63) {
-                set.inverted = !set.inverted;
-            } else if limit > 0 {
-                set.bounds.push(limit as u64)?;
+            match u64::try_from(limit) {
+                Ok(bound) if bound >> width.min(63) == 0 => {
+                    if bound > 0 {
+                        set.bounds.push(bound)?;
+                    }
+                }
+                Ok(_) => set.inverted = !set.inverted,
+                Err(_) if limit > 0 => set.inverted = !set.inverted,
+                Err(_) => {}
             }
         }
         Ok(set)
+    }
+
+    /// Returns the set, or its complement if it is negated.
+    pub(crate) fn opposite_if(self, negated: bool) -> Self {
+        Set {
+            inverted: self.inverted != negated,
+            ..self
+        }
     }
 
     /// Returns whether it is one code, or all but one.
@@ -51,9 +59,8 @@ impl Set {
     }
 
     /// Returns whether it takes many instructions to test for its codes.
-    pub(crate) fn is_long(&self, facts: &Facts<'_>) -> bool {
-        let top = facts.width(self.column).saturating_sub(1) / 8;
-        most_instructions(&self.bounds, top.min(7) as u8, None) > FEW_INSTRUCTIONS
+    pub(crate) fn is_long(&self, top: SliceIndex) -> bool {
+        most_instructions(&self.bounds, top, None) > LONG_SET
     }
 
     /// Returns the codes of a column that one of some sets contains or, if not `any`, that all of
@@ -96,6 +103,11 @@ impl Set {
             inverted: (depth > 0) == any,
         })
     }
+}
+
+/// Returns the slice of the most significant byte of a column's codes.
+pub(crate) fn top_slice(schema: &Schema, column: ColumnIndex) -> SliceIndex {
+    (width_of(schema, column).saturating_sub(1) / 8).min(7) as u8
 }
 
 /// Returns a byte of a number.

@@ -1,0 +1,38 @@
+//! All numbers by which the planner is tuned.
+
+/// The most instructions of a program.
+pub(crate) const MAX_INSTRUCTIONS: usize = 4096;
+
+/// The most byte comparisons of a program without skips. One takes some 40 ns per segment, another
+/// instruction 3, and the row-by-row fallback some 50 microseconds: with more comparisons it is
+/// faster. With skips an instruction takes 10 ns, so every program that fits is faster than the
+/// fallback.
+pub(crate) const MAX_LOOKS: usize = 1000;
+
+/// The most items of a list: planning a longer one takes longer than looking it up row by row in a
+/// table that isn't very large.
+pub(crate) const MAX_LIST: usize = 400;
+
+/// A set of codes that takes more instructions isn't combined with others: it takes more product
+/// rows than the sets one after another.
+pub(crate) const LONG_SET: usize = 1200;
+
+/// The number of first parts of a condition that may have a skip to its end.
+pub(crate) const SKIPPED_PARTS: usize = 16;
+
+/// All comparisons of two columns from the top down take at most six times as many nodes. One takes
+/// six times the square of the number of its bits.
+pub(crate) const MAX_SQUARES: usize = 1000;
+
+/// The least number of values for which two digits of a byte, which take 64 instructions, save
+/// time: a byte comparison takes ten times as long as an AND.
+pub(crate) const MANY_NUMBERS: usize = 48;
+
+/// The same for the digit of a byte of four bits.
+pub(crate) const SOME_NUMBERS: usize = 10;
+
+/// The least number of free registers for which two digits are kept.
+pub(crate) const ROOM_FOR_TWO: usize = 48;
+
+/// The least number of free registers for which a third digit is kept.
+pub(crate) const ROOM_FOR_THREE: usize = 60;
