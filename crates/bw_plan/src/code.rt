@@ -1,4 +1,5 @@
 //! Instructions, and what their registers hold.
+use crate::columns::width_of;
 use crate::limits::{MAX_INSTRUCTIONS, MAX_LOOKS};
 use crate::plan::Plan;
 use crate::refusal::Refusal;
@@ -55,12 +56,6 @@ impl<'a> Code<'a> {
     /// Returns how many bits a column's codes have.
     pub(crate) fn width(&self, column: ColumnIndex) -> u32 {
         width_of(self.schema, column)
-    }
-
-    /// Returns whether a column may be null.
-    pub(crate) fn is_nullable(&self, column: ColumnIndex) -> bool {
-        let column = self.schema.columns.get(usize::from(column));
-        column.is_some_and(|column| column.nullable)
     }
 
     /// Returns how many more instructions fit.
@@ -189,15 +184,5 @@ impl<'a> Code<'a> {
     pub(crate) fn copy(&mut self, register: Register) -> Made {
         let copy = self.fill(false)?;
         self.join(Connective::Or, copy, copy, register)
-    }
-}
-
-/// Returns how many bits a column's codes have, if the schema has the column.
-pub(crate) fn width_of(schema: &Schema, column: ColumnIndex) -> u32 {
-    let column = usize::from(column);
-    if column < schema.columns.len() {
-        schema.width(column)
-    } else {
-        0
     }
 }

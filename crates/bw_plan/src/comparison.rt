@@ -1,4 +1,5 @@
 //! Comparisons of operands, as codes are compared.
+use crate::columns::width_of;
 use crate::refusal::Refusal;
 use crate::sets::Set;
 use bw_diagram::ChainKind;
@@ -86,8 +87,10 @@ fn with_literal(
         Op::Le | Op::Gt => [0, code + 1],
     };
     let inverted = matches!(op, Op::Ge | Op::Gt | Op::Ne);
-    let width = schema.width(column);
-    Ok(Comparison::Codes(Set::between(alloc, index, width, limits, inverted)?))
+    let width = width_of(schema, index);
+    Ok(Comparison::Codes(Set::between(
+        alloc, index, width, limits, inverted,
+    )?))
 }
 
 /// Returns the comparison of two columns of the same minimum.

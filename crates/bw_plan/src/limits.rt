@@ -36,3 +36,20 @@ pub(crate) const ROOM_FOR_TWO: usize = 48;
 
 /// The least number of free registers for which a third digit is kept.
 pub(crate) const ROOM_FOR_THREE: usize = 60;
+
+/// The most product rows of a condition's own lines. With more, planning and checking take longer
+/// than the row-by-row fallback takes for a small table.
+pub(crate) const MAX_CONDITION_ROWS: u32 = 60_000;
+
+/// The same if its columns have more than `MANY_BITS` bits.
+pub(crate) const MAX_CONDITION_ROWS_OF_MANY: u32 = 24_000;
+
+/// The bits of seven columns of 63 bits.
+pub(crate) const MANY_BITS: u32 = 441;
+
+/// The most product rows of a certificate.
+pub(crate) const MAX_ROWS: u32 = 100_000;
+
+/// A condition whose own lines take as many product rows has no skips from part to part: to prove
+/// them takes several times as many.
+pub(crate) const MAX_ROWS_TO_SKIP_PARTS: u32 = 10_000;

@@ -1,5 +1,6 @@
 //! The parts of a condition as instructions compute them: all comparisons of one column with
 //! literals that an AND or OR combines are one set of codes.
+use crate::columns::{is_nullable, width_of};
 use crate::comparison::{ColumnComparison, Comparison, column_of, compare};
 use crate::limits::MAX_LIST;
 use crate::refusal::Refusal;
@@ -112,7 +113,7 @@ impl Reader<'_> {
     fn null_test(self, x: Operand, negated: bool) -> PartResult {
         if let Operand::Col(column) = x {
             let index = column_of(self.schema, column)?.0;
-            if self.schema.var_null(column).is_some() {
+            if is_nullable(self.schema, index) {
                 return Ok(Part::Null(index, negated));
             }
         }
@@ -171,6 +172,11 @@ fn is_same_comparison(before: Option<&Cond>, cond: &Cond) -> bool {
         if op == other && x == z && y == w)
 }
 
+/// Returns the bit of a column.
+fn bit_of(column: ColumnIndex) -> u64 {
+    1 << (column % 64)
+}
+
 /// More registers than a comparison takes.
 const COMPARISON: u32 = 12;
 
@@ -192,6 +198,37 @@ impl Part {
             }
             Part::Test(part, ..) => part.relations(),
             _ => 0,
+        }
+    }
+
+    /// Returns how many bits the codes of its columns have.
+    pub(crate) fn bits(&self, schema: &Schema) -> u32 {
+        let columns = self.columns();
+        let mut bits = 0u32;
+        for column in 0..64u8 {
+            if columns >> column & 1 == 1 {
+                bits = bits.saturating_add(width_of(schema, column));
+            }
+        }
+        bits
+    }
+
+    /// Returns its columns, one in each bit.
+    #[cycle(columns)]
+    fn columns(&self) -> u64 {
+        match self {
+            Part::Codes(set) => bit_of(set.column),
+            Part::Null(column, _) => bit_of(*column),
+            Part::Columns(compared) => bit_of(compared.left) | bit_of(compared.right),
+            Part::All(_, parts) => {
+                let mut columns = 0;
+                for part in parts {
+                    columns |= part.columns();
+                }
+                columns
+            }
+            Part::Test(part, ..) => part.columns(),
+            Part::Fixed(_) | Part::Done => 0,
         }
     }
 

@@ -1,6 +1,9 @@
-//! How a condition is to be compiled.
+//! With which skips a condition is compiled.
+use crate::limits::MAX_SQUARES;
+use crate::parts::Part;
+use crate::refusal::Refusal;
 
-/// How a condition is to be compiled: with which skips.
+/// With which skips a condition is compiled.
 #[derive(Clone, Copy)]
 pub(crate) struct Plan {
     /// Whether there are skips.
@@ -11,4 +14,44 @@ pub(crate) struct Plan {
     pub(crate) without: Option<usize>,
     /// How many top bits of two columns are compared from the top down, with skips.
     pub(crate) top_bits: u32,
+}
+
+impl Plan {
+    /// Returns all skips, or all but those between parts.
+    pub(crate) fn new(part: &Part, between_parts: bool) -> Self {
+        let each = MAX_SQUARES / part.relations().max(1);
+        Plan {
+            skips: true,
+            between_parts,
+            without: None,
+            top_bits: each.isqrt().min(63) as u32,
+        }
+    }
+
+    /// Returns the plan to try after a value isn't known for a skip, maybe this one: without it, or
+    /// else without any between parts.
+    pub(crate) fn after_failure(self, skip: Option<usize>) -> Result<Self, Refusal> {
+        if !self.between_parts {
+            return self.without_skips();
+        }
+        let can_omit = skip.is_some() && self.without.is_none();
+        Ok(Plan {
+            between_parts: can_omit,
+            without: if can_omit { skip } else { None },
+            ..self
+        })
+    }
+
+    /// Returns the plan without skips. Refuses if this is it.
+    pub(crate) fn without_skips(self) -> Result<Self, Refusal> {
+        if !self.skips {
+            return Err(Refusal::NoProgram);
+        }
+        Ok(Plan {
+            skips: false,
+            between_parts: false,
+            without: None,
+            top_bits: 0,
+        })
+    }
 }

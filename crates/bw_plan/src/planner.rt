@@ -7,14 +7,14 @@ ghost use Rattle.bw_cert_text.specs.Columns.{has_columns};
 ghost use Rattle.bw_plan.specs.Refusal.{IsRefusal};
 
 use crate::compile::{Compiled, compile};
-use crate::limits::MAX_SQUARES;
+use crate::limits::{MANY_BITS, MAX_CONDITION_ROWS_OF_MANY, MAX_CONDITION_ROWS, MAX_ROWS, MAX_ROWS_TO_SKIP_PARTS};
 use crate::parts::{Part, Reader};
 use crate::plan::Plan;
 use crate::refusal::Refusal;
 use bw_cert_text::Certificate;
 use bw_model::{Cond, Fault, Schema, code};
 use bw_program::{Program, program_text};
-use bw_prover::{Hints, Unproved, prove};
+use bw_prover::{Hints, Prover, Unproved};
 use std::alloc::Global;
 
 /// A program for a condition, and a certificate that is to prove that it selects the right rows.
@@ -92,31 +92,27 @@ fn proposal_of<'a>(
     ensures certificate { IfOk result (λ proposal.
         IsTrue (has_columns schema.now.columns.items (certificate_fields proposal.certificate))) }
 {
-    let each = MAX_SQUARES / part.relations().max(1);
-    let mut plan = Plan {
-        skips: true,
-        between_parts: true,
-        without: None,
-        top_bits: each.isqrt().min(63) as u32,
+    let rows = if part.bits(schema) > MANY_BITS {
+        MAX_CONDITION_ROWS_OF_MANY
+    } else {
+        MAX_CONDITION_ROWS
     };
+    let mut prover = match Prover::new(alloc, schema, cond, rows) {
+        Ok(prover) => prover,
+        Err(Unproved::Memory) => return Err(Refusal::NoMemory),
+        Err(_) => return Err(Refusal::NoProgram),
+    };
+    let mut plan = Plan::new(part, prover.rows() < MAX_ROWS_TO_SKIP_PARTS);
     for _ in 0..4 {
-        match proposal_by(alloc, schema, cond, part, plan) {
+        let failure = match proposal_by(alloc, schema, &mut prover, part, plan) {
             Ok(proposal) => return Ok(proposal),
-            Err(Failure::Final(refusal)) => return Err(refusal),
-            Err(Failure::Skip(Some(skip))) if plan.between_parts && plan.without.is_none() => {
-                plan.without = Some(skip);
-            }
-            Err(Failure::Skip(_)) if plan.between_parts => {
-                plan.between_parts = false;
-                plan.without = None;
-            }
-            Err(_) if plan.skips => {
-                plan.skips = false;
-                plan.between_parts = false;
-                plan.top_bits = 0;
-            }
-            Err(_) => return Err(Refusal::NoProgram),
-        }
+            Err(failure) => failure,
+        };
+        plan = match failure {
+            Failure::Final(refusal) => return Err(refusal),
+            Failure::Skip(skip) => plan.after_failure(skip)?,
+            Failure::Long => plan.without_skips()?,
+        };
     }
     Err(Refusal::NoProgram)
 }
@@ -125,7 +121,7 @@ fn proposal_of<'a>(
 fn proposal_by<'a>(
     alloc: Global,
     schema: &'a Schema,
-    cond: &Cond,
+    prover: &mut Prover<'a>,
     part: &Part,
     plan: Plan,
 ) -> Result<Proposal<'a>, Failure>
@@ -141,10 +137,10 @@ fn proposal_by<'a>(
     };
     let program = program_of(alloc, schema, &compiled)?;
     let hints = Hints {
-        rows: u32::MAX,
+        rows: MAX_ROWS,
         orders: &compiled.orders,
     };
-    match prove(alloc, schema, cond, &program, &hints) {
+    match prover.certify(alloc, schema, &program, &hints) {
         Ok(certificate) => Ok(Proposal {
             program,
             certificate,

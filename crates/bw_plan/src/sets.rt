@@ -1,5 +1,5 @@
 //! Sets of a column's codes.
-use crate::code::width_of;
+use crate::columns::width_of;
 use crate::limits::LONG_SET;
 use crate::refusal::Refusal;
 use bw_model::Schema;

@@ -1,5 +1,6 @@
 //! Instructions that compute where a condition is TRUE, and where it is FALSE.
 use crate::code::{Code, Connective};
+use crate::columns::is_nullable;
 use crate::comparison::ColumnComparison;
 use crate::limits::SKIPPED_PARTS;
 use crate::parts::{Part, first_part};
@@ -195,7 +196,7 @@ impl Code<'_> {
         if wanted.no {
             let outside = if wanted.yes { self.copy(held)? } else { held };
             for column in columns {
-                if self.is_nullable(*column) {
+                if is_nullable(self.schema, *column) {
                     let nulls = self.nulls(*column)?;
                     self.join_into(Connective::Or, outside, nulls)?;
                 }
@@ -204,7 +205,7 @@ impl Code<'_> {
         }
         if wanted.yes {
             for column in columns {
-                if self.is_nullable(*column) {
+                if is_nullable(self.schema, *column) {
                     if early && !wanted.no {
                         self.skip(held)?;
                     }

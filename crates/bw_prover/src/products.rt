@@ -115,6 +115,11 @@ impl Products {
         }
     }
 
+    /// Changes the limit of their number.
+    pub(crate) fn allow(&mut self, limit: u32) {
+        self.rows.allow(limit.min(MAX_PRODUCTS));
+    }
+
     /// Returns how many there are.
     pub(crate) fn len(&self) -> u32 {
         self.rows.len()
