@@ -66,7 +66,7 @@ impl<'a> Code<'a> {
     /// Appends an instruction.
     pub(crate) fn put(&mut self, instr: Instr) -> Result<(), Refusal> {
         if self.room() == 0 || !self.plan.skips && self.looks > MAX_LOOKS {
-            return Err(Refusal::NoProgram);
+            return Err(Refusal::TooLong);
         }
         if matches!(instr, Instr::ByteLt(..) | Instr::ByteEq(..)) {
             self.looks = self.looks.saturating_add(1);
@@ -159,12 +159,6 @@ impl<'a> Code<'a> {
             Connective::Xor => Instr::Xor(to, left, right),
         };
         self.set(to, None, instr)
-    }
-
-    /// Returns a new register with a connective of two.
-    pub(crate) fn connect(&mut self, op: Connective, left: Register, right: Register) -> Made {
-        let register = self.claim()?;
-        self.join(op, register, left, right)
     }
 
     /// Sets a register to a connective of itself and another, which is released.

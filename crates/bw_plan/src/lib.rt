@@ -11,10 +11,9 @@
 //! proved, the condition is compiled again with fewer of them (`plan.rt`).
 //!
 //! A program compares codes byte by byte from the top, as in ByteSlice (Feng, Lo, Kao and Xu), and
-//! skips stop a comparison early, as in BitWeaving (Li and Patel). For a long list of numbers the
-//! digits of a byte are kept in registers. Columns are compared with one another bit by bit: the
-//! top bits from the top down, with skips, and the others, of many or wide columns, from the lowest
-//! one up, which takes fewer nodes.
+//! skips stop a comparison early, as in BitWeaving (Li and Patel). Columns are compared with one
+//! another bit by bit: the top bits from the top down, with skips, and the others, of many or wide
+//! columns, from the lowest one up, which takes fewer nodes.
 //!
 //! Read `planner.rt` first, then `parts.rt`, `code.rt` and `truths.rt`. `limits.rt` has all numbers
 //! by which it is tuned.
@@ -23,8 +22,6 @@
 mod code;
 mod columns;
 mod comparison;
-mod compile;
-mod digits;
 mod limits;
 mod parts;
 mod plan;

@@ -24,19 +24,6 @@ pub(crate) const SKIPPED_PARTS: usize = 16;
 /// six times the square of the number of its bits.
 pub(crate) const MAX_SQUARES: usize = 1000;
 
-/// The least number of values for which two digits of a byte, which take 64 instructions, save
-/// time: a byte comparison takes ten times as long as an AND.
-pub(crate) const MANY_NUMBERS: usize = 48;
-
-/// The same for the digit of a byte of four bits.
-pub(crate) const SOME_NUMBERS: usize = 10;
-
-/// The least number of free registers for which two digits are kept.
-pub(crate) const ROOM_FOR_TWO: usize = 48;
-
-/// The least number of free registers for which a third digit is kept.
-pub(crate) const ROOM_FOR_THREE: usize = 60;
-
 /// The most product rows of a condition's own lines. With more, planning and checking take longer
 /// than the row-by-row fallback takes for a small table.
 pub(crate) const MAX_CONDITION_ROWS: u32 = 60_000;

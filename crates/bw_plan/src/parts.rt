@@ -1,7 +1,7 @@
 //! The parts of a condition as instructions compute them: all comparisons of one column with
 //! literals that an AND or OR combines are one set of codes.
 use crate::columns::{is_nullable, width_of};
-use crate::comparison::{ColumnComparison, Comparison, column_of, compare};
+use crate::comparison::ColumnComparison;
 use crate::limits::MAX_LIST;
 use crate::refusal::Refusal;
 use crate::sets::{Set, top_slice};
@@ -29,7 +29,7 @@ pub(crate) enum Part {
 }
 
 /// A part, unless it has no program or memory was refused.
-type PartResult = Result<Part, Refusal>;
+pub(crate) type PartResult = Result<Part, Refusal>;
 
 /// Reads conditions under a schema.
 #[derive(Clone, Copy)]
@@ -40,7 +40,7 @@ pub(crate) struct Reader<'a> {
 
 impl Reader<'_> {
     /// Returns a condition as instructions compute it, or its opposite if it is negated. Refuses
-    /// what [`compare`] does, and long lists.
+    /// what [`Reader::comparison`] does, and long lists.
     #[cycle(part)]
     pub(crate) fn part_of(self, cond: &Cond, negated: bool) -> PartResult {
         match cond {
@@ -74,16 +74,6 @@ impl Reader<'_> {
         self.combine(any != negated, parts, true)
     }
 
-    /// Returns a comparison, or its opposite if it is negated.
-    fn comparison(self, op: Op, x: Operand, y: Operand, negated: bool) -> PartResult {
-        Ok(match compare(self.alloc, self.schema, op, x, y)? {
-            Comparison::Fixed(Truth::Unknown) => Part::Fixed(Truth::Unknown),
-            Comparison::Fixed(truth) => Part::Fixed(Truth::of((truth == Truth::Yes) != negated)),
-            Comparison::Codes(set) => Part::Codes(set.opposite_if(negated)),
-            Comparison::Columns(compared) => Part::Columns(compared.opposite_if(negated)),
-        })
-    }
-
     /// Returns `BETWEEN`, or its opposite if it is negated.
     fn range(self, x: Operand, y: Operand, z: Operand, negated: bool) -> PartResult {
         let mut parts = Vec::new(self.alloc);
@@ -112,7 +102,7 @@ impl Reader<'_> {
     /// Returns `IS NULL`, or its opposite if it is negated.
     fn null_test(self, x: Operand, negated: bool) -> PartResult {
         if let Operand::Col(column) = x {
-            let index = column_of(self.schema, column)?.0;
+            let index = self.column(column)?.0;
             if is_nullable(self.schema, index) {
                 return Ok(Part::Null(index, negated));
             }
@@ -177,12 +167,6 @@ fn bit_of(column: ColumnIndex) -> u64 {
     1 << (column % 64)
 }
 
-/// More registers than a comparison takes.
-const COMPARISON: u32 = 12;
-
-/// Parts are processed in their order, unless they take more registers than this.
-const ROOMY: u32 = 24;
-
 impl Part {
     /// Returns how many comparisons of two columns it has.
     #[cycle(relations)]
@@ -230,37 +214,5 @@ impl Part {
             Part::Test(part, ..) => part.columns(),
             Part::Fixed(_) | Part::Done => 0,
         }
-    }
-
-    /// Returns how many registers it takes at most, if each of its parts keeps one.
-    #[cycle(registers)]
-    fn registers(&self) -> u32 {
-        match self {
-            Part::All(_, parts) => first_part(parts).1,
-            Part::Test(part, ..) => part.registers(),
-            Part::Done => 0,
-            _ => COMPARISON,
-        }
-    }
-}
-
-/// Returns the part to begin with, and how many registers all parts take: it is the first one, or,
-/// if the parts take many registers in their order, the one that takes the most.
-#[cycle(registers)]
-pub(crate) fn first_part(parts: &[Part]) -> (usize, u32) {
-    let (mut in_order, mut most, mut second, mut largest) = (0u32, 0u32, 0u32, 0);
-    for (number, part) in parts.iter().enumerate() {
-        let taken = part.registers();
-        in_order = in_order.max(taken.saturating_add(u32::from(number > 0)));
-        second = second.max(taken.min(most));
-        if taken > most {
-            most = taken;
-            largest = number;
-        }
-    }
-    if in_order <= ROOMY {
-        (0, in_order)
-    } else {
-        (largest, most.max(second.saturating_add(1)))
     }
 }

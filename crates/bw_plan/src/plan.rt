@@ -11,7 +11,7 @@ pub(crate) struct Plan {
     /// Whether there are skips from part to part of the condition.
     pub(crate) between_parts: bool,
     /// The number of the instruction at which a skip is left out.
-    pub(crate) without: Option<usize>,
+    pub(crate) omitted: Option<usize>,
     /// How many top bits of two columns are compared from the top down, with skips.
     pub(crate) top_bits: u32,
 }
@@ -23,21 +23,21 @@ impl Plan {
         Plan {
             skips: true,
             between_parts,
-            without: None,
+            omitted: None,
             top_bits: each.isqrt().min(63) as u32,
         }
     }
 
-    /// Returns the plan to try after a value isn't known for a skip, maybe this one: without it, or
-    /// else without any between parts.
-    pub(crate) fn after_failure(self, skip: Option<usize>) -> Result<Self, Refusal> {
+    /// Returns the plan without a skip by which a value isn't known, if that is known, or else
+    /// without any between parts.
+    pub(crate) fn without(self, skip: Option<usize>) -> Result<Self, Refusal> {
         if !self.between_parts {
             return self.without_skips();
         }
-        let can_omit = skip.is_some() && self.without.is_none();
+        let omitted = if self.omitted.is_none() { skip } else { None };
         Ok(Plan {
-            between_parts: can_omit,
-            without: if can_omit { skip } else { None },
+            between_parts: omitted.is_some(),
+            omitted,
             ..self
         })
     }
@@ -50,7 +50,7 @@ impl Plan {
         Ok(Plan {
             skips: false,
             between_parts: false,
-            without: None,
+            omitted: None,
             top_bits: 0,
         })
     }

@@ -6,15 +6,15 @@ ghost use Rattle.bw_cert_text.specs.CertificateFields.{certificate_fields};
 ghost use Rattle.bw_cert_text.specs.Columns.{has_columns};
 ghost use Rattle.bw_plan.specs.Refusal.{IsRefusal};
 
-use crate::compile::{Compiled, compile};
+use crate::code::Code;
 use crate::limits::{MANY_BITS, MAX_CONDITION_ROWS_OF_MANY, MAX_CONDITION_ROWS, MAX_ROWS, MAX_ROWS_TO_SKIP_PARTS};
 use crate::parts::{Part, Reader};
 use crate::plan::Plan;
 use crate::refusal::Refusal;
 use bw_cert_text::Certificate;
 use bw_model::{Cond, Fault, Schema, code};
-use bw_program::{Program, program_text};
-use bw_prover::{Hints, Prover, Unproved};
+use bw_program::{Instr, Program, Register, program_text};
+use bw_prover::{Hints, Prover};
 use std::alloc::Global;
 
 /// A program for a condition, and a certificate that is to prove that it selects the right rows.
@@ -59,62 +59,27 @@ pub fn propose_in_order<'a>(
     ensures fault { IfErr result IsRefusal }
 {
     let part = Reader { alloc, schema }.part_of(order, false)?;
-    Ok(proposal_of(alloc, schema, cond, &part)?)
-}
-
-/// Why there is no proposal by a plan.
-#[derive(Clone, Copy)]
-enum Failure {
-    /// There is none by another plan either.
-    Final(Refusal),
-    /// The program has too many instructions, or takes too many registers.
-    Long,
-    /// A value isn't known for a skip, maybe this one.
-    Skip(Option<usize>),
-}
-
-impl From<Refusal> for Failure {
-    fn from(refusal: Refusal) -> Self {
-        Failure::Final(refusal)
+    let rows = most_rows(schema, &part);
+    let mut prover = Prover::new(alloc, schema, cond, rows).map_err(Refusal::from)?;
+    let mut plan = Plan::new(&part, prover.rows() < MAX_ROWS_TO_SKIP_PARTS);
+    for _ in 0..4 {
+        plan = match proposal_by(alloc, schema, &mut prover, &part, plan) {
+            Ok(proposal) => return Ok(proposal),
+            Err(Refusal::Unknown(skip)) => plan.without(skip)?,
+            Err(Refusal::TooLong) => plan.without_skips()?,
+            Err(refusal) => return Err(refusal.into()),
+        };
     }
+    Err(Refusal::NoProgram.into())
 }
 
-/// Returns a program of a condition with all skips, or else with fewer ones: without the one that
-/// can't be proved, without those between parts, and with none.
-fn proposal_of<'a>(
-    alloc: Global,
-    schema: &'a Schema,
-    cond: &Cond,
-    part: &Part,
-) -> Result<Proposal<'a>, Refusal>
-    ensures program { IfOk result (λ proposal.
-        IsTrue (fits schema.now.columns.items proposal.program)) }
-    ensures certificate { IfOk result (λ proposal.
-        IsTrue (has_columns schema.now.columns.items (certificate_fields proposal.certificate))) }
-{
-    let rows = if part.bits(schema) > MANY_BITS {
+/// Returns the most product rows of a condition's own lines.
+fn most_rows(schema: &Schema, part: &Part) -> u32 {
+    if part.bits(schema) > MANY_BITS {
         MAX_CONDITION_ROWS_OF_MANY
     } else {
         MAX_CONDITION_ROWS
-    };
-    let mut prover = match Prover::new(alloc, schema, cond, rows) {
-        Ok(prover) => prover,
-        Err(Unproved::Memory) => return Err(Refusal::NoMemory),
-        Err(_) => return Err(Refusal::NoProgram),
-    };
-    let mut plan = Plan::new(part, prover.rows() < MAX_ROWS_TO_SKIP_PARTS);
-    for _ in 0..4 {
-        let failure = match proposal_by(alloc, schema, &mut prover, part, plan) {
-            Ok(proposal) => return Ok(proposal),
-            Err(failure) => failure,
-        };
-        plan = match failure {
-            Failure::Final(refusal) => return Err(refusal),
-            Failure::Skip(skip) => plan.after_failure(skip)?,
-            Failure::Long => plan.without_skips()?,
-        };
     }
-    Err(Refusal::NoProgram)
 }
 
 /// Returns a program of a condition by one plan.
@@ -124,46 +89,36 @@ fn proposal_by<'a>(
     prover: &mut Prover<'a>,
     part: &Part,
     plan: Plan,
-) -> Result<Proposal<'a>, Failure>
+) -> Result<Proposal<'a>, Refusal>
     ensures program { IfOk result (λ proposal.
         IsTrue (fits schema.now.columns.items proposal.program)) }
     ensures certificate { IfOk result (λ proposal.
         IsTrue (has_columns schema.now.columns.items (certificate_fields proposal.certificate))) }
 {
-    let compiled = match compile(alloc, schema, part, plan) {
-        Ok(compiled) => compiled,
-        Err(Refusal::NoProgram) => return Err(Failure::Long),
-        Err(refusal) => return Err(Failure::Final(refusal)),
-    };
-    let program = program_of(alloc, schema, &compiled)?;
+    let mut code = Code::new(alloc, schema, plan);
+    let answer = code.whole(part)?;
+    let program = program_of(alloc, schema, &code.instrs, answer)?;
     let hints = Hints {
         rows: MAX_ROWS,
-        orders: &compiled.orders,
+        orders: &code.orders,
     };
-    match prover.certify(alloc, schema, &program, &hints) {
-        Ok(certificate) => Ok(Proposal {
-            program,
-            certificate,
-        }),
-        Err(unproved) => Err(failure_of(unproved)),
-    }
-}
-
-/// Returns what follows if a program has no certificate.
-fn failure_of(unproved: Unproved) -> Failure {
-    match unproved {
-        Unproved::Memory => Failure::Final(Refusal::NoMemory),
-        Unproved::Limit | Unproved::NoRule => Failure::Final(Refusal::NoProgram),
-        Unproved::Unknown { skip, .. } => Failure::Skip(Some(skip)),
-        _ => Failure::Skip(None),
-    }
+    let certificate = prover.certify(alloc, schema, &program, &hints)?;
+    Ok(Proposal {
+        program,
+        certificate,
+    })
 }
 
 /// Returns the program of the instructions, by its text.
-fn program_of(alloc: Global, schema: &Schema, compiled: &Compiled) -> Result<Program, Refusal>
+fn program_of(
+    alloc: Global,
+    schema: &Schema,
+    instrs: &[Instr],
+    answer: Register,
+) -> Result<Program, Refusal>
     ensures { IfOk result (λ program. IsTrue (fits schema.now.columns.items program)) }
 {
-    let text = program_text(alloc, schema, &compiled.instrs, compiled.answer)?;
+    let text = program_text(alloc, schema, instrs, answer)?;
     match Program::parse(alloc, schema, &text) {
         Ok(program) => Ok(program),
         Err(fault) if fault.code == code::OUT_OF_MEMORY => Err(Refusal::NoMemory),

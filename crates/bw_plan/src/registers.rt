@@ -51,16 +51,11 @@ impl Registers {
         }
     }
 
-    /// Returns how many aren't needed.
-    pub(crate) fn free(&self) -> usize {
-        self.states.iter().filter(|state| !state.needed).count()
-    }
-
     /// Returns a register that isn't needed, preferably one that holds nothing.
     pub(crate) fn claim(&self) -> Result<Register, Refusal> {
         let empty = self.find(None);
         let free = empty.or(self.states.iter().position(|state| !state.needed));
-        Ok((free.ok_or(Refusal::NoProgram)? % 64) as Register)
+        Ok((free.ok_or(Refusal::TooLong)? % 64) as Register)
     }
 
     /// Returns a register that isn't needed and holds this.

@@ -1,28 +1,21 @@
 //! Instructions that compare a column's codes with numbers, from the most significant byte down.
 use crate::code::{Code, Connective, Made};
-use crate::digits::{Digits, Upper};
 use crate::refusal::Refusal;
-use crate::sets::{bounds_below, byte_of, groups_from, is_rare, most_instructions, top_slice};
+use crate::sets::{bounds_below, byte_of, most_instructions, top_slice};
 use bw_diagram::ChainKind;
 use bw_program::{ColumnIndex, Register, SliceIndex};
 
-/// How the codes of a column are compared with numbers.
+/// What is looked for: the low bytes of a column's codes, from this one down, that have an odd number
+/// of bounds above them. The bounds are sorted and different.
 #[derive(Clone, Copy)]
-struct Search {
+struct Search<'b> {
     column: ColumnIndex,
-    /// The digits of a byte that are kept in registers.
-    digits: Option<Digits>,
-    /// Whether skips that save only a few instructions are omitted.
-    has_few_skips: bool,
-}
-
-/// A place in a search: the codes whose bytes from `slice` up are those of `bounds` are looked for in
-/// the lanes of `mask`, if there is one.
-#[derive(Clone, Copy)]
-struct Place<'b> {
     slice: SliceIndex,
     bounds: &'b [u64],
+    /// The lanes in which the bytes above are those of the bounds, if they aren't all lanes.
     mask: Option<Register>,
+    /// Whether skips that save only a few instructions are omitted.
+    has_few_skips: bool,
 }
 
 impl Code<'_> {
@@ -36,23 +29,14 @@ impl Code<'_> {
                 self.code(column, top, *code)
             }
             _ => {
-                let digits = self.digits(column, bounds)?;
-                let split = digits.map(|digits| digits.slice);
                 let search = Search {
                     column,
-                    digits,
-                    has_few_skips: most_instructions(bounds, top, split) > self.room(),
-                };
-                let place = Place {
                     slice: top,
                     bounds,
                     mask: None,
+                    has_few_skips: most_instructions(bounds, top) > self.room(),
                 };
-                let made = self.within(&search, place, None)?;
-                if let Some(digits) = digits {
-                    self.release_digits(&digits);
-                }
-                Ok(made)
+                self.within(search, None)
             }
         }
     }
@@ -70,27 +54,21 @@ impl Code<'_> {
         Ok(same)
     }
 
-    /// Returns a register, `out` if there is one, with the lanes toggled that are 1 in the mask and
-    /// whose low bytes, from this one down, have an odd number of bounds above them. A new register
-    /// has these lanes among those of the mask, and any value in others.
+    /// Returns a register, `out` if there is one, with the lanes toggled in which a search finds the
+    /// code. A new register has these lanes among those of the mask, and any value in others.
     #[cycle(within)]
-    fn within(&mut self, search: &Search, place: Place<'_>, out: Option<Register>) -> Made {
-        let slice = place.slice;
-        let mut out = match self.bytes(search, slice, place.bounds)? {
-            Some(here) => Some(self.toggle_lanes(here, place.mask, out)?),
+    fn within(&mut self, search: Search<'_>, out: Option<Register>) -> Made {
+        let Search { slice, bounds, .. } = search;
+        let mut out = match self.bytes(search)? {
+            Some(here) => Some(self.toggle_lanes(here, search.mask, out)?),
             None => out,
         };
-        if slice > 0 {
-            let mut before = None;
-            let bounds = place.bounds;
-            for group in bounds.chunk_by(|a, b| byte_of(*a, slice) == byte_of(*b, slice)) {
-                let place = Place {
-                    bounds: group,
-                    ..place
-                };
-                out = self.below(search, place, out, &mut before)?;
-            }
-            self.release_upper(before);
+        for group in bounds.chunk_by(|a, b| byte_of(*a, slice) == byte_of(*b, slice)) {
+            let found = Search {
+                bounds: group,
+                ..search
+            };
+            out = self.below(found, out)?;
         }
         match out {
             Some(register) => Ok(register),
@@ -98,108 +76,50 @@ impl Code<'_> {
         }
     }
 
-    /// Returns the same for the bounds with one byte in common, in the lanes whose codes have it
-    /// too. A new register is 0 in other lanes.
+    /// Returns the same for bounds with one byte in common, in the lanes whose codes have it too. A
+    /// new register is 0 in other lanes.
     #[cycle(within)]
     fn below(
         &mut self,
-        search: &Search,
-        place: Place<'_>,
+        search: Search<'_>,
         out: Option<Register>,
-        before: &mut Option<Upper>,
     ) -> Result<Option<Register>, Refusal> {
-        let slice = place.slice;
-        let inner = bounds_below(place.bounds, slice);
+        let Search { column, slice, .. } = search;
+        let inner = bounds_below(search.bounds, slice);
         let (Some(bound), Some(next)) = (inner.first(), slice.checked_sub(1)) else {
             return Ok(out);
         };
         let first = self.open_skips();
-        let same = self.same_byte(search, slice, byte_of(*bound, slice), place.mask, before)?;
+        let same = self.byte(ChainKind::Equal, column, slice, byte_of(*bound, slice))?;
+        if let Some(mask) = search.mask {
+            self.join(Connective::And, same, same, mask)?;
+        }
         // Bounds of one number, whose last byte is the next, are soon done.
         if !search.has_few_skips || slice > 1 || inner.len() > 2 {
             self.skip(same)?;
         }
-        self.narrow(search, next, inner, same)?;
-        let place = Place {
+        let below = Search {
             slice: next,
             bounds: inner,
             mask: Some(same),
+            ..search
         };
-        let found = self.within(search, place, out)?;
-        let out = match out {
-            Some(_) => {
-                self.release(same);
-                found
-            }
-            None => self.join_into(Connective::And, same, found)?,
-        };
+        let found = self.within(below, out)?;
+        if out.is_some() {
+            self.release(same);
+        } else {
+            self.join_into(Connective::And, same, found)?;
+        }
         self.meet_from(first);
-        Ok(Some(out))
-    }
-
-    /// Returns a register that is 1 if a byte is a number and a mask, if there is one, is 1.
-    fn same_byte(
-        &mut self,
-        search: &Search,
-        slice: SliceIndex,
-        byte: u8,
-        mask: Option<Register>,
-        before: &mut Option<Upper>,
-    ) -> Made {
-        if let Some(digits) = &search.digits {
-            if slice == digits.slice {
-                return self.same_digits(digits, byte, mask, before);
-            }
-            if let Some(same) = digits.above_of(slice, byte) {
-                let other = mask.unwrap_or(same);
-                return self.connect(Connective::And, same, other);
-            }
-        }
-        let same = self.byte(ChainKind::Equal, search.column, slice, byte)?;
-        match mask {
-            Some(mask) => self.join(Connective::And, same, same, mask),
-            None => Ok(same),
-        }
-    }
-
-    /// Removes the lanes from a register whose byte is above that of the last bound, and skips if
-    /// none is left. This saves time in most segments whose rows are in no order, if few codes
-    /// remain and more than two comparisons of the byte follow.
-    fn narrow(
-        &mut self,
-        search: &Search,
-        slice: SliceIndex,
-        bounds: &[u64],
-        same: Register,
-    ) -> Result<(), Refusal> {
-        let Some(last) = bounds.last() else {
-            return Ok(());
-        };
-        let last = byte_of(*last, slice);
-        let width = self.width(search.column);
-        let few = is_rare(last, slice, width) && !is_rare(u8::MAX, slice, width);
-        let looks = groups_from(bounds, u32::from(slice) * 8);
-        let is_split = search.digits.is_some_and(|digits| digits.slice == slice);
-        let Some(next) = last.checked_add(1) else {
-            return Ok(());
-        };
-        if slice == 0 || looks < 2 || !few || is_split {
-            return Ok(());
-        }
-        let below = self.byte(ChainKind::Less, search.column, slice, next)?;
-        self.join_into(Connective::And, same, below)?;
-        self.skip(same)
+        Ok(Some(out.map_or(same, |_| found)))
     }
 
     /// Returns a register that is 1 where a byte has an odd number of the bounds' bytes above it.
-    fn bytes(
-        &mut self,
-        search: &Search,
-        slice: SliceIndex,
-        bounds: &[u64],
-    ) -> Result<Option<Register>, Refusal> {
+    fn bytes(&mut self, search: Search<'_>) -> Result<Option<Register>, Refusal> {
+        let Search { column, slice, .. } = search;
         let mut made = None;
         let mut before: Option<u8> = None;
+        let bounds = search.bounds;
         for group in bounds.chunk_by(|a, b| byte_of(*a, slice) == byte_of(*b, slice)) {
             let byte = group.first().map_or(0, |bound| byte_of(*bound, slice));
             if group.len() % 2 == 0 || byte == 0 {
@@ -211,15 +131,16 @@ impl Code<'_> {
             };
             let is_next = last.checked_add(1) == Some(byte);
             before = (!is_next).then_some(byte);
-            let next = if is_next {
-                self.same_byte(search, slice, last, None, &mut None)?
+            let kind = if is_next {
+                ChainKind::Equal
             } else {
-                self.byte(ChainKind::Less, search.column, slice, last)?
+                ChainKind::Less
             };
+            let next = self.byte(kind, column, slice, last)?;
             made = Some(self.toggle_lanes(next, None, made)?);
         }
         if let Some(last) = before {
-            let next = self.byte(ChainKind::Less, search.column, slice, last)?;
+            let next = self.byte(ChainKind::Less, column, slice, last)?;
             made = Some(self.toggle_lanes(next, None, made)?);
         }
         Ok(made)

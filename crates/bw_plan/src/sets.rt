@@ -45,14 +45,6 @@ impl Set {
         Ok(set)
     }
 
-    /// Returns the set, or its complement if it is negated.
-    pub(crate) fn opposite_if(self, negated: bool) -> Self {
-        Set {
-            inverted: self.inverted != negated,
-            ..self
-        }
-    }
-
     /// Returns whether it is one code, or all but one.
     pub(crate) fn is_code(&self) -> bool {
         matches!(self.bounds.as_slice(), [code, next] if code.checked_add(1) == Some(*next))
@@ -60,7 +52,7 @@ impl Set {
 
     /// Returns whether it takes many instructions to test for its codes.
     pub(crate) fn is_long(&self, top: SliceIndex) -> bool {
-        most_instructions(&self.bounds, top, None) > LONG_SET
+        most_instructions(&self.bounds, top) > LONG_SET
     }
 
     /// Returns the codes of a column that one of some sets contains or, if not `any`, that all of
@@ -116,30 +108,18 @@ pub(crate) fn byte_of(number: u64, slice: SliceIndex) -> u8 {
 }
 
 /// Returns how many groups of sorted bounds have the bits from `start` in common.
-pub(crate) fn groups_from(bounds: &[u64], start: u32) -> usize {
+fn groups_from(bounds: &[u64], start: u32) -> usize {
     let start = start.min(63);
     bounds.chunk_by(|a, b| *a >> start == *b >> start).count()
 }
 
 /// Returns at least how many instructions test codes by sorted bounds, from a byte down: for each
-/// compared byte a comparison, an AND and a skip, or an AND and a skip by its digits, and for each
-/// range a comparison, an AND and a XOR.
-pub(crate) fn most_instructions(
-    bounds: &[u64],
-    top: SliceIndex,
-    split: Option<SliceIndex>,
-) -> usize {
+/// compared byte a comparison, an AND and a skip, and for each range a comparison, an AND and a XOR.
+pub(crate) fn most_instructions(bounds: &[u64], top: SliceIndex) -> usize {
     let mut most = bounds.len().saturating_mul(3) / 2;
     for slice in 1..=top {
         let start = u32::from(slice) * 8;
-        let compared = if split == Some(slice) {
-            start + 4
-        } else {
-            start
-        };
-        most = most
-            .saturating_add(groups_from(bounds, start).saturating_mul(2))
-            .saturating_add(groups_from(bounds, compared));
+        most = most.saturating_add(groups_from(bounds, start).saturating_mul(3));
     }
     most
 }
@@ -150,12 +130,4 @@ pub(crate) fn bounds_below(group: &[u64], slice: SliceIndex) -> &[u64] {
         [first, rest @ ..] if first % (1 << (u32::from(slice) * 8).min(63)) == 0 => rest,
         _ => group,
     }
-}
-
-/// Returns whether fewer than one row in 512 has zeros above a byte and at most this number in it,
-/// if all codes of so many bits are equally frequent.
-pub(crate) fn is_rare(byte: u8, slice: SliceIndex, width: u32) -> bool {
-    let above = u32::from(slice) * 8;
-    let codes = (u64::from(byte) + 1) << above.min(55);
-    codes < 1 << width.saturating_sub(9).min(63)
 }

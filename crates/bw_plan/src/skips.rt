@@ -41,8 +41,8 @@ impl Code<'_> {
         }
         self.meet();
         let number = self.instrs.len();
-        if self.plan.without == Some(number) {
-            self.plan.without = None;
+        if self.plan.omitted == Some(number) {
+            self.plan.omitted = None;
             return Ok(());
         }
         let registers = self.registers;

@@ -1,21 +1,22 @@
 //! Instructions that compute where a condition is TRUE, and where it is FALSE.
-use crate::code::{Code, Connective};
+use crate::code::{Code, Connective, Made};
 use crate::columns::is_nullable;
 use crate::comparison::ColumnComparison;
 use crate::limits::SKIPPED_PARTS;
-use crate::parts::{Part, first_part};
+use crate::parts::Part;
 use crate::refusal::Refusal;
 use crate::sets::Set;
 use crate::truth_pair::TruthPair;
+use bw_diagram::ChainKind;
 use bw_model::Truth;
 use bw_program::{ColumnIndex, Register};
 use bw_prover::VariableOrder;
 
 /// Whether the register of where a condition is TRUE is needed, and that of where it is FALSE.
-pub(crate) type WantedTruths = TruthPair<bool>;
+type WantedTruths = TruthPair<bool>;
 
 /// The registers that are 1 where a condition is TRUE, and where it is FALSE, if they are wanted.
-pub(crate) type TruthRegisters = TruthPair<Option<Register>>;
+type TruthRegisters = TruthPair<Option<Register>>;
 
 /// These registers, unless there is no program or memory was refused.
 type MadeTruths = Result<TruthRegisters, Refusal>;
@@ -27,9 +28,23 @@ const NONE: TruthRegisters = TruthPair {
 };
 
 impl Code<'_> {
+    /// Returns the register of where a whole condition is TRUE.
+    pub(crate) fn whole(&mut self, part: &Part) -> Made {
+        let made = self.truths(part, TruthPair::of(true, false))?;
+        let answer = made.yes.ok_or(Refusal::NoProgram)?;
+        let first = self.open_skips();
+        if self.skips.count == 0 {
+            // A skip at the end lets counts show empty segments.
+            self.skip(answer)?;
+        }
+        self.meet_from(first);
+        self.meet();
+        Ok(answer)
+    }
+
     /// Returns the registers of a part of the condition.
     #[cycle(truths)]
-    pub(crate) fn truths(&mut self, part: &Part, wanted: WantedTruths) -> MadeTruths {
+    fn truths(&mut self, part: &Part, wanted: WantedTruths) -> MadeTruths {
         match part {
             Part::Fixed(truth) => self.constant(*truth, wanted),
             Part::Codes(set) => self.in_set(set, wanted),
@@ -48,29 +63,22 @@ impl Code<'_> {
         }
     }
 
-    /// Returns the registers of the OR of all parts, or else of their AND: first of the part that
-    /// takes many registers, if there is one.
+    /// Returns the registers of the OR of all parts, or else of their AND.
     #[cycle(truths)]
     fn all_parts(&mut self, any: bool, parts: &[Part], wanted: WantedTruths) -> MadeTruths {
-        let first = self.open_skips();
-        let (start, _) = first_part(parts);
-        let made = match parts.get(start) {
-            Some(part) => self.truths(part, wanted)?,
-            None => return Err(Refusal::NoProgram),
-        };
-        for (number, part) in parts.iter().enumerate() {
-            if number == start {
-                continue;
-            }
+        let open = self.open_skips();
+        let (first, others) = parts.split_first().ok_or(Refusal::NoProgram)?;
+        let made = self.truths(first, wanted)?;
+        for (number, part) in others.iter().enumerate() {
             // These take two or three instructions, so that a skip saves nothing.
             let is_quick = matches!(part, Part::Null(..) | Part::Fixed(_));
-            if number < SKIPPED_PARTS && self.plan.between_parts && !is_quick {
+            if number + 1 < SKIPPED_PARTS && self.plan.between_parts && !is_quick {
                 self.skip_if_settled(any, made)?;
             }
             let next = self.truths(part, wanted)?;
             self.join_parts(any, made, next)?;
         }
-        self.meet_from(first);
+        self.meet_from(open);
         Ok(made)
     }
 
@@ -165,14 +173,16 @@ impl Code<'_> {
     fn compare_columns(&mut self, compared: ColumnComparison, wanted: WantedTruths) -> MadeTruths {
         let first = self.open_skips();
         self.order = VariableOrder::Places(compared.right);
-        let held = match compared.fixed() {
-            Some(same) => self.fill(same)?,
-            None => self.relation(compared)?,
+        let ColumnComparison { left, right, .. } = compared;
+        let held = if left == right {
+            self.fill(compared.kind == ChainKind::Equal)?
+        } else {
+            self.relation(compared)?
         };
         self.meet_from(first);
         self.meet();
-        let [c, d] = compared.columns;
-        let columns = &compared.columns[usize::from(c == d)..];
+        let columns = [left, right];
+        let columns = &columns[usize::from(left == right)..];
         let made = self.sides(held, columns, true, compared.negated, wanted)?;
         self.meet_from(first);
         self.meet();
