@@ -20,6 +20,10 @@ pub(crate) const LONG_SET: usize = 1200;
 /// The number of first parts of a condition that may have a skip to its end.
 pub(crate) const SKIPPED_PARTS: usize = 16;
 
+/// A condition with more levels of parts begins with the deepest one: 64 registers are too few for
+/// 100 levels, each of which keeps up to two.
+pub(crate) const MANY_LEVELS: u32 = 12;
+
 /// All comparisons of two columns from the top down take at most six times as many nodes. One takes
 /// six times the square of the number of its bits.
 pub(crate) const MAX_SQUARES: usize = 1000;

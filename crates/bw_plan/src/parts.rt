@@ -215,4 +215,28 @@ impl Part {
             Part::Fixed(_) | Part::Done => 0,
         }
     }
+
+    /// Returns how many levels of parts it has.
+    #[cycle(depth)]
+    fn depth(&self) -> u32 {
+        match self {
+            Part::All(_, parts) => deepest(parts).1.saturating_add(1),
+            Part::Test(part, ..) => part.depth(),
+            _ => 0,
+        }
+    }
+}
+
+/// Returns the place of a part that has the most levels, and how many it has.
+#[cycle(depth)]
+pub(crate) fn deepest(parts: &[Part]) -> (usize, u32) {
+    let (mut place, mut most) = (0, 0);
+    for (number, part) in parts.iter().enumerate() {
+        let depth = part.depth();
+        if depth > most {
+            most = depth;
+            place = number;
+        }
+    }
+    (place, most)
 }

@@ -2,8 +2,8 @@
 use crate::code::{Code, Connective, Made};
 use crate::columns::is_nullable;
 use crate::comparison::ColumnComparison;
-use crate::limits::SKIPPED_PARTS;
-use crate::parts::Part;
+use crate::limits::{MANY_LEVELS, SKIPPED_PARTS};
+use crate::parts::{Part, deepest};
 use crate::refusal::Refusal;
 use crate::sets::Set;
 use crate::truth_pair::TruthPair;
@@ -63,16 +63,24 @@ impl Code<'_> {
         }
     }
 
-    /// Returns the registers of the OR of all parts, or else of their AND.
+    /// Returns the registers of the OR of all parts, or else of their AND: first of the part that is
+    /// nested most deeply, if many are nested, since each level keeps a register.
     #[cycle(truths)]
     fn all_parts(&mut self, any: bool, parts: &[Part], wanted: WantedTruths) -> MadeTruths {
         let open = self.open_skips();
-        let (first, others) = parts.split_first().ok_or(Refusal::NoProgram)?;
-        let made = self.truths(first, wanted)?;
-        for (number, part) in others.iter().enumerate() {
+        let (deepest, depth) = deepest(parts);
+        let first = if depth > MANY_LEVELS { deepest } else { 0 };
+        let made = match parts.get(first) {
+            Some(part) => self.truths(part, wanted)?,
+            None => return Err(Refusal::NoProgram),
+        };
+        for (number, part) in parts.iter().enumerate() {
+            if number == first {
+                continue;
+            }
             // These take two or three instructions, so that a skip saves nothing.
             let is_quick = matches!(part, Part::Null(..) | Part::Fixed(_));
-            if number + 1 < SKIPPED_PARTS && self.plan.between_parts && !is_quick {
+            if number < SKIPPED_PARTS && self.plan.between_parts && !is_quick {
                 self.skip_if_settled(any, made)?;
             }
             let next = self.truths(part, wanted)?;
