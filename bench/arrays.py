@@ -1,6 +1,7 @@
-"""Answers the eight questions of bench/session by numpy over arrays in memory: python3 arrays.py RUNS CSV FOLDER, by a Python that
-has numpy. The columns of CSV are stored in FOLDER at the first run. Prints for each question its name and the minimum time of RUNS
-runs, in milliseconds, then the lines of its result and an empty line. A null is 0 in its array, and 1 in an array of nulls."""
+"""Answers the eight questions of bench/session by numpy over arrays in memory: python3 arrays.py
+RUNS CSV FOLDER, by a Python that has numpy. The columns of CSV are stored in FOLDER at the first
+run. Prints for each question its name and the minimum time of RUNS runs, in milliseconds, then the
+lines of its result and an empty line. A null is 0 in its array, and 1 in an array of nulls."""
 import os
 import pathlib
 import sys
@@ -10,10 +11,14 @@ import numpy as np
 
 
 def read_columns(csv):
-    """Returns the columns as arrays. While it is read, a null is the number below its column's minimum."""
-    text = csv.read_bytes().split(b"\n", 1)[1].replace(b"NULL", b"-11").replace(b",\n", b",-1\n").replace(b"\n", b",")
+    """Returns the columns as arrays. While it is read, a null is the number below its column's
+    minimum."""
+    text = csv.read_bytes().split(b"\n", 1)[1].replace(b"NULL",
+                                                       b"-11").replace(b",\n", b",-1\n").replace(
+                                                           b"\n", b",")
     a, b, c, d = np.fromstring(text.rstrip(b","), dtype=np.int64, sep=",").reshape(-1, 4).T
-    return {"a": a.astype(np.uint8), "b": np.where(b == -11, 0, b).astype(np.int8), "b_null": b == -11, "c": c.astype(np.uint32),
+    return {"a": a.astype(np.uint8), "b": np.where(b == -11, 0, b).astype(np.int8),
+            "b_null": b == -11, "c": c.astype(np.uint32),
             "d": np.where(d == -1, 0, d).astype(np.uint32), "d_null": d == -1}
 
 

@@ -1,5 +1,6 @@
-"""Queries ClickHouse, with one thread, over a table in its memory. bench/session times it if Debian's clickhouse-server is
-installed. The server runs in its own folder, listens only on 127.0.0.1, and ends with the run."""
+"""Queries ClickHouse, with one thread, over a table in its memory. bench/session times it if
+Debian's clickhouse-server is installed. The server runs in its own folder, listens only on
+127.0.0.1, and ends with the run."""
 import http.client
 import pathlib
 import shutil
@@ -12,12 +13,15 @@ PORT = 18123
 CONFIG = f"""<yandex>
 <logger><level>error</level><log>{{folder}}/log</log><errorlog>{{folder}}/errors</errorlog></logger>
 <http_port>{PORT}</http_port><listen_host>127.0.0.1</listen_host>
-<path>{{folder}}/data/</path><tmp_path>{{folder}}/tmp/</tmp_path><users_config>{{folder}}/users.xml</users_config>
-<mark_cache_size>5368709120</mark_cache_size><default_profile>default</default_profile><default_database>default</default_database>
+<path>{{folder}}/data/</path><tmp_path>{{folder}}/tmp/</tmp_path>
+<users_config>{{folder}}/users.xml</users_config>
+<mark_cache_size>5368709120</mark_cache_size>
+<default_profile>default</default_profile><default_database>default</default_database>
 </yandex>
 """
 USERS = """<yandex><profiles><default><max_threads>1</max_threads></default></profiles>
-<users><default><password></password><networks><ip>127.0.0.1</ip></networks><profile>default</profile><quota>default</quota>
+<users><default><password></password><networks><ip>127.0.0.1</ip></networks>
+<profile>default</profile><quota>default</quota>
 </default></users><quotas><default/></quotas></yandex>
 """
 TABLE = "CREATE TABLE m (a UInt8, b Nullable(Int8), c UInt32, d Nullable(UInt32)) ENGINE = Memory"
@@ -28,11 +32,13 @@ class Server:
 
     def __init__(self, folder):
         """Starts a server, whose files are in a folder."""
-        program, self.connection = shutil.which("clickhouse-server") or "/usr/sbin/clickhouse-server", None
+        program, self.connection = shutil.which("clickhouse-server") or \
+            "/usr/sbin/clickhouse-server", None
         for name, text in (("config.xml", CONFIG), ("users.xml", USERS)):
             (folder / name).write_text(text.format(folder=folder), encoding="ascii")
         words = [program, f"--config-file={folder}/config.xml"]
-        self.process = subprocess.Popen(words, stdin=subprocess.DEVNULL, stdout=subprocess.DEVNULL, stderr=subprocess.DEVNULL)
+        self.process = subprocess.Popen(words, stdin=subprocess.DEVNULL, stdout=subprocess.DEVNULL,
+                                        stderr=subprocess.DEVNULL)
 
     def wait(self):
         """Waits until the server answers."""
@@ -48,13 +54,15 @@ class Server:
         sys.exit("clickhouse-server doesn't answer")
 
     def ask(self, statement, rows=None):
-        """Returns the server's result as CSV. Rows are sent after the statement, a part at a time."""
+        """Returns the server's result as CSV. Rows are sent after the statement, a part at a
+        time."""
         if self.connection is None or rows is not None:
             self.connection = http.client.HTTPConnection("127.0.0.1", PORT, timeout=300)
         if rows is None:
             self.connection.request("POST", "/", (statement + " FORMAT CSV").encode())
         else:
-            self.connection.request("POST", "/?query=" + statement.replace(" ", "%20"), rows, encode_chunked=True,
+            self.connection.request("POST", "/?query=" + statement.replace(" ", "%20"), rows,
+                                    encode_chunked=True,
                                     headers={"Transfer-Encoding": "chunked"})
         answer = self.connection.getresponse()
         text = answer.read().decode()
@@ -68,7 +76,8 @@ class Server:
 
 
 def lines_of(path):
-    """Yields the rows of a CSV file without its heading, many at a time, with nulls as ClickHouse spells them."""
+    """Yields the rows of a CSV file without its heading, many at a time, with nulls as ClickHouse
+    spells them."""
     with open(path, "rb") as file:
         file.readline()
         while part := file.read(1 << 20):
@@ -77,9 +86,10 @@ def lines_of(path):
 
 
 def in_clickhouse(csv, questions, runs):
-    """Returns for each question the minimum time of `runs` calls, in milliseconds, and the lines of the result. Returns None if
-    ClickHouse isn't installed."""
-    if not (shutil.which("clickhouse-server") or pathlib.Path("/usr/sbin/clickhouse-server").exists()):
+    """Returns for each question the minimum time of `runs` calls, in milliseconds, and the lines of
+    the result. Returns None if ClickHouse isn't installed."""
+    if not (shutil.which("clickhouse-server") or
+            pathlib.Path("/usr/sbin/clickhouse-server").exists()):
         return None
     with tempfile.TemporaryDirectory(prefix="clickhouse-") as name:
         server, found = Server(pathlib.Path(name)), {}

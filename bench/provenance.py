@@ -15,9 +15,14 @@ def git(*words):
 
 
 def provenance():
-    """Returns a line with the date, the commit, the processor and the machine's load in the last minute."""
-    found = re.search(r"^model name\s*:\s*(.+)$", pathlib.Path("/proc/cpuinfo").read_text(encoding="ascii", errors="replace"), re.M)
+    """Returns a line with the date, the commit, the processor and the machine's load in the last
+    minute."""
+    found = re.search(r"^model name\s*:\s*(.+)$",
+                      pathlib.Path("/proc/cpuinfo").read_text(encoding="ascii", errors="replace"),
+                      re.M)
     commit = git("rev-parse", "--short=8", "HEAD") or "not known"
-    changed = ", with uncommitted changes" if git("status", "--porcelain", "--untracked-files=no") else ""
-    return (f"{datetime.date.today()}, commit {commit}{changed}; {found.group(1) if found else 'processor not known'}, "
+    changed = ", with uncommitted changes" if git("status", "--porcelain", "--untracked-files=no") \
+        else ""
+    return (f"{datetime.date.today()}, commit {commit}{changed}; "
+            f"{found.group(1) if found else 'processor not known'}, "
             f"{len(os.sched_getaffinity(0))} processors, load average {os.getloadavg()[0]:.1f}.")

@@ -34,7 +34,8 @@ def unihan():
 def packages():
     """Yields what apt-cache knows of all packages, with their long fields."""
     yield FIELDS
-    text = subprocess.run(["apt-cache", "dumpavail"], capture_output=True, check=True).stdout.decode()
+    text = subprocess.run(["apt-cache", "dumpavail"], capture_output=True,
+                          check=True).stdout.decode()
     for stanza in filter(None, text.split("\n\n")):
         fields, name = {}, ""
         for line in stanza.split("\n"):
@@ -62,7 +63,8 @@ def listing(most=203_000):
             except (OSError, UnicodeEncodeError):
                 continue
             changed = time.strftime("%Y-%m-%d %H:%M:%S", time.gmtime(told.st_mtime))
-            yield oct(told.st_mode)[2:], told.st_nlink, f"u{told.st_uid}", told.st_size, changed, path
+            yield oct(told.st_mode)[
+                2:], told.st_nlink, f"u{told.st_uid}", told.st_size, changed, path
             count += 1
             if count == most:
                 return
@@ -75,7 +77,8 @@ def fertility():
     for number in range(1, 254_655):
         genders = [draw.choice(("male", "female")) for _ in range(2)]
         others = [draw.choice(YES) for _ in range(3)]
-        yield number, draw.choice(YES), *genders, draw.randrange(21, 36), *others, draw.randrange(53)
+        yield number, draw.choice(YES), *genders, draw.randrange(21,
+                                                                 36), *others, draw.randrange(53)
 
 
 def million():
@@ -86,7 +89,8 @@ def million():
         yield (f"{draw.choice('abcdefgh')}{draw.randrange(10 ** 11):011}x{number % 10}",)
 
 
-TABLES = {"geoip": geoip, "Fertility": fertility, "file listing": listing, "packages": packages, "Unihan": unihan,
+TABLES = {"geoip": geoip, "Fertility": fertility, "file listing": listing, "packages": packages,
+          "Unihan": unihan,
           "a million texts": million}
 
 
@@ -94,7 +98,8 @@ def made(folder, name):
     """Returns the file of a table, or None if its package isn't installed."""
     path = folder / f"{name.replace(' ', '-')}.csv"
     if not path.exists():
-        if name == "geoip" and not GEOIP.exists() or name == "Unihan" and not list(UNICODE.glob("Unihan_*.bz2")):
+        if name == "geoip" and not GEOIP.exists() or name == "Unihan" and \
+                not list(UNICODE.glob("Unihan_*.bz2")):
             return None
         part = path.with_suffix(".part")
         with open(part, "w", encoding="utf-8", newline="") as file:

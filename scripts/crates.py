@@ -1,6 +1,7 @@
-"""The parts that prove and mutants share: the crates, the libraries that each uses, and working directories in which crates are
-proved side by side. `rt` locks a crate and all libraries below it while it works there. A working directory has hard links to the
-crate's files and to its libraries as they were built, so that no process waits for another."""
+"""The parts that prove and mutants share: the crates, the libraries that each uses, and working
+directories in which crates are proved side by side. `rt` locks a crate and all libraries below it
+while it works there. A working directory has hard links to the crate's files and to its libraries
+as they were built, so that no process waits for another."""
 import os
 import pathlib
 import shutil
@@ -11,8 +12,10 @@ PARTS = ("src", "specs", "proofs")
 
 def libraries():
     """Returns the libraries of the repository that each crate names."""
-    lines = (line.split("#")[0] for line in (ROOT / "crates.txt").read_text(encoding="utf-8").splitlines())
-    named = {name: rest.split() for name, found, rest in (line.partition(":") for line in lines) if found}
+    lines = (line.split("#")[0]
+             for line in (ROOT / "crates.txt").read_text(encoding="utf-8").splitlines())
+    named = {name: rest.split() for name, found, rest in (line.partition(":") for line in lines)
+             if found}
     return {name: [each for each in below if each in named] for name, below in named.items()}
 
 
@@ -41,9 +44,13 @@ def link(source, target):
 def furnish(room, name, named):
     """Fills a folder with what is needed to prove a crate there."""
     crates = sorted(below(name, named))
-    listed = dict(line.split(":", 1) for line in (ROOT / "crates.txt").read_text(encoding="utf-8").splitlines() if ":" in line)
-    (room / "crates.txt").write_text("".join(f"{each}:{listed[each]}\n" for each in crates), encoding="utf-8")
+    listed = dict(line.split(":", 1)
+                  for line in (ROOT / "crates.txt").read_text(encoding="utf-8").splitlines()
+                  if ":" in line)
+    (room / "crates.txt").write_text("".join(f"{each}:{listed[each]}\n" for each in crates),
+                                     encoding="utf-8")
     for each in crates:
         for part in (*PARTS, *["out/rlib"] * (each != name)):
             if (ROOT / "crates" / each / part).is_dir():
-                shutil.copytree(ROOT / "crates" / each / part, room / "crates" / each / part, copy_function=link)
+                shutil.copytree(ROOT / "crates" / each / part, room / "crates" / each / part,
+                                copy_function=link)

@@ -1,6 +1,6 @@
-"""Watches the kit's gate, `rt ci`, while ./check --proof runs it. Prints its progress every minute, and at the end how the time was
-spent. `rt ci` prints when a crate is proved, but no tried mutants and no times, so this inspects its processes in /proc every two
-seconds."""
+"""Watches the kit's gate, `rt ci`, while ./check --proof runs it. Prints its progress every minute,
+and at the end how the time was spent. `rt ci` prints when a crate is proved, but no tried mutants
+and no times, so this inspects its processes in /proc every two seconds."""
 import os
 import re
 import tempfile
@@ -25,20 +25,22 @@ def processes():
                 fields = file.read().rpartition(")")[2].split()
         except OSError:
             continue
-        found[int(name)] = int(fields[1]), (int(fields[11]) + int(fields[12])) / TICKS, int(fields[19])
+        found[int(name)] = int(fields[1]), (int(fields[11])
+                                            + int(fields[12])) / TICKS, int(fields[19])
     return found
 
 
 def kind_of(process):
-    """Returns what a process of `rt ci` does, for which crate, and in which folder, or None if it isn't a check of the
-    prover."""
+    """Returns what a process of `rt ci` does, for which crate, and in which folder, or None if it
+    isn't a check of the prover."""
     try:
         with open(f"/proc/{process}/cmdline", "rb") as file:
             words = file.read().decode(errors="replace").split("\0")
         folder = os.readlink(f"/proc/{process}/cwd")
     except OSError:
         return None
-    if os.path.basename(words[0]) != "rattle" or "--crate-name" not in words or "--crate-checked" in words:
+    if os.path.basename(words[0]) != "rattle" or "--crate-name" not in words or \
+            "--crate-checked" in words:
         return None
     kind = "edits" if folder.startswith(EDITED) else "tests" if "--test" in words else "proofs"
     return kind, words[words.index("--crate-name") + 1], folder
@@ -53,7 +55,8 @@ class Progress:
         self.kinds, self.worked, self.lasted, self.busy = {}, {}, dict.fromkeys(KINDS, 0.0), 0.0
         crates = ROOT / "crates"
         self.crates = len([each for each in crates.iterdir() if (each / "src").is_dir()])
-        self.edits = {each.name: len(list(each.glob("must-fail/*.edit"))) for each in crates.iterdir()}
+        self.edits = {each.name: len(list(each.glob("must-fail/*.edit")))
+                      for each in crates.iterdir()}
         self.top, self.ended = None, threading.Event()
         self.watch = threading.Thread(target=self.keep_watch, daemon=True)
 
@@ -63,8 +66,9 @@ class Progress:
         self.watch.start()
 
     def take(self, line):
-        """Reads a line of `rt ci`, which prints the prover's output for a crate in one piece, from `== NAME` to the verdict.
-        Writes each line to the log. Shows the verdict, and the rest of the piece if the crate isn't proved."""
+        """Reads a line of `rt ci`, which prints the prover's output for a crate in one piece, from
+        `== NAME` to the verdict. Writes each line to the log. Shows the verdict, and the rest of
+        the piece if the crate isn't proved."""
         self.log.write(line)
         verdict = ENDED.match(line)
         if line.startswith("== "):
@@ -90,7 +94,8 @@ class Progress:
                 print(f"-- {self.far()}", flush=True)
 
     def look(self, seconds):
-        """Adds the work of each process below the watched one, and to each kind at work the seconds since the last look."""
+        """Adds the work of each process below the watched one, and to each kind at work the seconds
+        since the last look."""
         alive = processes()
         below, seen = {}, [self.top]
         for process, (parent, _, _) in alive.items():
@@ -117,12 +122,15 @@ class Progress:
             self.lasted[kind] += seconds
 
     def far(self):
-        """Returns the progress of the run. An edit counts once it is begun. After a crate's edits the crate itself is checked
-        once more, which doesn't count as one."""
+        """Returns the progress of the run. An edit counts once it is begun. After a crate's edits
+        the crate itself is checked once more, which doesn't count as one."""
         tried = sum(min(len(rooms), self.edits.get(name, 0)) for name, rooms in self.rooms.items())
-        now = ", ".join(sorted(f"{crate}{'' if kind == 'proofs' else f' ({kind})'}" for crate, kind in self.working))
-        return (f"{(time.monotonic() - self.begun) / 60:.0f} min: {len(self.proved)} of {self.crates} crates proved, "
-                f"tests of {len(self.tested)}, {tried} of {sum(self.edits.values())} edits; now {now or 'none'}")
+        now = ", ".join(sorted(f"{crate}{'' if kind == 'proofs' else f' ({kind})'}"
+                               for crate, kind in self.working))
+        return (f"{(time.monotonic() - self.begun) / 60:.0f} min: {len(self.proved)} of "
+                f"{self.crates} crates proved, "
+                f"tests of {len(self.tested)}, {tried} of {sum(self.edits.values())} edits; now "
+                f"{now or 'none'}")
 
     def stop(self):
         """Ends the watch."""
@@ -130,11 +138,14 @@ class Progress:
         self.watch.join()
 
     def print_times(self, took, worked):
-        """Prints how much of a run's seconds, of the clock and of processors, went into each kind. Kinds run side by side, so
-        those of the clock in which each was at work add up to more than the whole; the rest is what none was at work in."""
-        spent = {kind: sum(seconds for each, seconds in self.worked.values() if each == kind) for kind in KINDS}
+        """Prints how much of a run's seconds, of the clock and of processors, went into each kind.
+        Kinds run side by side, so those of the clock in which each was at work add up to more than
+        the whole; the rest is what none was at work in."""
+        spent = {kind: sum(seconds for each, seconds in self.worked.values() if each == kind)
+                 for kind in KINDS}
         rows = [(kind, self.lasted[kind], spent[kind]) for kind in KINDS]
-        rows += [("the rest", took - self.busy, worked - sum(spent.values())), ("in all", took, worked)]
+        rows += [("the rest", took - self.busy, worked - sum(spent.values())),
+                 ("in all", took, worked)]
         print("== where the time went, in minutes of the clock and of processors")
         for name, clock, processors in rows:
             print(f"   {name:<10}{clock / 60:8.1f}{processors / 60:8.1f}", flush=True)

@@ -2,8 +2,7 @@
 from __future__ import annotations
 
 import unicodedata
-from dataclasses import dataclass
-from typing import Sequence
+from typing import NamedTuple, Sequence
 
 # the widths are those of so many rows, and a column is made narrower down to so many characters
 FIRST, LEAST, BETWEEN = 1000, 8, "  "
@@ -11,8 +10,7 @@ NUMBERS = ("whole", "decimals", "floats", "ranked")
 CUT = "…"
 
 
-@dataclass
-class Layout:
+class Layout(NamedTuple):
     """The widths of columns, and which are aligned to the right."""
 
     widths: Sequence[int]

@@ -8,6 +8,7 @@ import re
 from typing import Callable, Dict, Iterator, Sequence, TextIO
 
 from .column import Column
+from .csv_lines import QUOTE, QUOTED, csv_lines, quoted
 from .fields import CHARACTERS_AT_ONCE, columns_of
 from .kinds import Whole
 from .naming import option
@@ -15,7 +16,6 @@ from .progress import Progress
 from .signs import NUL
 from .telling import Refused, counted
 
-QUOTE, QUOTED = '"', re.compile('[",\r\n]')
 WHOLE = re.compile("(?:(?:-?(?:0|[1-9][0-9]*)|NULL)\\n)*")
 MOST_KNOWN, ROWS_AT_ONCE = 1 << 17, 8192
 
@@ -92,18 +92,6 @@ def no_sum(column: Column) -> str:
         return (f"{told} exactly: list them and add them, or import the file again with "
                 f"{option('--digits', f'{column.heading}=N')}, which rounds them to N digits")
     return f"{told}: use COUNT, MIN or MAX"
-
-
-def quoted(field: str) -> str:
-    return f'"{field.replace(QUOTE, QUOTE * 2)}"' if QUOTED.search(field) else field
-
-
-def csv_lines(columns: Sequence[Sequence[str]]) -> str:
-    """Returns the lines of columns of fields. A line of one empty field has quotes, since an empty
-    line is no record."""
-    if len(columns) == 1:
-        columns = [[field or QUOTE * 2 for field in columns[0]]]
-    return "\n".join(map(",".join, zip(*columns))) + "\n"
 
 
 def blocks(answer: TextIO, width: int) -> Iterator[tuple[int, Sequence[Sequence[str]]]]:

@@ -1,17 +1,16 @@
 """Asks statements, one after another, and prints their answers."""
 from __future__ import annotations
 
-import argparse
+import contextlib
 import os
-import shutil
 import sys
 import time
-from dataclasses import dataclass, replace
 from typing import Iterable, Iterator
 
-from . import command, printing
+from . import command
+from .formats import writer_of
 from .kinds import undressed
-from .session import Failed
+from .failed import Failed
 from .sql.answer import Answer
 from .sql.connection import Connection
 from .telling import Refused, counted
@@ -21,28 +20,29 @@ WAYS = {1: "by statements of bw", 2: "by SQLite, over what bw listed"}
 QUOTES = {"'": "'", '"': '"', "`": "`", "[": "]"}
 
 
-@dataclass
 class Asking:
     """How answers are printed: in which format; whether numbers lose their signs; whether it is
     told which way served an answer; and whether a table is followed by the time that it took."""
 
-    connection: Connection
-    form: str
-    is_plain: bool = False
-    is_told: bool = False
-    is_timed: bool = False
+    def __init__(self, connection: Connection, form: str, is_plain: bool = False,
+                 is_told: bool = False, is_timed: bool = False) -> None:
+        self.connection, self.form = connection, form
+        self.is_plain, self.is_told, self.is_timed = is_plain, is_told, is_timed
 
     def ask(self, sql: str) -> None:
         """Runs a statement, and writes its answer to standard output. Raises Refused or Failed."""
         begun = time.monotonic()
-        answer = self.connection.answer(sql)
+        waiting = self.connection.settings.waiting
+        with waiting.shown("bw answers"):
+            answer = self.connection.answer(sql)
         if self.is_told:
             tell(answer)
         if self.is_plain:
-            kinds = [each and undressed(each) for each in answer.kinds]
-            answer = replace(answer, kinds=kinds)
-        width = shutil.get_terminal_size().columns if os.isatty(sys.stdout.fileno()) else None
-        count = printing.FORMATS[self.form](answer, sys.stdout, width)
+            answer.kinds = [each and undressed(each) for each in answer.kinds]
+        write, width = writer_of(self.form), width_of_terminal()
+        # rows at a terminal show themselves that they come
+        with contextlib.nullcontext() if width else waiting.shown("the answer is written"):
+            count = write(answer, sys.stdout, width)
         took = f", {time.monotonic() - begun:.2f} s" if self.is_timed else ""
         if self.form == "table" or took:
             where = sys.stdout if self.form == "table" else sys.stderr
@@ -72,27 +72,19 @@ class Asking:
             return failed.report()
 
 
+def width_of_terminal() -> int | None:
+    """Returns the width of the terminal that standard output is, or None."""
+    if not os.isatty(sys.stdout.fileno()):
+        return None
+    import shutil
+    return shutil.get_terminal_size().columns
+
+
 def tell(answer: Answer) -> None:
     """Prints which way served an answer, and the statements that bw ran."""
     print(f"{WAYS[answer.way]}:", file=sys.stderr)
     for statement in answer.asked:
         print(f"  {statement}", file=sys.stderr)
-
-
-def add_options(parser: argparse.ArgumentParser) -> None:
-    """Adds the options that say how answers are computed and printed."""
-    parser.add_argument("--format", choices=list(printing.FORMATS), dest="form",
-                        help="how answers are printed (default: table at a terminal, else csv)")
-    parser.add_argument("--plain", action="store_true",
-                        help="print numbers without the signs that they have in the file, such as "
-                             "$ or the sign between thousands")
-    parser.add_argument("--show", action="store_true",
-                        help="print which way serves an answer, and the statements that bw runs, "
-                             "to standard error")
-    parser.add_argument("--stats", action="store_true",
-                        help="print bw's scan statistics to standard error")
-    parser.add_argument("--all", action="store_true",
-                        help="let SQLite compute over more than 4 million listed rows")
 
 
 def statements_in(lines: Iterable[str]) -> Iterator[str]:

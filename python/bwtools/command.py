@@ -2,15 +2,10 @@
 from __future__ import annotations
 
 import contextlib
-import csv
-import gc
 import os
-import pathlib
-import shutil
 import signal
-import subprocess
 import sys
-from typing import IO, Any, Callable, NoReturn, Sequence
+from typing import Any, Callable, NoReturn, Sequence
 
 from .naming import is_name, name_like
 from .telling import Refused, shown
@@ -27,45 +22,57 @@ class Ended(Exception):
 def program() -> str:
     """Returns the program bw: that of the environment variable BW, else the one on the PATH, else
     the one that the package came with."""
-    found = os.environ.get("BW") or shutil.which("bw") or own_program()
+    found = os.environ.get("BW") or on_path("bw") or own_program()
     if not found:
         raise Refused("no program bw on the PATH: set BW=FILE to its path")
-    return str(found)
+    return found
 
 
 def whole_path() -> str:
     """Returns the program bw as a path that holds in any working directory."""
     found = program()
-    return os.path.abspath(shutil.which(found) or found)
+    return os.path.abspath(found if os.sep in found else on_path(found) or found)
 
 
-def own_program() -> pathlib.Path | None:
+def on_path(name: str) -> str | None:
+    """Returns the program of a name on the PATH, or None."""
+    paths = [os.path.join(folder, name) for folder in os.get_exec_path()]
+    return next((path for path in paths if is_program(path)), None)
+
+
+def own_program() -> str | None:
     """Returns the program that the package came with, or None: that of a checkout's dist/, if it
     runs here, else one beside the package's folder, else one that was installed with it."""
-    top = pathlib.Path(__file__).resolve().parent.parent.parent
-    shipped = top / "dist" / "bw"
-    if is_program(shipped) and not subprocess.run(
-            [shipped, "--version"], stdin=subprocess.DEVNULL, stdout=subprocess.DEVNULL,
-            stderr=subprocess.DEVNULL, check=False).returncode:
+    top = os.path.dirname(os.path.dirname(os.path.dirname(os.path.realpath(__file__))))
+    shipped = os.path.join(top, "dist", "bw")
+    if is_program(shipped) and runs(shipped):
         return shipped
-    near = (top / "bw", top.parent.parent / "bin" / "bw")
-    return next((path for path in near if is_program(path)), None)
+    installed = os.path.join(os.path.dirname(os.path.dirname(top)), "bin", "bw")
+    return next((path for path in (os.path.join(top, "bw"), installed) if is_program(path)), None)
 
 
-def is_program(path: pathlib.Path) -> bool:
-    return path.is_file() and os.access(path, os.X_OK)
+def runs(path: str) -> bool:
+    """Returns whether a program runs here."""
+    import subprocess
+    return subprocess.run([path, "--version"], stdin=subprocess.DEVNULL, stdout=subprocess.DEVNULL,
+                          stderr=subprocess.DEVNULL, check=False).returncode == 0
+
+
+def is_program(path: str) -> bool:
+    return os.path.isfile(path) and os.access(path, os.X_OK)
 
 
 def own_name() -> str:
     """Returns the name by which a program was called, such as bw-ask."""
-    return pathlib.Path(sys.argv[0]).name
+    return os.path.basename(sys.argv[0])
 
 
-def call(words: Sequence[Any], output: IO[bytes] | int = subprocess.PIPE) -> None:
+def call(words: Sequence[Any]) -> None:
     """Runs a command of bw to its end. If it fails, passes on its error, and raises Ended with its
     status."""
-    status = subprocess.run([program(), *map(str, words)], stdin=subprocess.DEVNULL, stdout=output,
-                            check=False).returncode
+    import subprocess
+    status = subprocess.run([program(), *map(str, words)], stdin=subprocess.DEVNULL,
+                            stdout=subprocess.PIPE, check=False).returncode
     if status:
         print(f"bw {words[0]} ended with status {status}", file=sys.stderr)
         raise Ended(status if status > 0 else 128 - status)
@@ -74,7 +81,7 @@ def call(words: Sequence[Any], output: IO[bytes] | int = subprocess.PIPE) -> Non
 def table_name(name: str | None, out: str | None) -> str:
     """Returns the name of the table to load: the given one, else that of the file or folder to
     write, made valid."""
-    name = name or name_like(pathlib.Path(out or "t").name.removesuffix(".bw"))
+    name = name or name_like(os.path.basename(os.path.normpath(out or "t")).removesuffix(".bw"))
     if not is_name(name):
         raise Refused(f"--table: {shown(name)} is not a valid name: use letters, digits and _, and "
                       "no reserved word of SQL")
@@ -100,13 +107,18 @@ def drop_output() -> None:
     os.dup2(os.open(os.devnull, os.O_WRONLY), sys.stdout.fileno())
 
 
+def rejections() -> tuple[type[Exception], ...]:
+    """Returns what is raised for an input that is rejected. Only after an exception is csv needed,
+    which a program may not have imported."""
+    import csv
+    return Refused, UnicodeError, csv.Error
+
+
 def status_of(name: str, work: Callable[[], int | None]) -> int:
     """Does a program's work. Returns its status: 3 if the input was rejected, 5 if I/O failed."""
     for number in (signal.SIGTERM, signal.SIGHUP):
         if signal.getsignal(number) == signal.SIG_DFL:
             signal.signal(number, stop)
-    # many objects are made, and none are in a reference cycle
-    gc.disable()
     if not sys.stdout:
         print(f"{name}: standard output is closed", file=sys.stderr)
         return 5
@@ -118,7 +130,7 @@ def status_of(name: str, work: Callable[[], int | None]) -> int:
         status = work() or 0
         sys.stdout.flush()
         return status
-    except (Refused, UnicodeError, csv.Error) as refused:
+    except rejections() as refused:
         print(f"{name}: {refused}", file=sys.stderr)
         return 3
     except Ended as ended:

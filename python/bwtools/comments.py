@@ -16,11 +16,11 @@ def plain_reader(lines: Iterable[str], signs: Signs) -> Any:
 
 def reader_of(lines: Iterable[str], signs: Signs) -> Records:
     """Returns the records of lines."""
-    found: Records = Reader(lines, signs) if signs.comment else plain_reader(lines, signs)
+    found: Records = CommentReader(lines, signs) if signs.comment else plain_reader(lines, signs)
     return found
 
 
-class Reader:
+class CommentReader:
     """The records of lines, as csv.reader returns them; a comment is an empty record."""
 
     def __init__(self, lines: Iterable[str], signs: Signs) -> None:

@@ -13,7 +13,7 @@ from .keeping import Coded, Numbered
 Place = tuple[int, int]
 
 
-class Store:
+class FieldStore:
     """A temporary file of what can be marshalled. Processes that are forked from this one can read
     it too."""
 

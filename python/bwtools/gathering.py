@@ -3,7 +3,7 @@ from __future__ import annotations
 
 from typing import Sequence
 
-from .field_store import Place, Store
+from .field_store import Place, FieldStore
 from .judges.fields import Fields
 from .plain import Plain
 from .runs import Runs
@@ -20,7 +20,7 @@ class Gatherer:
     """Reads the fields of a column: as codes of its distinct texts or, if these are many, as
     numbers."""
 
-    def __init__(self, wishes: Wishes, store: Store) -> None:
+    def __init__(self, wishes: Wishes, store: FieldStore) -> None:
         words = {word: place for place, word in enumerate(wishes.words, 1)}
         own = (wishes.form is not None or wishes.is_text or wishes.digits is not None or
                wishes.rules.keeps_blanks)

@@ -6,36 +6,23 @@ import argparse
 import contextlib
 import os
 import pathlib
-import sys
-from typing import BinaryIO, Sequence
+from typing import BinaryIO
 
-from . import command, inputs, options, pairs, placing, splitting, store
-from .column import Column
+from . import command, inputs, options, pairs, placing
 from .importing_straight import Imported, import_straight
+from .putting import put_many, put_one, refuse_out
 from .regular import open_regular
-from .shards import FILE, Folder, refuse_folder
-from .source import MOST_ROWS
-from .store import TableFile
+from .shards import FILE, Folder
+from .store import MOST_TABLES, TableFile
+from .table_limits import MOST_ROWS
 from .telling import Refused
-from .writing import Table, TooLong
 
 
 def dry_run(given: argparse.Namespace) -> None:
     """Prints the kind of each column, and writes nothing."""
-    table = Table(given.csv, given, most_rows=sys.maxsize)
-    with open(os.devnull, "w", encoding="ascii") as nowhere:
-        table.write_to(nowhere)
-    table.report()
-
-
-def refuse_out(path: str) -> None:
-    """Rejects a target that is neither a file nor a folder of shards, or whose columns file is no
-    file."""
-    if os.path.isdir(path) and not os.path.islink(path):
-        refuse_folder(path)
-        return
-    placing.refuse_target(path, [])
-    placing.refuse_target(f"{path}.columns", [])
+    # a file that is loaded as it is needs none of what an import by columns does
+    from . import importing_columns
+    importing_columns.dry_run(given)
 
 
 def import_file(given: argparse.Namespace, out: str, is_folder: bool) -> None:
@@ -49,17 +36,14 @@ def import_file(given: argparse.Namespace, out: str, is_folder: bool) -> None:
         raise Refused(f"{path} can't be overwritten: it is a folder")
     refuse_out(path)
     command.program()
+    is_folder = is_folder or os.path.isdir(path)
     with placing.new_folder(path) as room, inputs.open_input(given.csv) as file:
-        straight = import_straight(given, file, room, name, is_folder or os.path.isdir(path))
+        straight = import_straight(given, file, room, name, is_folder)
         if straight:
             put_straight(straight, room, name, path, is_folder)
             return
-        table = Table(given.csv, given, room, sys.maxsize, file)
-        told = ""
-        if not is_folder and not os.path.isdir(path) and table.rows <= MOST_ROWS:
-            told = load_one(table, room, name, path)
-        if not told:
-            told = load_many(given, table, room, name, path)
+        from .importing_columns import import_columns
+        table, told = import_columns(given, file, room, name, path, is_folder)
     # last, since its reader may stop early, as head does
     table.report()
     print(told)
@@ -68,9 +52,10 @@ def import_file(given: argparse.Namespace, out: str, is_folder: bool) -> None:
 def put_straight(found: Imported, room: pathlib.Path, name: str, path: str,
                  is_folder: bool) -> None:
     """Moves what was loaded as it is to its place, and prints what an import reports."""
-    is_one = len(found.records) == 1 and not is_folder and not os.path.isdir(path)
-    if is_one:
-        told = put_one(room / "made" / found.records[0].file, found.columns, room, name, path)
+    record = found.records[0]
+    if len(found.records) == 1 and not is_folder:
+        alone = TableFile("", 0, record.size, record.changed, record.inode, record.sha256)
+        told = put_one(room / "made" / record.file, found.columns, room, name, path, alone)
     else:
         told = put_many(found.records, found.columns, room, name, path)
     for line in found.report():
@@ -100,49 +85,10 @@ def verify_sum(path: str, digest: str, file: BinaryIO) -> None:
         raise Refused(f"{path} isn't as it was written: its bytes have another SHA-256")
 
 
-def load_one(table: Table, room: pathlib.Path, name: str, path: str) -> str:
-    """Loads a table, and moves it and its columns file to their places. Returns what was done, or
-    nothing if its numbers are too many bytes for one table."""
-    made, schema = room / "table.bw", room / "schema"
-    try:
-        table.write(room / "numbers.csv")
-    except TooLong:
-        table.recount()
-        return ""
-    schema.write_text(table.schema(name), encoding="ascii")
-    command.call(["load", schema, room / "numbers.csv", made])
-    return put_one(made, table.columns, room, name, path)
-
-
-def put_one(made: pathlib.Path, columns: Sequence[Column], room: pathlib.Path, name: str,
-            path: str) -> str:
-    """Moves a table file and its columns file to their places. Returns what was done."""
-    record = pairs.record_of(made)
-    store.write(room / "columns", columns, name, [record])
-    pairs.put_pair(room, made, room / "columns", record.sha256, path)
-    return f"{path} is written, as table {name}, and {path}.columns"
-
-
-def load_many(given: argparse.Namespace, table: Table, room: pathlib.Path, name: str,
-              path: str) -> str:
-    """Loads a file as shards, and moves their folder to its place. Returns what was done."""
-    rows = splitting.rows_a_shard(table.rows, given.shards, getattr(given, "rows", None))
-    (room / "made").mkdir()
-    return put_many(splitting.load_shards(table, room, name, rows), table.columns, room, name, path)
-
-
-def put_many(records: Sequence[TableFile], columns: Sequence[Column], room: pathlib.Path, name: str,
-             path: str) -> str:
-    """Moves a folder of shards to its place. Returns what was done."""
-    store.write(room / "made" / FILE, columns, name, records)
-    placing.put_folder(room / "made", path, refuse_out)
-    return splitting.told(path, name, records)
-
-
 def number_of_shards(text: str) -> str:
     """Returns a number of shards, or auto."""
-    if text != "auto" and not 1 <= options.number_of(text) <= store.MOST_TABLES:
-        raise argparse.ArgumentTypeError(f"must be auto, or from 1 to {store.MOST_TABLES}")
+    if text != "auto" and not 1 <= options.number_of(text) <= MOST_TABLES:
+        raise argparse.ArgumentTypeError(f"must be auto, or from 1 to {MOST_TABLES}")
     return text
 
 

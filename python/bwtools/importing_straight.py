@@ -8,18 +8,18 @@ import pathlib
 from dataclasses import dataclass
 from typing import BinaryIO, Iterator, Sequence
 
-from . import options, pairs, processes, splitting
+from . import options, pairs, processes, sharding
 from .column import Column
 from .counts import Counts
+from .feeding import OutOfRange, load_part
 from .kinds import Nulls, Whole
-from .loaded import Loaded, loaded
+from .loaded import Loaded, contents_of
 from .reporting import report_lines
 from .shards import shard_file
-from .source import MOST_ROWS
 from .store import TableFile
-from .straight import OutOfRange, Part, Straight, Unfit
+from .straight import FilePart, Straight, Unfit
+from .table_limits import MOST_BYTES, MOST_ROWS
 from .telling import Refused, counted
-from .writing import MOST_BYTES
 
 # what an option may be, beside its default
 ALSO = {"separator": (",", "comma"), "encoding": ("utf-8", "utf8", "ascii", "UTF-8"),
@@ -43,6 +43,14 @@ class Imported:
         counts = [Counts(nulls={"": nulls} if nulls else {}) for nulls in self.nulls]
         yield from report_lines(self.columns, counts, [""] * len(counts))
         yield f"{counted(self.rows, 'row')}, separated by ',', in utf-8"
+
+
+@dataclass
+class Shard:
+    """A part of a file that was loaded: the record of its table file, and what bw says of its
+    columns."""
+    record: TableFile
+    columns: list[Loaded]
 
 
 def has_wishes(given: argparse.Namespace) -> bool:
@@ -76,58 +84,69 @@ def import_straight(given: argparse.Namespace, file: BinaryIO, room: pathlib.Pat
 def load(straight: Straight, given: argparse.Namespace, room: pathlib.Path, name: str,
          is_folder: bool) -> Imported:
     """Loads a file. Raises Unfit if it isn't one of such numbers."""
+    parts = parts_of(straight, given, is_folder)
+    try:
+        shards = load_parts(straight, room, name, parts)
+    except OutOfRange:
+        straight.infer()
+        try:
+            shards = load_parts(straight, room, name, parts)
+        except OutOfRange:
+            raise Unfit from None
+    if pairs.marks_of(straight.file) != straight.marks:
+        raise Refused(f"{given.csv}: the file changed while it was read")
+    return imported(straight, shards)
+
+
+def parts_of(straight: Straight, given: argparse.Namespace, is_folder: bool) -> list[FilePart]:
+    """Returns the parts of a file that become a table each."""
+    # lines are counted only if their number matters
+    if not is_folder and straight.size <= MOST_BYTES and straight.rows_about < MOST_ROWS * 7 // 8:
+        return [straight.whole()]
     count = straight.count()
-    if count == 0:
-        raise Unfit
-    is_one = not is_folder and count <= MOST_ROWS and straight.size <= MOST_BYTES
-    rows = count if is_one else splitting.rows_a_shard(count, given.shards,
-                                                       getattr(given, "rows", None))
-    parts = straight.parts(rows, count)
-    while (size := max(part.end - part.start for part in parts)) > MOST_BYTES - straight.first:
+    if not is_folder and straight.size <= MOST_BYTES and count <= MOST_ROWS:
+        return [straight.whole()]
+    rows = sharding.rows_a_shard(count, given.shards, getattr(given, "rows", None))
+    parts = straight.parts(rows)
+    while (size := max(map(straight.length, parts))) > MOST_BYTES - straight.first:
         if rows == 1:
             raise Unfit
         rows = max(1, rows * (MOST_BYTES - straight.first) // size * 15 // 16)
-        parts = straight.parts(rows, count)
+        parts = straight.parts(rows)
+    return parts
+
+
+def load_parts(straight: Straight, room: pathlib.Path, name: str,
+               parts: Sequence[FilePart]) -> list[Shard]:
+    """Loads each part, several side by side. Returns the shards in the order of rows. Raises Unfit
+    if a number isn't spelled as bw prints it."""
     schema = room / "schema"
     schema.write_text(straight.schema(name), encoding="ascii")
-    try:
-        records = load_parts(straight, schema, room, parts)
-    except OutOfRange:
-        schema.write_text(straight.infer(name), encoding="ascii")
-        try:
-            records = load_parts(straight, schema, room, parts)
-        except OutOfRange:
-            raise Unfit from None
-    found = imported(straight, room / "made", records, name)
-    if found.rows != count:
-        # an empty line is none of bw's rows
-        raise Unfit
-    if pairs.marks_of(straight.file) != straight.marks:
-        raise Refused(f"{given.csv}: the file changed while it was read")
-    return found
+    count = sharding.processes_for(len(parts), straight.size)
 
-
-def load_parts(straight: Straight, schema: pathlib.Path, room: pathlib.Path,
-               parts: Sequence[Part]) -> list[pathlib.Path]:
-    """Loads each part, several side by side. Returns the table files in the order of rows."""
-    count = splitting.processes_for(len(parts), straight.size)
-    paths = [shard_file(room / "made", place) for place in range(len(parts))]
-
-    def load_some(process: int) -> None:
+    def load_some(process: int) -> list[Shard]:
+        shards = []
         for place in range(process, len(parts), count):
-            straight.load(schema, parts[place], paths[place], process == 0)
+            path, size = shard_file(room / "made", place), straight.length(parts[place])
+            load_part(straight, parts[place], schema, path, process == 0)
+            adding = processes.Aside(functools.partial(pairs.digest_of, path))
+            found = contents_of(path, name, straight.names, straight.ranges, size)
+            if found.length != size:
+                raise Unfit
+            record = pairs.record_of(path, path.name, found.rows, adding.result())
+            shards.append(Shard(record, found.columns))
+        return shards
 
-    processes.do_parts(count, load_some)
-    return paths
+    found = processes.do_parts(count, load_some)
+    return [found[place % count][place // count] for place in range(len(parts))]
 
 
-def imported(straight: Straight, made: pathlib.Path, paths: Sequence[pathlib.Path],
-             name: str) -> Imported:
+def imported(straight: Straight, shards: Sequence[Shard]) -> Imported:
     """Returns what was loaded."""
-    told = [loaded(path, name, straight.names) for path in paths]
-    records = [pairs.record_of(path, path.name, rows) for path, (rows, _) in zip(paths, told)]
-    each = [functools.reduce(Loaded.added, column) for column in zip(*(found for _, found in told))]
-    rows = sum(count for count, _ in told)
+    records = [shard.record for shard in shards]
+    each = [functools.reduce(Loaded.added, column)
+            for column in zip(*(shard.columns for shard in shards))]
+    rows = sum(record.rows for record in records)
     columns = [column_of(heading, found) for heading, found in zip(straight.names, each)]
     return Imported(records, columns, [rows - found.count for found in each])
 

@@ -2,24 +2,21 @@
 it holds."""
 from __future__ import annotations
 
-import bz2
-import gzip
+import importlib
 import io
-import lzma
 import os
 import shutil
 import stat
 import sys
 import tempfile
 import zlib
-from typing import IO, Any, BinaryIO, Callable
+from typing import IO, Any, BinaryIO
 
 from .telling import Refused
 
-# the first bytes of each form, its name, and what opens it
-FORMS: tuple[tuple[bytes, str, Callable[[Any], Any]], ...] = (
-    (b"\x1f\x8b\x08", "gzip", gzip.open), (b"BZh", "bzip2", bz2.open),
-    (b"\xfd7zXZ\0", "xz", lzma.open))
+# the first bytes of each form, its name, and the module that opens it
+FORMS = ((b"\x1f\x8b\x08", "gzip", "gzip"), (b"BZh", "bzip2", "bz2"),
+         (b"\xfd7zXZ\0", "xz", "lzma"))
 # what a reader may take for a table, and what to do with it
 OTHERS = ((b"PK\3\4", "a zip archive, or a spreadsheet: unpack it, or export it as CSV"),
           (b"PAR1", "a Parquet file: write it as CSV"),
@@ -82,9 +79,10 @@ def open_input(path: str | os.PathLike[str]) -> BinaryIO:
     for mark, what in OTHERS:
         if begin.startswith(mark):
             raise Refused(f"{name_of(path)} is {what}")
-    for mark, name, opener in FORMS:
+    for mark, name, module in FORMS:
         if begin.startswith(mark):
-            return unpacked(file, name, opener, name_of(path))
+            # a module that a system's Python may lack, and that few files need
+            return unpacked(file, name, importlib.import_module(module), name_of(path))
     return file
 
 
@@ -98,17 +96,19 @@ def copied(file: BinaryIO) -> BinaryIO:
     return found
 
 
-def unpacked(file: BinaryIO, name: str, opener: Callable[[Any], Any], path: str) -> BinaryIO:
-    """Returns a temporary file with what a compressed file holds."""
+def unpacked(file: BinaryIO, name: str, module: Any, path: str) -> BinaryIO:
+    """Returns a temporary file with what a compressed file holds, which a module opens."""
     file.seek(0)
+    damaged: tuple[type[Exception], ...] = (
+        EOFError, zlib.error, getattr(module, "LZMAError", EOFError))
     try:
-        # reading may raise EOFError or zlib.error, opening doesn't
-        with opener(file) as text:
+        # reading may raise one of these, opening doesn't
+        with module.open(file) as text:
             return copied(text)
-    except (EOFError, zlib.error, lzma.LZMAError, gzip.BadGzipFile) as error:
+    except damaged as error:
         raise Refused(f"{path} is not a whole {name} file: {error}") from None
     except OSError as error:
-        # bz2 reports a damaged file as one without a number
+        # gzip and bz2 report a damaged file as one without a number
         if error.errno is not None:
             raise
         raise Refused(f"{path} is not a whole {name} file: {error}") from None

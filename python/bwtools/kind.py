@@ -3,15 +3,19 @@ stands for. `kinds` has the kinds; the store keeps a column's kind by its name, 
 for texts, the list that its numbers are places in."""
 from __future__ import annotations
 
-import fractions
-from typing import Dict, Protocol, Sequence, Union
+from typing import TYPE_CHECKING, Dict, Protocol, Sequence, Union
 
 from .listed import Listed, Place
+
+if TYPE_CHECKING:
+    from fractions import Fraction
+
+    from typing_extensions import TypeAlias
 
 # the bounds of a column's numbers
 LEAST, GREATEST = -1 << 63, (1 << 63) - 1
 # a literal of a statement: a text, or a number, as which TRUE is 1
-Literal = Union[str, fractions.Fraction]
+Literal: TypeAlias = "Union[str, Fraction]"
 # what the store keeps of a kind: at most 16 fields of short texts and of integers of 64 bits
 Settings = Dict[str, Union[int, str]]
 

@@ -5,10 +5,9 @@ from __future__ import annotations
 import datetime
 import functools
 import re
-from dataclasses import dataclass
 from typing import NamedTuple
 
-from .clock import clock_of, hour_of
+from .clock import clock_of, hour_of, offset_of
 
 FIRST_DAY = datetime.date(1970, 1, 1).toordinal()
 LAST_SECOND = (datetime.date(9999, 12, 31).toordinal() - FIRST_DAY + 1) * 86400
@@ -44,8 +43,7 @@ SHAPES = str.maketrans("123456789" + "bcdefghijklmnopqrstuvwxyz" + "ABCDEFGHIJKL
                        "0" * 9 + "a" * 51)
 
 
-@dataclass(frozen=True)
-class Moment:
+class Moment(NamedTuple):
     """A date, a time or a time of day: the days since 1970 that it may be, by format; the second of
     its day in UTC multiplied by ten to `digits`; what is between day and second; the format of the
     latter; and whether it has a zone."""
@@ -160,6 +158,13 @@ def written_by(form: str, day: int, second: int) -> str:
     return re.sub("%-?.", lambda found: parts[found.group()], form)
 
 
+# what may follow the text of a format that ends with a time: digits after the point of its seconds,
+# before AM or PM, and a zone
+ENDED = re.compile(r"(?P<start>.*?[0-9])(?:[.,](?P<part>[0-9]{1,9}))?(?P<half> ?[AaPp][Mm])?"
+                   r" ?(?P<zone>Z|[+-][0-9]{2}(?::?[0-9]{2})?)?", re.DOTALL)
+ENDS = re.compile("%-?[HIMS](?: ?%p)?$")
+
+
 class Read(NamedTuple):
     """A date or a time as one number: the seconds since 1970 multiplied by ten to `digits`; and
     whether its text has a time of day, and a zone."""
@@ -176,12 +181,16 @@ def date_format(form: str) -> str:
 
 
 def read_moment(form: str, text: str) -> Read | None:
-    """Returns the date or the time that a text spells in a format, in its format of dates with any
-    time of day, or as an ISO date with or without one. Returns None for another text."""
+    """Returns the date or the time that a text spells in a format, which may be followed by a part
+    of a second and by a zone, or in its format of dates with any time of day, or as an ISO date
+    with or without one. Returns None for another text."""
     found = read_by(form, text)
     if found:
         return Read(found[0] * 86400 + found[1], 0, "%M" in form or "%H" in form or "%I" in form,
                     False)
+    ended = read_ended(form, text)
+    if ended:
+        return ended
     moment = moment_of(text)
     if moment is None:
         return None
@@ -190,6 +199,23 @@ def read_moment(form: str, text: str) -> Read | None:
         return None
     return Read(day * 86400 * 10 ** moment.digits + moment.part, moment.digits, bool(moment.clock),
                 moment.has_zone)
+
+
+def read_ended(form: str, text: str) -> Read | None:
+    """Returns the time that a text spells in a format, with a part of a second or a zone after
+    it."""
+    end, found = ENDS.search(form), ENDED.fullmatch(text)
+    if not end or not found or found["part"] and "S" not in end.group():
+        return None
+    read, offset = read_by(form, found["start"] + (found["half"] or "")), offset_of(found["zone"])
+    if not read or offset is None:
+        return None
+    digits = len(found["part"] or "")
+    second = read[0] * 86400 + read[1] - offset
+    if not FIRST_SECOND <= second < LAST_SECOND:
+        return None
+    return Read(second * 10 ** digits + int(found["part"] or 0), digits, True,
+                bool(found["zone"]))
 
 
 def with_part(text: str, part: int, digits: int) -> str:

@@ -2,8 +2,6 @@
 from __future__ import annotations
 
 import re
-import shlex
-import unicodedata
 
 RESERVED = set("AND BETWEEN COUNT FALSE FROM IN IS MAX MIN NOT NULL OR SELECT SUM TRUE UNKNOWN "
                "WHERE".split())
@@ -16,10 +14,17 @@ def is_name(text: str) -> bool:
 
 def name_like(heading: str) -> str:
     """Returns a valid name that resembles a heading."""
-    plain = unicodedata.normalize("NFKD", heading.strip()).encode("ascii", "ignore").decode()
-    name = re.sub("[^A-Za-z0-9_]+", "_", plain)[:63] or "_"
+    name = re.sub("[^A-Za-z0-9_]+", "_", ascii_of(heading.strip()))[:63] or "_"
     name = name if re.match("[A-Za-z_]", name) else f"_{name}"[:63]
     return name if is_name(name) else f"{name}_"
+
+
+def ascii_of(text: str) -> str:
+    """Returns a text without accents and without what ASCII doesn't have."""
+    if text.isascii():
+        return text
+    import unicodedata
+    return unicodedata.normalize("NFKD", text).encode("ascii", "ignore").decode()
 
 
 def names_of(headings: list[str]) -> list[str]:
@@ -43,4 +48,6 @@ def names_of(headings: list[str]) -> list[str]:
 
 def option(name: str, value: str) -> str:
     """Returns an option as it is typed in a shell."""
+    # for messages alone
+    import shlex
     return f"{name} {shlex.quote(value)}"

@@ -7,7 +7,7 @@ from __future__ import annotations
 
 import functools
 import re
-from dataclasses import dataclass
+from typing import NamedTuple
 
 PLAIN = re.compile(r"[+-]?(?:[0-9]+\.?[0-9]*|\.[0-9]+)(?:[eE][+-]?[0-9]{1,6})?")
 CURRENCIES = "$\u00a2\u00a3\u00a4\u00a5\u20a0-\u20cf"
@@ -24,6 +24,8 @@ SUFFIX = f"[ \u00a0\u202f]?(?:{UNITS}|[{CURRENCIES}])|[ \u00a0\u202f](?:{LETTERS
 # what may separate thousands besides a point and a comma: an apostrophe, a blank of three widths,
 # or a low line
 BETWEEN = "'\u2019 \u00a0\u202f_"
+# stands for a comma that separates the last three digits, and above these every two, as in India
+LAKHS = ",,"
 # patterns of many words take long to compile, and queries need none of them
 DRESSED = (
     rf"(?P<open>\()?(?P<sign>[+-]?)(?P<prefix>{PREFIX})?(?P<inner>[+-]?)"
@@ -38,8 +40,7 @@ ZEROS = re.compile("[+-]?0[0-9]")
 WHOLE = re.compile("[+-]?[0-9]+")
 
 
-@dataclass(frozen=True)
-class Parts:
+class Parts(NamedTuple):
     """The parts of a text that is a number: its sign, its digits with the marks among them, and
     what is around it."""
     sign: str
@@ -50,8 +51,7 @@ class Parts:
     has_brackets: bool
 
 
-@dataclass(frozen=True)
-class Marks:
+class Marks(NamedTuple):
     """What the marks among a number's digits show: the sign between its thousands, its decimal
     sign, and a mark that may be either of them, each of them or nothing."""
     grouping: str = ""
@@ -82,12 +82,29 @@ def parts_of(text: str) -> Parts | None:
 
 @functools.lru_cache(64)
 def groups(mark: str) -> re.Pattern[str]:
+    if mark == LAKHS:
+        return re.compile("[1-9][0-9]?(?:,[0-9]{2})*,[0-9]{3}")
     return re.compile(f"[1-9][0-9]{{0,2}}(?:{re.escape(mark)}[0-9]{{3}})+")
 
 
 def is_grouped(body: str, mark: str) -> bool:
     """Returns whether a mark separates the thousands of digits."""
     return groups(mark).fullmatch(body) is not None
+
+
+def grouping_of(body: str, mark: str) -> str:
+    """Returns how a mark groups digits, or nothing if it doesn't."""
+    kinds = (mark, LAKHS) if mark == "," else (mark,)
+    return next((each for each in kinds if is_grouped(body, each)), "")
+
+
+def grouped(digits: str, mark: str) -> str:
+    """Returns digits with a mark between groups."""
+    if mark != LAKHS:
+        return f"{int(digits):,}".replace(",", mark)
+    first, last = digits[:-3], digits[-3:]
+    pairs = [first[max(end - 2, 0):end] for end in range(len(first), 0, -2)]
+    return ",".join([*pairs[::-1], last])
 
 
 def marks_of(body: str) -> Marks | None:
@@ -99,13 +116,13 @@ def marks_of(body: str) -> Marks | None:
     if len(set(found)) == 1:
         if len(found) == 1 and first in ".,":
             return Marks(either=first) if is_grouped(body, first) else Marks(decimal=first)
-        return Marks(grouping=first) if is_grouped(body, first) else None
+        kind = grouping_of(body, first)
+        return Marks(grouping=kind) if kind else None
     whole, _, part = body.rpartition(last)
     if last not in ".," or set(found[:-1]) != {first} or first == last:
         return None
-    if not is_grouped(whole, first):
-        return None
-    return Marks(grouping=first, decimal=last)
+    kind = grouping_of(whole, first)
+    return Marks(grouping=kind, decimal=last) if kind else None
 
 
 def is_number(text: str) -> bool:

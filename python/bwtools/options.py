@@ -7,6 +7,10 @@ from typing import Any, Sequence
 # separators of fields that have a name
 SEPARATORS = {"comma": ",", "semicolon": ";", "tab": "\t", "bar": "|", "\\t": "\t"}
 
+# options that stand alone, or with =COLUMN, and what the latter are for the parser: it would take a
+# name after the former for the column
+OF_COLUMN = {"--drop-blanks": "--blanks-dropped", "--keep-blanks": "--blanks-kept"}
+
 RAW = "the file to read, or - for standard input; gzip, bzip2 and xz are unpacked"
 
 
@@ -88,7 +92,8 @@ def add_meaning(parser: argparse.ArgumentParser) -> None:
                              "comma as the decimal sign")
     parser.add_argument("--date", metavar="COLUMN=FORMAT", action=Format, default={},
                         help="the format of a column's dates or times, of %%d, %%m, %%b, %%B, %%Y "
-                             "and %%y, and %%H, %%I, %%p, %%M and %%S")
+                             "and %%y, and %%H, %%I, %%p, %%M and %%S, with .%%f for parts of "
+                             "seconds and %%z for a zone at the end, which becomes UTC")
     parser.add_argument("--digits", metavar="COLUMN=N", action=Digits, default={},
                         help="round a column's numbers to N digits after the point, at most 18")
     parser.add_argument("--thousands", metavar="SIGN", type=one_character,
@@ -96,8 +101,13 @@ def add_meaning(parser: argparse.ArgumentParser) -> None:
                              "by the columns)")
     blanks = parser.add_mutually_exclusive_group()
     blanks.add_argument("--drop-blanks", action="store_true",
-                        help="drop blanks around texts, even if two texts become one")
-    blanks.add_argument("--keep-blanks", action="store_true", help="keep blanks around texts")
+                        help="drop blanks around texts, even if two texts become one; those of one "
+                             "column with --drop-blanks=COLUMN")
+    blanks.add_argument("--keep-blanks", action="store_true",
+                        help="keep blanks around texts; those of one column with "
+                             "--keep-blanks=COLUMN")
+    for name in OF_COLUMN.values():
+        parser.add_argument(name, action="append", default=[], help=argparse.SUPPRESS)
     parser.add_argument("--keep-spelling", action="store_true",
                         help="load a column as texts if a field of it wouldn't be restored "
                              "exactly, such as 2.0 beside 1.25")
@@ -106,15 +116,22 @@ def add_meaning(parser: argparse.ArgumentParser) -> None:
 def parsed(parser: argparse.ArgumentParser, words: Sequence[str]) -> argparse.Namespace:
     """Returns what arguments of the command line give. Those after `--` are names, even if they
     begin as options do."""
-    if "--" not in words:
-        return parser.parse_intermixed_args(words)
-    at = words.index("--")
+    at = words.index("--") if "--" in words else len(words)
+    before = list(map(of_column, words[:at]))
+    if at == len(words):
+        return parser.parse_intermixed_args(before)
     # argparse takes a name that begins so for an option, even after `--`
     names = {f"\0{place}": name for place, name in enumerate(words[at + 1:])}
-    given = parser.parse_intermixed_args([*words[:at], *names])
+    given = parser.parse_intermixed_args([*before, *names])
     for each, value in vars(given).items():
         if isinstance(value, str):
             setattr(given, each, names.get(value, value))
         elif isinstance(value, list):
             setattr(given, each, [names.get(part, part) for part in value])
     return given
+
+
+def of_column(word: str) -> str:
+    """Returns an argument as the parser takes it."""
+    name, sign, column = word.partition("=")
+    return f"{OF_COLUMN[name]}={column}" if sign and name in OF_COLUMN else word

@@ -8,26 +8,26 @@ from __future__ import annotations
 
 import contextlib
 import os
-import pathlib
 import re
-from dataclasses import dataclass
-from typing import Any, BinaryIO, Iterator
+from typing import TYPE_CHECKING, Any, BinaryIO, Iterator
 
 from .regular import open_regular
 from .store import Store, TableFile
 from .telling import Refused
+
+if TYPE_CHECKING:
+    import pathlib
 
 # how often a pair is opened again that is replaced at that moment
 ATTEMPTS = 100
 DIGITS = 16
 
 
-@dataclass
 class Pair:
     """An open table file, and its columns."""
 
-    file: BinaryIO
-    store: Store
+    def __init__(self, file: BinaryIO, store: Store) -> None:
+        self.file, self.store = file, store
 
     def __enter__(self) -> Pair:
         return self
@@ -55,10 +55,17 @@ def sum_of(file: BinaryIO) -> str:
     return found.hexdigest()
 
 
-def record_of(path: str | os.PathLike[str], name: str = "", rows: int = 0) -> TableFile:
-    """Returns a table file's record for a columns file."""
+def digest_of(path: str | os.PathLike[str]) -> str:
+    """Returns the SHA-256 of a table file."""
     with open_regular(path) as file:
-        return TableFile(name, rows, *marks_of(file), sum_of(file))
+        return sum_of(file)
+
+
+def record_of(path: str | os.PathLike[str], name: str = "", rows: int = 0,
+              digest: str = "") -> TableFile:
+    """Returns a table file's record for a columns file. Its SHA-256 may be known."""
+    with open_regular(path) as file:
+        return TableFile(name, rows, *marks_of(file), digest or sum_of(file))
 
 
 def is_of(record: TableFile, file: BinaryIO) -> bool:
@@ -68,18 +75,17 @@ def is_of(record: TableFile, file: BinaryIO) -> bool:
         record.size == marks_of(file)[0] and record.sha256 == sum_of(file)
 
 
-def columns_beside(table: str | os.PathLike[str]) -> pathlib.Path:
+def columns_beside(table: str | os.PathLike[str]) -> str:
     """Returns the path of a table's columns file: beside the table, or beside the file that a link
     points to."""
-    beside = pathlib.Path(f"{os.fspath(table)}.columns")
-    real = pathlib.Path(f"{os.path.realpath(table)}.columns")
+    beside = f"{os.fspath(table)}.columns"
     is_real = os.path.islink(table) and not os.path.lexists(beside)
-    return real if is_real else beside
+    return f"{os.path.realpath(table)}.columns" if is_real else beside
 
 
-def kept_path(columns: pathlib.Path, digest: str) -> pathlib.Path:
+def kept_path(columns: str, digest: str) -> str:
     """Returns the path of a columns file until its table file is at its place."""
-    return columns.with_name(f"{columns.name}.{digest[:DIGITS]}")
+    return f"{columns}.{digest[:DIGITS]}"
 
 
 def open_pair(table: str | os.PathLike[str]) -> Pair:
@@ -115,7 +121,7 @@ def foreign(columns: str | os.PathLike[str], table: str | os.PathLike[str]) -> R
                    "replaced: run bw-import again, which writes both")
 
 
-def places(table: str | os.PathLike[str], columns: pathlib.Path) -> list[Any]:
+def places(table: str | os.PathLike[str], columns: str) -> list[Any]:
     """Returns which files are at the two places."""
     found: list[Any] = []
     for path in (table, columns):
@@ -125,7 +131,7 @@ def places(table: str | os.PathLike[str], columns: pathlib.Path) -> list[Any]:
     return found
 
 
-def store_of(columns: pathlib.Path, file: BinaryIO) -> Store | None:
+def store_of(columns: str, file: BinaryIO) -> Store | None:
     """Returns the open columns file that names a table file, or None: the one at its place, or the
     one that an import left which was stopped."""
     refused = store = None
@@ -140,7 +146,7 @@ def store_of(columns: pathlib.Path, file: BinaryIO) -> Store | None:
     return store
 
 
-def store_at(path: pathlib.Path, file: BinaryIO) -> Store | None:
+def store_at(path: str, file: BinaryIO) -> Store | None:
     """Returns the open columns file of a path, if it is there and names a table file."""
     try:
         store = Store(path)
@@ -152,12 +158,14 @@ def store_at(path: pathlib.Path, file: BinaryIO) -> Store | None:
     return None
 
 
-def left(columns: pathlib.Path) -> Iterator[pathlib.Path]:
+def left(columns: str) -> Iterator[str]:
     """Yields the columns files that imports left which were stopped."""
-    name = re.compile(re.escape(columns.name) + f"\\.[0-9a-f]{{{DIGITS}}}")
+    folder, own = os.path.split(columns)
+    name = re.compile(re.escape(own) + f"\\.[0-9a-f]{{{DIGITS}}}")
     # a folder may be one to write into alone
     with contextlib.suppress(PermissionError):
-        yield from [path for path in columns.parent.iterdir() if name.fullmatch(path.name)]
+        yield from [os.path.join(folder, each) for each in os.listdir(folder or ".")
+                    if name.fullmatch(each)]
 
 
 def put_pair(folder: pathlib.Path, table: pathlib.Path, columns: pathlib.Path, digest: str,
@@ -165,19 +173,21 @@ def put_pair(folder: pathlib.Path, table: pathlib.Path, columns: pathlib.Path, d
     """Moves a table file with this SHA-256, and its columns file, to their places, after those that
     another import moves at the same time. Whenever it is stopped, the old pair is there or the new
     one."""
+    import pathlib
+
     from . import placing
-    place, beside = pathlib.Path(target), pathlib.Path(f"{os.fspath(target)}.columns")
-    kept = kept_path(beside, digest)
+    place, beside = pathlib.Path(target), f"{os.fspath(target)}.columns"
+    kept = pathlib.Path(kept_path(beside, digest))
     with placing.locked(place.parent):
         finish(place, beside)
         try:
-            placing.put(folder, [(columns, kept), (table, place), (kept, beside)])
+            placing.put(folder, [(columns, kept), (table, place), (kept, pathlib.Path(beside))])
         finally:
             with contextlib.suppress(FileNotFoundError):
                 kept.unlink()
 
 
-def finish(table: pathlib.Path, columns: pathlib.Path) -> None:
+def finish(table: pathlib.Path, columns: str) -> None:
     """Ends what a stopped import began: renames the columns file that it left, if its table file is
     at its place, and else removes it."""
     for path in list(left(columns)):
@@ -187,10 +197,10 @@ def finish(table: pathlib.Path, columns: pathlib.Path) -> None:
         if is_whole:
             os.replace(path, columns)
         else:
-            path.unlink()
+            os.unlink(path)
 
 
-def store_fits(path: pathlib.Path, file: BinaryIO) -> bool:
+def store_fits(path: str, file: BinaryIO) -> bool:
     """Returns whether a path has a columns file that names a table file."""
     try:
         store = store_at(path, file)

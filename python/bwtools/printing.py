@@ -1,5 +1,5 @@
-"""Prints an answer: as CSV, as an aligned table, as JSON, as a table of Markdown, or as lines of
-fields that are separated by tabs."""
+"""Prints an answer: as an aligned table, as JSON, as a table of Markdown, or as lines of fields
+that are separated by tabs. `csv_lines` prints CSV."""
 from __future__ import annotations
 
 import collections
@@ -9,7 +9,6 @@ import math
 from typing import Any, Callable, Iterator, Sequence, TextIO
 
 from . import aligned
-from .answers import csv_lines, quoted
 from .kind import Kind
 from .kinds import Decimals, undressed
 from .sql.answer import Answer
@@ -20,17 +19,6 @@ TSV = str.maketrans({"\t": "\\t", "\n": "\\n", "\r": "\\r", "\\": "\\\\"})
 MARKDOWN = str.maketrans({"\n": "<br>", "\r": "", "<": "&lt;", "&": "&amp;",
                           **{each: f"\\{each}" for each in "\\|*_`"}})
 Columns = Sequence[Sequence[str]]
-
-
-def write_csv(answer: Answer, out: TextIO, width: int | None) -> int:
-    """Writes CSV. A null is an empty field; in a record of one field it has quotes. Returns the
-    number of rows."""
-    out.write(csv_lines([[quoted(heading)] for heading in answer.headings]))
-    count = 0
-    for block in answer.fields():
-        out.write(csv_lines([list(map(quoted, column)) for column in block]))
-        count += len(block[0])
-    return count
 
 
 def write_tsv(answer: Answer, out: TextIO, width: int | None) -> int:
@@ -137,6 +125,5 @@ def is_number(values: Sequence[Any]) -> bool:
     return bool(present) and all(isinstance(value, (int, float)) for value in present)
 
 
-FORMATS: dict[str, Callable[[Answer, TextIO, int | None], int]] = {
-    "csv": write_csv, "table": write_table, "json": write_json, "markdown": write_markdown,
-    "tsv": write_tsv}
+WRITERS: dict[str, Callable[[Answer, TextIO, int | None], int]] = {
+    "table": write_table, "json": write_json, "markdown": write_markdown, "tsv": write_tsv}

@@ -1,11 +1,12 @@
-"""Runs the parts of one task in processes side by side."""
+"""Runs the parts of one task side by side: in processes, or one of them in a thread."""
 from __future__ import annotations
 
 import contextlib
 import os
 import pickle
 import signal
-from typing import Any, Callable, TypeVar
+import threading
+from typing import Any, Callable, Generic, TypeVar
 
 MOST = 4
 T = TypeVar("T")
@@ -61,6 +62,28 @@ class Child:
             os.killpg(self.process, signal.SIGKILL)
         with contextlib.suppress(ChildProcessError):
             os.waitpid(self.process, 0)
+
+
+class Aside(Generic[T]):
+    """Runs a function in a thread, which is worth it while it computes a sum, or waits."""
+
+    def __init__(self, act: Callable[[], T]) -> None:
+        self.act = act
+        self.told: tuple[bool, Any] = False, None
+        self.thread = threading.Thread(target=self.run, daemon=True)
+        self.thread.start()
+
+    def run(self) -> None:
+        self.told = outcome(lambda _: self.act(), 0)
+
+    def result(self) -> T:
+        """Waits for the result, or raises the exception of the function."""
+        self.thread.join()
+        done, found = self.told
+        if not done:
+            raise found
+        result: T = found
+        return result
 
 
 def outcome(act: Callable[[int], Any], part: int) -> tuple[bool, Any]:

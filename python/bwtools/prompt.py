@@ -7,8 +7,8 @@ import pathlib
 import sys
 from typing import Callable, Iterator
 
-from . import printing
 from .asking import Asking, statements_in
+from .formats import FORMATS
 from .naming import is_name
 from .sql.table import Table
 from .telling import counted
@@ -90,10 +90,10 @@ class Prompt:
             print("\n".join(described(table)))
 
     def set_format(self, name: str) -> None:
-        if name in printing.FORMATS:
+        if name in FORMATS:
             self.asking.form = name
         elif name:
-            print(f"there is no format {name}: use {', '.join(printing.FORMATS)}", file=sys.stderr)
+            print(f"there is no format {name}: use {', '.join(FORMATS)}", file=sys.stderr)
         else:
             print(self.asking.form)
 
@@ -104,7 +104,7 @@ class Prompt:
             print("use .timer on or .timer off", file=sys.stderr)
 
     def print_help(self, _: str) -> None:
-        print(HELP.format(", ".join(printing.FORMATS)))
+        print(HELP.format(", ".join(FORMATS)))
 
     def end(self, _: str) -> None:
         self.is_ended = True
@@ -115,7 +115,7 @@ class Prompt:
         for table in self.tables:
             for column in table.columns:
                 names |= {column.name, *([column.heading] if is_name(column.heading) else [])}
-        return sorted([*KEYWORDS, *names, *self.commands, *printing.FORMATS], key=str.lower)
+        return sorted([*KEYWORDS, *names, *self.commands, *FORMATS], key=str.lower)
 
 
 def described(table: Table) -> Iterator[str]:

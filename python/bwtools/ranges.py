@@ -19,6 +19,12 @@ class Range:
         return f"COLUMN {name} {self.least} {self.greatest}{null}\n"
 
 
+def range_in(line: str) -> Range:
+    """Returns the range in a schema's line of a column."""
+    _, _, least, greatest, *null = line.split()
+    return Range(int(least), int(greatest), not null)
+
+
 def range_of(fields: Sequence[str]) -> Range:
     """Returns the range of some fields of a column, widened to all numbers of as many bits."""
     numbers = list(map(int, filter(None, fields)))

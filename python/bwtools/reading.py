@@ -6,7 +6,7 @@ import pathlib
 from typing import NamedTuple
 
 from . import processes
-from .field_store import Place, Store
+from .field_store import Place, FieldStore
 from .gathering import Gatherer
 from .judges.fields import Fields
 from .plain import Plain
@@ -43,7 +43,7 @@ def parts_of(source: Source) -> int:
     return max(1, min(processes.processors(), len(source.headings), size // BYTES_A_PART))
 
 
-def read_part(source: Source, columns: list[Gatherer], store: Store, part: int, step: int,
+def read_part(source: Source, columns: list[Gatherer], store: FieldStore, part: int, step: int,
               stops: Stops) -> Outcome:
     """Reads all rows, and stores every so many columns. Stops at the first fault, or once another
     process has stopped at an earlier chunk."""
@@ -71,7 +71,7 @@ def read(source: Source, wishes: list[Wishes], folder: pathlib.Path | None = Non
     """Returns the columns of a file after all rows were read and stored. Raises what is raised at
     the first chunk."""
     parts = parts_of(source)
-    stores = [Store(folder) for _ in range(parts)]
+    stores = [FieldStore(folder) for _ in range(parts)]
     columns = [Gatherer(wish, stores[place % parts]) for place, wish in enumerate(wishes)]
     stops = Stops(parts)
     found = processes.do_parts(parts,

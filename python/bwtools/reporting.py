@@ -1,15 +1,17 @@
 """What an import reports of each column."""
 from __future__ import annotations
 
-from typing import Iterator, Sequence
+from typing import TYPE_CHECKING, Iterator, Sequence
 
 from .column import Column
 from .counts import Counts
 from .kinds import undressed
 from .naming import option
-from .tallies import Tally
 from .telling import counted, shown
 from .wishes import BLANKS, NULLS
+
+if TYPE_CHECKING:
+    from .tallies import Tally
 
 HEADINGS = ("COLUMN", "HEADING", "WHAT IT IS", "FROM", "TO", "NULLS", "NOTES")
 

@@ -8,7 +8,7 @@ from array import array
 from typing import Iterable, Iterator, NamedTuple, Sequence
 
 from .codes import Codes
-from .field_store import Place, Store
+from .field_store import Place, FieldStore
 from .keeping import Coded, coded, in_blocks
 
 # a run is full with so many texts, or so many characters; sorted texts are stored so many at a time
@@ -36,7 +36,7 @@ class Runs:
         self.stored: list[Run] = []
         self.codes, self.characters, self.is_fresh = Codes(), 0, False
 
-    def add(self, fields: Sequence[str], store: Store) -> tuple[Coded, int]:
+    def add(self, fields: Sequence[str], store: FieldStore) -> tuple[Coded, int]:
         """Adds fields. Returns them as stored, and how many of them are new in the run."""
         codes, before = self.codes, len(self.codes)
         if self.is_fresh:
@@ -51,7 +51,7 @@ class Runs:
             self.end(store)
         return kept, fresh
 
-    def end(self, store: Store) -> None:
+    def end(self, store: FieldStore) -> None:
         """Stores the present run, if it has texts, and begins another."""
         if self.codes:
             texts = sorted(self.codes)
@@ -63,17 +63,17 @@ class Runs:
                                    have_blanks(texts), words))
         self.codes, self.characters = Codes(), 0
 
-    def texts(self, run: int, store: Store) -> list[str]:
+    def texts(self, run: int, store: FieldStore) -> list[str]:
         """Returns the texts of a stored run in order."""
         return list(itertools.chain.from_iterable(map(store.at, self.stored[run].texts)))
 
-    def order(self, run: int, store: Store) -> array[int]:
+    def order(self, run: int, store: FieldStore) -> array[int]:
         """Returns the codes of the texts of a stored run, in their order."""
         found = array("I")
         found.frombytes(store.at(self.stored[run].order))
         return found
 
-    def each(self, store: Store) -> Iterator[list[str]]:
+    def each(self, store: FieldStore) -> Iterator[list[str]]:
         """Yields the texts of one stored run after another. A text may be in more than one."""
         for run in range(len(self.stored)):
             yield self.texts(run, store)

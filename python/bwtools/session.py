@@ -6,10 +6,10 @@ import io
 import os
 import re
 import subprocess
-import sys
 from typing import IO, Any, BinaryIO, NoReturn, Sequence
 
 from . import command
+from .failed import Failed
 
 AT_ONCE = 1 << 16
 # how many statements, and how many bytes of them and of their results, may be under way at once: no
@@ -19,22 +19,7 @@ RESULT = re.compile(rb"((?:[^\n]+\n)*)\n")
 SURPLUS = "bw session returned more results than it was sent statements"
 
 
-class Failed(Exception):
-    """Why a session can't continue, what it printed before, and the status to exit with."""
-
-    def __init__(self, why: str, told: str = "", status: int = 5) -> None:
-        super().__init__(why)
-        self.told, self.status = told, status
-
-    def report(self) -> int:
-        """Prints it on standard error. Returns the status."""
-        print(self.told, end="", file=sys.stderr)
-        if str(self):
-            print(f"{command.own_name()}: {self}", file=sys.stderr)
-        return self.status
-
-
-class Answer(io.RawIOBase):
+class Result(io.RawIOBase):
     """The bytes of one result, up to the empty line that ends it. No result has an empty line in
     it."""
 
@@ -75,7 +60,7 @@ class Session:
                                                              self.process.stdout,
                                                              self.process.stderr))
         os.set_blocking(self.stderr.fileno(), False)
-        self.answer: Answer | None = None
+        self.answer: Result | None = None
         self.has_refused = False
 
     def __enter__(self) -> Session:
@@ -89,7 +74,7 @@ class Session:
         the reason."""
         self.told()
         self.send(sent_form(statement))
-        self.answer = Answer(self)
+        self.answer = Result(self)
         answer = io.BufferedReader(self.answer, AT_ONCE)
         if answer.peek(1):
             return answer

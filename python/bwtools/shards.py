@@ -10,7 +10,7 @@ import os
 import pathlib
 import shutil
 import subprocess
-from typing import Callable, Iterable, Sequence
+from typing import Sequence
 
 from .pairs import is_of
 from .store import Store, TableFile
@@ -74,17 +74,6 @@ def ask_shard(program: str, path: str, record: TableFile, columns: str, options:
 def is_of_statement(reply: Reply) -> bool:
     """Returns whether an error is one of the statement, which each shard would return."""
     return reply[0] == 3 and reply[1].startswith("bw: 4")
-
-
-def total(function: str, values: Iterable[int | None]) -> int | None:
-    """Returns the total over all rows, from those of the shards. None is null, the total of no
-    value; a COUNT is never null."""
-    present = [value for value in values if value is not None]
-    if not present:
-        return None
-    totals: dict[str, Callable[[list[int]], int]] = {"COUNT": sum, "SUM": sum, "MIN": min,
-                                                     "MAX": max}
-    return totals[function](present)
 
 
 def refuse_folder(path: str) -> None:

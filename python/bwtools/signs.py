@@ -1,13 +1,12 @@
 """The signs of a CSV file."""
 from __future__ import annotations
 
-from dataclasses import dataclass
+from typing import NamedTuple
 
 NUL = "\0"
 
 
-@dataclass(frozen=True)
-class Signs:
+class Signs(NamedTuple):
     """The signs of a file: what separates fields, what is around them, what escapes a character,
     and what begins a line that is a comment."""
 

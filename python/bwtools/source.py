@@ -15,14 +15,15 @@ from . import ragged
 from .chunk import BREAK, Chunk
 from .fields import CHARACTERS_AT_ONCE, columns_of
 from .signs import NUL
+from .table_limits import MOST_COLUMNS, MOST_ROWS
 from .telling import Refused
 from .text import Text
 
-MOST_COLUMNS, MOST_ROWS, ROWS_AT_ONCE, MOST_WAIT = 64, 1 << 24, 8192, 15
+ROWS_AT_ONCE, MOST_WAIT = 8192, 15
 
 
 @dataclass
-class Counts:
+class RowCounts:
     """How many rows there are, in all and in each chunk, how many empty lines and comments were
     skipped, and how many short rows were filled."""
     rows: int = 0
@@ -39,7 +40,7 @@ class Source:
         self.text = Text(path, given, opened)
         self.most_rows, self.fills = most_rows, given.fill
         self.has_heading = given.heading is not False
-        self.counts = Counts()
+        self.counts = RowCounts()
         self.headings = self.read_headings()
 
     @property
@@ -119,7 +120,7 @@ class Source:
     def chunks(self) -> Iterator[Chunk]:
         """Yields the rows after the heading, many at a time. Each must have as many fields as the
         heading."""
-        self.counts, left = Counts(), int(self.has_heading)
+        self.counts, left = RowCounts(), int(self.has_heading)
         fields: Sequence[Sequence[str]]
         for line, text, columns, records in self.blocks():
             if columns is None:

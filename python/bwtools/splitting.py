@@ -9,19 +9,13 @@ import pathlib
 from dataclasses import dataclass, replace
 from typing import Iterator, Sequence, TextIO
 
-from . import command, pairs, processes
+from . import command, pairs, processes, sharding
 from .counts import Counts
 from .shards import shard_file
-from .source import MOST_ROWS
 from .store import TableFile
+from .table_limits import MOST_BYTES
 from .tallies import Tally
-from .telling import counted
-from .writing import MOST_BYTES, Table
-
-# from so many rows on, `auto` is one shard for each processor
-MANY_ROWS = 1_000_000
-# a load takes at most so many times the bytes of its numbers
-MEMORY = 4
+from .writing import NumberTable
 
 
 @dataclass
@@ -36,7 +30,7 @@ class Loads:
     """Consumes the lines of a CSV file of numbers, as a file does, and loads each piece of it as a
     table in a folder. The table files' names are those of a part of all pieces."""
 
-    def __init__(self, table: Table, room: pathlib.Path, name: str, most_rows: int,
+    def __init__(self, table: NumberTable, room: pathlib.Path, name: str, most_rows: int,
                  part: int = 0) -> None:
         self.table, self.room, self.name = table, room, name
         self.most_rows, self.part = most_rows, part
@@ -96,7 +90,7 @@ class Loads:
             self.load(self.piece or self.begin())
 
 
-def lines_between(table: Table, first: int, end: int) -> Iterator[str]:
+def lines_between(table: NumberTable, first: int, end: int) -> Iterator[str]:
     """Yields the lines of numbers of a range of rows, many at a time. What is counted of rows that
     were read together is counted with the first of them."""
     rows = 0
@@ -123,32 +117,12 @@ def recount(tally: Tally, counts: Counts) -> None:
     tally.may_have_null = tally.may_have_null or bool(nulls)
 
 
-def rows_a_shard(rows: int, wanted: str | None, most_rows: int | None) -> int:
-    """Returns how many of all rows a shard has, for a wanted number of shards, or the most rows of
-    one."""
-    least = 1
-    if most_rows is not None:
-        return most_rows
-    if wanted in (None, "auto"):
-        least = processes.processors() if rows >= MANY_ROWS else 1
-    elif wanted is not None:
-        least = int(wanted)
-    return max(1, min(MOST_ROWS, -(-rows // least)))
-
-
-def processes_for(count: int, size: int) -> int:
-    """Returns how many processes load so many shards of so many bytes side by side: as many as
-    there are processors, and as memory allows."""
-    free = os.sysconf("SC_AVPHYS_PAGES") * os.sysconf("SC_PAGE_SIZE")
-    fitting = free // (MEMORY * min(size // count + 1, MOST_BYTES))
-    return max(1, min(count, processes.processors(), fitting))
-
-
-def load_shards(table: Table, room: pathlib.Path, name: str, most_rows: int) -> list[TableFile]:
+def load_shards(table: NumberTable, room: pathlib.Path, name: str,
+                most_rows: int) -> list[TableFile]:
     """Loads all rows of a table, so many a shard, side by side. Returns the records of the table
     files in the folder `made`, in the order of rows."""
     shards = max(1, -(-table.rows // most_rows))
-    parts = processes_for(shards, table.source.text.marks()[0])
+    parts = sharding.processes_for(shards, table.source.text.marks()[0])
     ends = [min(table.rows, shards * part // parts * most_rows) for part in range(parts)]
     ends.append(table.rows)
 
@@ -172,11 +146,5 @@ def placed(room: pathlib.Path, place: int, record: TableFile) -> TableFile:
     """Moves a table file to its place among the shards, and returns its record there."""
     path = shard_file(room / "made", place)
     os.rename(room / record.file, path)
-    return replace(record, file=path.name)
-
-
-def told(path: str, name: str, records: Sequence[TableFile]) -> str:
-    """Returns what is said of a folder of shards that was written."""
-    most = max(record.rows for record in records)
-    return (f"{path} is written, as table {name}: {counted(len(records), 'shard')} of up to "
-            f"{counted(most, 'row')}")
+    return TableFile(path.name, record.rows, record.size, record.changed, record.inode,
+                     record.sha256)

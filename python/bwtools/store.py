@@ -8,13 +8,10 @@ from __future__ import annotations
 
 import contextlib
 import itertools
-import json
 import operator
 import os
-import pathlib
 import re
 import sqlite3
-from dataclasses import astuple, dataclass, fields
 from typing import Any, Iterable, Iterator, Sequence
 
 from . import kinds
@@ -24,6 +21,7 @@ from .naming import is_name
 from .regular import open_regular
 from .stored_list import StoredList
 from .telling import Refused, counted
+from .valued import Valued
 
 VERSION, APPLICATION, MAGIC = 3, 0x62776331, b"SQLite format 3\0"
 # the first bytes of a columns file of the versions before, which was JSON
@@ -48,24 +46,21 @@ UNSAFE = re.compile(b"[^A-Za-z0-9/._~-]")
 AT_ONCE, JSON_AT_ONCE = 10_000, 4000
 
 
-@dataclass
-class TableFile:
+class TableFile(Valued):
     """What identifies a table file: its size, time of change and inode, else its SHA-256. Of a
     shard also its name in the folder, and its rows."""
 
-    file: str
-    rows: int
-    size: int
-    changed: int
-    inode: int
-    sha256: str
+    def __init__(self, file: str, rows: int, size: int, changed: int, inode: int,
+                 sha256: str) -> None:
+        self.file, self.rows, self.size = file, rows, size
+        self.changed, self.inode, self.sha256 = changed, inode, sha256
 
 
 class Store:
     """An open columns file."""
 
     def __init__(self, path: str | os.PathLike[str]) -> None:
-        self.path = pathlib.Path(path)
+        self.path = os.fspath(path)
         self.database = opened(self.path)
         try:
             with self.reading():
@@ -125,7 +120,7 @@ class Store:
         return self.text(name, "the table's name")
 
     def read_files(self) -> list[TableFile]:
-        names = [field.name for field in fields(TableFile)]
+        names = ("file", "rows", "size", "changed", "inode", "sha256")
         found = self.rows(f"SELECT {', '.join(names)} FROM files ORDER BY place", MOST_TABLES)
         for row in found:
             for name, value in zip(names, row):
@@ -205,7 +200,7 @@ class Store:
                     pass
 
 
-def opened(path: pathlib.Path) -> sqlite3.Connection:
+def opened(path: str) -> sqlite3.Connection:
     """Opens a columns file, which must be a regular file, to be read only. SQLite opens a file by
     its path: if another one is put there at that moment, it is opened again."""
     for _ in range(100):
@@ -221,13 +216,14 @@ def opened(path: pathlib.Path) -> sqlite3.Connection:
     raise Refused(f"{path} is replaced again and again")
 
 
-def uri_of(path: pathlib.Path) -> str:
+def uri_of(path: str) -> str:
     """Returns how SQLite opens a file that nobody writes."""
-    quoted = UNSAFE.sub(lambda found: b"%%%02X" % ord(found[0]), os.fsencode(path.absolute()))
+    whole = path if os.path.isabs(path) else os.path.join(os.getcwd(), path)
+    quoted = UNSAFE.sub(lambda found: b"%%%02X" % ord(found[0]), os.fsencode(whole))
     return f"file:{quoted.decode()}?mode=ro&immutable=1"
 
 
-def refuse_header(path: pathlib.Path, header: bytes, size: int) -> None:
+def refuse_header(path: str, header: bytes, size: int) -> None:
     """Rejects a file whose first bytes aren't those of a columns file of this version."""
     if header.startswith(EARLIER):
         raise Refused(f"{path} is a columns file of an earlier version: "
@@ -260,7 +256,7 @@ def write(path: str | os.PathLike[str], columns: Sequence[Column], name: str = "
             database.execute(sql)
         database.execute("INSERT INTO named VALUES (?)", (name,))
         database.executemany("INSERT INTO files VALUES (?, ?, ?, ?, ?, ?, ?)",
-                             [(place, *astuple(file)) for place, file in enumerate(files)])
+                             [(place, *vars(file).values()) for place, file in enumerate(files)])
         for place, column in enumerate(columns):
             write_column(database, place, column)
         database.execute("COMMIT")
@@ -312,6 +308,8 @@ def as_json(database: sqlite3.Connection, table: str, first: int, texts: Sequenc
     if "\0" in "".join(texts):
         one_by_one(database, table, first, texts)
         return
+    # to write alone, not to read
+    import json
     for start in range(0, len(texts), JSON_AT_ONCE):
         part = json.dumps(texts[start:start + JSON_AT_ONCE], ensure_ascii=False)
         database.execute(f"INSERT INTO {table} SELECT key + ?, value FROM json_each(?)",

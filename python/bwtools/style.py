@@ -1,13 +1,12 @@
 """The style that all numbers of a column share."""
 from __future__ import annotations
 
-from dataclasses import dataclass
+from typing import NamedTuple
 
-from .numerals import PLAIN, is_grouped, parts_of
+from .numerals import LAKHS, PLAIN, grouped, is_grouped, parts_of
 
 
-@dataclass(frozen=True)
-class Style:
+class Style(NamedTuple):
     """What is written around and between the digits of a column's numbers."""
     mark: str = "."
     grouping: str = ""
@@ -24,11 +23,11 @@ class Style:
         if found is None or not {found.prefix.strip()} <= {"", self.prefix.strip()} or \
                 not {found.suffix.strip()} <= {"", self.suffix.strip()}:
             return None
-        body = found.body
-        if self.grouping and self.grouping in body:
+        body, between = found.body, self.grouping[:1]
+        if between and between in body:
             if not is_grouped(body.partition(self.mark)[0], self.grouping):
                 return None
-            body = body.replace(self.grouping, "")
+            body = body.replace(between, "")
         plain = f"{found.sign}{body.replace(self.mark, '.')}{found.power}"
         return plain if PLAIN.fullmatch(plain) else None
 
@@ -37,8 +36,8 @@ class Style:
         is_negative, digits = plain[:1] == "-", plain.lstrip("+-")
         if self.grouping and "e" not in digits:
             whole, point, part = digits.partition(".")
-            grouped = f"{int(whole or 0):,}".replace(",", self.grouping)
-            digits = f"{grouped}{self.mark}{part}" if point else grouped
+            whole = grouped(whole or "0", self.grouping)
+            digits = f"{whole}{self.mark}{part}" if point else whole
         elif self.mark != ".":
             digits = digits.replace(".", self.mark)
         text = f"{self.prefix}{digits}{self.suffix}"
@@ -47,7 +46,8 @@ class Style:
     def told(self) -> str:
         """Returns what the style adds, for a report."""
         found = [f"{affix.strip()!r}" for affix in (self.prefix, self.suffix) if affix]
-        found += [f"{self.grouping!r} between thousands"] if self.grouping else []
+        lakhs = " and lakhs" if self.grouping == LAKHS else ""
+        found += [f"{self.grouping[0]!r} between thousands{lakhs}"] if self.grouping else []
         found += [f"{self.mark!r} as the decimal sign"] if self.mark != "." else []
         return ", ".join([*found, *(["brackets for negative"] if self.brackets else [])])
 

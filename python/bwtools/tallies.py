@@ -13,7 +13,7 @@ from .kind import Kind
 from .kinds import Decimals, Floats, Ranked, Times, undressed
 from .plain import texts_of
 from .textual import Sorted
-from .written_run import Run, learn_texts, learn_values
+from .written_run import WrittenRun, learn_texts, learn_values
 
 NEGATIVE_ZERO = -1 << 63
 
@@ -28,16 +28,16 @@ class Tally:
         # whether a null was written that isn't counted
         self.may_have_null = False
         self.number = 0
-        self.run: Optional[Run] = None
+        self.run: Optional[WrittenRun] = None
 
-    def run_of(self, number: int) -> Run:
+    def run_of(self, number: int) -> WrittenRun:
         if self.run is None or self.number != number:
             self.number, self.run = number, self.learned(number)
         return self.run
 
-    def learned(self, number: int) -> Run:
+    def learned(self, number: int) -> WrittenRun:
         """Returns what is written for the texts of a run."""
-        run = Run(self.column.runs.stored[number].size)
+        run = WrittenRun(self.column.runs.stored[number].size)
         if self.texts is not None:
             learn_texts(run, self.column, number, self.texts.places[number], self.null)
         else:

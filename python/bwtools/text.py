@@ -7,7 +7,6 @@ import io
 import os
 import re
 import sys
-from dataclasses import replace
 from typing import BinaryIO, Iterable, Iterator, NoReturn, TextIO
 
 from .comments import reader_of
@@ -41,7 +40,7 @@ class Text:
         self.signs = Signs(quote=given.quote, escape=given.escape, comment=given.comment)
         said = self.said_separator()
         named = SEPARATORS.get(given.separator, given.separator) or said
-        self.signs = replace(self.signs, separator=named or self.most_frequent())
+        self.signs = self.signs._replace(separator=named or self.most_frequent())
 
     def encoding_of(self, given: argparse.Namespace) -> str:
         """Returns the encoding: the given one, or that of the byte order mark, or UTF-8."""

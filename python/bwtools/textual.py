@@ -1,6 +1,7 @@
 """Columns of texts: their sorted lists, and the codes that their fields get."""
 from __future__ import annotations
 
+import shlex
 from array import array
 from dataclasses import dataclass
 from typing import Iterable, Iterator, Optional, Sequence
@@ -33,7 +34,7 @@ def text_question(column: Fields) -> Optional[Question]:
         return None
     if column.plain.padded:
         return Question("some of its numbers have blanks around them", (),
-                        ("--drop-blanks", "--keep-blanks"))
+                        blanks_options(column))
     if not column.runs.have_blanks:
         return None
     padded = {text.strip(BLANKS): text for run, texts in enumerate(column.runs.each(column.store))
@@ -44,8 +45,14 @@ def text_question(column: Fields) -> Optional[Question]:
             bare = text.strip(BLANKS)
             if bare and padded.get(bare, text) != text:
                 return Question("{0} and {1} differ only in blanks", (padded[bare], text),
-                                ("--drop-blanks", "--keep-blanks"))
+                                blanks_options(column))
     return None
+
+
+def blanks_options(column: Fields) -> tuple[str, ...]:
+    """Returns the options that say what becomes of the blanks of a column."""
+    heading = column.wishes.heading
+    return tuple(shlex.quote(f"--{what}-blanks={heading}") for what in ("drop", "keep"))
 
 
 def sorted_texts(column: Fields) -> Sorted:

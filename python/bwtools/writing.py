@@ -17,13 +17,13 @@ from .naming import names_of
 from .progress import Progress
 from .reading import read
 from .reporting import notes, report_lines
-from .source import MOST_ROWS, Source
+from .source import Source
+from .table_limits import MOST_BYTES, MOST_ROWS
 from .tallies import Tally
 from .telling import Refused, counted
 from .textual import sorted_texts
 from .wishes import BLANKS, wishes_of
 
-MOST_BYTES = 1 << 30
 # a separate process writes at least so many chunks of rows
 CHUNKS_A_PART = 256
 
@@ -32,7 +32,7 @@ class TooLong(Refused):
     """A file whose numbers don't fit one table."""
 
 
-class Table:
+class NumberTable:
     """A file's rows as numbers, and what they mean."""
 
     def __init__(self, path: str | os.PathLike[str], given: argparse.Namespace,

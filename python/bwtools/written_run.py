@@ -11,7 +11,7 @@ from .kinds import Floats, Ranked, undressed
 from .wishes import BLANKS
 
 
-class Run:
+class WrittenRun:
     """What is written for each code of a run of texts, and the codes of which something is
     counted."""
 
@@ -37,7 +37,8 @@ class Run:
         counts.change = max(counts.change, self.change)
 
 
-def learn_texts(run: Run, column: Fields, number: int, places: Sequence[int], null: str) -> None:
+def learn_texts(run: WrittenRun, column: Fields, number: int, places: Sequence[int],
+                null: str) -> None:
     """Sets what is written for the codes of texts."""
     run.written = list(map(str, places))
     stored, keeps = column.runs.stored[number], column.wishes.rules.keeps_blanks
@@ -61,7 +62,8 @@ def by_code(column: Fields, number: int) -> list[str]:
     return found
 
 
-def learn_values(run: Run, column: Fields, number: int, decision: Decision, null: str) -> None:
+def learn_values(run: WrittenRun, column: Fields, number: int, decision: Decision,
+                 null: str) -> None:
     """Sets what is written for the codes of texts that are values of a kind."""
     words, kind = set(column.wishes.words), decision.kind
     assert kind is not None, "a column of texts has other codes"
@@ -82,7 +84,7 @@ def learn_values(run: Run, column: Fields, number: int, decision: Decision, null
     run.span = (min(numbers), max(numbers)) if numbers else None
 
 
-def note(run: Run, code: int, bare: str, number: int, decision: Decision) -> None:
+def note(run: WrittenRun, code: int, bare: str, number: int, decision: Decision) -> None:
     """Notes what changes of a text."""
     kind = decision.kind
     assert kind is not None

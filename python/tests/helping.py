@@ -11,7 +11,7 @@ import unittest
 import warnings
 
 from bwtools import importing, kinds, writing
-from bwtools.options import add_options
+from bwtools.options import add_options, parsed
 from bwtools.programs import import_
 from bwtools.sorted_list import SortedList
 from bwtools.source import Source
@@ -22,7 +22,7 @@ def options(*words: str) -> argparse.Namespace:
     """Returns the options that arguments of the command line give."""
     parser = argparse.ArgumentParser()
     add_options(parser)
-    return parser.parse_args(list(words))
+    return parsed(parser, words)
 
 
 def in_file(data: bytes, work):
@@ -38,9 +38,9 @@ def source_of(data: bytes, *words: str) -> Source:
     return in_file(data, lambda path: Source(path, options(*words)))
 
 
-def table_of(data: bytes, *words: str) -> writing.Table:
+def table_of(data: bytes, *words: str) -> writing.NumberTable:
     """Returns the table of a file of these bytes."""
-    return in_file(data, lambda path: writing.Table(path, options(*words)))
+    return in_file(data, lambda path: writing.NumberTable(path, options(*words)))
 
 
 def numbers_of(data: bytes, *words: str) -> list[list[str]]:

@@ -6,24 +6,25 @@ import os
 import pathlib
 import pty
 import select
+import signal
 import subprocess
 import sys
 import tempfile
 import time
 import unittest
 
-from bwtools import aligned, printing
+from bwtools import aligned, command, formats
 from bwtools.asking import statements_in
 from bwtools.kinds import Dates, Decimals, Styled, Truths, Whole
 from bwtools.programs.ask import split
 from bwtools.sql.answer import Answer
-from bwtools.sql.value_rows import Rows
+from bwtools.sql.value_rows import ValueRows
 from bwtools.style import Style
 from bwtools.telling import Refused
 
 from helping import Imported
 
-ASK = pathlib.Path(__file__).parent.parent / "bin" / "bw-ask"
+ASK, BW = pathlib.Path(__file__).parent.parent / "bin" / "bw-ask", command.whole_path()
 CITIES = "city,n,price,day\nBern,1,$2.50,2024-05-01\nUlm,20,$12.00,2024-05-02\nGenève,,$0.75,\n"
 SHOWN = ("city     n   price\n------  --  ------\nBern     1   $2.50\nUlm     20  $12.00\n"
          "Genève       $0.75\n3 rows\n")
@@ -69,12 +70,12 @@ class Words(unittest.TestCase):
 
 
 def answer(headings, kinds, rows):
-    return Answer(headings, kinds, Rows(rows), 2)
+    return Answer(headings, kinds, ValueRows(rows), 2)
 
 
 def printed(form, found, width=None):
     out = io.StringIO()
-    count = printing.FORMATS[form](found, out, width)
+    count = formats.writer_of(form)(found, out, width)
     return out.getvalue(), count
 
 
@@ -184,6 +185,44 @@ class Programs(Imported):
                          (5, "bw-ask: none.bw: No such file or directory\n"))
         self.assertEqual(self.ask("SELECT 1")[0], 3)
 
+    def waited(self, *words, program):
+        """Returns what a question writes to a file, and what it shows at a terminal meanwhile. `bw`
+        is this script of a shell."""
+        path = self.folder / "slow"
+        path.write_text(f"#!/bin/sh\n{program}\n", encoding="utf-8")
+        path.chmod(0o755)
+        ours, theirs = pty.openpty()
+        with subprocess.Popen([sys.executable, "-S", ASK, *words], stdin=subprocess.DEVNULL,
+                              stdout=subprocess.PIPE, stderr=theirs, cwd=self.folder, text=True,
+                              env={**os.environ, "BW": str(path)}) as process:
+            os.close(theirs)
+            shown = self.until(ours, process, "SQLite computes, 1 s")
+            if process.poll() is None:
+                process.send_signal(signal.SIGTERM)
+                shown += self.until(ours, process)
+            out = process.stdout.read()
+        os.close(ours)
+        return out, shown
+
+    def test_what_is_waited_for_is_shown_after_a_second(self):
+        slow = f"sleep 1.5; exec {BW} \"$@\""
+        # it is ended once the line is there
+        endless = "WITH RECURSIVE n(i) AS (SELECT 1 UNION ALL SELECT i + 1 FROM n) " \
+                  "SELECT COUNT(*) FROM n, cities WHERE cities.n = 20"
+        for words, program, what, wanted in (
+                (["SELECT COUNT(*) FROM t"], slow, "bw answers, 1 s", "COUNT(*)\n3\n"),
+                (["SELECT upper(city) FROM t"], f'if [ "$1" = session ]; then {slow}; fi',
+                 "bw lists, 1 s", "upper(city)\nBERN\nULM\nGENèVE\n"),
+                ([endless], f"exec {BW} \"$@\"", "SQLite computes, 1 s", "")):
+            with self.subTest(words):
+                out, shown = self.waited("cities.bw", *words, program=program)
+                self.assertEqual(out, wanted)
+                self.assertIn(f"\r{what}\x1b[K", shown)
+                # the line is removed
+                self.assertTrue(shown.endswith("\r\x1b[K"), shown)
+        self.assertEqual(self.waited("cities.bw", "SELECT COUNT(*) FROM t",
+                                     program=f"exec {BW} \"$@\""), ("COUNT(*)\n3\n", ""))
+
     def at_terminal(self, keys):
         """Returns what a terminal shows while these lines are typed, each after a prompt."""
         ours, theirs = pty.openpty()
@@ -201,10 +240,11 @@ class Programs(Imported):
         os.close(ours)
         return shown.replace("\r", ""), process.returncode
 
-    def until(self, ours, process):
-        """Returns what is shown up to the next prompt, or the end."""
+    def until(self, ours, process, line="bw> "):
+        """Returns what is shown up to the next prompt, or a line, or the end."""
         shown, begun = "", time.monotonic()
-        while not shown.endswith(("bw> ", "...> ")) and time.monotonic() - begun < 60:
+        while not shown.endswith(("bw> ", "...> ")) and line not in shown and \
+                time.monotonic() - begun < 60:
             if not select.select([ours], [], [], 0.2)[0]:
                 if process.poll() is not None:
                     break

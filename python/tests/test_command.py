@@ -28,6 +28,14 @@ class Arguments(unittest.TestCase):
         given = parsed("--text", "-", "--", "-a")
         self.assertEqual((given.text, given.csv), (["-"], "-a"))
 
+    def test_blanks_of_all_columns_and_of_some(self):
+        given = parsed("--keep-blanks", "x.csv", "--drop-blanks=a b", "--drop-blanks==", "x.bw")
+        self.assertEqual((given.csv, given.out, given.keep_blanks, given.drop_blanks),
+                         ("x.csv", "x.bw", True, False))
+        self.assertEqual((given.blanks_dropped, given.blanks_kept), (["a b", "="], []))
+        self.assertEqual(parsed("--keep-blanks=", "x").blanks_kept, [""])
+        self.assertEqual(parsed("x", "--", "--keep-blanks=a").out, "--keep-blanks=a")
+
     def test_table_names(self):
         for out, wanted in (("trips.bw", "trips"), ("a/b c.bw", "b_c"), ("2024.bw", "_2024"),
                             ("select.bw", "select_"), ("t.csv", "t_csv"), (None, "t"),

@@ -256,7 +256,7 @@ class Tables(Connections):
 
 class Failures(Connections):
     def kill(self, connection):
-        for session in connection.engine(connection.catalog.only).asker.sessions:
+        for session in connection.engine(connection.catalog.only).asker.sessions.sessions:
             session.process.send_signal(signal.SIGKILL)
             session.process.wait()
 
@@ -265,7 +265,7 @@ class Failures(Connections):
                     "SELECT upper(city) FROM trips",
                     "SELECT city, count(*) FROM trips GROUP BY city"):
             connection = self.connect()
-            cursor = connection.execute("SELECT sum(id) FROM trips")
+            cursor = connection.execute("SELECT id FROM trips")
             self.kill(connection)
             with self.subTest(sql):
                 with self.assertRaisesRegex(bwtools.OperationalError, "ended by signal 9"):
@@ -328,8 +328,8 @@ class Failures(Connections):
                 with self.assertRaisesRegex(bwtools.ProgrammingError, "cursor is closed"):
                     use()
             other = connection.execute("SELECT count(*) FROM trips")
-            processes = [session.process
-                         for session in connection.engine(connection.catalog.only).asker.sessions]
+            asker = connection.engine(connection.catalog.only).asker
+            processes = [session.process for session in asker.sessions.sessions]
         for use in (other.fetchall, connection.cursor, connection.commit, connection.rollback,
                     lambda: other.execute("SELECT 1")):
             with self.assertRaisesRegex(bwtools.ProgrammingError, "connection is closed"):

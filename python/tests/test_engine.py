@@ -9,8 +9,9 @@ import unittest
 from unittest import mock
 
 from bwtools import command
-from bwtools.session import MOST_AHEAD, SURPLUS, Failed
-from bwtools.sql import engine
+from bwtools.failed import Failed
+from bwtools.session import MOST_AHEAD, SURPLUS
+from bwtools.sql import engine, scheduled, sessions
 from bwtools.telling import Refused
 
 COUNTS = "read a; read b; printf 'COUNT(*),MAX(x)\\n%s\\n\\n' "
@@ -30,7 +31,7 @@ class Temporary(unittest.TestCase):
 
     def asker_of(self, *args, **named):
         """Returns sessions that end with the test."""
-        asker = engine.Sessions(*args, **named)
+        asker = sessions.Sessions(*args, **named)
         self.addCleanup(asker.close)
         return asker
 
@@ -74,7 +75,8 @@ class Tables(Temporary):
 
     def test_more_files_than_memory_has_room_for_are_asked_in_turn(self):
         for name, value in (("memory", lambda: 100), ("MOST_SESSIONS", 4)):
-            with mock.patch.object(engine, name, value), mock.patch.object(engine, "IN_TURN", 2):
+            with mock.patch.object(sessions, name, value), \
+                    mock.patch.object(sessions, "IN_TURN", 2):
                 asked = self.engine_of(["1,2"], ["2,3"], ["3,4"], ["4,5"], ["5,6"])
                 statements = ["SELECT COUNT(*), SUM(b) FROM t", "SELECT MAX(a) FROM t"]
                 self.assertEqual([list(each) for each in asked.totals(statements)], [[5, 20], [5]])
@@ -87,7 +89,7 @@ class Tables(Temporary):
 
     def test_a_long_result_is_in_a_file(self):
         asked = self.engine_of([f"{place % 10},{place % 7}" for place in range(5000)])
-        with mock.patch.object(engine, "MOST_IN_MEMORY", 1000):
+        with mock.patch.object(sessions, "MOST_IN_MEMORY", 1000):
             file, = asked.rows("SELECT a, b FROM t")
         self.assertEqual(file.read().decode(), "a,b\n" + "".join(
             f"{place % 10},{place % 7}\n" for place in range(5000)))
@@ -221,7 +223,7 @@ class SideBySide(unittest.TestCase):
             return place
 
         works = [lambda place=place: work(place) for place in range(3)]
-        self.assertEqual(engine.side_by_side(works, mock.Mock()), [0, 1, 2])
+        self.assertEqual(sessions.side_by_side(works, mock.Mock()), [0, 1, 2])
 
     def test_the_first_error_is_raised_once_all_have_ended(self):
         done, ready = [], threading.Event()
@@ -234,7 +236,7 @@ class SideBySide(unittest.TestCase):
             raise ValueError(why)
 
         with self.assertRaisesRegex(ValueError, "first"):
-            engine.side_by_side([lambda: None, lambda: fail("first", True),
+            sessions.side_by_side([lambda: None, lambda: fail("first", True),
                                  lambda: fail("second", False)], mock.Mock())
         self.assertEqual(done, ["second", "first"])
 
@@ -245,7 +247,7 @@ class SideBySide(unittest.TestCase):
             raise KeyboardInterrupt
 
         with self.assertRaises(KeyboardInterrupt):
-            engine.side_by_side([interrupted, lambda: ended.wait(20)], ended.set)
+            sessions.side_by_side([interrupted, lambda: ended.wait(20)], ended.set)
         self.assertTrue(ended.is_set())
 
 
@@ -253,7 +255,7 @@ class Scheduled(unittest.TestCase):
     def asker(self, *replies):
         cluster = mock.Mock()
         cluster.replies.side_effect = lambda calls: iter(replies)
-        return engine.Scheduled(cluster, [("one", None), ("two", None)], "columns")
+        return scheduled.Scheduled(cluster, [("one", None), ("two", None)], "columns")
 
     def test_totals_are_added(self):
         asker = self.asker((0, "", b"COUNT(*)\n1\n"), (0, "", b"COUNT(*)\n2\n"),

@@ -11,11 +11,11 @@ from bwtools import kinds, store
 from bwtools.column import Column
 from bwtools.sorted_list import SortedList
 from bwtools.sql import condition as conditions
-from bwtools.sql import grammar, predicates
+from bwtools.sql import grammar, items, predicates
 from bwtools.sql.catalog import Catalog
 from bwtools.sql.limits import Limits, limits_of
 from bwtools.sql.outside import Outside
-from bwtools.sql.predicates import Operand
+from bwtools.sql.predicates import Comparand
 from bwtools.sql.statement import Statement
 from bwtools.sql.table import Table
 from bwtools.sql.tokens import tokens_of
@@ -65,7 +65,7 @@ class OverTable(unittest.TestCase):
     def where(self, condition, *parameters):
         """Returns the condition over numbers."""
         question = self.question(f"SELECT n FROM t WHERE {condition}", *parameters)
-        return grammar.where_of(question.statement, question.clauses)
+        return items.where_of(question.statement, question.clauses)
 
     def check(self, pairs):
         for condition, wanted in pairs:
@@ -214,7 +214,7 @@ class Runs(unittest.TestCase):
         self.assertEqual(predicates.like(column, "LIKE", "A", None), "c IN (0)")
 
     def test_literals_are_compared_with_each_other(self):
-        one, text = Operand(None, Fraction(1)), Operand(None, "1")
+        one, text = Comparand(None, Fraction(1)), Comparand(None, "1")
         self.assertEqual(predicates.compared(one, ">", one), "1 = 0")
         with self.assertRaises(Outside):
             predicates.compared(one, "=", text)
@@ -246,7 +246,9 @@ TAKEN = [
     "SELECT upper(CITY) FROM t GROUP BY UPPER(city)",
     "SELECT COUNT(1), COUNT('x') FROM t GROUP BY n", "SELECT n FROM t WHERE n = 1;",
     "SELECT DISTINCT SUM(n) FROM t",
-    "SELECT city AS city, COUNT(*) FROM t GROUP BY city"]
+    "SELECT city AS city, COUNT(*) FROM t GROUP BY city",
+    "SELECT city, COUNT(*) FROM t GROUP BY 1 ORDER BY 2 DESC, 1",
+    "SELECT COUNT(*), upper(city) u, paid FROM t GROUP BY 2, 3 HAVING COUNT(*) > 1 ORDER BY u"]
 LEFT = [
     "SELECT 1", "SELECT 1 FROM t", "SELECT n + 1 FROM t", "SELECT n FROM t ORDER BY n + 1",
     "SELECT n FROM t ORDER BY 2", "SELECT n FROM t ORDER BY 'x'", "SELECT upper(city) FROM t",
@@ -259,7 +261,9 @@ LEFT = [
     "SELECT city FROM t ORDER BY city COLLATE NOCASE",
     "SELECT COUNT(*) FROM t GROUP BY 1", "SELECT city, COUNT(*) FROM t GROUP BY upper(city)",
     "SELECT COUNT(*) FROM t GROUP BY -1", "SELECT COUNT(*) FROM t GROUP BY 'x'",
-    "SELECT COUNT(*) FROM t GROUP BY 1 + 1",
+    "SELECT COUNT(*) FROM t GROUP BY 1 + 1", "SELECT city, COUNT(*) FROM t GROUP BY 2",
+    "SELECT city, COUNT(*) FROM t GROUP BY (1)", "SELECT city FROM t GROUP BY 0",
+    "SELECT *, COUNT(*) FROM t GROUP BY 1", "SELECT n % 7 + 1, 1, city FROM t GROUP BY 2, city",
     "SELECT COUNT(DISTINCT n) FROM t GROUP BY upper(city)",
     "SELECT COUNT(*) FROM t GROUP BY CAST(n AS TEXT)",
     "SELECT n + 1, COUNT(*) FROM t GROUP BY n % 7",

@@ -8,7 +8,7 @@ from unittest import mock
 
 import bwtools
 from bwtools import kinds
-from bwtools.session import Failed
+from bwtools.failed import Failed
 from bwtools.sql import counted, grammar, groups, rows
 from bwtools.sql.exact import float_sum
 from bwtools.sql.limits import Limits
@@ -361,10 +361,10 @@ class Files(Imported):
                         "SELECT wide FROM t ORDER BY wide DESC LIMIT 9"):
                 with self.subTest(sql):
                     found = several.answer(sql)
-                    self.assertEqual((found.way,
-                                      len(several.engine(several.catalog.only).asker.sessions)),
-                                     (1, 3))
+                    self.assertEqual(found.way, 1)
                     self.assertEqual(list(found.rows()), list(one.answer(sql).rows()))
+            asker = several.engine(several.catalog.only).asker
+            self.assertEqual(len(asker.sessions.sessions), 3)
 
 
 if __name__ == "__main__":

@@ -7,7 +7,7 @@ import unittest
 from unittest import mock
 
 import bwtools
-from bwtools.session import Failed
+from bwtools.failed import Failed
 from bwtools.sql import by_sqlite
 from bwtools.sql.aggregates import for_sqlite
 from bwtools.sql.by_sqlite import pushed
@@ -180,7 +180,7 @@ class Listed(Listings):
                          [(4, "BOSTON"), (5, "BERGEN")])
 
     def test_interrupt_undoes_what_was_listed(self):
-        with mock.patch("bwtools.sql.listing.Numbers.values", side_effect=KeyboardInterrupt), \
+        with mock.patch("bwtools.sql.listing.NumberRows.values", side_effect=KeyboardInterrupt), \
                 self.assertRaises(KeyboardInterrupt):
             self.rows("SELECT abs(id) FROM trips")
         self.assertEqual(len(self.rows("SELECT abs(id) FROM trips")), 5)

@@ -15,6 +15,11 @@ READ = [
      ["2024-01-01", "2024-02-01", "2024-03-01"], "blanks dropped in 1 field"),
     ("blanks around texts", "city,n\n Bern,1\nUlm ,2\n", (), "texts whole", ["Bern,1", "Ulm,2"],
      "blanks dropped in 2 fields"),
+    ("blanks of one column kept", "a,b\nx ,x \nx,y\n", ("--keep-blanks=a",), "texts texts",
+     ["x ,x", "x,y"], "blanks dropped in 1 field"),
+    ("blanks of all columns but one dropped", "a,b\nx ,x \nx,x\n",
+     ("--drop-blanks", "--keep-blanks=b"), "texts texts", ["x,x ", "x,x"],
+     "blanks dropped in 1 field"),
     ("blanks around booleans and times",
      "a,b,c\ntrue , 10:00,2024-05-01 10:00 \nfalse,11:30,2024-05-02 11:00\n", (),
      "truths clocks times", ["true,10:00,2024-05-01 10:00", "false,11:30,2024-05-02 11:00"],
@@ -37,6 +42,11 @@ READ = [
      ["1.000.000,x", "1.000,y", "250,z"], "'.' between thousands"),
     ("thousands by name", "a;b\n1.000;x\n250;y\n", ("--thousands", "."), "whole texts",
      ["1.000,x", "250,y"], "between thousands"),
+    ("lakhs", 'a,b\n"12,34,567.89","1,00,000"\n"99,999.50",7\n"1,23,456.00","12,345"\n', (),
+     "decimals whole", ["12,34,567.89,1,00,000", "99,999.50,7", "1,23,456.00,12,345"],
+     "',' between thousands and lakhs"),
+    ("lakhs with a currency", 'a\n"₹12,34,567"\n"₹99,999"\n', (), "whole",
+     ["₹12,34,567", "₹99,999"], "between thousands and lakhs"),
     ("apostrophes", "a\n1'234'567.50\n12.25\n", (), "decimals", ["1'234'567.50", "12.25"],
      '"\'" between thousands'),
     ("dollars and brackets", "a,b\n$1.50,(12)\n\"$1,234.00\",7\n", (), "decimals whole",
@@ -73,7 +83,8 @@ READ = [
 # each file with the options, and what the refusal says
 REFUSED = [
     ("blanks that make two texts", "a,b\nx ,1\nx,2\n", (),
-     "'x ' in line 2 and 'x' in line 3 differ only in blanks: use --drop-blanks, or --keep-blanks"),
+     "'x ' in line 2 and 'x' in line 3 differ only in blanks: use --drop-blanks=a, or "
+     "--keep-blanks=a"),
     ("not a number", "x\n1.5e-3\nNaN\n2.5\n", (),
      "'NaN' in line 3 isn't a number, as 2 of 3 fields are: use --null x=NaN, or --text x"),
     ("infinity", "x\n1.5e-3\n2\n-inf\n", (),
@@ -88,6 +99,9 @@ REFUSED = [
      "'1,5' in line 2 has a comma, which separates the fields: use --number a, or --text a"),
     ("two currencies", "a\n$1.50\n€2.00\n", (),
      "'$1.50' in line 2 and '€2.00' in line 3 are numbers with different signs: use --text a"),
+    ("thousands and lakhs", 'a\n"12,34,567"\n"1,234"\n"1,234,567"\n', (),
+     "'12,34,567' in line 2 and '1,234,567' in line 4 are numbers with different signs: use "
+     "--text a"),
     ("two decimal signs", "a;b\n1.5;1\n2,5;2\n", (),
      "'1.5' in line 2 and '2,5' in line 3 are numbers with different signs: use --text a"),
     ("one n/a in forty rows", "a\n" + "".join(f"{number}\n" for number in range(39)) + "n/a\n", (),
@@ -111,6 +125,10 @@ REFUSED = [
      "'13.5.2024' in line 2 and '2024-05-01' in line 3 are dates of different forms: use --text d"),
     ("not as --number states", "a\n1\nx\n", ("--number", "a"),
      "'x' in line 3 isn't a number, as --number states: use --null a=x"),
+    ("blanks both kept and dropped", "a\n1\n", ("--keep-blanks=a", "--drop-blanks=a"),
+     "give one of --keep-blanks and --drop-blanks for it"),
+    ("no column to keep blanks of", "a\n1\n", ("--keep-blanks=b",),
+     "no column has the heading 'b'; there are 'a'"),
     ("no column of the option", "a\n1\n", ("--null", "b=x"), "no column has the heading 'b'"),
 ]
 
@@ -143,10 +161,59 @@ class Messy(unittest.TestCase):
                             ("%Y%m%d", "20240501"), ("%I %p", "07 AM")):
             with self.subTest(form):
                 self.assertEqual(Import(f"a\n{field}\n", "--date", f"a={form}").rows, [field])
-        for form in ("%d", "%y-%m", "%H:%M %p", "%Y-%m-%d %I:%M", "%Q"):
+        for form in ("%d", "%y-%m", "%H:%M %p", "%Y-%m-%d %I:%M", "%Q", "%H:%M:%f", "%f", "%z",
+                     "%Y-%m-%d%z", "%H:%M%z", "%z %Y-%m-%d %H:%M", "%H:%M %Y-%m-%d %z",
+                     "%Y-%m-%d %H:%M:%S.%%f%z%z"):
             with self.subTest(form):
                 self.assertIn("is not a valid format",
                               Import("a\n1\n", "--date", f"a={form}").refusal)
+
+    def test_parts_of_seconds(self):
+        for form, fields, wanted in (
+                ("%d/%m/%Y %H:%M:%S.%f", "01/05/2024 10:00:00.50", "01/05/2024 10:00:00.50"),
+                ("%d/%m/%Y %H:%M:%S.%f", "01/05/2024 10:00:00.5\n02/05/2024 10:00:00",
+                 "01/05/2024 10:00:00.5\n02/05/2024 10:00:00.0"),
+                ("%Y%m%d %H%M%S.%f", "20240501 100000.123456789", "20240501 100000.123456789"),
+                ("%Y%m%d %H%M%S,%f", "20240501 100000,25", "20240501 100000.25"),
+                ("%d/%m/%Y %I:%M:%S.%f %p", "01/05/2024 10:00:00.25 PM",
+                 "01/05/2024 10:00:00.25 PM"),
+                ("%H%M%S.%f", "100000.25\n235959.5", "100000.25\n235959.50")):
+            with self.subTest(form):
+                rows = "".join(f'"{field}"\n' for field in fields.split("\n"))
+                found = Import(f"a\n{rows}", "--date", f"a={form}")
+                self.assertEqual((found.refusal, "\n".join(found.rows)), ("", wanted))
+        for form, field in (("%d/%m/%Y %H:%M:%S", "01/05/2024 10:00:00.50"),
+                            ("%d/%m/%Y %H:%M:%S.%f", "01/05/2024 10:00:00.1234567891"),
+                            ("%Y%m%d %H%M", "20240501 1000.5"), ("%H%M%S", "100000.25")):
+            with self.subTest(form):
+                self.assertIn("as --date states",
+                              Import(f"a\n{field}\n", "--date", f"a={form}").refusal)
+        many = "01/01/1000 10:00:00.123456789\n01/01/3000 10:00:00.1\n"
+        self.assertIn("too many digits for 64 bits", Import(
+            f"a\n{many}", "--date", "a=%d/%m/%Y %H:%M:%S.%f").refusal)
+
+    def test_zones(self):
+        for form, fields, wanted in (
+                ("%d/%m/%Y %H:%M %z", "01/05/2024 10:00 +0200", "01/05/2024 08:00Z"),
+                ("%d/%m/%Y %H:%M%z", "01/05/2024 10:00+02:00\n01/05/2024 23:30-01\n"
+                 "01/05/2024 10:00Z", "01/05/2024 08:00Z\n02/05/2024 00:30Z\n01/05/2024 10:00Z"),
+                ("%Y%m%d%H%M%S.%f%z", "20240501100000.25+0530", "20240501043000.25Z"),
+                ("%d %b %Y %I:%M %p %z", "01 May 2024 10:00 PM -0500", "02 May 2024 03:00 AMZ")):
+            with self.subTest(form):
+                found = Import(f"a\n{fields}\n", "--date", f"a={form}")
+                self.assertEqual((found.refusal, "\n".join(found.rows)), ("", wanted))
+                self.assertIn("of UTC", found.report)
+                # what is printed can be asked for
+                kind = found.columns[0].kind
+                for row, number in zip(found.rows, found.numbers[0]):
+                    self.assertEqual((kind.number(row), kind.place(row)), (number, (number, True)))
+        for form, field in (("%d/%m/%Y %H:%M %z", "01/05/2024 10:00"),
+                            ("%d/%m/%Y %H:%M", "01/05/2024 10:00+02:00"),
+                            ("%d/%m/%Y %H:%M %z", "01/05/2024 10:00 +24:00"),
+                            ("%d/%m/%Y %H:%M %z", "01/01/0001 10:00 +20:00")):
+            with self.subTest(field):
+                self.assertIn("as --date states",
+                              Import(f"a\n{field}\n", "--date", f"a={form}").refusal)
 
     def test_no_rows(self):
         found = Import("a,b\n")

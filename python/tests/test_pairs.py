@@ -78,8 +78,8 @@ class Pairs(unittest.TestCase):
     def test_beside_what_a_symlink_stands_for(self):
         link = self.folder / "link.bw"
         link.symlink_to(self.table)
-        self.assertEqual(str(pairs.columns_beside(link)), os.path.realpath(self.columns))
-        self.assertEqual(pairs.columns_beside(self.table), self.columns)
+        self.assertEqual(pairs.columns_beside(link), os.path.realpath(self.columns))
+        self.assertEqual(pairs.columns_beside(self.table), str(self.columns))
 
     def killed(self, content, moves):
         """Puts a pair in a process that is killed before its next move after so many."""

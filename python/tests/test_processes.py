@@ -45,6 +45,14 @@ class Parts(unittest.TestCase):
             os.waitpid(-1, os.WNOHANG)
 
 
+class Aside(unittest.TestCase):
+    def test_aside(self):
+        self.assertEqual(processes.Aside(lambda: 5).result(), 5)
+        refused = processes.Aside(lambda: refuse(2))
+        with self.assertRaisesRegex(Refused, "part 2 is refused"):
+            refused.result()
+
+
 class Tables(unittest.TestCase):
     def written(self, count):
         """Returns what `count` processes write of a table, and what they count."""

@@ -121,12 +121,19 @@ def questions():
     for path in sorted(HERE.glob("*.sql")):
         line = 1
         for paragraph in re.split(r"(\n{2,})", path.read_text(encoding="utf-8")):
-            if paragraph.strip():
+            if paragraph.strip() and not is_newer(paragraph):
                 instead = re.match("-- sqlite: (.*)\n", paragraph)
                 asked = paragraph[instead.end():] if instead else paragraph
                 found.append((f"{path.name}:{line}", asked, instead[1] if instead else asked))
             line += paragraph.count("\n")
     return found
+
+
+def is_newer(asked):
+    """Returns whether SQLite reads a question from version 3.39 on alone: one with rows in a list,
+    or with HAVING without GROUP BY."""
+    return sqlite3.sqlite_version_info < (3, 39) and (
+        ") IN ((" in asked or "HAVING" in asked and "GROUP BY" not in asked)
 
 
 def is_same(found, wanted):

@@ -6,7 +6,8 @@ import tempfile
 import unittest
 from unittest import mock
 
-from bwtools.session import AT_ONCE, SURPLUS, Answer, Failed, Session, one_statement
+from bwtools.failed import Failed
+from bwtools.session import AT_ONCE, SURPLUS, Result, Session, one_statement
 
 
 class Parts(io.RawIOBase):
@@ -30,7 +31,7 @@ def answer_of(*parts: bytes) -> bytes:
     session = mock.Mock()
     session.stdout = Parts(*parts)
     session.fail.side_effect = Failed("ended")
-    return io.BufferedReader(Answer(session), AT_ONCE).read()
+    return io.BufferedReader(Result(session), AT_ONCE).read()
 
 
 class Answers(unittest.TestCase):

@@ -79,7 +79,7 @@ class Tables(unittest.TestCase):
         with tempfile.TemporaryDirectory() as name:
             path = pathlib.Path(name) / "in.csv"
             path.write_bytes(b"a\n1\n")
-            table = writing.Table(str(path), options())
+            table = writing.NumberTable(str(path), options())
             path.write_bytes(b"a\n1\n2\n")
             with self.assertRaisesRegex(Refused, "the file changed while it was read"):
                 table.write(os.devnull)

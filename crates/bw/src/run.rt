@@ -12,7 +12,7 @@ use crate::out_file::{OutFile, is_same_file};
 use crate::out_stream::OutStream;
 use crate::session::Teller;
 use bw_cli::{CommandArgs, Invocation, USAGE, parse_invocation, process_args};
-use bw_explain::{CommandFailure, Reads, explain, explain_rows};
+use bw_explain::{CommandFailure, Reads, explain, explain_ignored, explain_rows};
 use bw_file::{FromRead, Layout, Source, ToWrite};
 use bw_io::ReadAhead;
 use bw_model::{Fault, MAX_SCHEMA_LEN, code};
@@ -90,7 +90,8 @@ fn print_fault(
     status
 }
 
-/// Runs a command, and explains the row-by-row fallback if `told`. Returns the exit status.
+/// Runs a command, and explains the row-by-row fallback or an ignored certificate if `told`.
+/// Returns the exit status.
 fn run_command<'a>(
     rt: &HostRuntime,
     words: CommandArgs<'a>,
@@ -127,7 +128,7 @@ fn run_command<'a>(
             schema,
             sql,
             program,
-        } => run_certify(rt, schema, sql, program)?,
+        } => run_certify(rt, schema, sql, program, told)?,
         CommandArgs::Check { schema, sql, file } => run_check(rt, schema, sql, file)?,
     }
     Ok(0)
@@ -371,12 +372,14 @@ fn run_plan<'a>(
     or_write_failure(done, &[], out.error())
 }
 
-/// Runs `bw certify`: both files are opened before either is read, and read in this order.
+/// Runs `bw certify`: both files are opened before either is read, and read in this order. Says if
+/// a certificate was ignored, if `told`.
 fn run_certify<'a>(
     rt: &HostRuntime,
     schema_path: &'a str,
     sql: &str,
     program_path: &'a str,
+    told: bool,
 ) -> Result<(), CommandFailure<'a>> {
     let (schema, program) = open_both(rt, schema_path, program_path)?;
     let schema = read_schema(rt, schema_path, schema)?;
@@ -385,7 +388,11 @@ fn run_certify<'a>(
     let mut sink = ToWrite::new(&mut out);
     let done = certify(rt.alloc(), &schema, sql, &program, &mut sink);
     drop(sink);
-    or_write_failure(done, &[], out.error())
+    or_write_failure(done, &[], out.error())?;
+    if told {
+        explain_ignored(rt, program_path, &program);
+    }
+    Ok(())
 }
 
 /// Runs `bw info`.

@@ -31,7 +31,7 @@ pub struct CertifiedFile {
 /// Errors, in this order: 508, a file of more than 67,108,864 bytes; 501 to 507, its program text;
 /// 605, its certificate text; 601 to 604 and 606 to 610, the first line that breaks a rule. 801 at
 /// any time, if memory is refused.
-pub fn certify(
+pub fn check_file(
     alloc: Global,
     schema: &Schema,
     condition: &Cond,
@@ -60,13 +60,13 @@ pub fn certify(
         tree_of found.certified.condition ≡ tree_of condition.now) }
 {
     one_verdict();
-    check_file(alloc, schema, condition, file)
+    check_parts(alloc, schema, condition, file)
 }
 
-/// Certifies a program file as [`certify`] does, without the law that what can be certified is
+/// Checks a program file as [`check_file`] does, without the law that what can be certified is
 /// never rejected.
 #[tactic(auto, using(crate::specs::FileVerdict::too_long, crate::specs::FileVerdict::program_refused, crate::specs::FileVerdict::certificate_refused, crate::specs::FileVerdict::text_refused, crate::specs::FileVerdict::line_refused))]
-fn check_file(
+fn check_parts(
     alloc: Global,
     schema: &Schema,
     condition: &Cond,

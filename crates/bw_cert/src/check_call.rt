@@ -9,7 +9,7 @@ ghost use Rattle.bw_cert.specs.CheckText.{IsAccepted, IsCheckFault};
 ghost use Rattle.bw_report.specs.declared.accepted.Accepted.{Accepted as Numbers};
 ghost use Rattle.bw_cert.specs.FileVerdict.{Certifies, IsFileFault, counts_of};
 
-use crate::certified_file::certify;
+use crate::certified_file::check_file;
 use bw_model::{Cond, Fault, Schema};
 use bw_report::Accepted;
 use bw_sql::parse;
@@ -19,7 +19,7 @@ use std::alloc::Global;
 /// Returns the numbers of the program and of its certificate.
 ///
 /// Errors, in this order: the schema text's (106, 101 to 105), the statement's (401 to 408), and
-/// the file's, as of [`certify`]. 801 at any time, if memory is refused.
+/// the file's, as of [`check_file`]. 801 at any time, if memory is refused.
 #[tactic(auto, using(crate::specs::CheckText::schema_refused, crate::specs::CheckText::statement_refused, crate::specs::CheckText::file_refused))]
 pub fn check_text(alloc: Global, schema: &[u8], sql: &[u8], file: &[u8]) -> Result<Accepted, Fault>
     ensures accepted { IfOk result (λ accepted. IsAccepted schema.now sql.now file.now accepted) }
@@ -47,6 +47,6 @@ fn numbers(alloc: Global, schema: &Schema, condition: &Cond, file: &[u8]) -> Res
     ensures fault { IfErr result (λ fault. is_memory fault ≡ false
         → IsFileFault schema.now.columns.items condition.now file.now fault) }
 {
-    let found = certify(alloc, schema, condition, file)?;
+    let found = check_file(alloc, schema, condition, file)?;
     Ok(found.accepted)
 }

@@ -6,7 +6,7 @@
 //! returns the first line that breaks a rule. [`Certified::run_segment`] returns, for each row of a
 //! segment, whether the condition is TRUE on it.
 //!
-//! A program file is the text of both. [`certify`] accepts it if and only if it spells a program
+//! A program file is the text of both. [`check_file`] accepts it if and only if it spells a program
 //! and a certificate that is valid for it and the condition; else it returns the first error.
 //! [`check_text`] does so from the texts of a schema and a statement, and returns the numbers of
 //! what was accepted.
@@ -26,7 +26,7 @@ mod stated_facts;
 
 pub use bw_cert_text::Certificate;
 pub use certified::Certified;
-pub use certified_file::{CertifiedFile, certify};
+pub use certified_file::{CertifiedFile, check_file};
 pub use check_call::check_text;
 pub use checker::check;
 pub use file_laws::one_verdict;

@@ -8,7 +8,7 @@ ghost use Rattle.bw_cert.specs.StatedFacts.{with_chain_line, with_product_line};
 
 use bw_cert_text::{Certificate, ChainLine, NodeLine, ProductLine};
 use bw_diagram::Diagram;
-use bw_model::{Fault, Place, Schema, code};
+use bw_model::{Fault, Schema};
 use std::alloc::Global;
 
 /// Returns the nodes, chains and product rows that a certificate's lines state under a schema.
@@ -91,7 +91,7 @@ fn fault_on_line(fault: Fault, line: u64) -> Fault
     ensures memory { is_memory fault ≡ true → result ≡ fault }
     ensures line { is_memory fault ≡ false → result ≡ at_line fault.code line }
 {
-    if fault.code == code::OUT_OF_MEMORY && fault.place == Place::Nowhere {
+    if fault.is_memory() {
         fault
     } else {
         Fault::at_line(fault.code, line)

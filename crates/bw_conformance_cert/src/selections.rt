@@ -4,7 +4,7 @@ ghost use Rattle.std.specs.Prelude.{IsTrue, length};
 ghost use Rattle.bw_model.specs.Cond.{names_within};
 
 use crate::files::{BELOW_EIGHT, SAME_SKIP_TWICE, SCHEMA, TOP_BITS, TWO_SKIPS};
-use bw_cert::certify;
+use bw_cert::check_file;
 use bw_lanes::Plane;
 use bw_model::{Cond, Row, Schema, Truth, admitted_rows_have_each_value};
 use bw_planes::PlaneSegment;
@@ -56,7 +56,7 @@ fn run(
     let schema = Schema::parse(alloc, SCHEMA)?;
     let sql = format!(in alloc; "SELECT COUNT(*) FROM t WHERE {condition}")?;
     let query = parse(alloc, &schema, sql.as_bytes())?;
-    let certified = certify(alloc, &schema, &query.cond, file.as_bytes())?.certified;
+    let certified = check_file(alloc, &schema, &query.cond, file.as_bytes())?.certified;
     let rows = rows_of(alloc, values)?;
     assert!(rt; is_group(&schema, &rows));
     let planes = PlaneSegment::build(alloc, &schema, &rows)?;

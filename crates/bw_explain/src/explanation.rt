@@ -7,6 +7,7 @@ use crate::kind::Kind;
 use crate::lines::of_program;
 use crate::uncertified::of_uncertified;
 use crate::visible_bytes::Shown;
+use bw_cert::split_file;
 use bw_cli::CommandArgs;
 use bw_file::TableReader;
 use bw_io::{FromRead, Input, read_limited};
@@ -183,6 +184,18 @@ pub fn explain_rows(rt: &HostRuntime, table: &str, sql: &str) {
     print_explanation(rt, "", explain_row_by_row(rt, table, sql));
 }
 
+/// Prints on standard error that the certificate of a program file is ignored, if it has one.
+pub fn explain_ignored(rt: &HostRuntime, path: &str, file: &[u8]) {
+    let parts = split_file(file);
+    if parts.program.len() < file.len() {
+        let line = parts.first_line - 1;
+        let _ = eprintln!(rt;
+            "    {} line {}: this certificate is ignored, another is found",
+            path, line
+        );
+    }
+}
+
 /// Returns why a query went row by row.
 fn explain_row_by_row(rt: &HostRuntime, table: &str, sql: &str) -> Option<String> {
     let mut table = FromRead::new(regular_file(rt, table)?);
@@ -250,12 +263,10 @@ fn explain_uncertified(
     file: &str,
     fault: &Fault,
 ) -> Option<String> {
-    let schema = Schema::parse(rt.alloc(), &read_again(rt, words.schema()?)?).ok()?;
+    let sql = words.sql()?;
+    let schema = read_again(rt, words.schema()?)?;
     let file = read_again(rt, file)?;
-    let mut text = of_program(rt.alloc(), &file, fault).ok()?;
-    let reason = of_uncertified(rt.alloc(), &schema, words.sql()?.as_bytes(), &file).ok()?;
-    text.push_str(reason.as_str()).ok()?;
-    Some(text)
+    of_uncertified(rt.alloc(), &schema, sql.as_bytes(), &file, fault).ok()
 }
 
 /// Returns the bytes of a file that was read before.

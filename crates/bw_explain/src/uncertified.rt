@@ -1,65 +1,118 @@
 //! Explains why a program has no certificate.
 ghost use Rattle.std.specs.Prelude.{length, IsTrue};
 ghost use Rattle.bw_model.specs.Cond.{names_within};
+ghost use Rattle.bw_program.specs.Program.{fits};
 
-use crate::visible_bytes::Shown;
+use crate::lines::of_program;
+use crate::shown_row::ShownRow;
+use crate::trial::put_wrong_row;
 use bw_cert::split_file;
-use bw_model::{Column, Cond, Row, Schema, Truth};
+use bw_model::{Cond, Fault, Schema};
 use bw_program::Program;
 use bw_prover::{Hints, Unproved, Witness, prove};
-use bw_rowwise::truth;
 use bw_sql::parse;
 use std::alloc::{AllocError, Global};
-use std::fmt::{self, Write};
+use std::fmt::Write;
 
-/// Returns why a program has no certificate for a statement. The text is empty if it has one, or if
-/// the statement or the program is rejected.
+/// The most product rows of a certificate that is looked for: as many as a certificate may have.
+const MAX_ROWS: u32 = 1_048_576;
+
+/// Returns the line of a program file at which no certificate was found, and why. The text ends
+/// after the line if the schema, the statement or the program is rejected, or if there is one.
 pub(crate) fn of_uncertified(
     alloc: Global,
+    schema: &[u8],
+    sql: &[u8],
+    file: &[u8],
+    fault: &Fault,
+) -> Result<String, AllocError> {
+    let mut text = of_program(alloc, file, fault)?;
+    put_why(alloc, &mut text, schema, sql, file)?;
+    Ok(text)
+}
+
+/// Appends why a program has no certificate for a statement under the schema of a schema text.
+fn put_why(
+    alloc: Global,
+    text: &mut String,
+    schema: &[u8],
+    sql: &[u8],
+    file: &[u8],
+) -> Result<(), AllocError> {
+    match Schema::parse(alloc, schema) {
+        Ok(schema) => put_why_for_statement(alloc, text, &schema, sql, file),
+        Err(_) => Ok(()),
+    }
+}
+
+/// Appends why a program has no certificate for a statement.
+fn put_why_for_statement(
+    alloc: Global,
+    text: &mut String,
     schema: &Schema,
     sql: &[u8],
     file: &[u8],
-) -> Result<String, AllocError> {
-    let Ok(query) = parse(alloc, schema, sql) else {
-        return Ok(String::new(alloc));
-    };
-    let Ok(program) = Program::parse(alloc, schema, split_file(file).program) else {
-        return Ok(String::new(alloc));
-    };
-    of_condition(alloc, schema, &query.cond, &program)
+) -> Result<(), AllocError> {
+    match parse(alloc, schema, sql) {
+        Ok(query) => put_why_for_condition(alloc, text, schema, &query.cond, file),
+        Err(_) => Ok(()),
+    }
 }
 
-/// Returns why a program has no certificate for a condition.
-fn of_condition(
+/// Appends why a program has no certificate for a condition.
+fn put_why_for_condition(
     alloc: Global,
+    text: &mut String,
+    schema: &Schema,
+    cond: &Cond,
+    file: &[u8],
+) -> Result<(), AllocError>
+    requires { IsTrue (names_within (length schema.now.columns.items) cond.now) }
+{
+    match Program::parse(alloc, schema, split_file(file).program) {
+        Ok(program) => put_why_for_program(alloc, text, schema, cond, &program),
+        Err(_) => Ok(()),
+    }
+}
+
+/// Appends why no certificate is found.
+fn put_why_for_program(
+    alloc: Global,
+    text: &mut String,
     schema: &Schema,
     cond: &Cond,
     program: &Program,
-) -> Result<String, AllocError>
-    requires { IsTrue (names_within (length schema.now.columns.items) cond.now) }
+) -> Result<(), AllocError>
+    requires names { IsTrue (names_within (length schema.now.columns.items) cond.now) }
+    requires fits { IsTrue (fits schema.now.columns.items program.now) }
 {
     let hints = Hints {
-        rows: u32::MAX,
+        rows: MAX_ROWS,
         orders: &[],
     };
-    let mut text = String::new(alloc);
-    if let Err(unproved) = prove(alloc, schema, cond, program, &hints) {
-        put_reason(&mut text, schema, cond, &unproved)?;
+    match prove(alloc, schema, cond, program, &hints) {
+        Ok(_) => Ok(()),
+        Err(unproved) => put_reason(alloc, text, schema, cond, program, &unproved),
     }
-    Ok(text)
 }
 
 /// Appends a reason.
 fn put_reason(
+    alloc: Global,
     text: &mut String,
     schema: &Schema,
     cond: &Cond,
+    program: &Program,
     unproved: &Unproved,
 ) -> Result<(), AllocError>
-    requires { IsTrue (names_within (length schema.now.columns.items) cond.now) }
+    requires names { IsTrue (names_within (length schema.now.columns.items) cond.now) }
+    requires fits { IsTrue (fits schema.now.columns.items program.now) }
 {
     let said = match unproved {
-        Unproved::Differs { row } => return put_row(text, schema, cond, row),
+        Unproved::Differs { row } => {
+            put_wrong_row(alloc, text, schema, cond, program, row, row)?;
+            return Ok(());
+        }
         Unproved::Unwritten { register, .. } => {
             return writeln!(
                 text,
@@ -77,7 +130,7 @@ fn put_reason(
                 text,
                 "r{register} may have two values at instruction {join}: by the skip of instruction {skip}, and without it"
             )?;
-            return put_witness(text, schema, witness.as_ref());
+            return put_witness(alloc, text, schema, cond, program, witness.as_ref());
         }
         Unproved::OnlyUnadmitted => {
             "the program is right on every row of the schema, but not on all bits that a column can store: the certificate speaks of all"
@@ -92,69 +145,38 @@ fn put_reason(
     writeln!(text, "{said}")
 }
 
-/// Appends a row on which a program is wrong.
-fn put_row(text: &mut String, schema: &Schema, cond: &Cond, row: &Row) -> Result<(), AllocError>
-    requires { IsTrue (names_within (length schema.now.columns.items) cond.now) }
-{
-    if row.values.len() != schema.columns.len() {
-        return Ok(());
-    }
-    let (does, says) = match truth(cond, row) {
-        Truth::Yes => ("omits", "TRUE"),
-        Truth::No => ("selects", "FALSE"),
-        Truth::Unknown => ("selects", "UNKNOWN"),
-    };
-    let columns = &schema.columns;
-    let row = ShownRow { columns, row };
-    writeln!(
-        text,
-        "{row}: the program {does} this row; the condition is {says}"
-    )
-}
-
-/// Appends rows on which a register differs by a skip.
+/// Appends the row that a program gets wrong on a segment of rows on which a register differs by a
+/// skip: on one that skips, or on one that doesn't.
 fn put_witness(
+    alloc: Global,
     text: &mut String,
     schema: &Schema,
+    cond: &Cond,
+    program: &Program,
     witness: Option<&Witness>,
-) -> Result<(), AllocError> {
+) -> Result<(), AllocError>
+    requires names { IsTrue (names_within (length schema.now.columns.items) cond.now) }
+    requires fits { IsTrue (fits schema.now.columns.items program.now) }
+{
     let Some(Witness { taken, through }) = witness else {
         return writeln!(text, "only a proof is missing: no row shows a difference");
     };
+    if put_wrong_row(alloc, text, schema, cond, program, taken, taken)?
+        || put_wrong_row(alloc, text, schema, cond, program, taken, through)?
+    {
+        return Ok(());
+    }
     let columns = &schema.columns;
-    let taken = ShownRow {
-        columns,
-        row: taken,
-    };
-    writeln!(text, "they differ on the row {taken}")?;
-    let through = ShownRow {
-        columns,
-        row: through,
-    };
+    let row = taken;
+    write!(
+        text,
+        "only a proof is missing: on the row {}, ",
+        ShownRow { columns, row }
+    )?;
+    let row = through;
     writeln!(
         text,
-        "which is skipped only in a segment without rows such as {through}"
+        "alone and beside {}, the program is right",
+        ShownRow { columns, row }
     )
-}
-
-/// A row, as equations of its columns.
-#[derive(Clone, Copy)]
-struct ShownRow<'a> {
-    columns: &'a [Column],
-    row: &'a Row,
-}
-
-impl fmt::Display for ShownRow<'_> {
-    fn fmt<W: fmt::Write>(&self, f: &mut fmt::Formatter<W>) -> fmt::Result {
-        let mut before = "";
-        for (column, value) in self.columns.iter().zip(&self.row.values) {
-            write!(f, "{before}{} = ", Shown(column.name.as_bytes()))?;
-            match value {
-                Some(n) => write!(f, "{n}")?,
-                None => f.write_str("NULL")?,
-            }
-            before = ", ";
-        }
-        Ok(())
-    }
 }

@@ -1,6 +1,7 @@
 //! Errors: their numbers, their words and their places.
 ghost use Rattle.std.specs.Prelude.{◌≡◌, ◌≤◌, Some, length};
 ghost use Rattle.bw_model.specs.Fault.{no_memory, nowhere, at_byte, at_line, at_record, place_text};
+ghost use Rattle.bw_model.specs.Fault.{is_memory};
 ghost use Rattle.bw_model.specs.FaultTable.{words_of, SCHEMA_FORM, SCHEMA_NAME, SCHEMA_RANGE};
 ghost use Rattle.bw_model.specs.FaultTable.{NAME_TWICE, COLUMN_COUNT, SCHEMA_TOO_LONG, NO_HEADING};
 ghost use Rattle.bw_model.specs.FaultTable.{HEADING, RECORD_LENGTH, NOT_A_NUMBER, OUT_OF_RANGE};
@@ -210,6 +211,19 @@ impl Fault {
             code,
             place: Place::Rec(record),
         }
+    }
+
+    /// Returns whether the error is that memory was refused.
+    pub const fn is_memory(self) -> bool
+        ensures { result ≡ is_memory self }
+    {
+        matches!(
+            self,
+            Fault {
+                code: code::OUT_OF_MEMORY,
+                place: Place::Nowhere,
+            }
+        )
     }
 }
 

@@ -12,7 +12,7 @@ use crate::parts::{Part, Reader};
 use crate::plan::Plan;
 use crate::refusal::Refusal;
 use bw_cert_text::Certificate;
-use bw_model::{Cond, Fault, Schema, code};
+use bw_model::{Cond, Fault, Schema};
 use bw_program::{Instr, Program, Register, program_text};
 use bw_prover::{Hints, Prover};
 use std::alloc::Global;
@@ -121,7 +121,7 @@ fn program_of(
     let text = program_text(alloc, schema, instrs, answer)?;
     match Program::parse(alloc, schema, &text) {
         Ok(program) => Ok(program),
-        Err(fault) if fault.code == code::OUT_OF_MEMORY => Err(Refusal::NoMemory),
+        Err(fault) if fault.is_memory() => Err(Refusal::NoMemory),
         Err(_) => Err(Refusal::NoProgram),
     }
 }

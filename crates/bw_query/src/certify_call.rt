@@ -15,9 +15,9 @@ ghost use Rattle.bw_query.specs.Certification.{is_certification_fault, IsNotFoun
 ghost use Rattle.bw_query.specs.Plan.{IsPrintedFrom};
 
 use crate::plan_call::file_of;
-use bw_cert::{certify, split_file};
+use bw_cert::{check_file, split_file};
 use bw_io::{Sink, write_whole};
-use bw_model::{Cond, Fault, Place, Schema, code};
+use bw_model::{Cond, Fault, Schema, code};
 use bw_program::Program;
 use bw_prover::{Hints, Unproved, prove};
 use bw_sql::parse;
@@ -92,9 +92,9 @@ fn accepted_file(
     ensures fault { IfErr result IsNotFound }
 {
     let file = proved_file(alloc, schema, cond, text, program)?;
-    match certify(alloc, schema, cond, &file) {
+    match check_file(alloc, schema, cond, &file) {
         Ok(_) => Ok(file),
-        Err(fault) if is_memory(fault) => Err(fault),
+        Err(fault) if fault.is_memory() => Err(fault),
         Err(_) => Err(not_found(alloc, text, program.len())),
     }
 }
@@ -120,19 +120,6 @@ fn proved_file(
         Ok(certificate) => Ok(file_of(alloc, schema, program, &certificate)?),
         Err(unproved) => Err(fault_of(alloc, text, program.len(), &unproved)),
     }
-}
-
-/// Returns whether memory was refused.
-fn is_memory(fault: Fault) -> bool
-    ensures { result ≡ is_memory fault }
-{
-    matches!(
-        fault,
-        Fault {
-            code: code::OUT_OF_MEMORY,
-            place: Place::Nowhere,
-        }
-    )
 }
 
 /// Returns the error of a program without a certificate. `end` is the number after the last

@@ -9,7 +9,7 @@ use bw_model::{Fault, Schema, code};
 use bw_program::Program;
 use std::alloc::Global;
 
-/// Reads a program file without a condition. Errors are those that `certify` returns for every
+/// Reads a program file without a condition. Errors are those that `check_file` returns for every
 /// condition: 508, a file of more than 67,108,864 bytes; 501 to 507, its program text; 605, its
 /// certificate text. 801 at any time, if memory is refused.
 #[tactic(auto, using(bw_cert::specs::FileVerdict::too_long, bw_cert::specs::FileVerdict::program_refused, bw_cert::specs::FileVerdict::certificate_refused))]

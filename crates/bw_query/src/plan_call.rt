@@ -13,10 +13,10 @@ ghost use Rattle.bw_cert.specs.FileVerdict.{Certifies};
 ghost use Rattle.bw_io.specs.Sink.{WriteOutcome, none_aside};
 ghost use Rattle.bw_query.specs.Plan.{IsPlanned, IsPrinted, IsPrintedFrom};
 
-use bw_cert::certify;
+use bw_cert::check_file;
 use bw_cert_text::Certificate;
 use bw_io::{Sink, write_whole};
-use bw_model::{Cond, Fault, Place, Schema, code};
+use bw_model::{Cond, Fault, Schema, code};
 use bw_plan::{Proposal, propose};
 use bw_program::Program;
 use bw_sql::parse;
@@ -57,7 +57,7 @@ fn plan_of(alloc: Global, schema: &Schema, cond: &Cond) -> Result<Vec<u8>, Fault
     ensures fault { IfErr result (λ fault. is_memory fault ≡ false → fault ≡ nowhere NO_PROGRAM) }
 {
     let file = propose_file(alloc, schema, cond)?;
-    match certify(alloc, schema, cond, &file) {
+    match check_file(alloc, schema, cond, &file) {
         Ok(_) => Ok(file),
         Err(fault) => Err(unplanned_unless_memory(fault)),
     }
@@ -100,11 +100,9 @@ pub(crate) fn file_of(
 fn unplanned_unless_memory(fault: Fault) -> Fault
     ensures { is_memory result ≡ false → result ≡ nowhere NO_PROGRAM }
 {
-    match fault {
-        Fault {
-            code: code::OUT_OF_MEMORY,
-            place: Place::Nowhere,
-        } => fault,
-        _ => Fault::new(code::NO_PROGRAM),
+    if fault.is_memory() {
+        fault
+    } else {
+        Fault::new(code::NO_PROGRAM)
     }
 }

@@ -16,7 +16,7 @@ ghost use Rattle.bw_query.specs.Scan.{IsFor, IsChosen, IsScanFault, IsUsable, gi
 
 use crate::trial::plan_for_table;
 use bw_cert::{
-    Certified, certificates_are_checked_by_their_fields, certify, check,
+    Certified, certificates_are_checked_by_their_fields, check, check_file,
     valid_exactly_where_checked,
 };
 use bw_memory::MemoryTable;
@@ -35,7 +35,7 @@ pub(crate) enum Scan {
 /// Returns what finds the rows of a query: the program of a program file, if there is one; else the
 /// planner's, if it proposes one that the checker accepts; else row by row.
 ///
-/// Errors: those of the program file, as [`certify`] returns them (501 to 508, 601 to 610). A
+/// Errors: those of the program file, as [`check_file`] returns them (501 to 508, 601 to 610). A
 /// candidate program that isn't accepted is no error: it isn't used. 801 at any time, if memory is
 /// refused, also to the planner.
 pub(crate) fn scan_for(
@@ -57,7 +57,7 @@ pub(crate) fn scan_for(
         → IfErr result (λ fault. IsTrue (is_memory fault)) }
 {
     match program {
-        Some(file) => Ok(Scan::Program(certify(alloc, schema, cond, file)?.certified)),
+        Some(file) => Ok(Scan::Program(check_file(alloc, schema, cond, file)?.certified)),
         None => plan_and_certify(alloc, schema, cond, cond),
     }
 }
@@ -110,7 +110,7 @@ fn certify_by_file(
     ensures found { IfOk result (IsYield file.now schema.now.columns.items cond.now) }
     ensures only_oom { IfErr result (λ fault. IsTrue (is_memory fault)) }
 {
-    match certify(alloc, schema, cond, file) {
+    match check_file(alloc, schema, cond, file) {
         Ok(found) => Ok(Some(found.certified)),
         Err(
             memory @ Fault {
@@ -167,12 +167,7 @@ fn scan_by(found: Result<Certified, Fault>) -> Result<Scan, Fault>
 {
     match found {
         Ok(certified) => Ok(Scan::Program(certified)),
-        Err(
-            memory @ Fault {
-                code: code::OUT_OF_MEMORY,
-                place: Place::Nowhere,
-            },
-        ) => Err(memory),
+        Err(fault) if fault.is_memory() => Err(fault),
         Err(_) => Ok(Scan::Rows),
     }
 }

@@ -12,7 +12,7 @@ use crate::listener::Listener;
 use crate::reading::{MAX_LEN, next_statement};
 use bw_io::{Sink, Source, write_whole};
 use bw_memory::MemoryTable;
-use bw_model::{Fault, Place, code};
+use bw_model::{Fault, code};
 use bw_query::{ProgramCache, answer_with_programs};
 use bw_sql::has_no_token;
 use std::alloc::Global;
@@ -142,20 +142,7 @@ fn first_of(first: Option<Fault>, other: Option<Fault>) -> Option<Fault>
 {
     match (first, other) {
         (None, other) => other,
-        (Some(_), Some(memory)) if is_memory(&memory) => Some(memory),
+        (Some(_), Some(memory)) if memory.is_memory() => Some(memory),
         (Some(fault), _) => Some(fault),
     }
-}
-
-/// Returns whether memory was refused.
-fn is_memory(fault: &Fault) -> bool
-    ensures { result ≡ is_memory fault.now }
-{
-    matches!(
-        fault,
-        Fault {
-            code: code::OUT_OF_MEMORY,
-            place: Place::Nowhere
-        }
-    )
 }

@@ -62,15 +62,15 @@ def decided(column: Fields, found: Spellings, form: str, clock: str) -> Verdict:
         return Decision(Dates(form))
     between = next(iter(found.betweens)) if len(found.betweens) == 1 else "T"
     kind = Times(f"{form}{between}{clock}", found.digits, "Z" if True in found.zones else "")
-    return kind_that_fits(column, kind, found)
+    return kind_that_fits(column, kind)
 
 
-def kind_that_fits(column: Fields, kind: Times, found: Spellings) -> Verdict:
+def kind_that_fits(column: Fields, kind: Times) -> Verdict:
     """Returns the kind of times, or what to do about times that are too far apart for 64 bits in
     their digits."""
-    if found.digits < 8:
+    if kind.digits < 8:
         return Decision(kind)
-    ends = [end * 10 ** (found.digits - shape[2]) for shape,
+    ends = [end * 10 ** (kind.digits - shape[2]) for shape,
             span in column.plain.shapes.items() for end in span]
     for texts in column.bare():
         ends += [number for number in map(kind.number, texts) if number is not None]

@@ -5,7 +5,7 @@ import random
 from dataclasses import dataclass
 from typing import Iterator, Sequence
 
-from ..field_store import Place, Store
+from ..field_store import Place, FieldStore
 from ..keeping import Coded, values_of
 from ..plain import Plain
 from ..runs import Runs
@@ -20,7 +20,7 @@ class Fields:
     wishes: Wishes
     runs: Runs
     plain: Plain
-    store: Store
+    store: FieldStore
     places: list[Place]
 
     def bare(self) -> Iterator[list[str]]:

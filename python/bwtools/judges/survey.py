@@ -5,7 +5,7 @@ from __future__ import annotations
 from dataclasses import dataclass, field
 from typing import Sequence
 
-from ..numerals import CODE, SIMPLE, ZEROS, marks_of, parts_of
+from ..numerals import CODE, LAKHS, SIMPLE, ZEROS, marks_of, parts_of
 from ..style import Style
 
 
@@ -44,8 +44,9 @@ class Survey:
         self.affixes.setdefault((found.prefix, found.suffix), text)
         for known, mark in ((self.decimals, marks.decimal), (self.groupings, marks.grouping),
                             (self.eithers, marks.either)):
-            if mark:
-                known.setdefault(mark, text)
+            if mark and (mark not in known or mark == "," and is_by_threes(text)
+                         and not is_by_threes(known[mark])):
+                known[mark] = text
         self.has_brackets = self.has_brackets or found.has_brackets
         self.zeros = self.zeros or (text if ZEROS.match(found.body) else "")
 
@@ -60,18 +61,27 @@ class Survey:
         """Returns the decimal sign that the column shows, or nothing if it shows none; None if it
         shows more than one."""
         shown = set(self.decimals)
-        shown |= {"," if mark == "." else "." for mark in self.groupings if mark in ".,"}
+        shown |= {"," if mark == "." else "." for mark in self.groupings if mark[0] in ".,"}
         return None if len(shown) > 1 else next(iter(shown), "")
+
+    def between(self) -> dict[str, str]:
+        """Returns the first text with each sign between thousands. A number below a lakh shows
+        nothing about where the next comma is."""
+        found = dict(self.groupings)
+        if LAKHS in found and not is_by_threes(found.get(",", "")):
+            found.pop(",", None)
+        return found
 
     def conflict(self) -> tuple[str, str] | None:
         """Returns two texts whose marks or units contradict each other, if there are any."""
-        for texts in (self.decimals.values(), self.groupings.values(), self.affixes.values()):
+        groupings = self.between()
+        for texts in (self.decimals.values(), groupings.values(), self.affixes.values()):
             if len(texts) > 1:
                 first, second, *_ = texts
                 return first, second
-        both = next((mark for mark in self.decimals if mark in self.groupings), None)
+        both = next((mark for mark in groupings if mark[0] in self.decimals), None)
         if both:
-            return self.decimals[both], self.groupings[both]
+            return self.decimals[both[0]], groupings[both]
         if len(self.eithers) > 1 and self.decimal() in ("", None):
             first, second, *_ = self.eithers.values()
             return first, second
@@ -80,6 +90,11 @@ class Survey:
     def style(self, decimal: str) -> Style:
         """Returns the style of the column's numbers, whose decimal sign is given."""
         prefix, suffix = next(iter(self.affixes), ("", ""))
-        grouping = next(iter(self.groupings),
+        grouping = next(iter(self.between()),
                         "") or next((mark for mark in self.eithers if mark != decimal), "")
         return Style(decimal, grouping, prefix, suffix, int(self.has_brackets))
+
+
+def is_by_threes(text: str) -> bool:
+    """Returns whether a number with a comma between thousands has more than one of them."""
+    return text.count(",") > 1

@@ -1,28 +1,40 @@
 """The kinds of columns, one a file. Each satisfies the protocol of `kind`; `kind_of` makes one of
-what the store has."""
+what the store has. A kind is imported when it is used: most tables have few of them."""
 from __future__ import annotations
 
-from typing import Callable
+import importlib
+from typing import TYPE_CHECKING, Any, Callable
 
 from ..kind import Kind, Settings
 from ..listed import Listed
-from ..numerals import BETWEEN
-from ..style import Style
-from .clocks import Clocks
-from .dates import Dates
-from .decimals import Decimals
-from .floats import Floats
-from .formats import is_format
-from .nulls import Nulls
-from .ranked import Ranked
 from .styled import Styled
-from .texts import Texts
-from .times import Times
-from .truths import Truths
-from .whole import Whole
+
+if TYPE_CHECKING:
+    from .clocks import Clocks
+    from .dates import Dates
+    from .decimals import Decimals
+    from .floats import Floats
+    from .nulls import Nulls
+    from .ranked import Ranked
+    from .texts import Texts
+    from .times import Times
+    from .truths import Truths
+    from .whole import Whole
+
+__all__ = ["Clocks", "Dates", "Decimals", "Floats", "Nulls", "Ranked",
+           "Styled", "Texts", "Times", "Truths", "Whole", "kind_of",
+           "undressed"]
 
 NUMBERS = ("whole", "decimals", "floats", "ranked")
+# each is the name of a module, whose class has the same one
+NAMES = (*NUMBERS, "nulls", "dates", "times", "clocks", "truths", "texts")
 STYLE = ("mark", "grouping", "prefix", "suffix", "brackets")
+
+
+def __getattr__(name: str) -> Any:
+    if name.lower() not in NAMES or not name.istitle():
+        raise AttributeError(f"module {__name__!r} has no attribute {name!r}")
+    return getattr(importlib.import_module(f".{name.lower()}", __name__), name)
 
 
 def undressed(kind: Kind) -> Kind:
@@ -34,37 +46,30 @@ def kind_of(name: str, settings: Settings, listed: Listed | None) -> Kind:
     """Returns the kind of a name, with these settings, and with the list that its numbers are
     places in. Raises ValueError, TypeError or KeyError if a setting is missing, is surplus, or
     isn't as one may be."""
-    makers: dict[str, Callable[..., Kind]] = {
-        "whole": Whole, "nulls": Nulls, "decimals": Decimals, "floats": Floats, "ranked": Ranked,
-        "dates": Dates, "times": Times,
-        "clocks": Clocks, "truths": Truths, "texts": Texts}
+    if name not in NAMES:
+        raise KeyError(name)
+    make: Callable[..., Any] = __getattr__(name.title())
     own = {each: value for each,
            value in settings.items() if each not in STYLE or name not in NUMBERS}
-    if not all(each in CHECKS and CHECKS[each](value) for each, value in settings.items()):
-        raise ValueError
-    made = makers[name](**own) if listed is None else makers[name](listed, **own)
-    if "mark" in settings and isinstance(made, (Whole, Decimals, Floats, Ranked)):
-        made = Styled(made,
-                      Style(**{each: settings[each] for each in STYLE}))  # type: ignore[arg-type]
+    if settings:
+        refuse_odd(settings)
+    made: Kind = make(**own) if listed is None else make(listed, **own)
+    if "mark" in settings and name in NUMBERS:
+        made = styled(made, settings)
     if made.settings() != settings or (made.listed is None) != (listed is None):
         raise ValueError
     return made
 
 
-def is_short(value: object) -> bool:
-    return isinstance(value, str) and len(value) <= 8
+def styled(kind: Any, settings: Settings) -> Styled:
+    """Returns a kind of numbers in the style of these settings."""
+    from ..style import Style
+    style = {each: settings[each] for each in STYLE}
+    return Styled(kind, Style(**style))  # type: ignore[arg-type]
 
 
-# whether a setting is one that a kind may have
-CHECKS: dict[str, Callable[[object], bool]] = {
-    "digits": lambda value: isinstance(value, int) and 0 <= value <= 18,
-    "trimmed": lambda value: value in (0, 1),
-    "gap": lambda value: isinstance(value, int) and 0 <= value < 1 << 63, "form": is_format,
-    "zone": lambda value: value in ("", "Z"), "false": lambda value: isinstance(value, str),
-    "true": lambda value: isinstance(value, str), "mark": lambda value: value in (".", ","),
-    "grouping": lambda value: value == "" or isinstance(value, str) and value in ".," + BETWEEN,
-    "prefix": is_short, "suffix": is_short, "brackets": lambda value: value in (0, 1)}
-
-__all__ = ["Clocks", "Dates", "Decimals", "Floats", "Nulls", "Ranked",
-           "Styled", "Texts", "Times", "Truths", "Whole", "kind_of",
-           "undressed"]
+def refuse_odd(settings: Settings) -> None:
+    """Raises ValueError if a setting isn't one that a kind may have."""
+    from .checks import CHECKS
+    if not all(each in CHECKS and CHECKS[each](value) for each, value in settings.items()):
+        raise ValueError

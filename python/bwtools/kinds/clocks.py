@@ -2,27 +2,27 @@
 from __future__ import annotations
 
 import math
-from dataclasses import dataclass
 from fractions import Fraction
 from typing import ClassVar, Sequence
 
 from ..clock import clock_of
 from ..kind import Kind, Literal, Settings
 from ..listed import Place
-from ..moments import read_by, unit_of, with_part, written_by
+from ..moments import read_by, read_ended, unit_of, with_part, written_by
 from ..numerals import power_of_ten
+from ..valued import Valued
 
 
-@dataclass(frozen=True)
-class Clocks:
+class Clocks(Valued):
     """Seconds since midnight, multiplied by ten to the number of digits after the point, which are
     printed in a format."""
-    form: str
-    digits: int = 0
     name: ClassVar[str] = "clocks"
     plural: ClassVar[str] = "times of day"
     is_summable: ClassVar[bool] = False
     listed: ClassVar[None] = None
+
+    def __init__(self, form: str, digits: int = 0) -> None:
+        self.form, self.digits = form, digits
 
     @property
     def example(self) -> str:
@@ -34,6 +34,9 @@ class Clocks:
         found = read_by(self.form, text)
         if found:
             return found[1], 0
+        ended = read_ended(self.form, text)
+        if ended:
+            return None if ended.has_zone else (ended.number, ended.digits)
         clock = clock_of(text)
         return (clock.part, clock.digits) if clock and not clock.has_zone else None
 

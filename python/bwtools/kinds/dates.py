@@ -2,23 +2,24 @@
 from __future__ import annotations
 
 import math
-from dataclasses import dataclass
 from fractions import Fraction
 from typing import ClassVar, Sequence
 
 from ..kind import Kind, Literal, Settings
 from ..listed import Place
 from ..moments import ISO_DATE, read_moment, written_by
+from ..valued import Valued
 
 
-@dataclass(frozen=True)
-class Dates:
+class Dates(Valued):
     """Days since 1970-01-01, which are printed in a format."""
-    form: str = ISO_DATE
     name: ClassVar[str] = "dates"
     plural: ClassVar[str] = "dates"
     is_summable: ClassVar[bool] = False
     listed: ClassVar[None] = None
+
+    def __init__(self, form: str = ISO_DATE) -> None:
+        self.form = form
 
     @property
     def example(self) -> str:

@@ -2,26 +2,25 @@
 from __future__ import annotations
 
 import math
-from dataclasses import dataclass
-from fractions import Fraction
 from typing import ClassVar, Sequence
 
 from ..kind import Kind, Literal, Settings
 from ..listed import Place
 from ..numerals import scaled
+from ..valued import Valued
 
 
-@dataclass(frozen=True)
-class Decimals:
+class Decimals(Valued):
     """Decimals, multiplied by ten to `digits`. All are printed with so many digits after the point;
     trimmed ones without zeros at the end there, and a whole number without a point."""
-    digits: int
-    trimmed: int
     name: ClassVar[str] = "decimals"
     plural: ClassVar[str] = "decimals"
     example: ClassVar[str] = "12.50"
     is_summable: ClassVar[bool] = True
     listed: ClassVar[None] = None
+
+    def __init__(self, digits: int, trimmed: int) -> None:
+        self.digits, self.trimmed = digits, trimmed
 
     def number(self, text: str) -> int | None:
         return scaled(text, self.digits)
@@ -42,7 +41,7 @@ class Decimals:
                 else self.text(number) for number in numbers]
 
     def place(self, literal: Literal) -> Place | None:
-        if not isinstance(literal, Fraction):
+        if isinstance(literal, str):
             return None
         found = literal * 10 ** self.digits
         return math.floor(found), found.denominator == 1

@@ -1,27 +1,28 @@
 """Floats: doubles, as whole numbers in the same order."""
 from __future__ import annotations
 
-from dataclasses import dataclass
 from fractions import Fraction
 from typing import ClassVar, Sequence
 
 from ..kind import Kind, Literal, Settings
 from ..listed import Place
 from ..numerals import PLAIN
+from ..valued import Valued
 from .doubles import bits_of, double_of, nearest, read
 
 
-@dataclass(frozen=True)
-class Floats:
+class Floats(Valued):
     """Doubles as the places of their bits, without those of the `gap` least magnitudes above 0,
     which no column of the table has. They are printed in the shortest spelling that reads as the
     same double."""
-    gap: int
     name: ClassVar[str] = "floats"
     plural: ClassVar[str] = "floats"
     example: ClassVar[str] = "0.5"
     is_summable: ClassVar[bool] = False
     listed: ClassVar[None] = None
+
+    def __init__(self, gap: int) -> None:
+        self.gap = gap
 
     def number(self, text: str) -> int | None:
         found = read(text) if PLAIN.fullmatch(text) else None

@@ -1,15 +1,14 @@
 """Columns that have only nulls."""
 from __future__ import annotations
 
-from dataclasses import dataclass
 from typing import ClassVar, Sequence
 
 from ..kind import Kind, Literal, Settings
 from ..listed import Place
+from ..valued import Valued
 
 
-@dataclass(frozen=True)
-class Nulls:
+class Nulls(Valued):
     name: ClassVar[str] = "nulls"
     plural: ClassVar[str] = "nulls alone"
     example: ClassVar[str] = "NULL"

@@ -3,24 +3,25 @@ doubles."""
 from __future__ import annotations
 
 import operator
-from dataclasses import dataclass
 from fractions import Fraction
 from typing import ClassVar, Sequence
 
 from ..kind import Kind, Literal, Settings
 from ..listed import Listed, Place
 from ..numerals import PLAIN
+from ..valued import Valued
 from .doubles import nearest, read
 
 
-@dataclass(frozen=True)
-class Ranked:
+class Ranked(Valued):
     """Doubles as their places among the column's distinct doubles."""
-    listed: Listed
     name: ClassVar[str] = "ranked"
     plural: ClassVar[str] = "floats"
     example: ClassVar[str] = "0.5"
     is_summable: ClassVar[bool] = False
+
+    def __init__(self, listed: Listed) -> None:
+        self.listed = listed
 
     def number(self, text: str) -> int | None:
         found = read(text) if PLAIN.fullmatch(text) else None

@@ -2,25 +2,31 @@
 brackets."""
 from __future__ import annotations
 
-from dataclasses import dataclass
-from typing import Sequence, Union
+from typing import TYPE_CHECKING, Sequence
 
 from ..kind import Kind, Literal, Settings
 from ..listed import Listed, Place
-from ..style import Style
-from .decimals import Decimals
-from .floats import Floats
-from .ranked import Ranked
-from .whole import Whole
+from ..valued import Valued
 
-Numbers = Union[Whole, Decimals, Floats, Ranked]
+if TYPE_CHECKING:
+    from typing import Union
+
+    from typing_extensions import TypeAlias
+
+    from ..style import Style
+    from .decimals import Decimals
+    from .floats import Floats
+    from .ranked import Ranked
+    from .whole import Whole
+
+Numbers: TypeAlias = "Union[Whole, Decimals, Floats, Ranked]"
 
 
-@dataclass(frozen=True)
-class Styled:
+class Styled(Valued):
     """The numbers of another kind, which are printed in a style."""
-    inner: Numbers
-    style: Style
+
+    def __init__(self, inner: Numbers, style: Style) -> None:
+        self.inner, self.style = inner, style
 
     @property
     def name(self) -> str:

@@ -2,20 +2,21 @@
 from __future__ import annotations
 
 import operator
-from dataclasses import dataclass
 from typing import ClassVar, Sequence
 
 from ..kind import Kind, Literal, Settings
 from ..listed import Listed, Place
+from ..valued import Valued
 
 
-@dataclass(frozen=True)
-class Texts:
-    listed: Listed
+class Texts(Valued):
     name: ClassVar[str] = "texts"
     plural: ClassVar[str] = "texts"
     example: ClassVar[str] = "'this'"
     is_summable: ClassVar[bool] = False
+
+    def __init__(self, listed: Listed) -> None:
+        self.listed = listed
 
     def number(self, text: str) -> int | None:
         place, is_exact = self.listed.place(text)

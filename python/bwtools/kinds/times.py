@@ -2,7 +2,6 @@
 from __future__ import annotations
 
 import math
-from dataclasses import dataclass
 from fractions import Fraction
 from typing import ClassVar, Sequence
 
@@ -11,19 +10,19 @@ from ..listed import Place
 from ..moments import ISO_DATE, read_moment, unit_of, with_part, written_by
 from ..numerals import power_of_ten
 from ..plain_times import spelled_times
+from ..valued import Valued
 
 
-@dataclass(frozen=True)
-class Times:
+class Times(Valued):
     """Seconds since the start of 1970, multiplied by ten to the number of digits after the point,
     which are printed in a format. With a zone Z all are in UTC."""
-    form: str
-    digits: int = 0
-    zone: str = ""
     name: ClassVar[str] = "times"
     plural: ClassVar[str] = "times"
     is_summable: ClassVar[bool] = False
     listed: ClassVar[None] = None
+
+    def __init__(self, form: str, digits: int = 0, zone: str = "") -> None:
+        self.form, self.digits, self.zone = form, digits, zone
 
     @property
     def example(self) -> str:

@@ -2,25 +2,25 @@
 from __future__ import annotations
 
 import math
-from dataclasses import dataclass
 from typing import ClassVar, Sequence
 
 from ..kind import Kind, Literal, Settings
 from ..listed import Place
+from ..valued import Valued
 
 TRUTHS = (("false", "true"), ("False", "True"), ("FALSE", "TRUE"))
 TRUTH_OF = {word: (value, words) for words in TRUTHS for value, word in enumerate(words)}
 
 
-@dataclass(frozen=True)
-class Truths:
-    false: str
-    true: str
+class Truths(Valued):
     name: ClassVar[str] = "truths"
     plural: ClassVar[str] = "true and false"
     example: ClassVar[str] = "TRUE"
     is_summable: ClassVar[bool] = True
     listed: ClassVar[None] = None
+
+    def __init__(self, false: str, true: str) -> None:
+        self.false, self.true = false, true
 
     def number(self, text: str) -> int | None:
         return TRUTH_OF[text][0] if text in TRUTH_OF else None

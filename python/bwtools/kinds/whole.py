@@ -2,17 +2,14 @@
 from __future__ import annotations
 
 import math
-from dataclasses import dataclass
-from fractions import Fraction
 from typing import ClassVar, Sequence
 
 from ..kind import Kind, Literal, Settings
 from ..listed import Place
-from ..numerals import scaled
+from ..valued import Valued
 
 
-@dataclass(frozen=True)
-class Whole:
+class Whole(Valued):
     name: ClassVar[str] = "whole"
     plural: ClassVar[str] = "whole numbers"
     example: ClassVar[str] = "5"
@@ -20,6 +17,10 @@ class Whole:
     listed: ClassVar[None] = None
 
     def number(self, text: str) -> int | None:
+        if text.isdecimal() and text.isascii():
+            return int(text)
+        # few numbers have another spelling
+        from ..numerals import scaled
         return scaled(text, 0)
 
     def text(self, number: int) -> str:
@@ -32,8 +33,8 @@ class Whole:
         return list(map(str, numbers))
 
     def place(self, literal: Literal) -> Place | None:
-        return (math.floor(literal),
-                literal.denominator == 1) if isinstance(literal, Fraction) else None
+        return None if isinstance(literal, str) else (math.floor(literal),
+                                                      literal.denominator == 1)
 
     def settings(self) -> Settings:
         return {}

@@ -34,22 +34,25 @@ program of the environment variable BW, else `bw` on the PATH, else the one
 that this program came with."""
 from __future__ import annotations
 
-import argparse
 import io
 import os
 import sys
-from typing import Iterable, Sequence
+from typing import TYPE_CHECKING, Iterable, Sequence
 
-from .. import asking, command, options
+from .. import asking, command
+from ..answer_options import AnswerOptions, add_options, options_of
 from ..naming import is_name
-from ..session import Failed
+from ..failed import Failed
 from ..sql.catalog import open_catalog
 from ..sql.connection import Connection, Settings
 from ..sql.table import name_of
 from ..telling import Refused
+from ..waiting import Waiting
+
+if TYPE_CHECKING:
+    import argparse
 
 NAME = "bw-ask"
-Named = Sequence["tuple[str, str]"]
 
 
 def table_of(word: str) -> tuple[str, str] | None:
@@ -76,9 +79,11 @@ def split(words: Sequence[str]) -> tuple[list[tuple[str, str]], str | None]:
     return [table_of(word) or (name_of(word), word) for word in names], statement
 
 
-def settings_of(given: argparse.Namespace, scheduler: str | None = None) -> Settings:
+def settings_of(given: AnswerOptions, scheduler: str | None = None) -> Settings:
     """Returns how a connection asks."""
-    return Settings(scheduler, ["--stats"] if given.stats else [], tell, given.all, True)
+    # bw's statistics come while it answers
+    waiting = Waiting(not given.has_stats)
+    return Settings(scheduler, ["--stats"] if given.has_stats else [], tell, given.is_all, waiting)
 
 
 def tell(told: str) -> None:
@@ -87,14 +92,14 @@ def tell(told: str) -> None:
         print(told.rstrip("\n"), file=sys.stderr)
 
 
-def ask(given: argparse.Namespace, tables: Iterable[tuple[str, str]], statement: str | None,
+def ask(given: AnswerOptions, tables: Iterable[tuple[str, str]], statement: str | None,
         scheduler: str | None = None) -> int:
     """Runs a statement, or those on standard input. Returns the status."""
     is_terminal = os.isatty(sys.stdout.fileno())
     form = given.form or ("table" if is_terminal else "csv")
     catalog = open_catalog(tables, scheduler is None)
     with Connection(catalog, settings_of(given, scheduler)) as connection:
-        asked = asking.Asking(connection, form, given.plain, given.show,
+        asked = asking.Asking(connection, form, given.is_plain, given.is_told,
                               is_terminal and form == "table")
         if statement is not None:
             try:
@@ -111,18 +116,19 @@ def ask(given: argparse.Namespace, tables: Iterable[tuple[str, str]], statement:
         return asked.ask_all(lines)
 
 
-def work(given: argparse.Namespace) -> int:
+def work(given: AnswerOptions, words: Sequence[str]) -> int:
     command.write_utf8()
-    tables, statement = split(given.words)
+    tables, statement = split(words)
     return ask(given, tables, statement)
 
 
 def parser_of() -> argparse.ArgumentParser:
     """Returns the parser of the command line."""
+    import argparse
     parser = argparse.ArgumentParser(prog=NAME, description=__doc__,
                                      formatter_class=argparse.RawDescriptionHelpFormatter,
                                      usage=f"{NAME} [OPTIONS] TABLE.bw... [SQL]")
-    asking.add_options(parser)
+    add_options(parser)
     parser.add_argument("words", metavar="TABLE.bw... [SQL]", nargs="+",
                         help="table files, or folders of shards, that bw-import wrote, each also "
                              "as NAME=FILE; then the statement (default: statements from standard "
@@ -131,6 +137,10 @@ def parser_of() -> argparse.ArgumentParser:
 
 
 def main() -> int:
-    parser = parser_of()
-    given = options.parsed(parser, sys.argv[1:])
-    return command.status_of(NAME, lambda: work(given))
+    words, answering = sys.argv[1:], AnswerOptions()
+    if not words or any(word.startswith("-") for word in words):
+        # argparse takes as long as a small question: so it isn't imported if there is no option
+        from ..options import parsed
+        given = parsed(parser_of(), words)
+        words, answering = given.words, options_of(given)
+    return command.status_of(NAME, lambda: work(answering, words))

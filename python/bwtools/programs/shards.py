@@ -23,7 +23,8 @@ import argparse
 import sys
 from typing import Callable
 
-from .. import asking, command, importing, options
+from .. import command, importing, options
+from ..answer_options import add_options, options_of
 from ..sql.table import name_of
 from . import ask
 
@@ -32,7 +33,8 @@ NAME = "bw-shards"
 
 def work_ask(given: argparse.Namespace) -> int:
     command.write_utf8()
-    return ask.ask(given, [(name_of(given.folder), given.folder)], given.statement, given.scheduler)
+    tables = [(name_of(given.folder), given.folder)]
+    return ask.ask(options_of(given), tables, given.statement, given.scheduler)
 
 
 def work_load(given: argparse.Namespace) -> None:
@@ -77,7 +79,7 @@ def ask_parser() -> argparse.ArgumentParser:
                         help="a Dask scheduler whose workers query the shards, such as "
                              "tcp://127.0.0.1:8786 (default: a session of bw for each shard, side "
                              "by side)")
-    asking.add_options(parser)
+    add_options(parser)
     return parser
 
 

@@ -27,7 +27,7 @@ def work(given: argparse.Namespace) -> None:
     for path in (out, columns):
         placing.refuse_target(path, [inputs.path_of(given.csv)])
     with placing.new_folder(out) as folder:
-        table = writing.Table(given.csv, given, folder)
+        table = writing.NumberTable(given.csv, given, folder)
         table.write(folder / "numbers.csv")
         store.write(folder / "columns", table.columns)
         placing.put(folder, [(folder / "columns", columns), (folder / "numbers.csv", out)])

@@ -1,33 +1,31 @@
 """The answer to a statement."""
 from __future__ import annotations
 
-from dataclasses import dataclass, field
-from typing import Any, Iterator, Sequence, Union
+from typing import TYPE_CHECKING, Any, Iterator, Sequence
 
 from ..kind import Kind
-from . import values
-from .blocks import Block, rows_of
-from .number_rows import Numbers
-from .value_rows import Rows
+from .blocks import Block, Value, rows_of
+
+if TYPE_CHECKING:
+    from .number_rows import NumberRows
+    from .value_rows import ValueRows
 
 
-@dataclass
 class Answer:
     """The answer to a statement: its headings; of each column the kind if it is a plain column, or
     the minimum or maximum of one, else None; its rows; which way served it, 1 (statements of bw) or
     2 (SQLite over listed columns); and the statements that bw ran for it."""
 
-    headings: Sequence[str]
-    kinds: Sequence[Kind | None]
-    body: Union[Rows, Numbers]
-    way: int
-    asked: Sequence[str] = field(default_factory=list)
+    def __init__(self, headings: Sequence[str], kinds: Sequence[Kind | None],
+                 body: ValueRows | NumberRows, way: int, asked: Sequence[str] = ()) -> None:
+        self.headings, self.kinds, self.body = headings, kinds, body
+        self.way, self.asked = way, asked
 
     def blocks(self) -> Iterator[Block]:
         """Yields the columns of SQLite's values, many rows at a time."""
         return self.body.values(self.kinds)
 
-    def rows(self) -> Iterator[tuple[values.Value, ...]]:
+    def rows(self) -> Iterator[tuple[Value, ...]]:
         """Yields the rows as SQLite's values."""
         return rows_of(self.blocks())
 
@@ -37,6 +35,6 @@ class Answer:
         return self.body.fields(self.kinds)
 
     def python_rows(self) -> Iterator[tuple[Any, ...]]:
-        """Yields the rows as Python's objects (`values.python`)."""
+        """Yields the rows as Python's objects (`conversions.python`)."""
         for block in self.body.objects(self.kinds):
             yield from zip(*block)

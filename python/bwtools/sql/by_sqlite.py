@@ -4,11 +4,10 @@ from __future__ import annotations
 import collections
 import re
 import sqlite3
-from dataclasses import dataclass, field
 from typing import Callable, Iterable, Mapping
 
-from ..progress import Progress
 from ..telling import Refused
+from ..waiting import Waiting
 from .aggregates import for_sqlite
 from .answer import Answer
 from .catalog import Catalog
@@ -18,12 +17,12 @@ from .engine import Engine
 from .listing import Listing
 from .outside import Outside
 from .predicates import is_long
-from .reader import Reader
+from .reader import TokenReader
 from .reading import reads_of, told
 from .statement import Statement
 from .table import Table
 from .tokens import NUMBER
-from .value_rows import Rows
+from .value_rows import ValueRows
 from .values import EXACT_DIGITS
 
 # so many rows are listed without being asked for, and so many conditions' rows are kept
@@ -31,22 +30,17 @@ MOST_ROWS, MOST_CONDITIONS = 4_000_000, 8
 EngineOf = Callable[[Table], Engine]
 
 
-@dataclass
 class BySqlite:
-    """SQLite over the listed columns of a catalog's tables, which are kept."""
+    """SQLite over the listed columns of a catalog's tables, which are kept. `is_all` says whether
+    any number of rows may be listed."""
 
-    catalog: Catalog
-    engine_of: EngineOf
-    # whether any number of rows may be listed, and whether progress is shown at a terminal
-    is_all: bool = False
-    is_shown: bool = False
-    whole: Listing = field(init=False)
-    # the rows of conditions, the last one used last
-    parts: collections.OrderedDict[str, Listing] = field(
-        default_factory=collections.OrderedDict)
-
-    def __post_init__(self) -> None:
-        self.whole = Listing(self.catalog)
+    def __init__(self, catalog: Catalog, engine_of: EngineOf, is_all: bool,
+                 waiting: Waiting) -> None:
+        self.catalog, self.engine_of = catalog, engine_of
+        self.is_all, self.waiting = is_all, waiting
+        self.whole = Listing(catalog)
+        # the rows of conditions, the last one used last
+        self.parts = collections.OrderedDict[str, Listing]()
 
     def close(self) -> None:
         """Forgets what was listed."""
@@ -64,11 +58,11 @@ class BySqlite:
         tables = [self.tables()[name] for name in reads]
         engines = {table.name: self.engine_of(table) for table in tables}
         before = {name: len(engine.asked) for name, engine in engines.items()}
+        self.waiting.begin("bw lists")
         self.refuse_many(listing, tables, reads, engines)
-        with Progress("listed", self.is_shown) as progress:
-            for table in tables:
-                with listing.watched():
-                    listing.add(table, reads[table.name], engines[table.name], progress.add)
+        for table in tables:
+            with listing.watched():
+                listing.add(table, reads[table.name], engines[table.name], self.waiting.add)
         for name, engine in engines.items():
             asked += engine.asked[before[name]:]
         return self.run(listing, statement, sql, asked)
@@ -105,6 +99,7 @@ class BySqlite:
     def run(self, listing: Listing, statement: Statement, sql: str, asked: list[str]) -> Answer:
         """Runs a statement over what is listed."""
         guard = listing.guard
+        self.waiting.begin("SQLite computes")
         guard.denied, guard.read, guard.is_off = "", {}, False
         try:
             with listing.watched():
@@ -118,9 +113,9 @@ class BySqlite:
         names = [each[0] for each in cursor.description]
         outputs = statement.outputs
         if len(outputs) != len(names):
-            return Answer(names, [None] * len(names), Rows(rows), 2, asked)
+            return Answer(names, [None] * len(names), ValueRows(rows), 2, asked)
         kinds = [each.plain.kind if each.plain else None for each in outputs]
-        return Answer([each.heading for each in outputs], kinds, Rows(rows), 2, asked)
+        return Answer([each.heading for each in outputs], kinds, ValueRows(rows), 2, asked)
 
     def failure(self, listing: Listing, statement: Statement, message: str) -> str:
         """Returns what to print for SQLite's message, while it ran a statement."""
@@ -160,7 +155,7 @@ def condition_of(statement: Statement, clauses: Clauses, first: int, end: int) -
            if token.kind == NUMBER):
         return ""
     try:
-        return Condition(Reader(statement, clauses.table, clauses.called, first, end)).whole()
+        return Condition(TokenReader(statement, clauses.table, clauses.called, first, end)).whole()
     except Outside:
         return ""
 

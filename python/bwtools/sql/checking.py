@@ -7,18 +7,16 @@ from typing import Callable
 
 from ..column import Column
 from ..kind import Literal
-from ..kinds import Clocks, Dates, Styled, Times, Truths
-from ..moments import read_moment
+from ..kinds import Styled
 from ..telling import Refused
 from . import refusals
 from .operands import EQUAL, Comparison, Operand, Operands
 from .scopes import Scope
 from .structure import Structure
 from .tokens import NUMBER, QUOTED, TEXT, Token, quoted_name, text_literal
-from .values import ISO_CLOCK, ISO_TIME, plain_of
+from .values import MOMENTS
 
 ROWIDS = ("rowid", "oid", "_rowid_")
-MOMENTS = (Dates, Times, Clocks)
 ARITHMETIC = ("+", "-", "*", "/", "%")
 ORDER_END = ("LIMIT", "ROWS", "RANGE", "GROUPS")
 AFTER_TERM = ("ASC", "DESC", "NULLS", "FIRST", "LAST")
@@ -141,7 +139,7 @@ class Checks:
     def arithmetic(self, at: int, operand: Operand) -> None:
         """Rejects arithmetic on dates and times, of which SQLite takes the year or the hour."""
         column, sign = operand.column, self.line.tokens[at]
-        if column and isinstance(column.kind, MOMENTS):
+        if column and column.kind.name in MOMENTS:
             raise Refused(f"{self.text(operand)} has {column.kind.plural}, which have no "
                           f"{sign.text} (at character {sign.start} of the statement): use "
                           f"julianday({column.name}) for days, or date({column.name}, '+1 day')")
@@ -152,7 +150,7 @@ class Checks:
     def moments(self, left: Column, right: Column) -> None:
         """Rejects the comparison of dates and times whose texts aren't ordered as they are."""
         kinds = [column.kind for column in (left, right)]
-        if all(isinstance(kind, MOMENTS) for kind in kinds) and not kinds[0].alike(kinds[1]):
+        if all(kind.name in MOMENTS for kind in kinds) and not kinds[0].alike(kinds[1]):
             raise Refused(f"{left.name} and {right.name} can't be compared: "
                           f"{refusals.held(left)}, {refusals.held(right)}, and equal texts "
                           "mean different values")
@@ -176,27 +174,16 @@ def sqlite_form(column: Column, literal: Literal) -> tuple[str, str] | None:
     """Returns the kind and the text of the token that a text of a column's becomes, or None if it
     stays as it is."""
     kind = column.kind
-    if not isinstance(literal, str) or not isinstance(kind, (*MOMENTS, Truths, Styled)):
+    if not isinstance(literal, str):
         return None
-    if isinstance(kind, MOMENTS):
-        return TEXT, text_literal(iso(kind, literal))
-    place = kind.place(literal)
-    return (NUMBER, plain_of(kind).text(place[0])) if place and not isinstance(kind, Truths) else (
-        NUMBER, str(place[0] if place else 0))
-
-
-def iso(kind: Dates | Times | Clocks, literal: str) -> str:
-    """Returns the ISO form of a date or a time: that of the column's value, or else a text that is
-    between those of two values, as the literal is."""
-    place = kind.place(literal)
-    if place and place[1]:
-        return plain_of(kind).text(place[0])
-    if isinstance(kind, Clocks):
-        number, digits = kind.read(literal) or (0, 0)
-        return Clocks(ISO_CLOCK, digits).text(number)
-    moment = read_moment(kind.form, literal)
-    assert moment
-    return Times(ISO_TIME, moment.digits).text(moment.number)
+    if kind.name in MOMENTS:
+        # few statements need it
+        from .iso import iso_text
+        return TEXT, text_literal(iso_text(kind, literal))
+    place = kind.place(literal) if kind.name == "truths" or isinstance(kind, Styled) else None
+    if place is None:
+        return None
+    return NUMBER, kind.inner.text(place[0]) if isinstance(kind, Styled) else str(place[0])
 
 
 def where(token: Token) -> str:

@@ -1,8 +1,6 @@
 """The clauses of a statement that is one SELECT over one table."""
 from __future__ import annotations
 
-from dataclasses import dataclass
-
 from .outside import Outside
 from .statement import Statement
 from .structure import CLAUSES, COMPOUND, Item
@@ -13,18 +11,15 @@ from .tokens import TEXT
 WORDS = {"GROUP": 2, "ORDER": 2}
 
 
-@dataclass
 class Clauses:
     """The clauses of a SELECT over one table: its items, their aliases in lower case or nothing,
     and of each other clause the places of its tokens after the words that begin it. `called` is the
     table's name before the point of a column's name."""
 
-    table: Table
-    called: str
-    is_distinct: bool
-    items: list[Item]
-    aliases: list[str]
-    spans: dict[str, range]
+    def __init__(self, table: Table, called: str, is_distinct: bool, items: list[Item],
+                 aliases: list[str], spans: dict[str, range]) -> None:
+        self.table, self.called, self.is_distinct = table, called, is_distinct
+        self.items, self.aliases, self.spans = items, aliases, spans
 
     def span(self, name: str) -> range:
         """Returns the places of a clause's tokens, none if it is missing."""

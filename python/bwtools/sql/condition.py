@@ -17,13 +17,12 @@ Tests after BETWEEN, IN and LIKE need brackets around these. A column of numbers
 number, is a predicate by itself: it is TRUE if it isn't 0."""
 from __future__ import annotations
 
-from fractions import Fraction
-from typing import Callable, NamedTuple
+from typing import Callable
 
 from . import tokens, values
 from .outside import Outside
-from .predicates import Operand, among, between, compared, like
-from .reader import Reader
+from .predicates import Comparand, among, between, compared, like
+from .reader import TokenReader
 
 SIGNS = {"=": "=", "==": "=", "<>": "<>", "!=": "<>", "<": "<", ">": ">", "<=": "<=", ">=": ">="}
 # how deep brackets and NOTs may be: bw has a limit of 100, and a condition over numbers has more
@@ -33,11 +32,11 @@ MOST_BYTES = 60_000
 OR, AND, NOT, TEST, PRIMARY = range(5)
 
 
-class Part(NamedTuple):
+class Fragment:
     """A part of a condition over numbers: its text, and how strongly its operator binds."""
 
-    text: str
-    level: int
+    def __init__(self, text: str, level: int) -> None:
+        self.text, self.level = text, level
 
     def within(self, level: int) -> str:
         """Returns the text as an operand of an operator of this level."""
@@ -47,7 +46,7 @@ class Part(NamedTuple):
 class Condition:
     """Translates the tokens of a condition."""
 
-    def __init__(self, reader: Reader) -> None:
+    def __init__(self, reader: TokenReader) -> None:
         self.reader, self.depth = reader, 0
 
     def whole(self) -> str:
@@ -57,32 +56,32 @@ class Condition:
             raise Outside
         return text
 
-    def condition(self) -> Part:
+    def condition(self) -> Fragment:
         """Consumes a condition."""
         terms = [self.term()]
         while self.reader.takes("OR"):
             terms.append(self.term())
         if len(terms) == 1:
             return terms[0]
-        return Part(" OR ".join(term.within(AND) for term in terms), OR)
+        return Fragment(" OR ".join(term.within(AND) for term in terms), OR)
 
-    def term(self) -> Part:
+    def term(self) -> Fragment:
         """Consumes the operands of AND."""
         factors = [self.factor()]
         while self.reader.takes("AND"):
             factors.append(self.factor())
         if len(factors) == 1:
             return factors[0]
-        return Part(" AND ".join(factor.within(NOT) for factor in factors), AND)
+        return Fragment(" AND ".join(factor.within(NOT) for factor in factors), AND)
 
-    def factor(self) -> Part:
+    def factor(self) -> Fragment:
         """Consumes the operand of AND, with NOT before it."""
         if not self.reader.takes("NOT"):
             return self.test()
         with_not = self.deeper(self.factor)
-        return Part(f"NOT {with_not.within(TEST)}", NOT)
+        return Fragment(f"NOT {with_not.within(TEST)}", NOT)
 
-    def deeper(self, take: Callable[[], Part]) -> Part:
+    def deeper(self, take: Callable[[], Fragment]) -> Fragment:
         """Consumes what is within brackets or after NOT."""
         self.depth += 1
         if self.depth > MOST_DEPTH:
@@ -91,7 +90,7 @@ class Condition:
         self.depth -= 1
         return found
 
-    def test(self) -> Part:
+    def test(self) -> Fragment:
         """Consumes a predicate, or a condition in brackets, and tests after it."""
         if self.reader.takes_mark("("):
             found = self.deeper(self.condition)
@@ -105,10 +104,10 @@ class Condition:
             other = self.reader.takes_operand()
             if not other:
                 raise Outside
-            return self.tested(Part(compared(operand, SIGNS[sign], other), PRIMARY))
+            return self.tested(Fragment(compared(operand, SIGNS[sign], other), PRIMARY))
         return self.after(operand)
 
-    def tested(self, found: Part) -> Part:
+    def tested(self, found: Fragment) -> Fragment:
         """Consumes tests of a condition's truth."""
         while True:
             if self.reader.takes("IS"):
@@ -123,25 +122,25 @@ class Condition:
                 negated, truth = "NOT ", "UNKNOWN"
             else:
                 return found
-            found = Part(f"{found.within(PRIMARY)} IS {negated}{truth}", TEST)
+            found = Fragment(f"{found.within(PRIMARY)} IS {negated}{truth}", TEST)
 
-    def after(self, operand: Operand) -> Part:
+    def after(self, operand: Comparand) -> Fragment:
         """Consumes what follows an operand that isn't compared, and returns the predicate."""
         column = operand.column
         if column and (self.reader.takes("IS", "NULL") or self.reader.takes("ISNULL")):
-            return self.tested(Part(f"{column.name} IS NULL", PRIMARY))
+            return self.tested(Fragment(f"{column.name} IS NULL", PRIMARY))
         if column and (self.reader.takes("IS", "NOT", "NULL") or self.reader.takes("NOTNULL") or
                        self.reader.takes("NOT", "NULL")):
-            return self.tested(Part(f"{column.name} IS NOT NULL", PRIMARY))
+            return self.tested(Fragment(f"{column.name} IS NOT NULL", PRIMARY))
         is_negated = self.reader.takes("NOT")
         found = self.choice(operand)
         if not found and not is_negated:
-            return self.tested(Part(truth_of(operand), PRIMARY))
+            return self.tested(Fragment(truth_of(operand), PRIMARY))
         if not found or self.reader.next().key in ("IS", "ISNULL", "NOTNULL", "NOT"):
             raise Outside
-        return Part(f"NOT {found}", NOT) if is_negated else Part(found, PRIMARY)
+        return Fragment(f"NOT {found}", NOT) if is_negated else Fragment(found, PRIMARY)
 
-    def choice(self, operand: Operand) -> str:
+    def choice(self, operand: Comparand) -> str:
         """Consumes BETWEEN, IN, LIKE or GLOB and what follows it, and returns the predicate, or
         nothing if none of them is next."""
         if self.reader.takes("BETWEEN"):
@@ -159,9 +158,9 @@ class Condition:
             return like(column, sign, pattern, self.text() if self.reader.takes("ESCAPE") else None)
         return ""
 
-    def members(self) -> list[Operand]:
+    def members(self) -> list[Comparand]:
         """Consumes the operands in brackets."""
-        found, mark = list[Operand](), self.reader.wants_mark("(")
+        found, mark = list[Comparand](), self.reader.wants_mark("(")
         while mark != ")":
             operand = self.reader.takes_operand()
             if not operand:
@@ -178,10 +177,11 @@ class Condition:
         return token.value
 
 
-def truth_of(operand: Operand) -> str:
+def truth_of(operand: Comparand) -> str:
     """Returns the condition that a number isn't 0."""
     column = operand.column
     if operand.is_null or isinstance(operand.value, str) or \
             column and values.affinity(column.kind) == values.TEXT:
         raise Outside
-    return compared(operand, "<>", Operand(None, Fraction(0)))
+    from .literals import TRUTHS
+    return compared(operand, "<>", Comparand(None, TRUTHS["FALSE"]))

@@ -5,14 +5,15 @@ import contextlib
 import functools
 import os
 import sqlite3
-from dataclasses import dataclass, field
 from typing import TYPE_CHECKING, Any, Callable, Sequence
 
+from ..waiting import Waiting
 from . import errors, grammar
 from .answer import Answer
 from .catalog import Catalog, open_catalog
-from .engine import Asker, Engine, Scheduled, Sessions
+from .engine import Asker, Engine
 from .errors import translated
+from .local import Local
 from .statement import Statement
 from .table import Table, name_of
 
@@ -28,29 +29,21 @@ def nothing(told: str) -> None:
     """Drops what bw prints beside an answer."""
 
 
-@dataclass
 class Settings:
     """How a connection asks: the scheduler of a cluster, or None for sessions on this machine; bw's
     options; what gets that which bw prints beside its answers; whether SQLite may get any number of
-    rows; and whether progress is shown at a terminal."""
+    rows; and what shows what an answer waits for."""
 
-    scheduler: str | None = None
-    options: Sequence[str] = ()
-    tell: Callable[[str], None] = nothing
-    list_all: bool = False
-    is_shown: bool = False
+    def __init__(self, scheduler: str | None = None, options: Sequence[str] = (),
+                 tell: Callable[[str], None] = nothing, list_all: bool = False,
+                 waiting: Waiting | None = None) -> None:
+        self.scheduler, self.options, self.tell = scheduler, options, tell
+        self.list_all, self.waiting = list_all, waiting or Waiting(False)
 
 
-@dataclass
 class Connection:
     """A connection to some tables, which are read only. It answers all statements from the files
     that it opened, also if they are replaced meanwhile. One thread at a time may use it."""
-
-    catalog: Catalog
-    settings: Settings = field(default_factory=Settings)
-    engines: dict[str, Engine] = field(default_factory=dict)
-    stack: contextlib.ExitStack = field(default_factory=contextlib.ExitStack)
-    is_closed: bool = False
 
     Warning = errors.Warning
     Error = errors.Error
@@ -63,8 +56,13 @@ class Connection:
     ProgrammingError = errors.ProgrammingError
     NotSupportedError = errors.NotSupportedError
 
-    def __post_init__(self) -> None:
-        self.stack.callback(self.catalog.close)
+    def __init__(self, catalog: Catalog, settings: Settings | None = None) -> None:
+        self.catalog, self.settings = catalog, settings or Settings()
+        self.is_closed = False
+        # the engines of tables that were asked, by the tables' names
+        self.engines = dict[str, Engine]()
+        self.stack = contextlib.ExitStack()
+        self.stack.callback(catalog.close)
 
     def __enter__(self) -> Connection:
         return self
@@ -85,7 +83,7 @@ class Connection:
     def by_sqlite(self) -> BySqlite:
         """SQLite over listed columns, which most statements don't need."""
         from .by_sqlite import BySqlite
-        found = BySqlite(self.catalog, self.engine, self.settings.list_all, self.settings.is_shown)
+        found = BySqlite(self.catalog, self.engine, self.settings.list_all, self.settings.waiting)
         self.stack.callback(found.close)
         return found
 
@@ -101,9 +99,11 @@ class Connection:
         settings = self.settings
         if settings.scheduler is None:
             files = [part.file for part in table.parts if part.file]
-            return Sessions(files, settings.options, settings.tell,
-                            [part.path for part in table.parts])
+            return Local(files, settings.options, settings.tell,
+                         [part.path for part in table.parts])
+        # it needs Dask
         from .. import cluster
+        from .scheduled import Scheduled
         files_there = [(os.path.abspath(part.path), part.record) for part in table.parts]
         joined = cluster.Cluster(settings.scheduler)
         return Scheduled(joined, files_there, table.parts[0].columns, settings.options,

@@ -8,15 +8,16 @@ from typing import BinaryIO, Iterator, Mapping, Sequence
 
 from ..codes import Codes
 from ..kind import Kind
-from ..session import Failed
+from ..failed import Failed
 from ..telling import Refused
-from . import values
-from .found_groups import COUNT, Found, Key
+from .aggregate_values import NULL_NUMBER
+from .conversions import stored
+from .found_groups import Found, Key
 from .group_sums import NULL, Sums
+from .selects import COUNT
 
 MOST_GROUPS = 1_000_000
-# of a group whose number is null: less than each number, all of which are within 64 bits
-NULL_NUMBER, AT_ONCE = -1 << 64, 1 << 18
+AT_ONCE = 1 << 18
 
 
 def blocks(parts: Sequence[BinaryIO]) -> Iterator[str]:
@@ -70,7 +71,7 @@ def doubles(parts: Sequence[BinaryIO], keys: int, kind: Kind) -> dict[Key, array
     """Returns the doubles of a column, which is the last one and has no nulls, in each group."""
     found: dict[str, array[float]] = {}
     for fields, (column,) in blocks_of(parts, keys, 1):
-        for key, double in zip(fields, values.stored(kind, list(map(int, column)))):
+        for key, double in zip(fields, stored(kind, list(map(int, column)))):
             try:
                 found[key].append(double)
             except KeyError:

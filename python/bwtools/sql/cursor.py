@@ -8,7 +8,7 @@ from ..telling import Refused
 from .answer import Answer
 from .errors import NotSupportedError, ProgrammingError, translated
 from .types import code_of
-from .value_rows import Rows
+from .value_rows import ValueRows
 
 if TYPE_CHECKING:
     import numpy
@@ -59,7 +59,7 @@ class Cursor:
         if self.answer is None:
             return None
         body = self.answer.body
-        rows = body.rows if isinstance(body, Rows) else ()
+        rows = body.rows if isinstance(body, ValueRows) else ()
         return [(heading, code_of(kind, (row[place] for row in rows)), None, None, None, None, None)
                 for place, (heading, kind)
                 in enumerate(zip(self.answer.headings, self.answer.kinds))]

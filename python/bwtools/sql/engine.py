@@ -1,37 +1,33 @@
-"""Asks bw about the rows of a table: in a session for each of its files, which stays open, or on
-the workers of a cluster. What it returns is whole: a session that ends by itself, or a shard that
-fails, is an exception."""
+"""Asks bw about the rows of a table: by processes on this machine, or on the workers of a cluster.
+What it returns is whole: a file of the table that can't be asked is an exception."""
 from __future__ import annotations
 
 import io
-import os
-import threading
-from typing import Any, BinaryIO, Callable, Iterator, Protocol, Sequence, TypeVar, Union
+from typing import BinaryIO, Protocol, Sequence, Union
 
-from .. import command
-from ..session import Failed, Session
-from ..shards import Reply, is_of_statement, total
-from ..store import TableFile
-from ..telling import Refused
+from ..failed import Failed
+from .adding import total
 
-# a result up to this many bytes is kept in memory, a longer one in a temporary file
-MOST_IN_MEMORY, AT_ONCE = 1 << 26, 1 << 16
-# so many sessions are kept at most; if there are more files, or memory has no room for their
-# tables, so many work at a time
-MOST_SESSIONS, IN_TURN = 64, 4
 # the totals of a statement, of which None is null
 Totals = Sequence[Union[int, None]]
-T = TypeVar("T")
 
 
 class Asker(Protocol):
     """Runs statements on each file of a table."""
+
+    def once(self, statement: str) -> list[bytes]:
+        """Returns the results of a statement of totals, after which no other is known to follow,
+        for each file."""
 
     def totals(self, statements: Sequence[str]) -> list[list[bytes]]:
         """Returns the results of statements of totals, for each file."""
 
     def rows(self, statement: str) -> list[BinaryIO]:
         """Returns the results of a statement of rows, one for each file."""
+
+    def beginnings(self, statement: str, rows: int) -> list[bytes]:
+        """Returns the results of a statement of rows, of which some after so many may be missing,
+        for each file."""
 
     def close(self) -> None:
         """Ends what it has started."""
@@ -45,6 +41,12 @@ class Engine:
         # the statements that bw ran, in order
         self.asked: list[str] = []
 
+    def once(self, statement: str) -> Totals:
+        """Returns the totals of a statement over all files, as `totals` does, without a session for
+        later ones."""
+        self.asked.append(statement)
+        return added(self.asker.once(statement))
+
     def totals(self, statements: Sequence[str]) -> list[Totals]:
         """Returns the totals of each statement over all files. Raises Refused if bw rejects one,
         and Failed if a file can't be asked."""
@@ -57,6 +59,12 @@ class Engine:
         is an open file of lines of CSV, the first of which is the heading."""
         self.asked.append(statement)
         return self.asker.rows(statement)
+
+    def beginning(self, statement: str, rows: int) -> list[BinaryIO]:
+        """Returns the results of a statement of rows as `rows` does; those after so many of a file
+        may be missing. A file that can't be asked is an exception here, too."""
+        self.asked.append(statement)
+        return list(map(io.BytesIO, self.asker.beginnings(statement, rows)))
 
     def close(self) -> None:
         """Ends the sessions. A later statement begins others."""
@@ -76,194 +84,3 @@ def added(results: Sequence[bytes]) -> Totals:
     if len(values) == 1:
         return values[0]
     return [total(function, each) for function, each in zip(functions, zip(*values))]
-
-
-class Sessions:
-    """A session of bw for each of some open table files, begun when it is needed. They work side by
-    side, and have the tables in memory: if these are too many or too large for that, a few work at
-    a time, and end after each call. If one fails, all are ended, so no result of theirs is taken
-    for another one's."""
-
-    def __init__(self, files: Sequence[BinaryIO], options: Sequence[str] = (),
-                 tell: Callable[[str], None] = lambda told: None,
-                 names: Sequence[str] = ()) -> None:
-        self.files, self.options, self.tell = files, options, tell
-        self.names = names or [f"file {place}" for place in range(1, len(files) + 1)]
-        self.sessions: list[Session] = []
-        size = sum(os.fstat(file.fileno()).st_size for file in files)
-        self.are_kept = len(files) == 1 or len(files) <= MOST_SESSIONS and size <= memory() // 2
-
-    def totals(self, statements: Sequence[str]) -> list[list[bytes]]:
-        def asked(session: Session) -> list[bytes]:
-            results, told = session.totals(statements)
-            if b"" in results:
-                raise refusal(told)
-            self.tell(told)
-            return results
-
-        return self.each(asked)
-
-    def rows(self, statement: str) -> list[BinaryIO]:
-        def asked(session: Session) -> BinaryIO:
-            answer = session.result_of(statement)
-            found = kept(answer) if answer else None
-            told = session.told()
-            if found is None:
-                raise refusal(told)
-            self.tell(told)
-            return found
-
-        return self.each(asked)
-
-    def each(self, work: Callable[[Session], T]) -> list[T]:
-        """Returns what a function returns for each session."""
-        count, found = len(self.files), list[T]()
-        at_once = count if self.are_kept else IN_TURN
-        try:
-            for first in range(0, count, at_once):
-                found += self.some(range(first, min(first + at_once, count)), work)
-            return found
-        except Refused:
-            # every session has answered
-            raise
-        except BaseException:
-            self.close()
-            raise
-
-    def some(self, places: range, work: Callable[[Session], T]) -> list[T]:
-        """Returns what a function returns for the sessions of the files of some places."""
-        try:
-            for place in places[len(self.sessions):]:
-                self.sessions.append(Session(self.files[place], self.options))
-
-            def call(place: int, session: Session) -> Callable[[], T]:
-                return lambda: self.named(place, session, work)
-
-            return side_by_side(list(map(call, places, self.sessions)), self.kill)
-        finally:
-            if not self.are_kept:
-                self.close()
-
-    def named(self, place: int, session: Session, work: Callable[[Session], T]) -> T:
-        """Returns what a function returns for a session. If it fails, and there are others, its
-        file is named."""
-        try:
-            return work(session)
-        except Failed as failed:
-            if len(self.files) == 1:
-                raise
-            why = failed.told.strip() or str(failed)
-            raise Failed(f"{self.names[place]}: {why}", status=failed.status) from None
-
-    def kill(self) -> None:
-        """Ends the processes of all sessions, whatever they do."""
-        for session in self.sessions:
-            session.process.kill()
-
-    def close(self) -> None:
-        self.kill()
-        for session in self.sessions:
-            session.process.__exit__(None, None, None)
-        self.sessions = []
-
-
-def memory() -> int:
-    """Returns the bytes of the machine's memory."""
-    try:
-        return os.sysconf("SC_PHYS_PAGES") * os.sysconf("SC_PAGE_SIZE")
-    except (ValueError, OSError):
-        return 1 << 62
-
-
-def refusal(told: str) -> Exception:
-    """Returns what a statement without an answer raises: that bw rejected it, for a reason."""
-    if told:
-        return Refused(told.rstrip("\n"))
-    return Failed("bw session gave no answer and no reason")
-
-
-class Scheduled:
-    """Runs statements by a cluster, whose workers have the table files at the same paths: each
-    statement on each file by itself."""
-
-    def __init__(self, cluster: Any, files: Sequence[tuple[str, TableFile]], columns: str,
-                 options: Sequence[str] = (),
-                 tell: Callable[[str], None] = lambda told: None) -> None:
-        self.cluster, self.files, self.columns = cluster, files, columns
-        self.options, self.tell = options, tell
-
-    def totals(self, statements: Sequence[str]) -> list[list[bytes]]:
-        answers = list(self.answers(statements))
-        count = len(self.files)
-        return [answers[place::count] for place in range(count)]
-
-    def rows(self, statement: str) -> list[BinaryIO]:
-        return [io.BytesIO(answer) for answer in self.answers([statement])]
-
-    def answers(self, statements: Sequence[str]) -> Iterator[bytes]:
-        """Yields the result of each statement on each file, statement by statement."""
-        program = command.whole_path()
-        calls = [(program, path, record, self.columns, self.options, statement)
-                 for statement in statements for path, record in self.files]
-        for call, reply in zip(calls, self.cluster.replies(calls)):
-            yield self.answer(call[1], reply)
-
-    def answer(self, path: str, reply: Reply) -> bytes:
-        """Returns the result of a reply. Raises what it reports."""
-        status, told, answer = reply
-        if is_of_statement(reply):
-            raise Refused(told.rstrip("\n"))
-        lines = "\n".join(f"{path}: {line}" for line in told.splitlines())
-        if status:
-            raise Failed(lines, status=status)
-        self.tell(lines)
-        return answer
-
-    def close(self) -> None:
-        self.cluster.close()
-
-
-def side_by_side(works: Sequence[Callable[[], T]], end: Callable[[], None]) -> list[T]:
-    """Runs functions, each but the first in a thread of its own. Returns their results, or raises
-    the exception of the first that failed, once all have ended. `end` has them end early, if this
-    thread is interrupted."""
-    results: dict[int, T] = {}
-    errors: dict[int, Exception] = {}
-
-    def do(place: int) -> None:
-        try:
-            results[place] = works[place]()
-        except Exception as error:
-            errors[place] = error
-
-    threads = [threading.Thread(target=do, args=(place,), daemon=True)
-               for place in range(1, len(works))]
-    try:
-        for thread in threads:
-            thread.start()
-        do(0)
-        for thread in threads:
-            thread.join()
-    except BaseException:
-        end()
-        for thread in filter(threading.Thread.is_alive, threads):
-            thread.join()
-        raise
-    if errors:
-        raise errors[min(errors)]
-    return [results[place] for place in range(len(works))]
-
-
-def kept(answer: io.BufferedReader) -> BinaryIO:
-    """Returns a result that was read to its end, as an open file at its begin."""
-    found: BinaryIO = io.BytesIO()
-    while part := answer.read(AT_ONCE):
-        found.write(part)
-        if isinstance(found, io.BytesIO) and found.tell() > MOST_IN_MEMORY:
-            # it takes long to load, and few results are so long
-            import tempfile
-            longer: Any = tempfile.TemporaryFile()
-            longer.write(found.getbuffer())
-            found = longer
-    found.seek(0)
-    return found

@@ -6,7 +6,7 @@ import contextlib
 import sqlite3
 from typing import Iterator
 
-from ..session import Failed
+from ..failed import Failed
 from ..telling import Refused
 
 

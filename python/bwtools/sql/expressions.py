@@ -2,15 +2,14 @@
 which SQLite evaluates."""
 from __future__ import annotations
 
-from dataclasses import dataclass, field
-from typing import Sequence
+from typing import Iterable, NamedTuple, Sequence
 
 from ..column import Column
 from . import tokens
-from .aggregate import AGGREGATES, Aggregate, aggregate_of
+from .aggregate import AGGREGATES, PREFIX, Aggregate, aggregate_of
 from .clauses import Clauses
 from .outside import Outside
-from .reader import Reader
+from .reader import TokenReader, reader_of
 from .statement import Statement
 from .tokens import quoted_name
 
@@ -23,12 +22,9 @@ WORDS = set("AND OR NOT IS NULL ISNULL NOTNULL BETWEEN IN LIKE GLOB ESCAPE CASE 
 TYPES = set("INTEGER INT REAL TEXT NUMERIC".split())
 MARKS = ("(", ")", ",", "+", "-", "*", "/", "%", "||", "<", "<=", ">", ">=", "=", "==", "<>", "!=",
          "&", "|", "<<", ">>", "~")
-# what names in the table of groups begin with
-PREFIX = "bw:"
 
 
-@dataclass
-class Group:
+class Group(NamedTuple):
     """What makes groups: a column, or an expression over columns, of which these are the words. A
     call may be a part of another expression; other expressions only within brackets or commas."""
 
@@ -37,17 +33,16 @@ class Group:
     is_call: bool = False
 
 
-@dataclass
 class Expressions:
     """Makes expressions over groups of tokens, and notes what makes the groups and which aggregates
     are needed."""
 
-    statement: Statement
-    clauses: Clauses
-    groups: list[Group] = field(default_factory=list)
-    aggregates: list[Aggregate] = field(default_factory=list)
-    # whether any column may make groups, as in SELECT DISTINCT
-    are_free: bool = False
+    def __init__(self, statement: Statement, clauses: Clauses, groups: Iterable[Group] = (),
+                 are_free: bool = False) -> None:
+        self.statement, self.clauses = statement, clauses
+        self.groups, self.aggregates = list(groups), list[Aggregate]()
+        # whether any column may make groups, as in SELECT DISTINCT
+        self.are_free = are_free
 
     @property
     def columns(self) -> list[Column]:
@@ -63,7 +58,7 @@ class Expressions:
             words.append(self.word(reader, aliases))
         return " ".join(words)
 
-    def word(self, reader: Reader, aliases: Sequence[str]) -> str:
+    def word(self, reader: TokenReader, aliases: Sequence[str]) -> str:
         """Consumes the next tokens, and returns what they are in an expression over groups."""
         token, is_call = reader.next(), reader.next(1).is_mark("(")
         for place, group in enumerate(self.groups):
@@ -90,7 +85,7 @@ class Expressions:
             return reader.take().text
         raise Outside
 
-    def takes_group(self, reader: Reader, group: Group) -> bool:
+    def takes_group(self, reader: TokenReader, group: Group) -> bool:
         """Consumes an expression that makes groups, if it is next."""
         end = reader.place + len(group.words)
         if not group.words or end > reader.end or \
@@ -116,7 +111,7 @@ class Expressions:
         column = self.groups[place].column
         return quoted_name(f"{PREFIX}{column.name if column else f'group {place}'}")
 
-    def aggregate(self, reader: Reader) -> str:
+    def aggregate(self, reader: TokenReader) -> str:
         """Consumes an aggregate, and returns the name of its column."""
         found = aggregate_of(reader)
         if found not in self.aggregates:
@@ -129,8 +124,3 @@ def words_of(statement: Statement, clauses: Clauses, span: range) -> list[str]:
     found = [statement.tokens[place] for place in span]
     return [quoted_name(token.name.lower()) if clauses.table.column(token.name)
             else token.key or token.text for token in found]
-
-
-def reader_of(statement: Statement, clauses: Clauses, span: range) -> Reader:
-    """Returns a reader of some tokens."""
-    return Reader(statement, clauses.table, clauses.called, span.start, span.stop)

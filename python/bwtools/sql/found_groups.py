@@ -1,18 +1,16 @@
 """Groups that were found, and their totals."""
 from __future__ import annotations
 
-from dataclasses import dataclass
-from typing import Mapping, Sequence, Tuple
+from typing import Mapping, NamedTuple, Sequence, Tuple
 
-from ..shards import total
+from .adding import total
+from .selects import COUNT
 
-COUNT = "COUNT(*)"
 # the numbers of a group's columns
 Key = Tuple[int, ...]
 
 
-@dataclass
-class Found:
+class Found(NamedTuple):
     """Groups: the numbers of each column that makes them, and the totals of each group by their
     names, such as SUM(cents). All lists have the groups' order."""
 

@@ -5,8 +5,7 @@ from __future__ import annotations
 import collections
 import decimal
 import importlib
-from dataclasses import dataclass
-from typing import Any, Callable, Sequence
+from typing import Any, Callable, NamedTuple, Sequence
 
 from ..kind import GREATEST, LEAST, Kind
 from ..kinds import (Clocks, Dates, Decimals, Floats, Nulls, Ranked, Texts, Times, Truths, Whole,
@@ -14,8 +13,8 @@ from ..kinds import (Clocks, Dates, Decimals, Floats, Nulls, Ranked, Texts, Time
 from ..numerals import power_of_ten
 from ..telling import Refused
 from .answer import Answer
-from .number_rows import Numbers, foreign
-from .values import number_of
+from .conversions import foreign, number_of
+from .number_rows import NumberRows
 
 # numbers up to this one are doubles
 MOST_EXACT = 1 << 53
@@ -24,8 +23,7 @@ NANOSECONDS = 9
 FIRST_YEAR, LAST_YEAR = 1678, 2261
 
 
-@dataclass
-class Array:
+class Array(NamedTuple):
     """A column: its values, or their places among the categories, and which of them are null."""
 
     values: Any
@@ -143,7 +141,7 @@ def doubles_of(numpy: Any, kind: Floats, numbers: Any) -> Any:
 def columns_of(answer: Answer, numpy: Any) -> list[Array]:
     """Returns the columns of an answer."""
     body = answer.body
-    if isinstance(body, Numbers):
+    if isinstance(body, NumberRows):
         parts = [parsed(numpy, data, len(answer.kinds)) for data in body.contents()]
         numbers = numpy.concatenate([values for values, _ in parts])
         masks = numpy.concatenate([mask for _, mask in parts])

@@ -8,7 +8,7 @@ from typing import Iterator
 
 from .mean import Mean, mean_of
 from .sum import Sum
-from .values import double_of_sum
+from .total_values import double_of_sum
 
 
 class Functions:

@@ -7,11 +7,12 @@ import sqlite3
 from typing import Iterator, Sequence
 
 from ..telling import Refused
-from . import values
+from .aggregate import PREFIX
+from .blocks import Value
 from .clauses import Clauses
 from .counted import TooMany
 from .engine import Engine
-from .expressions import PREFIX, Expressions, Group, words_of
+from .expressions import Expressions, Group, words_of
 from .groups import groups_of
 from .items import columns_of, is_star, named_item, plain_column, where_of
 from .limits import Limits, limits_of
@@ -19,8 +20,9 @@ from .ordering import terms_of
 from .outside import Outside
 from .statement import Statement
 from .structure import Item
-from .tokens import quoted_name
-from .value_rows import Rows
+from .tokens import NUMBER, quoted_name
+from .value_rows import ValueRows
+from .values import affinity
 from .wanted import Wanted
 
 # the small table of groups
@@ -67,19 +69,31 @@ class GroupsQuestion:
     def group(self, first: int, end: int) -> tuple[str, Group]:
         """Returns what makes groups, as an expression over the columns of `fine`, and as what it is
         in the statement."""
-        span = named_item(self.statement, self.clauses, first, end)
+        span = self.placed_item(first, end) or named_item(self.statement, self.clauses, first, end)
         column = plain_column(self.statement, self.clauses, span.start, span.stop)
         if column:
             return self.fine.key(column), Group(column)
         made = f"({self.fine.expression(span.start, span.stop)})"
         words = words_of(self.statement, self.clauses, span)
-        # a number alone is a place, and only the value of a CAST is compared as of a type
+        # what has no column makes one group, and only the value of a CAST is compared as of a type
         if self.fine.aggregates or words[0] in ("CAST", "(") or \
                 not any(word in self.names for word in words):
             raise Outside
         line = self.statement.structure.line
         is_call = line.is_mark(span.start + 1, "(") and line.closing[span.start + 1] == span[-1]
         return made, Group(None, words, is_call)
+
+    def placed_item(self, first: int, end: int) -> range:
+        """Returns the places of the item whose number the tokens from one on, up to another, are;
+        none if they aren't one."""
+        token, items = self.statement.tokens[first], self.clauses.items
+        if end - first != 1 or token.kind != NUMBER or not token.text.isdecimal():
+            return range(0)
+        if any(is_star(self.statement, item) for item in items) or \
+                not 0 < int(token.text) <= len(items):
+            raise Outside
+        item = items[int(token.text) - 1]
+        return range(item.first, item.end)
 
     def refuse_mixed(self) -> None:
         """Raises Outside if groups are missing or surplus: an aggregate makes one group of all
@@ -140,11 +154,11 @@ class GroupsQuestion:
                         order.lower() in (alias, quoted_name(alias)):
                     yield item
 
-    def body(self, engine: Engine) -> Rows:
+    def body(self, engine: Engine) -> ValueRows:
         """Returns the rows that SQLite makes of the groups."""
         made, table = self.expressions, self.clauses.table
         if self.limits.most == 0:
-            return Rows([])
+            return ValueRows([])
         columns = self.fine.columns if self.is_coarse else made.columns
         wanted = Wanted(table.bw_name, where_of(self.statement, self.clauses), columns,
                         made.aggregates, self.is_in_rows_order)
@@ -154,10 +168,10 @@ class GroupsQuestion:
             if self.is_coarse:
                 raise Outside from None
             raise
-        return Rows(rows_of(types_of(made), [*groups.columns, *groups.values], self.sql)[0])
+        return ValueRows(rows_of(types_of(made), [*groups.columns, *groups.values], self.sql)[0])
 
-    def coarse(self, columns: Sequence[Sequence[values.Value]]
-               ) -> tuple[Sequence[Sequence[values.Value]], Sequence[int]]:
+    def coarse(self, columns: Sequence[Sequence[Value]]
+               ) -> tuple[Sequence[Sequence[Value]], Sequence[int]]:
         """Returns the values of the expressions that make groups, in order, and the place among
         them of each group that the columns make."""
         items = ", ".join(self.made)
@@ -172,7 +186,7 @@ class GroupsQuestion:
 def types_of(expressions: Expressions) -> list[str]:
     """Returns the columns of the table of groups: those that make them, with the type that SQLite
     compares them by; expressions and aggregates have none."""
-    groups = [f"{expressions.name(place)} {values.affinity(group.column.kind)}" if group.column
+    groups = [f"{expressions.name(place)} {affinity(group.column.kind)}" if group.column
               else expressions.name(place) for place, group in enumerate(expressions.groups)]
     return groups + [quoted_name(f"{PREFIX}{place}")
                      for place in range(len(expressions.aggregates))]
@@ -199,8 +213,8 @@ def explain(types: Sequence[str], sql: str) -> None:
         raise Outside from None
 
 
-def rows_of(types: Sequence[str], columns: Sequence[Sequence[values.Value]],
-            *statements: str) -> list[list[tuple[values.Value, ...]]]:
+def rows_of(types: Sequence[str], columns: Sequence[Sequence[Value]],
+            *statements: str) -> list[list[tuple[Value, ...]]]:
     """Returns the rows of statements over the table of groups of these columns."""
     try:
         with table_of(types) as database:

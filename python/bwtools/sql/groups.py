@@ -8,43 +8,39 @@ from __future__ import annotations
 
 import math
 from collections import Counter
-from dataclasses import dataclass, replace
-from typing import Any, Callable, Mapping, Sequence, Tuple
+from typing import Any, Callable, Mapping, NamedTuple, Optional, Sequence, Tuple
 
 from ..column import Column
-from ..kind import Kind
-from ..session import Failed
-from ..shards import total
-from . import counted, values
-from .aggregate import Aggregate
-from .counted import NULL_NUMBER
+from ..failed import Failed
+from . import counted
+from .adding import total
+from .aggregate_values import NULL_NUMBER, stored_of, values_of
+from .blocks import Value
 from .engine import Engine, Totals
 from .exact import float_sum
-from .found_groups import COUNT, Found, Key
-from .number_rows import foreign
-from .rows import names_of, select
-from .wanted import NEEDED, Wanted, is_float_sum
+from .found_groups import Found, Key
+from .selects import COUNT, names_of, select
+from .wanted import Wanted
 
 # so many groups are counted by statements at most, and only if the rows that those scan are no more
 # than so many times the rows that would be listed: which takes as long
 MOST_STATEMENTS, LISTED_COST, LONG = 1000, 2000, 200
 # the totals of all rows by their names
-Whole = Mapping[str, "int | None"]
+WholeTotals = Mapping[str, Optional[int]]
 
 
-@dataclass
-class Groups:
+class Groups(NamedTuple):
     """Groups in order: SQLite's values of what makes them, and of each aggregate, for all
     groups."""
 
-    columns: Sequence[Sequence[values.Value]]
-    values: Sequence[Sequence[values.Value]]
+    columns: Sequence[Sequence[Value]]
+    values: Sequence[Sequence[Value]]
 
 
 # gets SQLite's values of the columns that make groups, and returns those of what makes fewer
 # groups, and the place among these of each of the others
-Coarse = Callable[[Sequence[Sequence[values.Value]]],
-                  Tuple[Sequence[Sequence[values.Value]], Sequence[int]]]
+Coarse = Callable[[Sequence[Sequence[Value]]],
+                  Tuple[Sequence[Sequence[Value]], Sequence[int]]]
 
 
 def groups_of(engine: Engine, wanted: Wanted, coarse: Coarse | None = None) -> Groups:
@@ -64,20 +60,20 @@ def groups_of(engine: Engine, wanted: Wanted, coarse: Coarse | None = None) -> G
     # of each column the doubles, or the number of its values, in each group
     doubles: dict[str, Sequence[Sequence[float]]] = {}
     distinct: dict[str, Mapping[Key, int]] = {}
-    results = list[Sequence[values.Value]]()
+    results = list[Sequence[Value]]()
     for each in wanted.aggregates:
         if each.column and each.is_distinct:
             if each.column.name not in distinct:
                 distinct[each.column.name] = distinct_of(engine, wanted, each.column)
             results.append([distinct[each.column.name].get(key, 0) for key in keys])
-        elif each.column and is_float_sum(each):
+        elif each.column and each.is_float_sum:
             if each.column.name not in doubles:
                 of_keys = doubles_of(engine, wanted, each.column)
                 doubles[each.column.name] = together(of_keys, keys, places, count)
             results.append([float_total(each.function, part)
                             for part in doubles[each.column.name]])
         else:
-            results.append(values_of(each, found))
+            results.append(values_of(each, found.totals))
     return Groups(made, results)
 
 
@@ -88,35 +84,6 @@ def together(doubles: Mapping[Key, Sequence[float]], keys: Sequence[Key], places
     for key, place in zip(keys, places):
         found[place] += doubles.get(key, ())
     return list(found)
-
-
-def values_of(aggregate: Aggregate, found: Found) -> Sequence[values.Value]:
-    """Returns the values of an aggregate for groups."""
-    column, function = aggregate.column, aggregate.function
-    if column is None:
-        return found.totals[COUNT]
-    needed = [found.totals[f"{each}({column.name})"] for each in NEEDED[function]]
-    numbers = needed[0]
-    if function == "COUNT":
-        return numbers
-    if function == "AVG":
-        return [None if number is None else values.mean(column, number, count or 0)
-                for number, count in zip(*needed)]
-    if function == "SUM":
-        return [None if number is None else values.total(column, number) for number in numbers]
-    return stored_of(column.kind, numbers)
-
-
-def stored_of(kind: Kind, numbers: Sequence[int | None]) -> list[values.Value]:
-    """Returns SQLite's values of numbers, of which None and NULL_NUMBER are null. Raises Refused if
-    the table isn't the columns' own."""
-    distinct = [each for each in dict.fromkeys(numbers) if each is not None
-                and each != NULL_NUMBER]
-    try:
-        found = dict(zip(distinct, values.stored(kind, distinct)))
-    except (ValueError, IndexError, OverflowError):
-        raise foreign(kind) from None
-    return [None if number is None else found.get(number) for number in numbers]
 
 
 def totals_of(engine: Engine, wanted: Wanted) -> Found:
@@ -144,7 +111,7 @@ def names_of_ends(wanted: Wanted) -> list[str]:
     return list(dict.fromkeys([*wanted.totals, *ends]))
 
 
-def choices_of(engine: Engine, wanted: Wanted, whole: Whole) -> list[list[int]]:
+def choices_of(engine: Engine, wanted: Wanted, whole: WholeTotals) -> list[list[int]]:
     """Returns the numbers that each column may have among rows of which these are the totals; none
     if there are too many groups to count them by statements."""
     found = list[list[int]]()
@@ -208,7 +175,7 @@ def by_rows(engine: Engine, wanted: Wanted) -> Found:
 
 def distinct_of(engine: Engine, wanted: Wanted, column: Column) -> Mapping[Key, int]:
     """Returns how many numbers a column has in each group."""
-    finer = replace(wanted, keys=[*wanted.keys, column], aggregates=(), is_in_rows_order=False)
+    finer = wanted._replace(keys=[*wanted.keys, column], aggregates=(), is_in_rows_order=False)
     names = names_of_ends(finer)
     whole = dict(zip(names, engine.totals([finer.select(", ".join(names))])[0]))
     choices = choices_of(engine, finer, whole)

@@ -7,8 +7,8 @@ from typing import Sequence
 from ..column import Column
 from .clauses import Clauses
 from .condition import Condition
-from .expressions import reader_of
 from .outside import Outside
+from .reader import reader_of
 from .statement import Statement
 from .structure import Item
 

@@ -1,16 +1,14 @@
 """The clause LIMIT."""
 from __future__ import annotations
 
-from dataclasses import dataclass
-from typing import Sequence
+from typing import NamedTuple, Sequence
 
 from . import tokens
 from .outside import Outside
 from .tokens import Token
 
 
-@dataclass
-class Limits:
+class Limits(NamedTuple):
     """How many rows an answer has at most, if that is limited, and how many are left out before
     them."""
 

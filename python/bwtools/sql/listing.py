@@ -7,12 +7,12 @@ import sqlite3
 from typing import Callable, Iterator, Sequence
 
 from ..column import Column
-from ..session import Failed
+from ..failed import Failed
 from .blocks import Block
 from .catalog import Catalog
 from .engine import Engine
 from .functions import Functions
-from .number_rows import Numbers
+from .number_rows import NumberRows
 from .reading import Guard, declare
 from .table import Table
 from .tokens import quoted_name
@@ -130,7 +130,7 @@ class Listing:
         quoted = ", ".join(quoted_name(each.name) for each in columns)
         count = 0
         try:
-            for block in Numbers(parts).values([each.kind for each in columns]):
+            for block in NumberRows(parts).values([each.kind for each in columns]):
                 self.insert(f"INSERT INTO {quoted_name(target)} ({quoted})", block)
                 count += len(block[0])
                 progress(len(block[0]))

@@ -8,14 +8,13 @@ from typing import Any, BinaryIO, Callable, Iterator, Sequence, Union
 from ..answers import blocks as blocks_of
 from ..kind import Kind
 from ..kinds import Whole
-from ..telling import Refused
 from .blocks import Block
-from .values import objects, stored
+from .conversions import foreign, objects, stored
 
 NULL, SAMPLE = "NULL", 256
 
 
-class Numbers:
+class NumberRows:
     """Rows of whole numbers as bw listed them, one CSV with a heading for each file of the table,
     which is decoded when it is read."""
 
@@ -96,8 +95,3 @@ def turned(fields: Sequence[str], null: Any, turn: Callable[[Sequence[int]], Seq
         return list(found)
     rest = iter(found)
     return [null if each == NULL else next(rest) for each in fields]
-
-
-def foreign(kind: Kind | None) -> Refused:
-    plural = kind.plural if kind else "whole numbers"
-    return Refused(f"the table has a number that is none of its column's {plural}")

@@ -1,48 +1,45 @@
 """The operands of comparisons in a statement's tokens."""
 from __future__ import annotations
 
-import math
-from dataclasses import dataclass
-from fractions import Fraction
-from typing import Iterator, Union
+from typing import TYPE_CHECKING, Iterator
 
 from ..column import Column
 from .scopes import Scope
 from .structure import Structure
 from .tokens import BLOB, NUMBER, PARAMETER, TEXT
 
+if TYPE_CHECKING:
+    from fractions import Fraction
+    from typing import Union
+
+    from typing_extensions import TypeAlias
+
 # operators that bind tighter than a comparison
 TIGHTER = ("+", "-", "*", "/", "%", "||", "->", "->>", "<<", ">>", "&", "|", "~", ".")
 COMPARE = ("=", "==", "<>", "!=", "<", "<=", ">", ">=")
 EQUAL = ("=", "==", "<>", "!=", "IS", "IN", "CASE")
-# a number of more digits, or of a greater power of ten, is beyond all columns
-MOST_DIGITS = 400
-LITERAL_WORDS = {"TRUE": Fraction(1), "FALSE": Fraction(0)}
+LiteralValue: TypeAlias = "Union[None, str, Fraction, bytes]"
 
 
-@dataclass
 class Operand:
     """An operand: its first token and its end; the column whose values it has, or the value of the
     literal that it is, or neither."""
 
-    first: int
-    end: int
-    column: Column | None = None
-    value: Union[None, str, Fraction, bytes] = None
+    def __init__(self, first: int, end: int, column: Column | None = None,
+                 value: LiteralValue = None) -> None:
+        self.first, self.end, self.column, self.value = first, end, column, value
 
     @property
     def is_known(self) -> bool:
         return self.column is not None or self.value is not None
 
 
-@dataclass
 class Comparison:
     """A comparison of two operands by an operator, which is IN for a member of a list, CASE for a
     WHEN, and <= for an end of BETWEEN."""
 
-    left: Operand
-    sign: str
-    right: Operand
+    def __init__(self, left: Operand, sign: str, right: Operand) -> None:
+        self.left, self.sign, self.right = left, sign, right
 
 
 class Operands:
@@ -191,27 +188,19 @@ class Operands:
         meaning = self.structure.meaning(first, end, scope)
         return Operand(first, end, meaning.column if meaning else None)
 
-    def value(self, first: int, end: int) -> Union[None, str, Fraction, bytes]:
+    def value(self, first: int, end: int) -> LiteralValue:
         """Returns the value of the literal that these tokens are, or None."""
         token, count = self.line.tokens[end - 1], end - first
         sign = self.line.is_mark(first, "+", "-")
         if token.kind == NUMBER and count == 1 + sign:
-            number = number_of(token.text)
+            from .literals import comparable
+            number = comparable(token.text)
             return -number if self.line.is_mark(first, "-") else number
         if token.kind == TEXT and count == 1:
             return token.value
         if count > 1:
             return None
-        return b"" if token.kind in (BLOB, PARAMETER) else LITERAL_WORDS.get(token.key)
-
-
-def number_of(text: str) -> Fraction:
-    """Returns the number of a numeral; of one that is longer, or of a greater power of ten, than
-    those of columns one that compares with theirs as it does."""
-    if text[:2] in ("0x", "0X"):
-        return Fraction(int(text, 16))
-    power = text.lower().partition("e")[2]
-    if len(text) <= MOST_DIGITS and abs(int(power or 0)) <= MOST_DIGITS:
-        return Fraction(text)
-    found = float(text)
-    return Fraction(found) if math.isfinite(found) else Fraction(10 ** MOST_DIGITS)
+        if token.key in ("TRUE", "FALSE"):
+            from .literals import TRUTHS
+            return TRUTHS[token.key]
+        return b"" if token.kind in (BLOB, PARAMETER) else None

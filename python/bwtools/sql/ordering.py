@@ -1,8 +1,7 @@
 """The clause ORDER BY."""
 from __future__ import annotations
 
-from dataclasses import dataclass
-from typing import Sequence
+from typing import NamedTuple, Sequence
 
 from .bracketed import Bracketed
 from .outside import Outside
@@ -11,8 +10,7 @@ from .tokens import Token
 DIRECTIONS = ("ASC", "DESC")
 
 
-@dataclass
-class Term:
+class Term(NamedTuple):
     """A term of ORDER BY: the places of its expression's tokens, the direction, and where nulls
     are, if that was written."""
 

@@ -1,21 +1,17 @@
 """A column of a query's result."""
 from __future__ import annotations
 
-from dataclasses import dataclass
-
 from ..column import Column
 
 
-@dataclass
 class Output:
     """A column of a table or of a query's result: its name, its heading, and the column of a table
     whose values it has, or None for another expression. A total has a column of its own, which no
     table has: its kind says what the total can be compared with."""
 
-    name: str
-    heading: str
-    column: Column | None
-    is_total: bool = False
+    def __init__(self, name: str, heading: str, column: Column | None,
+                 is_total: bool = False) -> None:
+        self.name, self.heading, self.column, self.is_total = name, heading, column, is_total
 
     @property
     def plain(self) -> Column | None:

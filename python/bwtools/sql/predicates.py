@@ -5,17 +5,18 @@ A literal that no row can have is compared correctly: it is between two numbers,
 TRUE becomes `x = x`: both are UNKNOWN if x is null, as the original is."""
 from __future__ import annotations
 
-import fractions
 import operator
 import sqlite3
-from typing import Any, Callable, Iterable, NamedTuple, Sequence, Union
+from typing import TYPE_CHECKING, Any, Callable, Iterable, Sequence, Union
 
 from ..column import Column
 from ..kind import GREATEST, LEAST
-from ..kinds import Decimals, undressed
 from ..stored_list import StoredList
 from . import values
 from .outside import Outside
+
+if TYPE_CHECKING:
+    from fractions import Fraction
 
 SWAPPED = {"<": ">", ">": "<", "<=": ">=", ">=": "<=", "=": "=", "<>": "<>"}
 # of two texts or of two numbers
@@ -29,11 +30,13 @@ UNKNOWN, TRUE, FALSE = "NULL = NULL", "1 = 1", "1 = 0"
 MOST_RUNS, SHORT, MOST_VALUES, MOST_MOMENTS = 200, 3, 100, 50_000
 
 
-class Operand(NamedTuple):
+class Comparand:
     """An operand of a comparison: a column, or the value of a literal, or neither, which is
     NULL."""
-    column: Column | None = None
-    value: Union[str, fractions.Fraction, None] = None
+
+    def __init__(self, column: Column | None = None,
+                 value: Union[str, Fraction, None] = None) -> None:
+        self.column, self.value = column, value
 
     @property
     def is_null(self) -> bool:
@@ -48,7 +51,7 @@ def always(column: Column) -> str:
     return f"{column.name} = {column.name}"
 
 
-def place_of(column: Column, literal: Operand) -> tuple[int, bool]:
+def place_of(column: Column, literal: Comparand) -> tuple[int, bool]:
     """Returns the place of a literal among the numbers of a column."""
     assert literal.value is not None, "a comparison with NULL is UNKNOWN"
     place = values.place(column.kind, literal.value)
@@ -60,23 +63,23 @@ def place_of(column: Column, literal: Operand) -> tuple[int, bool]:
 
 def is_long(column: Column) -> bool:
     """Returns whether a column has decimals of too many digits for a double."""
-    kind = undressed(column.kind)
-    if not isinstance(kind, Decimals):
+    if column.kind.name != "decimals":
         return False
     numbers = [column.kind.number(end) for end in column.ends]
     return any(number is None or len(str(abs(number))) > values.EXACT_DIGITS for number in numbers)
 
 
-def is_spelled(value: Union[str, fractions.Fraction]) -> bool:
+def is_spelled(value: Union[str, Fraction]) -> bool:
     """Returns whether a number is the shortest spelling of its double, by which SQLite compares it,
     or is beyond all doubles. Only such numbers are compared with doubles as they are written."""
+    from fractions import Fraction
     try:
-        return isinstance(value, str) or fractions.Fraction(repr(float(value))) == value
+        return isinstance(value, str) or Fraction(repr(float(value))) == value
     except OverflowError:
         return True
 
 
-def compared(left: Operand, sign: str, right: Operand) -> str:
+def compared(left: Comparand, sign: str, right: Comparand) -> str:
     """Returns a comparison over numbers."""
     if left.is_null or right.is_null:
         return UNKNOWN
@@ -117,9 +120,12 @@ def columns_compared(left: Column, sign: str, right: Column) -> str:
         few, other, sign = right, left, SWAPPED[sign]
     if len(range_of(few)) > MOST_VALUES:
         raise Outside
+    from fractions import Fraction
+
+    from .conversions import stored
     terms = [never(left), never(right)]
-    for number, value in zip(range_of(few), values.stored(few.kind, range_of(few))):
-        literal = Operand(None, fractions.Fraction(repr(value)))
+    for number, value in zip(range_of(few), stored(few.kind, range_of(few))):
+        literal = Comparand(None, Fraction(repr(value)))
         part = placed(other, SWAPPED[sign], *place_of(other, literal))
         terms.append(f"{few.name} = {number} AND {part}")
     return f"({' OR '.join(terms)})"
@@ -138,7 +144,7 @@ def range_of(column: Column) -> range:
     return range(least, greatest + 1) if greatest - least < GREATEST else range(GREATEST)
 
 
-def between(operand: Operand, low: Operand, high: Operand) -> str:
+def between(operand: Comparand, low: Comparand, high: Comparand) -> str:
     """Returns a BETWEEN over numbers: one BETWEEN, if its ends are literals that have a place, or
     else two comparisons in brackets."""
     if operand.column and low.value is not None and high.value is not None:
@@ -149,7 +155,7 @@ def between(operand: Operand, low: Operand, high: Operand) -> str:
     return f"({compared(operand, '>=', low)} AND {compared(operand, '<=', high)})"
 
 
-def among(column: Column, members: Sequence[Operand]) -> str:
+def among(column: Column, members: Sequence[Comparand]) -> str:
     """Returns an IN over numbers, without the members that the column can't have."""
     kept, others = list[str](), list[str]()
     for member in members:
@@ -192,11 +198,12 @@ def like(column: Column, sign: str, pattern: str, escape: str | None) -> str:
 
 def matching(column: Column, numbers: range, words: str, wanted: tuple[str, ...]) -> list[int]:
     """Returns the numbers of a column whose values fulfil an SQL condition."""
+    from .conversions import stored
     database = sqlite3.connect(":memory:")
     try:
         database.execute("CREATE TABLE listed (code INTEGER PRIMARY KEY, value TEXT)")
         database.executemany("INSERT INTO listed VALUES (?, ?)",
-                             zip(numbers, values.stored(column.kind, numbers)))
+                             zip(numbers, stored(column.kind, numbers)))
         found = database.execute(f"SELECT code FROM listed {words}", wanted)
         return [code for code, in found]
     finally:

@@ -1,22 +1,19 @@
 """Reads the tokens of a statement over one table, one after another."""
 from __future__ import annotations
 
-from fractions import Fraction
 from typing import Sequence
 
 from ..column import Column
 from . import tokens
+from .clauses import Clauses
 from .outside import Outside
-from .predicates import Operand
+from .predicates import Comparand
 from .statement import Statement
 from .table import Table
 from .tokens import Token
 
-# numbers of more characters are left to SQLite
-MOST_DIGITS = 400
 
-
-class Reader:
+class TokenReader:
     """A place among the tokens of a statement, up to an end. `called` is the name before the point
     of a column's name."""
 
@@ -71,34 +68,28 @@ class Reader:
         self.place += length if column else 0
         return column
 
-    def takes_operand(self) -> Operand | None:
+    def takes_operand(self) -> Comparand | None:
         """Consumes a column or a literal, if one is next."""
         first = self.place
         column = self.takes_column()
         if column:
-            return Operand(column)
+            return Comparand(column)
         token = self.next()
         if token.kind == tokens.TEXT:
-            return Operand(None, self.take().value)
+            return Comparand(None, self.take().value)
         if self.takes("NULL"):
-            return Operand()
-        if token.key in ("TRUE", "FALSE"):
-            return Operand(None, Fraction(self.take().key == "TRUE"))
+            return Comparand()
+        from .literals import TRUTHS, exact
+        if token.key in TRUTHS:
+            return Comparand(None, TRUTHS[self.take().key])
         sign = self.takes_mark("+", "-")
-        if self.next().kind != tokens.NUMBER or len(self.next().text) > MOST_DIGITS:
+        if self.next().kind != tokens.NUMBER:
             self.place = first
             return None
-        text = self.take().text
-        number = number_of(text)
-        return Operand(None, -number if sign == "-" else number)
+        number = exact(self.take().text)
+        return Comparand(None, -number if sign == "-" else number)
 
 
-def number_of(text: str) -> Fraction:
-    """Returns the number of a literal."""
-    if text[:2].lower() == "0x":
-        number = int(text, 16)
-        return Fraction(number if number < 1 << 63 else number - (1 << 64))
-    power = text.lower().partition("e")[2]
-    if abs(int(power or 0)) > MOST_DIGITS:
-        raise Outside
-    return Fraction(text)
+def reader_of(statement: Statement, clauses: Clauses, span: range) -> TokenReader:
+    """Returns a reader of some tokens."""
+    return TokenReader(statement, clauses.table, clauses.called, span.start, span.stop)

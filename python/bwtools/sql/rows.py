@@ -2,27 +2,24 @@
 from __future__ import annotations
 
 import itertools
-from dataclasses import dataclass
-from typing import BinaryIO, Iterator, Sequence
+from typing import BinaryIO, Iterator, NamedTuple, Sequence
 
 from ..column import Column
 from .engine import Engine
 from .limits import Limits
-from .number_rows import Numbers
+from .number_rows import NumberRows
 from .outside import Outside
 from .predicates import placed
+from .selects import COUNT, both, names_of, select
 
 NULL, HEADING, AT_ONCE = b"NULL", b"\n", 1 << 20
-# the bytes of a statement that bw takes, without its end
-MOST_BYTES = 65_530
 # more rows than these aren't sorted here
 MOST_ROWS = 1_000_000
-# a limit is used to list fewer rows if there are so many
+# a limit is used to list fewer rows if there are more, and to read no others if it is less
 MANY_ROWS = 100_000
 
 
-@dataclass
-class Key:
+class SortKey(NamedTuple):
     """A column by which rows are put in order."""
 
     column: Column
@@ -30,28 +27,30 @@ class Key:
     are_nulls_first: bool
 
 
-@dataclass
-class Rows:
+class WantedRows:
     """Which rows are wanted, of which columns."""
 
-    table: str
-    columns: Sequence[Column]
-    where: str
-    keys: Sequence[Key]
-    limits: Limits
+    def __init__(self, table: str, columns: Sequence[Column], where: str, keys: Sequence[SortKey],
+                 limits: Limits) -> None:
+        self.table, self.columns, self.where = table, columns, where
+        self.keys, self.limits = keys, limits
 
-    def body(self, engine: Engine) -> Numbers:
+    def body(self, engine: Engine) -> NumberRows:
         """Returns the rows."""
         if self.limits.most == 0:
-            return Numbers([])
+            return NumberRows([])
         where = self.narrowed(engine) if self.keys else self.where
         sorting = [key.column for key in self.keys]
-        parts = engine.rows(select(names_of([*self.columns, *sorting]), self.table, where))
+        statement = select(names_of([*self.columns, *sorting]), self.table, where)
+        most = self.limits.end
+        if not self.keys and most is not None and most <= MANY_ROWS:
+            return NumberRows([limited(engine.beginning(statement, most), self.limits)])
+        parts = engine.rows(statement)
         if self.keys:
-            return Numbers([self.sorted(parts)])
+            return NumberRows([self.sorted(parts)])
         if self.limits.most is None and not self.limits.offset:
-            return Numbers(parts)
-        return Numbers([limited(parts, self.limits)])
+            return NumberRows(parts)
+        return NumberRows([limited(parts, self.limits)])
 
     def narrowed(self, engine: Engine) -> str:
         """Returns a condition on which all rows that are wanted are, and few others: if there is a
@@ -59,7 +58,7 @@ class Rows:
         are too many to be sorted."""
         key, wanted, where = self.keys[0], self.limits.end, self.where
         name = key.column.name
-        items = f"COUNT(*), COUNT({name}), MIN({name}), MAX({name})"
+        items = f"{COUNT}, COUNT({name}), MIN({name}), MAX({name})"
         rows, present, least, greatest = engine.totals([select(items, self.table, where)])[0]
         assert rows is not None and present is not None
         if wanted is not None and rows >= MANY_ROWS and wanted <= rows // 2:
@@ -90,7 +89,7 @@ class Rows:
 
     def count(self, engine: Engine, where: str) -> int:
         """Returns how many rows fulfil a condition."""
-        return engine.totals([select("COUNT(*)", self.table, where)])[0][0] or 0
+        return engine.totals([select(COUNT, self.table, where)])[0][0] or 0
 
     def sorted(self, parts: Sequence[BinaryIO]) -> bytes:
         """Returns the rows of a result in order, within the limits, after an empty heading."""
@@ -103,7 +102,7 @@ class Rows:
         return HEADING + b"".join([fields[row][0] + b"\n" for row in chosen])
 
 
-def ordered(key: Key, order: Sequence[int], fields: Sequence[bytes]) -> list[int]:
+def ordered(key: SortKey, order: Sequence[int], fields: Sequence[bytes]) -> list[int]:
     """Returns rows in the order of a column, of which these are the fields."""
     present = [row for row in order if fields[row] != NULL]
     nulls = [row for row in order if fields[row] == NULL]
@@ -125,20 +124,3 @@ def lines_of(parts: Sequence[BinaryIO]) -> Iterator[bytes]:
             part.readline()
             while block := part.read(AT_ONCE):
                 yield from (block + part.readline()).split(b"\n")[:-1]
-
-
-def names_of(columns: Sequence[Column]) -> str:
-    return ", ".join(column.name for column in columns)
-
-
-def both(one: str, other: str) -> str:
-    """Returns the conditions of both, of which either may be empty."""
-    return f"({one}) AND ({other})" if one and other else one or other
-
-
-def select(items: str, table: str, where: str) -> str:
-    """Returns a statement of bw. Raises Outside if it is too long for it."""
-    statement = f"SELECT {items} FROM {table}{f' WHERE {where}' if where else ''}"
-    if len(statement) > MOST_BYTES:
-        raise Outside
-    return statement

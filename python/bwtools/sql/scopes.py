@@ -1,31 +1,28 @@
 """What names mean in a query: the columns of the tables and queries that it reads from."""
 from __future__ import annotations
 
-from dataclasses import dataclass, field
-from typing import Iterator, Sequence
+from typing import Iterable, Iterator, Sequence
 
 from .output import Output
 
 
-@dataclass
-class Source:
+class FromItem:
     """A table or a query that FROM names: the name by which columns are qualified, its columns, and
     those among them, in lower case, that `*` leaves out since a source before has them."""
 
-    name: str
-    outputs: Sequence[Output]
-    merged: set[str] = field(default_factory=set)
+    def __init__(self, name: str, outputs: Sequence[Output],
+                 merged: Iterable[str] = ()) -> None:
+        self.name, self.outputs, self.merged = name, outputs, set(merged)
 
 
-@dataclass
 class Scope:
     """A SELECT: what it reads from, the columns of its result, those among them that have an alias,
     and the SELECT around it."""
 
-    sources: list[Source]
-    outer: Scope | None
-    outputs: list[Output] = field(default_factory=list)
-    aliases: list[Output] = field(default_factory=list)
+    def __init__(self, sources: list[FromItem], outer: Scope | None,
+                 outputs: Iterable[Output] = ()) -> None:
+        self.sources, self.outer = sources, outer
+        self.outputs, self.aliases = list(outputs), list[Output]()
 
     def each(self, qualifier: str) -> Iterator[Output]:
         """Yields the columns of the sources of a name, or of all."""

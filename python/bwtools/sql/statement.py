@@ -9,7 +9,6 @@ from .catalog import Catalog
 from .checking import Checks
 from .operands import COMPARE
 from .output import Output
-from .parameters import literal
 from .structure import Structure
 from .tokens import END, PARAMETER, TEXT, Token, quoted_name, tokens_of
 
@@ -130,10 +129,12 @@ def placed(tokens: Sequence[Token], parameters: Sequence[Any]) -> list[Token]:
     found = list[Token]()
     for token in tokens:
         if token.kind == PARAMETER:
+            # most statements have none
+            from .parameters import literal
             number, value = next(values)
             token = literal(value, token.start, number)
         elif token.kind == TEXT:
             # without the word before it
-            token = token._replace(text=token.text[token.text.index("'"):])
+            token = Token(TEXT, token.text[token.text.index("'"):], token.start)
         found.append(token)
     return found

@@ -3,16 +3,15 @@ that: the clauses, what FROM names, the items and their aliases. All else, and a
 to SQLite."""
 from __future__ import annotations
 
-from dataclasses import dataclass
 from typing import Sequence
 
+from .. import kinds
 from ..column import Column
 from ..kind import Kind
-from ..kinds import Floats, Whole
 from .bracketed import JOINS, RESERVED, Bracketed
 from .catalog import Catalog, missing
 from .output import Output, output_of
-from .scopes import Scope, Source
+from .scopes import FromItem, Scope
 from .table import Table
 from .tokens import QUOTED, TEXT, WORD
 
@@ -20,18 +19,15 @@ from .tokens import QUOTED, TEXT, WORD
 HIDDEN = ("sqlite_", "pragma_")
 CLAUSES = ("FROM", "WHERE", "GROUP", "HAVING", "WINDOW", "ORDER", "LIMIT")
 COMPOUND, QUERY = ("UNION", "INTERSECT", "EXCEPT"), ("SELECT", "WITH", "VALUES")
-TOTALS: dict[str, Kind] = {"COUNT": Whole(), "SUM": Floats(0), "AVG": Floats(0),
-                           "TOTAL": Floats(0)}
+TOTALS = ("COUNT", "SUM", "AVG", "TOTAL")
 
 
-@dataclass
 class Item:
     """An item of a SELECT: its first token, the end of its expression, and the place of its
     alias."""
 
-    first: int
-    end: int
-    alias: int | None
+    def __init__(self, first: int, end: int, alias: int | None) -> None:
+        self.first, self.end, self.alias = first, end, alias
 
 
 class Structure:
@@ -76,7 +72,7 @@ class Structure:
                 outputs[:] = [union(*pair) for pair in zip(outputs, found)]
             start = stop + 1 + (self.line.key(stop + 1) == "ALL" if stop < end else 0)
         if ends:
-            scope = Scope([Source("", outputs)], outer, outputs)
+            scope = Scope([FromItem("", outputs)], outer, outputs)
         self.mark(tail, end, scope, ctes)
         return outputs
 
@@ -223,7 +219,7 @@ class Structure:
         key = tokens[first].name.upper()
         if key in TOTALS:
             name = self.line.text(first, end)
-            return Output(name, name, Column(name, name, TOTALS[key]), True)
+            return Output(name, name, Column(name, name, kind_of_total(key)), True)
         inner = first + 2 + (self.line.key(first + 2) == "DISTINCT")
         return self.meaning(inner, end - 1, scope) if key in ("MIN", "MAX") else None
 
@@ -295,13 +291,20 @@ class Structure:
             name, at = token.value if token.kind == TEXT else token.name, at + 1
         self.has_join = self.has_join or bool(scope.sources)
         before = {output.name.lower() for source in scope.sources for output in source.outputs}
-        scope.sources.append(Source(name, outputs, before if is_natural else set()))
+        scope.sources.append(FromItem(name, outputs, before if is_natural else set()))
         return at
+
+
+def kind_of_total(function: str) -> Kind:
+    """Returns the kind with which a total is compared."""
+    if function == "COUNT":
+        return kinds.Whole()
+    return kinds.Floats(0)
 
 
 def union(first: Output, second: Output) -> Output:
     """Returns the column of a compound SELECT, which has a kind if both have it."""
-    kinds = [output.column.kind for output in (first, second) if output.column]
-    if len(kinds) == 2 and (kinds[0] == kinds[1] or {each.name for each in kinds} == {"texts"}):
+    both = [output.column.kind for output in (first, second) if output.column]
+    if len(both) == 2 and (both[0] == both[1] or {each.name for each in both} == {"texts"}):
         return first
     return Output(first.name, first.heading, None)

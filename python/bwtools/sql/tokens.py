@@ -2,10 +2,10 @@
 from __future__ import annotations
 
 import re
-from typing import NamedTuple
 
 from ..stored_list import is_unicode
 from ..telling import Refused
+from ..valued import Valued
 
 # the kinds of tokens
 WORD, QUOTED, TEXT, NUMBER, BLOB, PARAMETER, MARK, END = (
@@ -30,13 +30,12 @@ ODD = re.compile(rf"[0-9.]+{NAME}*|[xX]'[^']*'?")
 TOO_LONG = re.compile("0[xX]0*[1-9A-Fa-f][0-9A-Fa-f]{16}")
 
 
-class Token(NamedTuple):
+class Token(Valued):
     """A token: its kind, its text, and the place of its first character in the statement as it was
     written, from 0 on."""
 
-    kind: str
-    text: str
-    start: int
+    def __init__(self, kind: str, text: str, start: int) -> None:
+        self.kind, self.text, self.start = kind, text, start
 
     @property
     def name(self) -> str:

@@ -5,7 +5,7 @@ import datetime
 from typing import Iterable
 
 from ..kind import Kind
-from .values import Value
+from .blocks import Value
 
 CODES = {int: "integer", float: "real", str: "text", bytes: "blob"}
 

@@ -4,13 +4,12 @@ from __future__ import annotations
 from typing import Any, Callable, Iterator, Sequence
 
 from ..kind import Kind
-from .blocks import Block
-from .values import Value, field, python, same
+from .blocks import Block, Value, spelled
 
 AT_ONCE = 8192
 
 
-class Rows:
+class ValueRows:
     """Rows of SQLite's values."""
 
     def __init__(self, rows: Sequence[tuple[Value, ...]]) -> None:
@@ -27,6 +26,7 @@ class Rows:
 
     def objects(self, kinds: Sequence[Kind | None]) -> Iterator[Sequence[Sequence[Any]]]:
         """Yields the columns of Python's objects of many rows at a time."""
+        from .conversions import python
         makers = list(map(python, kinds))
         for block in self.values(kinds):
             yield [made(maker, column) for maker, column in zip(makers, block)]
@@ -34,19 +34,22 @@ class Rows:
     def fields(self, kinds: Sequence[Kind | None]) -> Iterator[Sequence[Sequence[str]]]:
         """Yields the columns of the fields of many rows at a time, without quotes."""
         for block in self.values(kinds):
-            yield [spelled(kind, column) for kind, column in zip(kinds, block)]
+            yield [fields_of(kind, column) for kind, column in zip(kinds, block)]
 
 
-def spelled(kind: Kind | None, values: Sequence[Value]) -> list[str]:
-    """Returns the fields of values."""
+def fields_of(kind: Kind | None, values: Sequence[Value]) -> list[str]:
+    """Returns the fields of values: in the column's own form if it has a kind, else in SQLite's."""
     if kind is None:
-        return [value if type(value) is str else field(None, value) for value in values]
+        return list(map(spelled, values))
+    # most totals have no kind
+    from .conversions import field
     known = {value: field(kind, value) for value in set(values)}
     return list(map(known.__getitem__, values))
 
 
 def made(maker: Callable[[Any], Any], column: Sequence[Any]) -> Sequence[Any]:
     """Returns Python's objects of a column's values, each distinct one made once."""
+    from .conversions import same
     if maker is same:
         return column
     known = {value: None if value is None else maker(value) for value in set(column)}

@@ -1,6 +1,6 @@
 -- What is certified has no error, and is certified in one way.
 use Rattle.bw_cert.proofs.VerdictLemmas.{accepted_from}
-use Rattle.bw_cert.proofs.certified_file.certify.Goals as goal
+use Rattle.bw_cert.proofs.certified_file.check_file.Goals as goal
 
 pub returns-clause-accepted : goal.returns-clause-accepted
 returns-clause-accepted c = λ same program certificate trees is.
@@ -10,4 +10,4 @@ returns-clause-accepted c = λ same program certificate trees is.
     accepted_from columns file condition same program certificate
     (λ next other as_well. c.one_verdict.ensures.certified columns same condition file program next certificate other is as_well)
     (λ fault refused. c.one_verdict.ensures.none_certified columns same condition file program certificate fault trees is refused)
-    c.check_file.result c.check_file.ensures.valid c.check_file.ensures.fault
+    c.check_parts.result c.check_parts.ensures.valid c.check_parts.ensures.fault
