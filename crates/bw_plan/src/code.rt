@@ -1,13 +1,11 @@
 //! Instructions, and what their registers hold.
-use crate::columns::width_of;
 use crate::limits::{MAX_INSTRUCTIONS, MAX_LOOKS};
 use crate::plan::Plan;
 use crate::refusal::Refusal;
 use crate::registers::{Registers, Value};
 use crate::skips::Skips;
-use bw_diagram::ChainKind;
 use bw_model::Schema;
-use bw_program::{ColumnIndex, Instr, Register, SliceIndex};
+use bw_program::{ColumnIndex, Instr, Register};
 use bw_prover::VariableOrder;
 use std::alloc::Global;
 
@@ -53,19 +51,9 @@ impl<'a> Code<'a> {
         }
     }
 
-    /// Returns how many bits a column's codes have.
-    pub(crate) fn width(&self, column: ColumnIndex) -> u32 {
-        width_of(self.schema, column)
-    }
-
-    /// Returns how many more instructions fit.
-    pub(crate) fn room(&self) -> usize {
-        MAX_INSTRUCTIONS.saturating_sub(self.instrs.len())
-    }
-
     /// Appends an instruction.
     pub(crate) fn put(&mut self, instr: Instr) -> Result<(), Refusal> {
-        if self.room() == 0 || !self.plan.skips && self.looks > MAX_LOOKS {
+        if self.instrs.len() >= MAX_INSTRUCTIONS || !self.plan.skips && self.looks > MAX_LOOKS {
             return Err(Refusal::TooLong);
         }
         if matches!(instr, Instr::ByteLt(..) | Instr::ByteEq(..)) {
@@ -90,7 +78,7 @@ impl<'a> Code<'a> {
     }
 
     /// Returns a register with a value: by an instruction, unless one has it already.
-    fn value(&mut self, value: Value) -> Made {
+    pub(crate) fn value(&mut self, value: Value) -> Made {
         self.meet();
         if let Some(register) = self.registers.reserve(value) {
             return Ok(register);
@@ -110,38 +98,18 @@ impl<'a> Code<'a> {
         self.set(register, None, Instr::Fill(register, bit))
     }
 
-    /// Returns a register with the plane of a column's bit.
-    pub(crate) fn bit(&mut self, column: ColumnIndex, bit: u32) -> Made {
-        self.value(Value::Bit(column, bit.min(63) as u8))
-    }
-
-    /// Returns a register with the null plane of a column that may be null.
-    pub(crate) fn nulls(&mut self, column: ColumnIndex) -> Made {
-        self.value(Value::Nulls(column))
-    }
-
     /// Returns a register that is 1 where a column that may be null has a value.
     pub(crate) fn values(&mut self, column: ColumnIndex) -> Made {
         self.meet();
         if let Some(register) = self.registers.reserve(Value::Values(column)) {
             return Ok(register);
         }
-        let register = self.nulls(column)?;
-        self.set(register, Some(Value::Values(column)), Instr::Not(register, register))
-    }
-
-    /// Returns a register that is 1 where a byte of a column is less than (equal to) a number.
-    pub(crate) fn byte(
-        &mut self,
-        kind: ChainKind,
-        column: ColumnIndex,
-        slice: SliceIndex,
-        byte: u8,
-    ) -> Made {
-        self.value(match kind {
-            ChainKind::Less => Value::Less(column, slice, byte),
-            ChainKind::Equal => Value::Equal(column, slice, byte),
-        })
+        let register = self.value(Value::Nulls(column))?;
+        self.set(
+            register,
+            Some(Value::Values(column)),
+            Instr::Not(register, register),
+        )
     }
 
     /// Sets a register to a connective of two.

@@ -4,7 +4,8 @@ use crate::parts::{Part, PartResult, Reader};
 use crate::refusal::Refusal;
 use crate::sets::Set;
 use bw_diagram::ChainKind;
-use bw_model::{Op, Operand, Truth};
+use bw_model::Operand::{self, Col, Lit};
+use bw_model::{Op, Truth};
 use bw_program::ColumnIndex;
 
 /// A comparison of the codes of two columns: the left one is less than (equal to) the right one, or
@@ -22,16 +23,10 @@ impl Reader<'_> {
     /// schema lacks, and two columns of unequal minimums.
     pub(crate) fn comparison(self, op: Op, x: Operand, y: Operand, negated: bool) -> PartResult {
         match (x, y) {
-            (Operand::Col(column), Operand::Lit(n)) => self.with_literal(op, column, n, negated),
-            (Operand::Lit(n), Operand::Col(column)) => {
-                self.with_literal(op.swap_operands(), column, n, negated)
-            }
-            (Operand::Col(left), Operand::Col(right)) => {
-                self.with_column(op, left, right, negated)
-            }
-            (Operand::Lit(m), Operand::Lit(n)) => {
-                Ok(Part::Fixed(Truth::of(op.holds(m, n) != negated)))
-            }
+            (Col(column), Lit(n)) => self.with_literal(op, column, n, negated),
+            (Lit(n), Col(column)) => self.with_literal(op.swap_operands(), column, n, negated),
+            (Col(left), Col(right)) => self.with_column(op, left, right, negated),
+            (Lit(m), Lit(n)) => Ok(Part::Fixed(Truth::of(op.holds(m, n) != negated))),
             _ => Ok(Part::Fixed(Truth::Unknown)),
         }
     }

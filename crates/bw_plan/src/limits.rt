@@ -17,6 +17,10 @@ pub(crate) const MAX_LIST: usize = 400;
 /// rows than the sets one after another.
 pub(crate) const LONG_SET: usize = 1200;
 
+/// The most product rows of a condition with a list whose set is long. With more, planning the list
+/// and scanning a million rows for it takes longer than looking it up in each of them.
+pub(crate) const MAX_LIST_ROWS: u32 = 4000;
+
 /// The number of first parts of a condition that may have a skip to its end.
 pub(crate) const SKIPPED_PARTS: usize = 16;
 

@@ -111,8 +111,8 @@ impl Reader<'_> {
     }
 
     /// Returns the OR of some parts, or else their AND. All sets of one column become one where the
-    /// first of them was. If `only_short`, that isn't done if it takes more instructions, or if the
-    /// set is long: it takes more product rows than the sets one after another.
+    /// first of them was. If `only_short`, that isn't done if the set is long: it takes more product
+    /// rows than the sets one after another.
     fn combine(self, any: bool, mut parts: Vec<Part>, only_short: bool) -> PartResult {
         for column in 0..64 {
             let mut set = self.combined_set(any, &parts, column, only_short)?;
@@ -130,8 +130,8 @@ impl Reader<'_> {
         parts.pop().ok_or(Refusal::NoProgram)
     }
 
-    /// Returns what all sets of a column are together, if there are several. If `only_short`, there
-    /// is none if it takes more instructions, as two or three codes of more than four bytes do.
+    /// Returns what all sets of a column are together, if there are several, and if the set isn't
+    /// long or may be.
     fn combined_set(
         self,
         any: bool,
@@ -146,13 +146,12 @@ impl Reader<'_> {
                 _ => {}
             }
         }
-        let top = top_slice(self.schema, column);
-        let are_codes = sets.len() <= 3 && sets.iter().all(|set| set.is_code());
-        if sets.len() < 2 || only_short && are_codes && top > 3 {
+        if sets.len() < 2 {
             return Ok(None);
         }
         let set = Set::combine(self.alloc, column, any, &sets)?;
-        Ok((!only_short || !set.is_long(top)).then_some(set))
+        let is_long = set.is_long(top_slice(self.schema, column));
+        Ok((!only_short || !is_long).then_some(set))
     }
 }
 
@@ -162,57 +161,50 @@ fn is_same_comparison(before: Option<&Cond>, cond: &Cond) -> bool {
         if op == other && x == z && y == w)
 }
 
-/// Returns the bit of a column.
-fn bit_of(column: ColumnIndex) -> u64 {
-    1 << (column % 64)
+/// What the comparisons of a condition name: the columns, one in each bit, and how many comparisons
+/// are of two columns.
+#[derive(Clone, Copy, Default)]
+pub(crate) struct Names {
+    columns: u64,
+    pub(crate) relations: usize,
 }
 
-impl Part {
-    /// Returns how many comparisons of two columns it has.
-    #[cycle(relations)]
-    pub(crate) fn relations(&self) -> usize {
-        match self {
-            Part::Columns(_) => 1,
-            Part::All(_, parts) => {
-                let mut count = 0usize;
-                for part in parts {
-                    count = count.saturating_add(part.relations());
-                }
-                count
-            }
-            Part::Test(part, ..) => part.relations(),
-            _ => 0,
-        }
+impl Names {
+    /// Adds a column.
+    fn add(&mut self, column: ColumnIndex) {
+        self.columns |= 1 << (column % 64);
     }
 
-    /// Returns how many bits the codes of its columns have.
-    pub(crate) fn bits(&self, schema: &Schema) -> u32 {
-        let columns = self.columns();
+    /// Returns how many bits the codes of the columns have.
+    pub(crate) fn bits(self, schema: &Schema) -> u32 {
         let mut bits = 0u32;
         for column in 0..64u8 {
-            if columns >> column & 1 == 1 {
+            if self.columns >> column & 1 == 1 {
                 bits = bits.saturating_add(width_of(schema, column));
             }
         }
         bits
     }
+}
 
-    /// Returns its columns, one in each bit.
-    #[cycle(columns)]
-    fn columns(&self) -> u64 {
+impl Part {
+    /// Adds what its comparisons name.
+    #[cycle(names)]
+    pub(crate) fn add_names(&self, names: &mut Names) {
         match self {
-            Part::Codes(set) => bit_of(set.column),
-            Part::Null(column, _) => bit_of(*column),
-            Part::Columns(compared) => bit_of(compared.left) | bit_of(compared.right),
-            Part::All(_, parts) => {
-                let mut columns = 0;
-                for part in parts {
-                    columns |= part.columns();
-                }
-                columns
+            Part::Codes(set) => names.add(set.column),
+            Part::Columns(compared) => {
+                names.add(compared.left);
+                names.add(compared.right);
+                names.relations = names.relations.saturating_add(1);
             }
-            Part::Test(part, ..) => part.columns(),
-            Part::Fixed(_) | Part::Done => 0,
+            Part::All(_, parts) => {
+                for part in parts {
+                    part.add_names(names);
+                }
+            }
+            Part::Test(part, ..) => part.add_names(names),
+            Part::Null(..) | Part::Fixed(_) | Part::Done => {}
         }
     }
 

@@ -1,6 +1,6 @@
 //! With which skips a condition is compiled.
-use crate::limits::MAX_SQUARES;
-use crate::parts::Part;
+use crate::limits::{MAX_ROWS_TO_SKIP_PARTS, MAX_SQUARES};
+use crate::parts::Names;
 use crate::refusal::Refusal;
 
 /// With which skips a condition is compiled.
@@ -14,17 +14,20 @@ pub(crate) struct Plan {
     pub(crate) omitted: Option<usize>,
     /// How many top bits of two columns are compared from the top down, with skips.
     pub(crate) top_bits: u32,
+    /// How many product rows the condition's own lines take.
+    pub(crate) rows: u32,
 }
 
 impl Plan {
-    /// Returns all skips, or all but those between parts.
-    pub(crate) fn new(part: &Part, between_parts: bool) -> Self {
-        let each = MAX_SQUARES / part.relations().max(1);
+    /// Returns all skips, or all but those between parts, for a condition of so many product rows.
+    pub(crate) fn new(names: Names, rows: u32) -> Self {
+        let each = MAX_SQUARES / names.relations.max(1);
         Plan {
             skips: true,
-            between_parts,
+            between_parts: rows < MAX_ROWS_TO_SKIP_PARTS,
             omitted: None,
             top_bits: each.isqrt().min(63) as u32,
+            rows,
         }
     }
 
@@ -52,6 +55,7 @@ impl Plan {
             between_parts: false,
             omitted: None,
             top_bits: 0,
+            ..self
         })
     }
 }

@@ -7,8 +7,8 @@ ghost use Rattle.bw_cert_text.specs.Columns.{has_columns};
 ghost use Rattle.bw_plan.specs.Refusal.{IsRefusal};
 
 use crate::code::Code;
-use crate::limits::{MANY_BITS, MAX_CONDITION_ROWS_OF_MANY, MAX_CONDITION_ROWS, MAX_ROWS, MAX_ROWS_TO_SKIP_PARTS};
-use crate::parts::{Part, Reader};
+use crate::limits::{MANY_BITS, MAX_CONDITION_ROWS, MAX_CONDITION_ROWS_OF_MANY, MAX_ROWS};
+use crate::parts::{Names, Part, Reader};
 use crate::plan::Plan;
 use crate::refusal::Refusal;
 use bw_cert_text::Certificate;
@@ -59,9 +59,15 @@ pub fn propose_in_order<'a>(
     ensures fault { IfErr result IsRefusal }
 {
     let part = Reader { alloc, schema }.part_of(order, false)?;
-    let rows = most_rows(schema, &part);
+    let mut names = Names::default();
+    part.add_names(&mut names);
+    let rows = if names.bits(schema) > MANY_BITS {
+        MAX_CONDITION_ROWS_OF_MANY
+    } else {
+        MAX_CONDITION_ROWS
+    };
     let mut prover = Prover::new(alloc, schema, cond, rows).map_err(Refusal::from)?;
-    let mut plan = Plan::new(&part, prover.rows() < MAX_ROWS_TO_SKIP_PARTS);
+    let mut plan = Plan::new(names, prover.rows());
     for _ in 0..4 {
         plan = match proposal_by(alloc, schema, &mut prover, &part, plan) {
             Ok(proposal) => return Ok(proposal),
@@ -71,15 +77,6 @@ pub fn propose_in_order<'a>(
         };
     }
     Err(Refusal::NoProgram.into())
-}
-
-/// Returns the most product rows of a condition's own lines.
-fn most_rows(schema: &Schema, part: &Part) -> u32 {
-    if part.bits(schema) > MANY_BITS {
-        MAX_CONDITION_ROWS_OF_MANY
-    } else {
-        MAX_CONDITION_ROWS
-    }
 }
 
 /// Returns a program of a condition by one plan.

@@ -35,9 +35,9 @@ impl From<Unproved> for Refusal {
     fn from(unproved: Unproved) -> Self {
         match unproved {
             Unproved::Memory => Refusal::NoMemory,
-            Unproved::Limit | Unproved::NoRule => Refusal::NoProgram,
             Unproved::Unknown { skip, .. } => Refusal::Unknown(Some(skip)),
-            _ => Refusal::Unknown(None),
+            Unproved::Unordered => Refusal::Unknown(None),
+            _ => Refusal::NoProgram,
         }
     }
 }

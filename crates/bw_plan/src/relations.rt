@@ -1,7 +1,9 @@
 //! Instructions that compare the codes of two columns with one another, bit by bit.
 use crate::code::{Code, Connective, Made};
+use crate::columns::width_of;
 use crate::comparison::ColumnComparison;
 use crate::refusal::Refusal;
+use crate::registers::Value;
 use bw_diagram::ChainKind;
 use bw_program::Register;
 
@@ -14,8 +16,8 @@ impl Code<'_> {
     /// another. Their top bits are compared from the top down, with skips to the end of the
     /// comparison if no row has them equal so far, and the bits below from the lowest one up.
     pub(crate) fn relation(&mut self, relation: ColumnComparison) -> Made {
-        let left = self.width(relation.left);
-        let bits = left.max(self.width(relation.right));
+        let left = width_of(self.schema, relation.left);
+        let bits = left.max(width_of(self.schema, relation.right));
         let low = bits.saturating_sub(self.plan.top_bits);
         if low == bits {
             return self.lows(relation, low);
@@ -118,14 +120,14 @@ impl Code<'_> {
     fn bits(&mut self, relation: ColumnComparison, bit: u32) -> Result<Bits, Refusal> {
         let (left, right) = (relation.left, relation.right);
         let is_less = relation.kind == ChainKind::Less;
-        if bit >= self.width(right) {
-            return Ok((self.bit(left, bit)?, None));
+        if bit >= width_of(self.schema, right) {
+            return Ok((self.value(Value::Bit(left, bit as u8))?, None));
         }
-        let right = self.bit(right, bit)?;
-        if bit >= self.width(left) {
+        let right = self.value(Value::Bit(right, bit as u8))?;
+        if bit >= width_of(self.schema, left) {
             return Ok((right, is_less.then_some(right)));
         }
-        let left = self.bit(left, bit)?;
+        let left = self.value(Value::Bit(left, bit as u8))?;
         self.join(Connective::Xor, left, left, right)?;
         if !is_less {
             self.release(right);

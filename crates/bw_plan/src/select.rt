@@ -1,8 +1,9 @@
 //! Instructions that compare a column's codes with numbers, from the most significant byte down.
 use crate::code::{Code, Connective, Made};
+use crate::limits::MAX_LIST_ROWS;
 use crate::refusal::Refusal;
-use crate::sets::{bounds_below, byte_of, most_instructions, top_slice};
-use bw_diagram::ChainKind;
+use crate::registers::Value;
+use crate::sets::{Set, bounds_below, byte_of, top_slice};
 use bw_program::{ColumnIndex, Register, SliceIndex};
 
 /// What is looked for: the low bytes of a column's codes, from this one down, that have an odd number
@@ -14,27 +15,28 @@ struct Search<'b> {
     bounds: &'b [u64],
     /// The lanes in which the bytes above are those of the bounds, if they aren't all lanes.
     mask: Option<Register>,
-    /// Whether skips that save only a few instructions are omitted.
-    has_few_skips: bool,
 }
 
 impl Code<'_> {
-    /// Returns a register that is 1 where a column's code has an odd number of bounds above it. The
-    /// bounds are sorted and different.
-    pub(crate) fn codes(&mut self, column: ColumnIndex, bounds: &[u64]) -> Made {
+    /// Returns a register that is 1 where a column's code has an odd number of a set's bounds above
+    /// it. Refuses a long list whose product rows are many.
+    pub(crate) fn codes(&mut self, set: &Set) -> Made {
+        let column = set.column;
         let top = top_slice(self.schema, column);
-        match bounds {
+        if set.is_long(top) && self.plan.rows > MAX_LIST_ROWS {
+            return Err(Refusal::NoProgram);
+        }
+        match set.bounds.as_slice() {
             [] => self.fill(false),
             [code, next] if top > 0 && code.checked_add(1) == Some(*next) => {
                 self.code(column, top, *code)
             }
-            _ => {
+            bounds => {
                 let search = Search {
                     column,
                     slice: top,
                     bounds,
                     mask: None,
-                    has_few_skips: most_instructions(bounds, top) > self.room(),
                 };
                 self.within(search, None)
             }
@@ -44,10 +46,10 @@ impl Code<'_> {
     /// Returns a register that is 1 where a column has this code.
     fn code(&mut self, column: ColumnIndex, top: SliceIndex, code: u64) -> Made {
         let first = self.open_skips();
-        let same = self.byte(ChainKind::Equal, column, top, byte_of(code, top))?;
+        let same = self.value(Value::Equal(column, top, byte_of(code, top)))?;
         for slice in (0..top).rev() {
             self.skip(same)?;
-            let next = self.byte(ChainKind::Equal, column, slice, byte_of(code, slice))?;
+            let next = self.value(Value::Equal(column, slice, byte_of(code, slice)))?;
             self.join_into(Connective::And, same, next)?;
         }
         self.meet_from(first);
@@ -90,14 +92,11 @@ impl Code<'_> {
             return Ok(out);
         };
         let first = self.open_skips();
-        let same = self.byte(ChainKind::Equal, column, slice, byte_of(*bound, slice))?;
+        let same = self.value(Value::Equal(column, slice, byte_of(*bound, slice)))?;
         if let Some(mask) = search.mask {
             self.join(Connective::And, same, same, mask)?;
         }
-        // Bounds of one number, whose last byte is the next, are soon done.
-        if !search.has_few_skips || slice > 1 || inner.len() > 2 {
-            self.skip(same)?;
-        }
+        self.skip(same)?;
         let below = Search {
             slice: next,
             bounds: inner,
@@ -131,16 +130,16 @@ impl Code<'_> {
             };
             let is_next = last.checked_add(1) == Some(byte);
             before = (!is_next).then_some(byte);
-            let kind = if is_next {
-                ChainKind::Equal
+            let value = if is_next {
+                Value::Equal(column, slice, last)
             } else {
-                ChainKind::Less
+                Value::Less(column, slice, last)
             };
-            let next = self.byte(kind, column, slice, last)?;
+            let next = self.value(value)?;
             made = Some(self.toggle_lanes(next, None, made)?);
         }
         if let Some(last) = before {
-            let next = self.byte(ChainKind::Less, column, slice, last)?;
+            let next = self.value(Value::Less(column, slice, last))?;
             made = Some(self.toggle_lanes(next, None, made)?);
         }
         Ok(made)

@@ -31,23 +31,13 @@ impl Set {
             inverted,
         };
         for limit in limits {
-            match u64::try_from(limit) {
-                Ok(bound) if bound >> width.min(63) == 0 => {
-                    if bound > 0 {
-                        set.bounds.push(bound)?;
-                    }
-                }
-                Ok(_) => set.inverted = !set.inverted,
-                Err(_) if limit > 0 => set.inverted = !set.inverted,
-                Err(_) => {}
+            if limit >= 1 << width.min(63) {
+                set.inverted = !set.inverted;
+            } else if limit > 0 {
+                set.bounds.push(limit as u64)?;
             }
         }
         Ok(set)
-    }
-
-    /// Returns whether it is one code, or all but one.
-    pub(crate) fn is_code(&self) -> bool {
-        matches!(self.bounds.as_slice(), [code, next] if code.checked_add(1) == Some(*next))
     }
 
     /// Returns whether it takes many instructions to test for its codes.

@@ -5,6 +5,7 @@ use crate::comparison::ColumnComparison;
 use crate::limits::{MANY_LEVELS, SKIPPED_PARTS};
 use crate::parts::{Part, deepest};
 use crate::refusal::Refusal;
+use crate::registers::Value;
 use crate::sets::Set;
 use crate::truth_pair::TruthPair;
 use bw_diagram::ChainKind;
@@ -20,12 +21,6 @@ type TruthRegisters = TruthPair<Option<Register>>;
 
 /// These registers, unless there is no program or memory was refused.
 type MadeTruths = Result<TruthRegisters, Refusal>;
-
-/// No registers.
-const NONE: TruthRegisters = TruthPair {
-    yes: None,
-    no: None,
-};
 
 impl Code<'_> {
     /// Returns the register of where a whole condition is TRUE.
@@ -59,7 +54,7 @@ impl Code<'_> {
                 let made = self.truths(part, needed)?;
                 self.truth_test(*truth, made, *negated, wanted)
             }
-            Part::Done => Ok(NONE),
+            Part::Done => Ok(TruthPair::of(None, None)),
         }
     }
 
@@ -94,7 +89,7 @@ impl Code<'_> {
     fn skip_if_settled(&mut self, any: bool, made: TruthRegisters) -> Result<(), Refusal> {
         let made = made.opposite_if(any);
         match (made.yes, made.no) {
-            (_, Some(excluded)) if self.plan.skips => {
+            (_, Some(excluded)) => {
                 let left = self.claim()?;
                 self.oppose(left, excluded)?;
                 self.skip(left)?;
@@ -102,7 +97,7 @@ impl Code<'_> {
                 Ok(())
             }
             (Some(selected), None) => self.skip(selected),
-            _ => Ok(()),
+            (None, None) => Ok(()),
         }
     }
 
@@ -125,7 +120,7 @@ impl Code<'_> {
 
     /// Returns the registers of one truth on every row.
     fn constant(&mut self, truth: Truth, wanted: WantedTruths) -> MadeTruths {
-        let mut made = NONE;
+        let mut made = TruthPair::of(None, None);
         if wanted.yes {
             made.yes = Some(self.fill(truth == Truth::Yes)?);
         }
@@ -158,7 +153,7 @@ impl Code<'_> {
     /// Returns the registers of `IS NULL`, of a column that may be null.
     fn null_test(&mut self, column: ColumnIndex, wanted: WantedTruths) -> MadeTruths {
         if wanted.yes {
-            let nulls = self.nulls(column)?;
+            let nulls = self.value(Value::Nulls(column))?;
             self.sides(nulls, &[], false, false, wanted)
         } else {
             Ok(TruthPair::of(None, Some(self.values(column)?)))
@@ -169,7 +164,7 @@ impl Code<'_> {
     fn in_set(&mut self, set: &Set, wanted: WantedTruths) -> MadeTruths {
         let first = self.open_skips();
         let skips = self.skips.count;
-        let inside = self.codes(set.column, &set.bounds)?;
+        let inside = self.codes(set)?;
         let early = self.skips.count > skips;
         let made = self.sides(inside, &[set.column], early, set.inverted, wanted)?;
         self.meet_from(first);
@@ -210,12 +205,12 @@ impl Code<'_> {
         wanted: WantedTruths,
     ) -> MadeTruths {
         let wanted = wanted.opposite_if(negated);
-        let mut made = NONE;
+        let mut made = TruthPair::of(None, None);
         if wanted.no {
             let outside = if wanted.yes { self.copy(held)? } else { held };
             for column in columns {
                 if is_nullable(self.schema, *column) {
-                    let nulls = self.nulls(*column)?;
+                    let nulls = self.value(Value::Nulls(*column))?;
                     self.join_into(Connective::Or, outside, nulls)?;
                 }
             }
