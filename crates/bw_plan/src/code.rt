@@ -87,11 +87,6 @@ impl<'a> Code<'a> {
         self.set(register, Some(value), value.instr(register))
     }
 
-    /// Releases a register. If it has a value, that may be used again.
-    pub(crate) fn release(&mut self, register: Register) {
-        self.registers.release(register);
-    }
-
     /// Returns a register with the same bit in every lane.
     pub(crate) fn fill(&mut self, bit: bool) -> Made {
         let register = self.claim()?;
@@ -132,7 +127,7 @@ impl<'a> Code<'a> {
     /// Sets a register to a connective of itself and another, which is released.
     pub(crate) fn join_into(&mut self, op: Connective, to: Register, right: Register) -> Made {
         self.join(op, to, to, right)?;
-        self.release(right);
+        self.registers.release(right);
         Ok(to)
     }
 

@@ -25,9 +25,8 @@ pub(crate) const LONG_SET: usize = 1200;
 /// of 20 bits take 66,000 machine instructions a segment by a program, and 58,000 row by row.
 pub(crate) const MAX_LIST_ROWS: u32 = 4000;
 
-/// The number of first parts of a condition that may have a skip to its end. Rows that no part
-/// settled so far are rare after as many; each skip takes a pair of product rows for each register
-/// that is kept.
+/// The number of first parts of a condition that may have a skip to its end: each takes product
+/// rows for each register that is kept.
 pub(crate) const SKIPPED_PARTS: usize = 16;
 
 /// A condition with more levels of parts begins with the deepest one: 64 registers are too few for
@@ -38,10 +37,11 @@ pub(crate) const MANY_LEVELS: u32 = 12;
 /// six times the square of the number of its bits.
 pub(crate) const MAX_SQUARES: usize = 1000;
 
-/// The most product rows of a condition's own lines. Of the conditions that `scripts/conditions`
-/// and `bench/cliffs` draw and that have a program, none takes over 54,000. With more, planning and
-/// checking take longer than the row-by-row fallback takes for 100,000 rows.
-pub(crate) const MAX_CONDITION_ROWS: u32 = 60_000;
+/// The most product rows of a condition's own lines: seven columns of 63 bits that are each less
+/// than the next take 68,641, and no drawn condition of `scripts/conditions` that has a program takes
+/// over 54,000. With more, planning and checking take longer than the row-by-row fallback takes for
+/// 100,000 rows.
+pub(crate) const MAX_CONDITION_ROWS: u32 = 70_000;
 
 /// The same if the condition's columns have more than `MANY_BITS` bits: the drawn conditions of
 /// `bench/cliffs` over as many bits have no program, and 24,000 rows show that in 2 to 10 ms.

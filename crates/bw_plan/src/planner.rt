@@ -73,10 +73,10 @@ pub fn propose_in_order<'a>(
             Ok(proposal) => return Ok(proposal),
             Err(Refusal::Unknown(skip)) => plan.without(skip)?,
             Err(Refusal::TooLong) => plan.without_skips()?,
-            Err(refusal) => return Err(refusal.into()),
+            Err(refusal) => return Err(Fault::from(refusal)),
         };
     }
-    Err(Refusal::NoProgram.into())
+    Err(Fault::from(Refusal::NoProgram))
 }
 
 /// Returns a program of a condition by one plan.

@@ -38,7 +38,7 @@ impl Code<'_> {
         let Some(less) = less else {
             return Ok(same);
         };
-        self.release(same);
+        self.registers.release(same);
         Ok(less)
     }
 
@@ -100,7 +100,7 @@ impl Code<'_> {
                     self.join(Connective::Xor, below, below, made)?;
                     self.join(Connective::And, below, below, differs)?;
                     self.join_into(Connective::Xor, made, below)?;
-                    self.release(differs);
+                    self.registers.release(differs);
                 }
                 Some(_) => {
                     self.join_into(Connective::Or, made, differs)?;
@@ -118,19 +118,19 @@ impl Code<'_> {
     /// the first if only the right column has the bit. There is none if only the left one has it,
     /// or if only equality is wanted.
     fn bits(&mut self, relation: ColumnComparison, bit: u32) -> Result<Bits, Refusal> {
-        let (left, right) = (relation.left, relation.right);
+        let (left, right, place) = (relation.left, relation.right, (bit % 64) as u8);
         let is_less = relation.kind == ChainKind::Less;
         if bit >= width_of(self.schema, right) {
-            return Ok((self.value(Value::Bit(left, bit as u8))?, None));
+            return Ok((self.value(Value::Bit(left, place))?, None));
         }
-        let right = self.value(Value::Bit(right, bit as u8))?;
+        let right = self.value(Value::Bit(right, place))?;
         if bit >= width_of(self.schema, left) {
             return Ok((right, is_less.then_some(right)));
         }
-        let left = self.value(Value::Bit(left, bit as u8))?;
+        let left = self.value(Value::Bit(left, place))?;
         self.join(Connective::Xor, left, left, right)?;
         if !is_less {
-            self.release(right);
+            self.registers.release(right);
         }
         Ok((left, is_less.then_some(right)))
     }

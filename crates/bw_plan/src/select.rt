@@ -105,7 +105,7 @@ impl Code<'_> {
         };
         let found = self.within(below, out)?;
         if out.is_some() {
-            self.release(same);
+            self.registers.release(same);
         } else {
             self.join_into(Connective::And, same, found)?;
         }

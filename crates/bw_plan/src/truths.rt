@@ -93,7 +93,7 @@ impl Code<'_> {
                 let left = self.claim()?;
                 self.oppose(left, excluded)?;
                 self.skip(left)?;
-                self.release(left);
+                self.registers.release(left);
                 Ok(())
             }
             (Some(selected), None) => self.skip(selected),
@@ -228,7 +228,7 @@ impl Code<'_> {
             }
             made.yes = Some(held);
         } else if !wanted.no {
-            self.release(held);
+            self.registers.release(held);
         }
         Ok(made.opposite_if(negated))
     }
