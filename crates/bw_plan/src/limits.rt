@@ -57,3 +57,7 @@ pub(crate) const MAX_ROWS: u32 = 100_000;
 /// them takes several times as many. With them, eight more conditions of `scripts/conditions` have
 /// no program, and certificates are 30 % longer.
 pub(crate) const MAX_ROWS_TO_SKIP_PARTS: u32 = 10_000;
+
+/// A condition whose own lines take as many product rows has no skips at all: too few nodes are left
+/// for them. Seven columns of 63 bits that are each less than the next have a program only so.
+pub(crate) const MAX_ROWS_TO_SKIP: u32 = 60_000;

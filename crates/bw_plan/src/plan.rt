@@ -1,5 +1,5 @@
 //! With which skips a condition is compiled.
-use crate::limits::{MAX_ROWS_TO_SKIP_PARTS, MAX_SQUARES};
+use crate::limits::{MAX_ROWS_TO_SKIP, MAX_ROWS_TO_SKIP_PARTS, MAX_SQUARES};
 use crate::parts::Names;
 use crate::refusal::Refusal;
 
@@ -19,14 +19,16 @@ pub(crate) struct Plan {
 }
 
 impl Plan {
-    /// Returns all skips, or all but those between parts, for a condition of so many product rows.
+    /// Returns all skips, those alone that aren't between parts, or none, for a condition of so many
+    /// product rows.
     pub(crate) fn new(names: Names, rows: u32) -> Self {
         let each = MAX_SQUARES / names.relations.max(1);
+        let skips = rows < MAX_ROWS_TO_SKIP;
         Plan {
-            skips: true,
+            skips,
             between_parts: rows < MAX_ROWS_TO_SKIP_PARTS,
             omitted: None,
-            top_bits: each.isqrt().min(63) as u32,
+            top_bits: each.isqrt().min(63) as u32 * u32::from(skips),
             rows,
         }
     }
