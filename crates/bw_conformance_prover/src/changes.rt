@@ -4,7 +4,7 @@ ghost use Rattle.bw_program.specs.Program.{fits};
 
 use crate::judge::Case;
 use bw_model::Schema;
-use bw_program::{Instr, Program, program_text};
+use bw_program::{Instr, Program};
 use std::alloc::{AllocError, Global};
 use std::process::Abort;
 use std::test::Fail;
@@ -57,20 +57,6 @@ fn with_change(
     Ok(instrs)
 }
 
-/// Returns the program of instructions, if it is one.
-pub(crate) fn program_of(
-    alloc: Global,
-    schema: &Schema,
-    instrs: &[Instr],
-    answer: u8,
-) -> Result<Option<Program>, AllocError>
-    ensures { IfOk result (λ made. IfSome made (λ program.
-        IsTrue (fits schema.now.columns.items program))) }
-{
-    let text = program_text(alloc, schema, instrs, answer)?;
-    Ok(Program::parse(alloc, schema, &text).ok())
-}
-
 /// Returns a program with the instruction of this number changed, if it is a program then.
 fn change(
     alloc: Global,
@@ -83,7 +69,7 @@ fn change(
         IsTrue (fits schema.now.columns.items program))) }
 {
     let instrs = with_change(alloc, program, number, misdirects)?;
-    program_of(alloc, schema, &instrs, program.result())
+    Program::new(alloc, schema, &instrs, program.result())
 }
 
 /// Judges a program with each of its instructions changed in turn.

@@ -1,5 +1,4 @@
 //! Programs and conditions past a limit.
-use crate::changes::program_of;
 use crate::tables::Numbers;
 use bw_model::{Cond, Schema};
 use bw_program::Instr;
@@ -41,7 +40,7 @@ fn the_longest_program_ends_at_a_limit(rt: HostRuntime) -> Result<(), Fail> {
     let alloc = rt.alloc();
     let schema = widest(alloc)?;
     let instrs = longest(alloc)?;
-    let program = program_of(alloc, &schema, &instrs, 0)?.ok_or("no program")?;
+    let program = Program::new(alloc, &schema, &instrs, 0)?.ok_or("no program")?;
     for rows in [0, 1000, u32::MAX] {
         let hints = Hints { rows, orders: &[] };
         let made = prove(alloc, &schema, &Cond::Always, &program, &hints);

@@ -2,7 +2,7 @@
 ghost use Rattle.std.specs.Prelude.{IfOk, IsTrue};
 ghost use Rattle.bw_program.specs.Program.{fits};
 
-use crate::changes::{assert_changes_judged, program_of};
+use crate::changes::assert_changes_judged;
 use crate::judge::{Case, Verdict, query_of};
 use crate::tables::{Numbers, SMALL, WIDE, small_rows, table, wide_rows};
 use crate::writer::{Part, Style, Writer};
@@ -99,7 +99,7 @@ fn written_program(
 {
     let mut writer = Writer::new(alloc, seed);
     writer.parts(any, parts, style)?;
-    match program_of(alloc, schema, &writer.instrs, writer.result())? {
+    match Program::new(alloc, schema, &writer.instrs, writer.result())? {
         Some(program) => Ok(program),
         None => Err("no program")?,
     }

@@ -9,13 +9,10 @@ use crate::trial::put_wrong_row;
 use bw_cert::split_file;
 use bw_model::{Cond, Fault, Schema};
 use bw_program::Program;
-use bw_prover::{Hints, Unproved, Witness, prove};
+use bw_prover::{Hints, MAX_PRODUCTS, Unproved, Witness, prove};
 use bw_sql::parse;
 use std::alloc::{AllocError, Global};
 use std::fmt::Write;
-
-/// The most product rows of a certificate that is looked for: as many as a certificate may have.
-const MAX_ROWS: u32 = 1_048_576;
 
 /// Returns the line of a program file at which no certificate was found, and why. The text ends
 /// after the line if the schema, the statement or the program is rejected, or if there is one.
@@ -87,7 +84,7 @@ fn put_why_for_program(
     requires fits { IsTrue (fits schema.now.columns.items program.now) }
 {
     let hints = Hints {
-        rows: MAX_ROWS,
+        rows: MAX_PRODUCTS,
         orders: &[],
     };
     match prove(alloc, schema, cond, program, &hints) {

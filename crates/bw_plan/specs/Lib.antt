@@ -1,2 +1,1 @@
-pub mod ChainNames
 pub mod Refusal

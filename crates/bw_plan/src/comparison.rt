@@ -1,117 +1,39 @@
-//! Comparisons, in the form in which certificates state them.
-use crate::facts::Facts;
-use crate::order::VariableOrder;
+//! Comparisons of operands, as parts of a condition.
+use crate::columns::width_of;
+use crate::parts::{Part, PartResult, Reader};
 use crate::refusal::Refusal;
+use crate::sets::Set;
 use bw_diagram::ChainKind;
 use bw_model::{Op, Operand, Truth};
-use bw_program::ColumnIndex;
+use bw_prover::{ColumnComparison, Comparison, LiteralComparison, compare};
 
-/// A comparison of a column's code with a number: the code is less than (equal to) `limit`, or
-/// isn't if `negated`.
-#[derive(Clone, Copy)]
-pub(crate) struct LiteralComparison {
-    pub(crate) column: ColumnIndex,
-    pub(crate) kind: ChainKind,
-    pub(crate) limit: i128,
-    pub(crate) negated: bool,
-}
-
-/// A comparison of the codes of two columns: the left one is less than (equal to) the right one, or
-/// isn't if `negated`.
-#[derive(Clone, Copy)]
-pub(crate) struct ColumnComparison {
-    pub(crate) kind: ChainKind,
-    pub(crate) left: ColumnIndex,
-    pub(crate) right: ColumnIndex,
-    pub(crate) negated: bool,
-    /// The columns in the order of the condition.
-    pub(crate) columns: [ColumnIndex; 2],
-}
-
-impl LiteralComparison {
-    /// Returns the terminal that says whether a number of this many bits is less than (equal to)
-    /// the limit, if none or every such number is.
-    pub(crate) fn terminal(self, width: u32) -> Option<u32> {
-        let past = self.limit >= 1 << width.min(63);
-        match self.kind {
-            ChainKind::Less if self.limit <= 0 => Some(0),
-            ChainKind::Less if past => Some(1),
-            ChainKind::Equal if self.limit < 0 || past => Some(0),
-            _ => None,
+impl Reader<'_> {
+    /// Returns a comparison of operands, or its opposite if it is negated. Refuses columns that the
+    /// schema lacks, and two columns of unequal minimums.
+    pub(crate) fn comparison(self, op: Op, x: Operand, y: Operand, negated: bool) -> PartResult {
+        match compare(self.schema, op, x, y).ok_or(Refusal::NoProgram)? {
+            Comparison::Fixed(Truth::Unknown) => Ok(Part::Fixed(Truth::Unknown)),
+            Comparison::Fixed(truth) => Ok(Part::Fixed(Truth::of(
+                (truth == Truth::Yes) != negated,
+            ))),
+            Comparison::Literal(compared) => self.with_literal(compared, negated),
+            Comparison::Columns(compared) => Ok(Part::Columns(ColumnComparison {
+                negated: compared.negated != negated,
+                ..compared
+            })),
         }
     }
-}
 
-impl ColumnComparison {
-    /// Returns the terminal that says how a column's code compares to itself.
-    pub(crate) fn terminal(self) -> Option<u32> {
-        (self.left == self.right).then_some(u32::from(self.kind == ChainKind::Equal))
+    /// Returns the comparison of a column with a literal, or its opposite if it is negated.
+    fn with_literal(self, compared: LiteralComparison, negated: bool) -> PartResult {
+        let LiteralComparison { column, limit, .. } = compared;
+        let limits = match compared.kind {
+            ChainKind::Equal => [limit, limit.saturating_add(1)],
+            ChainKind::Less => [0, limit],
+        };
+        let inverted = compared.negated != negated;
+        let width = width_of(self.schema, column);
+        let set = Set::between(self.alloc, column, width, limits, inverted)?;
+        Ok(Part::Codes(set))
     }
-
-    /// Returns the order in which the comparison's nodes test variables.
-    pub(crate) fn order(self) -> VariableOrder {
-        VariableOrder::Places(self.right)
-    }
-}
-
-/// A comparison of operands.
-#[derive(Clone, Copy)]
-pub(crate) enum Comparison {
-    /// The same truth on every row.
-    Fixed(Truth),
-    Literal(LiteralComparison),
-    Columns(ColumnComparison),
-}
-
-/// Returns what a comparison of operands means for codes. Refuses columns that the schema lacks, and
-/// two columns of unequal minimums.
-pub(crate) fn compare(facts: &mut Facts<'_>, op: Op, x: Operand, y: Operand) -> Comparison {
-    match (x, y) {
-        (Operand::Col(column), Operand::Lit(n)) => with_literal(facts, op, column, n),
-        (Operand::Lit(n), Operand::Col(column)) => {
-            with_literal(facts, op.swap_operands(), column, n)
-        }
-        (Operand::Col(left), Operand::Col(right)) => with_column(facts, op, left, right),
-        (Operand::Lit(m), Operand::Lit(n)) => Comparison::Fixed(Truth::of(op.holds(m, n))),
-        _ => Comparison::Fixed(Truth::Unknown),
-    }
-}
-
-/// Returns the kind of the chains of a comparison.
-fn kind_of(op: Op) -> ChainKind {
-    match op {
-        Op::Eq | Op::Ne => ChainKind::Equal,
-        _ => ChainKind::Less,
-    }
-}
-
-/// Returns the comparison of a column with a literal.
-fn with_literal(facts: &mut Facts<'_>, op: Op, column: usize, n: i64) -> Comparison {
-    let (column, lo) = facts.column(column);
-    let is_past = matches!(op, Op::Le | Op::Gt);
-    Comparison::Literal(LiteralComparison {
-        column,
-        kind: kind_of(op),
-        limit: (i128::from(n) - i128::from(lo)).saturating_add(i128::from(is_past)),
-        negated: matches!(op, Op::Ge | Op::Gt | Op::Ne),
-    })
-}
-
-/// Returns the comparison of two columns of the same minimum.
-fn with_column(facts: &mut Facts<'_>, op: Op, c: usize, d: usize) -> Comparison {
-    let ((c, lo), (d, other)) = (facts.column(c), facts.column(d));
-    if lo != other {
-        facts.refuse(Refusal::NoProgram);
-    }
-    let (left, right) = match op {
-        Op::Gt | Op::Le => (d, c),
-        _ => (c, d),
-    };
-    Comparison::Columns(ColumnComparison {
-        kind: kind_of(op),
-        left,
-        right,
-        negated: matches!(op, Op::Ge | Op::Le | Op::Ne),
-        columns: [c, d],
-    })
 }

@@ -7,14 +7,16 @@ ghost use Rattle.bw_cert_text.specs.Columns.{has_columns};
 ghost use Rattle.bw_plan.specs.Refusal.{IsRefusal};
 
 use crate::code::Code;
-use crate::emit;
-use crate::parts::{Part, part_of};
+use crate::limits::{
+    MANY_BITS, MAX_CONDITION_ROWS, MAX_CONDITION_ROWS_OF_MANY, MAX_ROWS, ROWS_BEFORE_FORECAST,
+};
+use crate::parts::{Names, Part, Reader};
+use crate::plan::Plan;
 use crate::refusal::Refusal;
-use crate::truth_pair::TruthPair;
 use bw_cert_text::Certificate;
-use bw_diagram::Connective;
 use bw_model::{Cond, Fault, Schema};
-use bw_program::{Program, Register};
+use bw_program::{Instr, Program, Register};
+use bw_prover::{Hints, Prover};
 use std::alloc::Global;
 
 /// A program for a condition, and a certificate that is to prove that it selects the right rows.
@@ -58,44 +60,65 @@ pub fn propose_in_order<'a>(
         IsTrue (has_columns schema.now.columns.items (certificate_fields proposal.certificate))) }
     ensures fault { IfErr result IsRefusal }
 {
-    let mut code = Code::begin(alloc, schema, cond, true)?;
-    let part = part_of(&mut code.facts, order, false)?;
-    code.facts.check_refusal()?;
-    let mut made = program_of(schema, &part, &mut code);
-    if matches!(made, Err(Refusal::NoProgram)) {
-        drop(code);
-        code = Code::begin(alloc, schema, cond, false)?;
-        made = program_of(schema, &part, &mut code);
+    let part = Reader { alloc, schema }.part_of(order, false)?;
+    let mut names = Names::default();
+    part.add_names(&mut names);
+    let rows = if names.bits(schema) > MANY_BITS {
+        MAX_CONDITION_ROWS_OF_MANY
+    } else {
+        MAX_CONDITION_ROWS
+    };
+    let mut prover = Prover::new(alloc, schema, cond, rows, ROWS_BEFORE_FORECAST).map_err(
+        Refusal::from,
+    )?;
+    let mut plan = Plan::new(names, prover.rows());
+    for _ in 0..4 {
+        plan = match proposal_by(alloc, schema, &mut prover, &part, plan) {
+            Ok(proposal) => return Ok(proposal),
+            Err(Refusal::Unknown(skip)) => plan.without(skip)?,
+            Err(Refusal::TooLong) => plan.without_skips()?,
+            Err(refusal) => return Err(Fault::from(refusal)),
+        };
     }
-    let (program, row) = made?;
-    let certificate = emit::certificate(schema, &code, row)?;
+    Err(Fault::from(Refusal::NoProgram))
+}
+
+/// Returns a program of a condition by one plan.
+fn proposal_by<'a>(
+    alloc: Global,
+    schema: &'a Schema,
+    prover: &mut Prover<'a>,
+    part: &Part,
+    plan: Plan,
+) -> Result<Proposal<'a>, Refusal>
+    ensures program { IfOk result (λ proposal.
+        IsTrue (fits schema.now.columns.items proposal.program)) }
+    ensures certificate { IfOk result (λ proposal.
+        IsTrue (has_columns schema.now.columns.items (certificate_fields proposal.certificate))) }
+{
+    let mut code = Code::new(alloc, schema, plan);
+    let answer = code.whole(part)?;
+    let program = program_of(alloc, schema, &code.instrs, answer)?;
+    let hints = Hints {
+        rows: MAX_ROWS,
+        orders: &code.orders,
+    };
+    let certificate = prover.certify(alloc, schema, &program, &hints)?;
     Ok(Proposal {
         program,
         certificate,
     })
 }
 
-/// Returns the program of a condition, and the number of the row that proves that its result has
-/// the condition's node.
-fn program_of(schema: &Schema, part: &Part, code: &mut Code<'_>) -> Result<(Program, u64), Refusal>
-    ensures { IfOk result (λ made. IsTrue (fits schema.now.columns.items made.0)) }
+/// Returns the program of the instructions.
+fn program_of(
+    alloc: Global,
+    schema: &Schema,
+    instrs: &[Instr],
+    answer: Register,
+) -> Result<Program, Refusal>
+    ensures { IfOk result (λ program. IsTrue (fits schema.now.columns.items program)) }
 {
-    code.keeps_planes = part.repeats_column(&mut 0);
-    let answer = code.truths(part, TruthPair::of(true, false)).yes;
-    let answer = code.facts.expect(answer, 0);
-    code.meet();
-    if code.skip_count == 0 {
-        // A skip at the end lets counts show empty segments.
-        let first = code.open_skips();
-        code.skip(answer);
-        code.meet_from(first);
-        code.meet();
-    }
-    let made = code.node(answer);
-    let row = code.row(Connective::Xor, made, code.condition);
-    code.facts.check_refusal()?;
-    if row.node != 0 {
-        return Err(Refusal::NoProgram);
-    }
-    Ok((emit::program(schema, code, answer)?, row.reference()))
+    let program = Program::new(alloc, schema, instrs, answer)?;
+    program.ok_or(Refusal::NoProgram)
 }

@@ -2,13 +2,19 @@
 ghost use Rattle.bw_plan.specs.Refusal.{IsRefusal};
 
 use bw_model::{Fault, code};
+use bw_prover::Unproved;
 use std::alloc::{AllocError, AllocFailed};
 
-/// Why there is no proposal.
+/// Why there is no proposal, or none by a plan.
 #[derive(Clone, Copy)]
 pub(crate) enum Refusal {
-    /// A limit of certificates or programs would be passed, or a form has no rule.
+    /// A limit would be passed by each plan, or a form has no rule.
     NoProgram,
+    /// The program has too many instructions, or takes too many registers.
+    TooLong,
+    /// A value can't be proved to be the same by each way, for the skip of this number if that is
+    /// known.
+    Unknown(Option<usize>),
     /// Memory was refused.
     NoMemory,
 }
@@ -25,14 +31,25 @@ impl<T: Drop> From<AllocFailed<T>> for Refusal {
     }
 }
 
+impl From<Unproved> for Refusal {
+    fn from(unproved: Unproved) -> Self {
+        match unproved {
+            Unproved::Memory => Refusal::NoMemory,
+            Unproved::Unknown { skip, .. } => Refusal::Unknown(Some(skip)),
+            Unproved::Unordered => Refusal::Unknown(None),
+            _ => Refusal::NoProgram,
+        }
+    }
+}
+
 /// The error that is reported, at no place: 651, or 801 for `NoMemory`.
 impl From<Refusal> for Fault {
     ghost from_gives = { λ _ fault. IsRefusal fault };
 
     fn from(refusal: Refusal) -> Self {
         match refusal {
-            Refusal::NoProgram => Fault::new(code::NO_PROGRAM),
             Refusal::NoMemory => Fault::new(code::OUT_OF_MEMORY),
+            _ => Fault::new(code::NO_PROGRAM),
         }
     }
 }

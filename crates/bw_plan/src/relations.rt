@@ -1,46 +1,64 @@
 //! Instructions that compare the codes of two columns with one another, bit by bit.
-use crate::code::Code;
-use crate::comparison::ColumnComparison;
-use bw_diagram::{ChainKind, Connective};
+use crate::code::{Code, Connective, Made};
+use crate::columns::width_of;
+use crate::refusal::Refusal;
+use crate::registers::Value;
+use bw_diagram::ChainKind;
 use bw_program::Register;
+use bw_prover::ColumnComparison;
+
+/// The registers of one bit of two columns: that is 1 if the bits differ, and that is 1, if they
+/// differ, if the left one is 0.
+type Bits = (Register, Option<Register>);
 
 impl Code<'_> {
     /// Returns a register that is 1 if the code of a column is less than (equal to) that of
     /// another. Their top bits are compared from the top down, with skips to the end of the
     /// comparison if no row has them equal so far, and the bits below from the lowest one up.
-    pub(crate) fn relation(&mut self, relation: ColumnComparison) -> Register {
-        let left = self.facts.width(relation.left);
-        let bits = left.max(self.facts.width(relation.right));
-        let low = bits.saturating_sub(self.skipped_bits());
-        let is_less = relation.kind == ChainKind::Less && low < bits;
-        let less = is_less.then(|| self.fill(false));
+    pub(crate) fn relation(&mut self, relation: ColumnComparison) -> Made {
+        let left = width_of(self.schema, relation.left);
+        let bits = left.max(width_of(self.schema, relation.right));
+        let low = bits.saturating_sub(self.plan.top_bits);
+        if low == bits {
+            return self.lows(relation, low);
+        }
+        let less = match relation.kind {
+            ChainKind::Less => Some(self.fill(false)?),
+            ChainKind::Equal => None,
+        };
+        let same = self.tops(relation, low..bits, less)?;
+        if low > 0 {
+            let rest = self.lows(relation, low)?;
+            let Some(less) = less else {
+                return self.join_into(Connective::And, same, rest);
+            };
+            self.join_into(Connective::And, rest, same)?;
+            self.join_into(Connective::Or, less, rest)?;
+        }
+        let Some(less) = less else {
+            return Ok(same);
+        };
+        self.registers.release(same);
+        Ok(less)
+    }
+
+    /// Compares some bits from the top down. Returns a register that is 1 if they are equal, and
+    /// updates whether the code is less by them, if that is wanted.
+    fn tops(
+        &mut self,
+        relation: ColumnComparison,
+        bits: std::ops::Range<u32>,
+        less: Option<Register>,
+    ) -> Made {
         let mut same = None;
-        for bit in (low..bits).rev() {
-            let now = self.next_below(relation, bit, less, same);
+        for bit in bits.rev() {
+            let now = self.next_below(relation, bit, less, same)?;
             if bit > 0 {
-                self.skip(now);
+                self.skip(now)?;
             }
             same = Some(now);
         }
-        match (same, less) {
-            (None, _) => self.lows(relation, low),
-            (Some(same), None) => {
-                if low > 0 {
-                    let rest = self.lows(relation, low);
-                    self.join_into(Connective::And, same, rest);
-                }
-                same
-            }
-            (Some(same), Some(less)) => {
-                if low > 0 {
-                    let rest = self.lows(relation, low);
-                    self.join_into(Connective::And, rest, same);
-                    self.join_into(Connective::Or, less, rest);
-                }
-                self.release(same);
-                less
-            }
-        }
+        same.ok_or(Refusal::NoProgram)
     }
 
     /// Adds the next bit below to a comparison from the top down. Updates whether the code is less
@@ -51,66 +69,69 @@ impl Code<'_> {
         bit: u32,
         less: Option<Register>,
         same: Option<Register>,
-    ) -> Register {
-        let (differs, below) = self.bits(relation, bit);
+    ) -> Made {
+        let (differs, below) = self.bits(relation, bit)?;
         if let (Some(less), Some(mut below)) = (less, below) {
             if below == differs {
-                below = self.copy(differs);
+                below = self.copy(differs)?;
             } else {
-                self.join(Connective::And, below, below, differs);
+                self.join(Connective::And, below, below, differs)?;
             }
             if let Some(same) = same {
-                self.join(Connective::And, below, below, same);
+                self.join(Connective::And, below, below, same)?;
             }
-            self.join_into(Connective::Or, less, below);
+            self.join_into(Connective::Or, less, below)?;
         }
-        self.oppose(differs, differs);
-        let Some(same) = same else {
-            return differs;
-        };
-        self.join_into(Connective::And, same, differs);
-        same
+        self.oppose(differs, differs)?;
+        match same {
+            Some(same) => self.join_into(Connective::And, same, differs),
+            None => Ok(differs),
+        }
     }
 
     /// Returns a register that is 1 if this many low bits of a column are a number less than (equal
     /// to) that of another.
-    fn lows(&mut self, relation: ColumnComparison, bits: u32) -> Register {
-        let made = self.fill(relation.kind == ChainKind::Equal);
+    fn lows(&mut self, relation: ColumnComparison, bits: u32) -> Made {
+        let made = self.fill(relation.kind == ChainKind::Equal)?;
         for bit in 0..bits {
-            let (differs, below) = self.bits(relation, bit);
+            let (differs, below) = self.bits(relation, bit)?;
             match below {
                 Some(below) if below != differs => {
-                    self.join(Connective::Xor, below, below, made);
-                    self.join(Connective::And, below, below, differs);
-                    self.join_into(Connective::Xor, made, below);
-                    self.release(differs);
+                    self.join(Connective::Xor, below, below, made)?;
+                    self.join(Connective::And, below, below, differs)?;
+                    self.join_into(Connective::Xor, made, below)?;
+                    self.registers.release(differs);
                 }
-                Some(_) => self.join_into(Connective::Or, made, differs),
+                Some(_) => {
+                    self.join_into(Connective::Or, made, differs)?;
+                }
                 None => {
-                    self.oppose(differs, differs);
-                    self.join_into(Connective::And, made, differs);
+                    self.oppose(differs, differs)?;
+                    self.join_into(Connective::And, made, differs)?;
                 }
             }
         }
-        made
+        Ok(made)
     }
 
-    /// Returns the registers of one bit of two columns, of which at least one has it: that is 1 if
-    /// the bits differ, and that is 1, if they differ, if the left one is 0. The second is the
-    /// first if only the right column has the bit. There is none if only the left one has it, or
-    /// if only equality is wanted.
-    fn bits(&mut self, relation: ColumnComparison, bit: u32) -> (Register, Option<Register>) {
-        let (left, right) = (relation.left, relation.right);
-        let right = (bit < self.facts.width(right)).then(|| self.bit(right, bit));
-        let left = (bit < self.facts.width(left)).then(|| self.bit(left, bit));
+    /// Returns the registers of one bit of two columns, of which at least one has it. The second is
+    /// the first if only the right column has the bit. There is none if only the left one has it,
+    /// or if only equality is wanted.
+    fn bits(&mut self, relation: ColumnComparison, bit: u32) -> Result<Bits, Refusal> {
+        let (left, right, place) = (relation.left, relation.right, (bit % 64) as u8);
         let is_less = relation.kind == ChainKind::Less;
-        if let (Some(left), Some(right)) = (left, right) {
-            self.join(Connective::Xor, left, left, right);
-            if !is_less {
-                self.release(right);
-            }
+        if bit >= width_of(self.schema, right) {
+            return Ok((self.value(Value::Bit(left, place))?, None));
         }
-        let differs = self.facts.expect(left.or(right), 0);
-        (differs, if is_less { right } else { None })
+        let right = self.value(Value::Bit(right, place))?;
+        if bit >= width_of(self.schema, left) {
+            return Ok((right, is_less.then_some(right)));
+        }
+        let left = self.value(Value::Bit(left, place))?;
+        self.join(Connective::Xor, left, left, right)?;
+        if !is_less {
+            self.registers.release(right);
+        }
+        Ok((left, is_less.then_some(right)))
     }
 }

@@ -1,13 +1,10 @@
 //! Sets of a column's codes.
-use crate::comparison::LiteralComparison;
-use crate::facts::Facts;
+use crate::columns::width_of;
+use crate::limits::LONG_SET;
 use crate::refusal::Refusal;
-use bw_diagram::ChainKind;
+use bw_model::Schema;
 use bw_program::{ColumnIndex, SliceIndex};
 use std::alloc::Global;
-
-/// A set that takes more instructions is long.
-const FEW_INSTRUCTIONS: usize = 1200;
 
 /// A set of a column's codes: those with an odd number of bounds above them or, if it is inverted,
 /// with an even number. The bounds are sorted and different, and above 0.
@@ -19,24 +16,22 @@ pub(crate) struct Set {
 }
 
 impl Set {
-    /// Returns the codes of which a comparison with a literal is true, or the others if it is
-    /// negated.
-    pub(crate) fn of(
-        facts: &Facts<'_>,
-        compared: LiteralComparison,
-        negated: bool,
+    /// Returns the codes of a column of so many bits that are at least the first limit and below the
+    /// second, or the others if `inverted`.
+    pub(crate) fn between(
+        alloc: Global,
+        column: ColumnIndex,
+        width: u32,
+        limits: [i128; 2],
+        inverted: bool,
     ) -> Result<Self, Refusal> {
-        let limits = match compared.kind {
-            ChainKind::Less => [0, compared.limit],
-            ChainKind::Equal => [compared.limit, compared.limit.saturating_add(1)],
-        };
         let mut set = Set {
-            column: compared.column,
-            bounds: Vec::new(facts.alloc),
-            inverted: compared.negated != negated,
+            column,
+            bounds: Vec::new(alloc),
+            inverted,
         };
         for limit in limits {
-            if limit >= 1 << facts.width(set.column).min(63) {
+            if limit >= 1 << width.min(63) {
                 set.inverted = !set.inverted;
             } else if limit > 0 {
                 set.bounds.push(limit as u64)?;
@@ -45,15 +40,9 @@ impl Set {
         Ok(set)
     }
 
-    /// Returns whether it is one code, or all but one.
-    pub(crate) fn is_code(&self) -> bool {
-        matches!(self.bounds.as_slice(), [code, next] if code.checked_add(1) == Some(*next))
-    }
-
     /// Returns whether it takes many instructions to test for its codes.
-    pub(crate) fn is_long(&self, facts: &Facts<'_>) -> bool {
-        let top = facts.width(self.column).saturating_sub(1) / 8;
-        most_instructions(&self.bounds, top.min(7) as u8, None) > FEW_INSTRUCTIONS
+    pub(crate) fn is_long(&self, top: SliceIndex) -> bool {
+        most_instructions(&self.bounds, top) > LONG_SET
     }
 
     /// Returns the codes of a column that one of some sets contains or, if not `any`, that all of
@@ -98,36 +87,29 @@ impl Set {
     }
 }
 
+/// Returns the slice of the most significant byte of a column's codes.
+pub(crate) fn top_slice(schema: &Schema, column: ColumnIndex) -> SliceIndex {
+    (width_of(schema, column).saturating_sub(1) / 8).min(7) as u8
+}
+
 /// Returns a byte of a number.
 pub(crate) fn byte_of(number: u64, slice: SliceIndex) -> u8 {
     (number >> (u32::from(slice) * 8).min(63) & 0xff) as u8
 }
 
 /// Returns how many groups of sorted bounds have the bits from `start` in common.
-pub(crate) fn groups_from(bounds: &[u64], start: u32) -> usize {
+fn groups_from(bounds: &[u64], start: u32) -> usize {
     let start = start.min(63);
     bounds.chunk_by(|a, b| *a >> start == *b >> start).count()
 }
 
 /// Returns at least how many instructions test codes by sorted bounds, from a byte down: for each
-/// compared byte a comparison, an AND and a skip, or an AND and a skip by its digits, and for each
-/// range a comparison, an AND and a XOR.
-pub(crate) fn most_instructions(
-    bounds: &[u64],
-    top: SliceIndex,
-    split: Option<SliceIndex>,
-) -> usize {
+/// compared byte a comparison, an AND and a skip, and for each range a comparison, an AND and a XOR.
+pub(crate) fn most_instructions(bounds: &[u64], top: SliceIndex) -> usize {
     let mut most = bounds.len().saturating_mul(3) / 2;
     for slice in 1..=top {
         let start = u32::from(slice) * 8;
-        let compared = if split == Some(slice) {
-            start + 4
-        } else {
-            start
-        };
-        most = most
-            .saturating_add(groups_from(bounds, start).saturating_mul(2))
-            .saturating_add(groups_from(bounds, compared));
+        most = most.saturating_add(groups_from(bounds, start).saturating_mul(3));
     }
     most
 }
@@ -138,12 +120,4 @@ pub(crate) fn bounds_below(group: &[u64], slice: SliceIndex) -> &[u64] {
         [first, rest @ ..] if first % (1 << (u32::from(slice) * 8).min(63)) == 0 => rest,
         _ => group,
     }
-}
-
-/// Returns whether fewer than one row in 512 has zeros above a byte and at most this number in it,
-/// if all codes of so many bits are equally frequent.
-pub(crate) fn is_rare(byte: u8, slice: SliceIndex, width: u32) -> bool {
-    let above = u32::from(slice) * 8;
-    let codes = (u64::from(byte) + 1) << above.min(55);
-    codes < 1 << width.saturating_sub(9).min(63)
 }

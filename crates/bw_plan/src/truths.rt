@@ -1,179 +1,194 @@
 //! Instructions that compute where a condition is TRUE, and where it is FALSE.
-use crate::code::Code;
-use crate::comparison::ColumnComparison;
-use crate::growth::Growth;
-use crate::order::VariableOrder;
-use crate::parts::{Part, first_part};
+use crate::code::{Code, Connective, Made};
+use crate::columns::is_nullable;
+use crate::limits::{MANY_LEVELS, SKIPPED_PARTS};
+use crate::parts::{Part, deepest};
+use crate::refusal::Refusal;
+use crate::registers::Value;
 use crate::sets::Set;
-use crate::truth_pair::TruthPair;
-use bw_diagram::Connective;
+use bw_diagram::ChainKind;
 use bw_model::Truth;
 use bw_program::{ColumnIndex, Register};
+use bw_prover::{ColumnComparison, TruthPair, VariableOrder};
 
 /// Whether the register of where a condition is TRUE is needed, and that of where it is FALSE.
-pub(crate) type WantedTruths = TruthPair<bool>;
+type WantedTruths = TruthPair<bool>;
 
 /// The registers that are 1 where a condition is TRUE, and where it is FALSE, if they are wanted.
-pub(crate) type TruthRegisters = TruthPair<Option<Register>>;
+type TruthRegisters = TruthPair<Option<Register>>;
 
-/// No registers.
-const NONE: TruthRegisters = TruthPair {
-    yes: None,
-    no: None,
-};
-
-/// The number of first parts of a condition that may have a skip to its end.
-const SKIPPED_PARTS: usize = 16;
+/// These registers, unless there is no program or memory was refused.
+type MadeTruths = Result<TruthRegisters, Refusal>;
 
 impl Code<'_> {
+    /// Returns the register of where a whole condition is TRUE.
+    pub(crate) fn whole(&mut self, part: &Part) -> Made {
+        let made = self.truths(part, TruthPair::of(true, false))?;
+        let answer = made.yes.ok_or(Refusal::NoProgram)?;
+        let first = self.open_skips();
+        if self.skips.count == 0 {
+            // A skip at the end lets counts show empty segments.
+            self.skip(answer)?;
+        }
+        self.meet_from(first);
+        self.meet();
+        Ok(answer)
+    }
+
     /// Returns the registers of a part of the condition.
     #[cycle(truths)]
-    pub(crate) fn truths(&mut self, part: &Part, wanted: WantedTruths) -> TruthRegisters {
-        if self.facts.refusal.is_some() {
-            return NONE;
-        }
+    fn truths(&mut self, part: &Part, wanted: WantedTruths) -> MadeTruths {
         match part {
             Part::Fixed(truth) => self.constant(*truth, wanted),
             Part::Codes(set) => self.in_set(set, wanted),
-            Part::Columns(compared) => self.emit_column_comparison(*compared, wanted),
+            Part::Columns(compared) => self.compare_columns(*compared, wanted),
             Part::Null(column, negated) => {
-                let made = self.emit_null_test(*column, wanted.opposite_if(*negated));
-                made.opposite_if(*negated)
+                let made = self.null_test(*column, wanted.opposite_if(*negated))?;
+                Ok(made.opposite_if(*negated))
             }
-            Part::All(any, parts) => self.emit_parts(*any, parts, wanted),
+            Part::All(any, parts) => self.all_parts(*any, parts, wanted),
             Part::Test(part, truth, negated) => {
                 let needed = TruthPair::of(*truth != Truth::No, *truth != Truth::Yes);
-                let made = self.truths(part, needed);
-                self.emit_truth_test(*truth, made, *negated, wanted)
+                let made = self.truths(part, needed)?;
+                self.truth_test(*truth, made, *negated, wanted)
             }
-            Part::Done => NONE,
+            Part::Done => Ok(TruthPair::of(None, None)),
         }
     }
 
-    /// Returns the registers of the OR of all parts, or else of their AND: first of the part that
-    /// takes many registers, if there is one.
+    /// Returns the registers of the OR of all parts, or else of their AND: first of the part that is
+    /// nested most deeply, if many are nested, since each level keeps a register.
     #[cycle(truths)]
-    fn emit_parts(&mut self, any: bool, parts: &[Part], wanted: WantedTruths) -> TruthRegisters {
-        let first = self.open_skips();
-        let (start, _) = first_part(parts);
-        let Some(part) = parts.get(start) else {
-            return NONE;
+    fn all_parts(&mut self, any: bool, parts: &[Part], wanted: WantedTruths) -> MadeTruths {
+        let open = self.open_skips();
+        let (deepest, depth) = deepest(parts);
+        let first = if depth > MANY_LEVELS { deepest } else { 0 };
+        let made = match parts.get(first) {
+            Some(part) => self.truths(part, wanted)?,
+            None => return Err(Refusal::NoProgram),
         };
-        let made = self.truths(part, wanted);
-        let mut growth = Growth::of(parts.len().saturating_sub(1), &self.facts);
         for (number, part) in parts.iter().enumerate() {
-            if number == start {
+            if number == first {
                 continue;
             }
             // These take two or three instructions, so that a skip saves nothing.
             let is_quick = matches!(part, Part::Null(..) | Part::Fixed(_));
-            if number < SKIPPED_PARTS && self.skips_parts && !is_quick {
-                self.skip_if_settled(any, made);
+            if number < SKIPPED_PARTS && self.plan.between_parts && !is_quick {
+                self.skip_if_settled(any, made)?;
             }
-            let next = self.truths(part, wanted);
-            self.join_parts(any, made, next);
-            growth.join(&mut self.facts);
+            let next = self.truths(part, wanted)?;
+            self.join_parts(any, made, next)?;
         }
-        self.meet_from(first);
-        made
+        self.meet_from(open);
+        Ok(made)
     }
 
     /// Skips to the end of the parts if the others can change nothing.
-    fn skip_if_settled(&mut self, any: bool, made: TruthRegisters) {
+    fn skip_if_settled(&mut self, any: bool, made: TruthRegisters) -> Result<(), Refusal> {
         let made = made.opposite_if(any);
         match (made.yes, made.no) {
             (_, Some(excluded)) => {
-                let left = self.claim();
-                self.oppose(left, excluded);
-                self.skip(left);
-                self.release(left);
+                let left = self.claim()?;
+                self.oppose(left, excluded)?;
+                self.skip(left)?;
+                self.registers.release(left);
+                Ok(())
             }
             (Some(selected), None) => self.skip(selected),
-            (None, None) => (),
+            (None, None) => Ok(()),
         }
     }
 
     /// Combines the registers of one part with those of another, which are released.
-    fn join_parts(&mut self, any: bool, made: TruthRegisters, next: TruthRegisters) {
+    fn join_parts(
+        &mut self,
+        any: bool,
+        made: TruthRegisters,
+        next: TruthRegisters,
+    ) -> Result<(), Refusal> {
         let (made, next) = (made.opposite_if(any), next.opposite_if(any));
         if let (Some(to), Some(y)) = (made.yes, next.yes) {
-            self.join_into(Connective::And, to, y);
+            self.join_into(Connective::And, to, y)?;
         }
         if let (Some(to), Some(y)) = (made.no, next.no) {
-            self.join_into(Connective::Or, to, y);
+            self.join_into(Connective::Or, to, y)?;
         }
+        Ok(())
     }
 
     /// Returns the registers of one truth on every row.
-    fn constant(&mut self, truth: Truth, wanted: WantedTruths) -> TruthRegisters {
-        let yes = wanted.yes.then(|| self.fill(truth == Truth::Yes));
-        let no = wanted.no.then(|| self.fill(truth == Truth::No));
-        TruthPair::of(yes, no)
+    fn constant(&mut self, truth: Truth, wanted: WantedTruths) -> MadeTruths {
+        let mut made = TruthPair::of(None, None);
+        if wanted.yes {
+            made.yes = Some(self.fill(truth == Truth::Yes)?);
+        }
+        if wanted.no {
+            made.no = Some(self.fill(truth == Truth::No)?);
+        }
+        Ok(made)
     }
 
     /// Returns the registers of `IS TRUE`, `IS FALSE` or `IS UNKNOWN`, or of its opposite if it is
     /// negated.
-    fn emit_truth_test(
+    fn truth_test(
         &mut self,
         truth: Truth,
         made: TruthRegisters,
         negated: bool,
         wanted: WantedTruths,
-    ) -> TruthRegisters {
+    ) -> MadeTruths {
         let (held, inverted) = match (truth, made.yes, made.no) {
             (Truth::Yes, Some(held), _) | (Truth::No, _, Some(held)) => (held, negated),
             (Truth::Unknown, Some(held), Some(other)) => {
-                self.join_into(Connective::Or, held, other);
+                self.join_into(Connective::Or, held, other)?;
                 (held, !negated)
             }
-            _ => return NONE,
+            _ => return Err(Refusal::NoProgram),
         };
         self.sides(held, &[], false, inverted, wanted)
     }
 
     /// Returns the registers of `IS NULL`, of a column that may be null.
-    fn emit_null_test(&mut self, column: ColumnIndex, wanted: WantedTruths) -> TruthRegisters {
-        if !wanted.yes {
-            return TruthPair::of(None, self.values(column));
+    fn null_test(&mut self, column: ColumnIndex, wanted: WantedTruths) -> MadeTruths {
+        if wanted.yes {
+            let nulls = self.value(Value::Nulls(column))?;
+            self.sides(nulls, &[], false, false, wanted)
+        } else {
+            Ok(TruthPair::of(None, Some(self.values(column)?)))
         }
-        let nulls = self.nulls(column);
-        let nulls = self.facts.expect(nulls, 0);
-        self.sides(nulls, &[], false, false, wanted)
     }
 
     /// Returns the registers of whether a column's code is in a set.
-    fn in_set(&mut self, set: &Set, wanted: WantedTruths) -> TruthRegisters {
+    fn in_set(&mut self, set: &Set, wanted: WantedTruths) -> MadeTruths {
         let first = self.open_skips();
-        let skips = self.skip_count;
-        let inside = self.codes(set.column, &set.bounds);
-        let early = self.skip_count > skips;
-        let made = self.sides(inside, &[set.column], early, set.inverted, wanted);
+        let skips = self.skips.count;
+        let inside = self.codes(set)?;
+        let early = self.skips.count > skips;
+        let made = self.sides(inside, &[set.column], early, set.inverted, wanted)?;
         self.meet_from(first);
-        made
+        Ok(made)
     }
 
     /// Returns the registers of a comparison of two columns. Its skips meet right after its own
     /// instructions: after a NOT or a null plane, "less so far" would differ by them.
-    fn emit_column_comparison(
-        &mut self,
-        compared: ColumnComparison,
-        wanted: WantedTruths,
-    ) -> TruthRegisters {
+    fn compare_columns(&mut self, compared: ColumnComparison, wanted: WantedTruths) -> MadeTruths {
         let first = self.open_skips();
-        self.order = compared.order();
-        let held = match compared.terminal() {
-            Some(terminal) => self.fill(terminal == 1),
-            None => self.relation(compared),
+        self.order = VariableOrder::Places(compared.right);
+        let ColumnComparison { left, right, .. } = compared;
+        let held = if left == right {
+            self.fill(compared.kind == ChainKind::Equal)?
+        } else {
+            self.relation(compared)?
         };
         self.meet_from(first);
         self.meet();
-        let [c, d] = compared.columns;
-        let columns = &compared.columns[usize::from(c == d)..];
-        let made = self.sides(held, columns, true, compared.negated, wanted);
+        let columns = [left, right];
+        let columns = &columns[usize::from(left == right)..];
+        let made = self.sides(held, columns, true, compared.negated, wanted)?;
         self.meet_from(first);
         self.meet();
         self.order = VariableOrder::Whole;
-        made
+        Ok(made)
     }
 
     /// Returns the registers that are 1 where all of some columns have values and a register is 1,
@@ -186,39 +201,33 @@ impl Code<'_> {
         early: bool,
         negated: bool,
         wanted: WantedTruths,
-    ) -> TruthRegisters {
+    ) -> MadeTruths {
         let wanted = wanted.opposite_if(negated);
-        let mut made = NONE;
+        let mut made = TruthPair::of(None, None);
         if wanted.no {
-            let outside = if wanted.yes { self.copy(held) } else { held };
+            let outside = if wanted.yes { self.copy(held)? } else { held };
             for column in columns {
-                if let Some(nulls) = self.nulls(*column) {
-                    self.join_into(Connective::Or, outside, nulls);
+                if is_nullable(self.schema, *column) {
+                    let nulls = self.value(Value::Nulls(*column))?;
+                    self.join_into(Connective::Or, outside, nulls)?;
                 }
             }
-            self.oppose(outside, outside);
-            made.no = Some(outside);
+            made.no = Some(self.oppose(outside, outside)?);
         }
         if wanted.yes {
             for column in columns {
-                if early && !wanted.no && self.facts.nulls(*column).is_some() {
-                    self.skip(held);
-                }
-                if let Some(values) = self.values(*column) {
-                    self.join_into(Connective::And, held, values);
+                if is_nullable(self.schema, *column) {
+                    if early && !wanted.no {
+                        self.skip(held)?;
+                    }
+                    let values = self.values(*column)?;
+                    self.join_into(Connective::And, held, values)?;
                 }
             }
             made.yes = Some(held);
         } else if !wanted.no {
-            self.release(held);
+            self.registers.release(held);
         }
-        made.opposite_if(negated)
-    }
-
-    /// Returns a register with the same lanes as another.
-    pub(crate) fn copy(&mut self, register: Register) -> Register {
-        let copy = self.fill(false);
-        self.join(Connective::Or, copy, copy, register);
-        copy
+        Ok(made.opposite_if(negated))
     }
 }

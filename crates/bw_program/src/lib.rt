@@ -17,9 +17,10 @@ mod parse;
 mod print;
 mod program;
 mod step;
+mod valid;
 
 pub use instr::{BitIndex, ColumnIndex, Instr, Register, SliceIndex};
 pub use laws::{places_are_reached, programs_are_read_as_spelled, runs_go_on};
-pub use print::{canonical_texts_spell_programs, program_text};
+pub use print::canonical_texts_spell_programs;
 pub use program::Program;
 pub use step::Step;

@@ -12,12 +12,10 @@ use crate::instr::{Instr, Register};
 use crate::line::{instr_of, is_result_line, result_of};
 use crate::program::{Program, registers_of};
 use crate::step::steps_of;
+use crate::valid::MAX_INSTRUCTIONS;
 use bw_model::{Fault, Schema, code};
 use bw_text::{Line, Lines};
 use std::alloc::{AllocError, Global};
-
-/// The most instructions of a program.
-const MAX_INSTRUCTIONS: usize = 4096;
 
 impl Program {
     /// Reads a program text under a schema, which must have the columns, bits, null planes and

@@ -38,10 +38,9 @@ impl Program {
     }
 }
 
-/// Returns the canonical text of instructions and a result register under a schema. A column that
-/// the schema lacks has no name there. The text needn't be that of a program: [`Program::parse`]
-/// decides. Errors: memory is refused.
-pub fn program_text(
+/// Returns the lines of instructions and of a result register under a schema. A column that the
+/// schema lacks has no name there.
+fn program_text(
     alloc: Global,
     schema: &Schema,
     instrs: &[Instr],

@@ -1,39 +1,23 @@
 //! The lines of a condition's steps, operands first, each with the nodes of where it is TRUE and
 //! where it is FALSE.
-use crate::columns::column_index;
-use crate::comparison::{CodeComparison, Comparison, compare};
+ghost use Rattle.std.specs.Prelude.{◌≤◌};
+
+use crate::chains::Link;
+use crate::columns::{column_index, width_of};
+use crate::comparison::{ColumnComparison, Comparison, LiteralComparison, compare};
 use crate::facts::Cited;
 use crate::line::ProofLine;
 use crate::order::VariableOrder;
 use crate::proof::Proof;
 use crate::stop::Stop;
+use crate::truth_pair::TruthPair;
 use bw_cert_text::ConditionEntry;
-use bw_diagram::Connective;
+use bw_diagram::{ChainKind, Connective};
 use bw_model::{Cond, Op, Operand, Truth};
 use bw_program::ColumnIndex;
 
 /// The node that is 1 where a condition is TRUE, and the node that is 1 where it is FALSE.
-#[derive(Clone, Copy)]
-pub(crate) struct TruthNodes {
-    pub(crate) yes: u32,
-    pub(crate) no: u32,
-}
-
-impl TruthNodes {
-    /// Returns two nodes.
-    fn of(yes: u32, no: u32) -> Self {
-        TruthNodes { yes, no }
-    }
-
-    /// Returns the nodes of the condition, or of its opposite if it is negated.
-    fn opposite_if(self, negated: bool) -> Self {
-        if negated {
-            TruthNodes::of(self.no, self.yes)
-        } else {
-            self
-        }
-    }
-}
+pub(crate) type TruthNodes = TruthPair<u32>;
 
 /// The order of variables of a condition's rows.
 const ORDER: VariableOrder = VariableOrder::Whole;
@@ -70,11 +54,27 @@ impl Proof<'_> {
     fn put_parts(&mut self, any: bool, parts: &[Cond]) -> Result<TruthNodes, Stop> {
         let (first, others) = parts.split_first().ok_or(Stop::NoRule)?;
         let mut made = self.steps(first)?;
-        for part in others {
+        let before = self.facts.products.len();
+        for (joined, part) in others.iter().enumerate() {
+            self.forecast(before, joined, others.len())?;
             let next = self.steps(part)?;
             made = self.put_connective(any, made, next)?;
         }
         Ok(made)
+    }
+
+    /// Refuses if the limit of product rows would be passed, if each of so many parts took as many
+    /// rows as those that are joined so far did on average. What a part is joined with grows, so
+    /// most take more.
+    fn forecast(&self, before: u32, joined: usize, parts: usize) -> Result<(), Stop> {
+        let products = &self.facts.products;
+        let taken = i128::from(products.len()) - i128::from(before);
+        let left = i128::from(products.limit()) - i128::from(before);
+        let each = taken / (joined as i128).max(1);
+        if products.len() >= self.forecast_from && each > left / (parts as i128).max(1) {
+            return Err(Stop::Limit);
+        }
+        Ok(())
     }
 
     /// Returns the nodes of the OR of the equations of a list with one operand.
@@ -160,10 +160,10 @@ impl Proof<'_> {
 
     /// Returns the nodes of a comparison.
     fn put_comparison(&mut self, op: Op, x: Operand, y: Operand) -> Result<TruthNodes, Stop> {
-        match compare(self.facts.schema, op, x, y)? {
+        match compare(self.facts.schema, op, x, y).ok_or(Stop::NoRule)? {
             Comparison::Fixed(truth) => self.put_fixed(truth),
             Comparison::Literal(compared) => self.put_literal_comparison(compared),
-            Comparison::Columns(compared, columns) => self.put_columns(compared, columns),
+            Comparison::Columns(compared) => self.put_columns(compared),
         }
     }
 
@@ -179,18 +179,29 @@ impl Proof<'_> {
 
     /// Returns the number of a comparison's chain and its node: none, and a terminal, if that is
     /// its outcome for all codes.
-    fn outcome(&mut self, compared: CodeComparison) -> Result<(Option<u64>, u32), Stop> {
-        if let Some(terminal) = compared.terminal {
+    fn outcome(&mut self, terminal: Option<u32>, link: Link) -> Result<(Option<u64>, u32), Stop>
+        requires { link.len ≤ 63 }
+    {
+        if let Some(terminal) = terminal {
             return Ok((None, terminal));
         }
-        let chain = self.facts.chain(compared.link)?;
+        let chain = self.facts.chain(link)?;
         Ok((Some(chain.reference()), chain.node))
     }
 
     /// Returns the nodes of a comparison of a column with a number.
-    fn put_literal_comparison(&mut self, compared: CodeComparison) -> Result<TruthNodes, Stop> {
-        let (value, m) = self.values(compared.link.left)?;
-        let (chain, e) = self.outcome(compared)?;
+    fn put_literal_comparison(&mut self, compared: LiteralComparison) -> Result<TruthNodes, Stop> {
+        let LiteralComparison {
+            kind,
+            column,
+            limit,
+            ..
+        } = compared;
+        let width = width_of(self.facts.schema, column).ok_or(Stop::NoRule)?;
+        let bound = u64::try_from(limit).unwrap_or(0);
+        let link = Link::of(kind, column, 0, width, bound);
+        let (value, m) = self.values(column)?;
+        let (chain, e) = self.outcome(terminal_of(kind, limit, width), link)?;
         let yes = self.facts.row(ORDER, Connective::And, m, e)?;
         let no = self.facts.row(ORDER, Connective::Diff, m, e)?;
         let entry = ConditionEntry::Compare {
@@ -203,28 +214,57 @@ impl Proof<'_> {
         Ok(made.opposite_if(compared.negated))
     }
 
-    /// Returns the nodes of a comparison of two columns.
-    fn put_columns(
-        &mut self,
-        compared: CodeComparison,
-        columns: [ColumnIndex; 2],
-    ) -> Result<TruthNodes, Stop> {
-        let order = VariableOrder::Places(compared.link.right.ok_or(Stop::NoRule)?);
-        let (left, first) = self.values(columns[0])?;
-        let (right, second) = self.values(columns[1])?;
-        let both = self.facts.row(order, Connective::And, first, second)?;
-        let (chain, e) = self.outcome(compared)?;
+    /// Returns the nodes of a comparison of two columns, the shorter one with zeros above its top
+    /// bit.
+    fn put_columns(&mut self, compared: ColumnComparison) -> Result<TruthNodes, Stop> {
+        let ColumnComparison {
+            kind,
+            left,
+            right,
+            ..
+        } = compared;
+        let order = VariableOrder::Places(right);
+        let width = width_of(self.facts.schema, left).ok_or(Stop::NoRule)?;
+        let len = width.max(width_of(self.facts.schema, right).ok_or(Stop::NoRule)?);
+        let link = Link {
+            right: Some(right),
+            ..Link::of(kind, left, 0, len, 0)
+        };
+        let terminal = (left == right).then_some(u32::from(kind == ChainKind::Equal));
+        let [first, second] = if compared.swapped {
+            [right, left]
+        } else {
+            [left, right]
+        };
+        let (first, m) = self.values(first)?;
+        let (second, n) = self.values(second)?;
+        let both = self.facts.row(order, Connective::And, m, n)?;
+        let (chain, e) = self.outcome(terminal, link)?;
         let yes = self.facts.row(order, Connective::And, both.node, e)?;
         let no = self.facts.row(order, Connective::Diff, both.node, e)?;
         let entry = ConditionEntry::CompareColumns {
             chain,
-            left,
-            right,
+            left: first,
+            right: second,
             both: both.reference(),
             yes: yes.reference(),
             no: no.reference(),
         };
         let made = self.put_step(entry, yes.node, no.node)?;
         Ok(made.opposite_if(compared.negated))
+    }
+}
+
+/// Returns the terminal that says whether a number of this many bits is less than (equal to) the
+/// limit, if none or every such number is.
+fn terminal_of(kind: ChainKind, limit: i128, width: u32) -> Option<u32>
+    requires { width ≤ 63 }
+{
+    let past = limit >= 1 << width;
+    match kind {
+        ChainKind::Less if limit <= 0 => Some(0),
+        ChainKind::Less if past => Some(1),
+        ChainKind::Equal if limit < 0 || past => Some(0),
+        _ => None,
     }
 }

@@ -64,7 +64,7 @@ impl<'a> Facts<'a> {
         a: u32,
         b: u32,
     ) -> Result<Cited, Stop> {
-        let order = self.products.ranks.served(order);
+        let order = self.products.ranks.resolve(order);
         let asked = Question { order, op, a, b };
         self.products.row(&mut self.nodes, asked)
     }

@@ -4,7 +4,7 @@ use crate::order::VariableOrder;
 /// How a certificate is to be found.
 #[derive(Clone, Copy)]
 pub struct Hints<'a> {
-    /// The most product rows, of which a certificate may have 1,048,576.
+    /// The most product rows: at most `MAX_PRODUCTS` count.
     pub rows: u32,
     /// In which order of variables the rows of each instruction are worked out, those of the join
     /// after it, and, after all instructions, those of the end. They count only if no one order

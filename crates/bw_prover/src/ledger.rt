@@ -44,6 +44,16 @@ impl<T: Entry> Ledger<T> {
         }
     }
 
+    /// Changes the limit of their number.
+    pub(crate) fn allow(&mut self, limit: u32) {
+        self.limit = limit;
+    }
+
+    /// Returns the limit of their number.
+    pub(crate) fn limit(&self) -> u32 {
+        self.limit
+    }
+
     /// Returns how many there are.
     pub(crate) fn len(&self) -> u32 {
         self.count

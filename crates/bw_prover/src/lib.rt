@@ -1,8 +1,9 @@
 //! The prover: a certificate for a scan program and a condition, whoever wrote the program.
 //!
-//! The contract that the crates above use: [`prove`] returns on every program and condition. The
-//! chains of a certificate that it gives name columns of the schema. That the checker accepts the
-//! certificate is no promise of this crate: the checker judges each line anew.
+//! The contract that the crates above use: [`prove`] returns on every program and condition, and so
+//! do [`Prover`]'s functions, by which several programs of one condition are tried. The chains of a
+//! certificate that they give name columns of the schema. That the checker accepts the certificate
+//! is no promise of this crate: the checker judges each line anew.
 //!
 //! The condition's lines are written by recursion on the condition; then one walk over the
 //! instructions gives each register its node. Nothing is guessed, and nothing is taken back. The
@@ -33,10 +34,14 @@ mod registers;
 mod rows;
 mod sequence;
 mod stop;
+mod truth_pair;
 mod unproved;
 mod walk;
 
+pub use comparison::{ColumnComparison, Comparison, LiteralComparison, compare};
 pub use hints::Hints;
 pub use order::VariableOrder;
-pub use prover::prove;
+pub use products::MAX_PRODUCTS;
+pub use prover::{Prover, prove};
+pub use truth_pair::TruthPair;
 pub use unproved::{Unproved, Witness};

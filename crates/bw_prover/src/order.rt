@@ -65,7 +65,7 @@ impl Ranks {
     }
 
     /// Returns the order to use where this one is asked for: the whole one if that serves all.
-    pub(crate) fn served(&self, order: VariableOrder) -> VariableOrder {
+    pub(crate) fn resolve(&self, order: VariableOrder) -> VariableOrder {
         if self.is_total {
             VariableOrder::Whole
         } else {

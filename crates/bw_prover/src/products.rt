@@ -8,7 +8,7 @@ use bw_diagram::{Connective, Reason};
 use std::alloc::Global;
 
 /// The most product rows of a certificate.
-const MAX_PRODUCTS: u32 = 1_048_576;
+pub const MAX_PRODUCTS: u32 = 1_048_576;
 
 /// What a product row computes: a connective of two nodes, in an order of variables.
 #[derive(Clone, Copy)]
@@ -113,6 +113,16 @@ impl Products {
             pending: Vec::new(alloc),
             ranks,
         }
+    }
+
+    /// Changes the limit of their number.
+    pub(crate) fn allow(&mut self, limit: u32) {
+        self.rows.allow(limit.min(MAX_PRODUCTS));
+    }
+
+    /// Returns the limit of their number.
+    pub(crate) fn limit(&self) -> u32 {
+        self.rows.limit()
     }
 
     /// Returns how many there are.

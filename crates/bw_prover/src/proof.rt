@@ -10,4 +10,6 @@ pub(crate) struct Proof<'a> {
     pub(crate) lines: Vec<ProofLine>,
     /// The pairs of all lines KEEP.
     pub(crate) pairs: Vec<EdgeProducts>,
+    /// How many product rows there are before any forecast.
+    pub(crate) forecast_from: u32,
 }

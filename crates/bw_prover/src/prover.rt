@@ -34,47 +34,113 @@ pub fn prove<'a>(
     ensures { IfOk result (λ certificate.
         IsTrue (has_columns schema.now.columns.items (certificate_fields certificate))) }
 {
-    let facts = match Facts::new(alloc, schema, cond, hints.rows) {
-        Ok(facts) => facts,
-        Err(stop) => return Err(without_rows(stop)),
-    };
-    let mut proof = Proof {
-        facts,
-        lines: Vec::new(alloc),
-        pairs: Vec::new(alloc),
-    };
-    match certify(alloc, schema, &mut proof, cond, program, hints) {
-        Ok(certificate) => Ok(certificate),
-        Err(stop) => Err(explain(alloc, &mut proof.facts, stop)),
+    let mut prover = Prover::new(alloc, schema, cond, hints.rows, hints.rows)?;
+    prover.certify(alloc, schema, program, hints)
+}
+
+/// The proofs of a condition's programs: its lines are written once.
+#[derive(Drop)]
+pub struct Prover<'a> {
+    proof: Proof<'a>,
+    /// The node that is 1 where the condition is TRUE.
+    wanted: u32,
+    /// How many lines the condition has.
+    lines: usize,
+}
+
+impl<'a> Prover<'a> {
+    /// Writes the lines of a condition of this schema, by at most so many product rows. From
+    /// `forecast_from` rows on, an AND or OR ends as if the limit were passed if it would be passed
+    /// by as many rows for each of its parts as for those before.
+    pub fn new(
+        alloc: Global,
+        schema: &'a Schema,
+        cond: &Cond,
+        rows: u32,
+        forecast_from: u32,
+    ) -> Result<Self, Unproved> {
+        match Prover::begin(alloc, schema, cond, rows, forecast_from) {
+            Ok(prover) => Ok(prover),
+            Err(stop) => Err(without_rows(stop)),
+        }
+    }
+
+    /// Writes the lines of a condition.
+    fn begin(
+        alloc: Global,
+        schema: &'a Schema,
+        cond: &Cond,
+        rows: u32,
+        forecast_from: u32,
+    ) -> Result<Self, Stop> {
+        let facts = Facts::new(alloc, schema, cond, rows)?;
+        let mut proof = Proof {
+            facts,
+            lines: Vec::new(alloc),
+            pairs: Vec::new(alloc),
+            forecast_from,
+        };
+        let wanted = proof.steps(cond)?.yes;
+        let lines = proof.lines.len();
+        Ok(Prover {
+            proof,
+            wanted,
+            lines,
+        })
+    }
+
+    /// Returns how many product rows there are.
+    pub fn rows(&self) -> u32 {
+        self.proof.facts.products.len()
+    }
+
+    /// Finds a certificate of a program of the same schema, as [`prove`] does. It may also state
+    /// what an earlier program needed.
+    pub fn certify(
+        &mut self,
+        alloc: Global,
+        schema: &'a Schema,
+        program: &Program,
+        hints: &Hints<'_>,
+    ) -> Result<Certificate<'a>, Unproved>
+        ensures { IfOk result (λ certificate.
+            IsTrue (has_columns schema.now.columns.items (certificate_fields certificate))) }
+    {
+        self.proof.lines.truncate(self.lines);
+        self.proof.pairs.clear();
+        self.proof.facts.products.allow(hints.rows);
+        match certificate_of(alloc, schema, &mut self.proof, self.wanted, program, hints) {
+            Ok(certificate) => Ok(certificate),
+            Err(stop) => Err(explain(alloc, &mut self.proof.facts, stop)),
+        }
     }
 }
 
 /// Returns the certificate of a program.
-fn certify<'a>(
+fn certificate_of<'a>(
     alloc: Global,
     schema: &'a Schema,
     proof: &mut Proof<'_>,
-    cond: &Cond,
+    wanted: u32,
     program: &Program,
     hints: &Hints<'_>,
 ) -> Result<Certificate<'a>, Stop>
     ensures { IfOk result (λ certificate.
         IsTrue (has_columns schema.now.columns.items (certificate_fields certificate))) }
 {
-    let row = last_row(alloc, proof, cond, program, hints)?;
+    let row = last_row(alloc, proof, wanted, program, hints)?;
     emit::certificate(alloc, schema, proof, program.len(), row)
 }
 
-/// Appends all lines, and returns the number of the row by which the program's result is the
+/// Appends the lines of a program, and returns the number of the row by which its result is the
 /// condition's node.
 fn last_row(
     alloc: Global,
     proof: &mut Proof<'_>,
-    cond: &Cond,
+    wanted: u32,
     program: &Program,
     hints: &Hints<'_>,
 ) -> Result<u64, Stop> {
-    let wanted = proof.steps(cond)?.yes;
     let registers = known_at_end(alloc, proof, program, hints)?;
     let end = program.len();
     let made = registers.read(end, program.result())?;

@@ -16,7 +16,7 @@ type Bits = Vec<bool>;
 pub(crate) fn row_of(alloc: Global, facts: &mut Facts<'_>, node: u32) -> Result<Option<Row>, Stop> {
     let mut part = node;
     for column in 0..facts.schema.columns.len() {
-        let admitted = facts.admitted((column % 256) as u8)?;
+        let admitted = facts.admitted_node((column % 256) as u8)?;
         let order = VariableOrder::Whole;
         part = facts.row(order, Connective::And, part, admitted)?.node;
     }
@@ -30,7 +30,7 @@ pub(crate) fn row_of(alloc: Global, facts: &mut Facts<'_>, node: u32) -> Result<
 impl Facts<'_> {
     /// Returns the node that is 1 where a column's bits are those of an admitted value: a code up
     /// to its maximum, or null and all bits 0.
-    fn admitted(&mut self, column: ColumnIndex) -> Result<u32, Stop> {
+    fn admitted_node(&mut self, column: ColumnIndex) -> Result<u32, Stop> {
         let width = width_of(self.schema, column).ok_or(Stop::NoRule)?;
         let found = self.schema.columns.get(column as usize);
         let found = found.ok_or(Stop::NoRule)?;

@@ -31,12 +31,15 @@ pub record IsCertificationOf (columns : List Column) (cond : Cond) (text file : 
     pub same : IsProgramText columns given printed.shown
     pub certifies : Certifies columns cond file program certificate
 
--- the error of the program's text; else that no certificate is found, at a line
+-- the error of the program's text; else, if that spells a program, that no certificate is found, at
+-- a line
 pub data IsUncertified (columns : List Column) (text : List ℕ) : Fault → Type 0 where
   program_refused : {given rest : List ℕ} {first : ℕ} {fault : Fault} →
       IsCut text given rest first → program_of columns given ≡ Err fault →
       IsUncertified columns text fault
-  no_certificate : (line : ℕ) → IsUncertified columns text (at_line NO_CERTIFICATE line)
+  no_certificate : {given rest : List ℕ} {first : ℕ} {program : ProgramShape} (line : ℕ) →
+      IsCut text given rest first → IsProgramText columns given program →
+      IsUncertified columns text (at_line NO_CERTIFICATE line)
 
 -- it is 652, at a line, or out of memory
 abbrev pub IsNotFound : Fault → Type 0

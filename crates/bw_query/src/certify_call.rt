@@ -19,13 +19,10 @@ use bw_cert::{check_file, split_file};
 use bw_io::{Sink, write_whole};
 use bw_model::{Cond, Fault, Schema, code};
 use bw_program::Program;
-use bw_prover::{Hints, Unproved, prove};
+use bw_prover::{Hints, MAX_PRODUCTS, Unproved, prove};
 use bw_sql::parse;
 use bw_text::Lines;
 use std::alloc::{AllocError, Global};
-
-/// The most product rows of a certificate that is looked for: as many as a certificate may have.
-const MAX_ROWS: u32 = 1_048_576;
 
 /// Finds a certificate of a program for a statement under the schema of a schema text, and writes
 /// the program file: the program's canonical text, the line CERTIFICATE, and the certificate's
@@ -113,7 +110,7 @@ fn proved_file(
     ensures fault { IfErr result IsNotFound }
 {
     let hints = Hints {
-        rows: MAX_ROWS,
+        rows: MAX_PRODUCTS,
         orders: &[],
     };
     match prove(alloc, schema, cond, program, &hints) {

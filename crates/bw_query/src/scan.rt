@@ -20,7 +20,7 @@ use bw_cert::{
     valid_exactly_where_checked,
 };
 use bw_memory::MemoryTable;
-use bw_model::{Cond, Fault, Place, Schema, code};
+use bw_model::{Cond, Fault, Schema};
 use bw_plan::propose_in_order;
 use std::alloc::Global;
 
@@ -112,12 +112,7 @@ fn certify_by_file(
 {
     match check_file(alloc, schema, cond, file) {
         Ok(found) => Ok(Some(found.certified)),
-        Err(
-            memory @ Fault {
-                code: code::OUT_OF_MEMORY,
-                place: Place::Nowhere,
-            },
-        ) => Err(memory),
+        Err(fault) if fault.is_memory() => Err(fault),
         Err(_) => Ok(None),
     }
 }

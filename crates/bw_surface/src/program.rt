@@ -3,7 +3,7 @@ ghost use Rattle.std.specs.Prelude.{◌<◌, length, IsTrue};
 ghost use Rattle.bw_program.specs.Program.{fits};
 
 use bw_model::{Fault, Schema};
-use bw_program::{Instr, Program, program_text};
+use bw_program::{Instr, Program};
 use std::alloc::{AllocError, Global};
 
 pub fn tells_instrs(instr: Instr) -> u8 {
@@ -46,13 +46,13 @@ pub fn calls_print(program: &Program, alloc: Global, schema: &Schema) -> Result<
     program.print(alloc, schema)
 }
 
-pub fn calls_program_text(
+pub fn calls_new(
     alloc: Global,
     schema: &Schema,
     instrs: &[Instr],
     answer: u8,
-) -> Result<Vec<u8>, AllocError> {
-    program_text(alloc, schema, instrs, answer)
+) -> Result<Option<Program>, AllocError> {
+    Program::new(alloc, schema, instrs, answer)
 }
 
 pub fn calls_len(program: &Program) -> usize {

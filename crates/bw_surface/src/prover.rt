@@ -2,7 +2,7 @@
 use bw_cert::Certificate;
 use bw_model::{Cond, Row, Schema};
 use bw_program::{ColumnIndex, Program};
-use bw_prover::{Hints, Unproved, VariableOrder, Witness};
+use bw_prover::{Hints, Prover, Unproved, VariableOrder, Witness};
 use std::alloc::Global;
 
 pub fn takes_order(order: VariableOrder) -> Option<ColumnIndex> {
@@ -21,6 +21,19 @@ pub fn calls_prove<'a>(
     orders: &[VariableOrder],
 ) -> Result<Certificate<'a>, Unproved> {
     bw_prover::prove(alloc, schema, cond, program, &Hints { rows, orders })
+}
+
+pub fn calls_prover<'a>(
+    alloc: Global,
+    schema: &'a Schema,
+    cond: &Cond,
+    program: &Program,
+    rows: u32,
+    orders: &[VariableOrder],
+) -> Result<Certificate<'a>, Unproved> {
+    let mut prover = Prover::new(alloc, schema, cond, rows, rows)?;
+    let rows = rows.max(prover.rows());
+    prover.certify(alloc, schema, program, &Hints { rows, orders })
 }
 
 pub fn takes_witness(witness: Witness) -> (Row, Row) {

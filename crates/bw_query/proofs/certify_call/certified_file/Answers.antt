@@ -13,7 +13,7 @@ returns-in_err-program-clause-fault c = rw (err_passed_on _ c.from_residual.ensu
 pub returns-in_err-file-clause-fault : goal.returns-in_err-file-clause-fault
 returns-in_err-file-clause-fault c =
     let F : Fault → Type 0 = λ refused. IsUncertified c.args.schema.now.columns.items c.args.text.now refused in
-    rw (err_passed_on _ c.from_residual-in_err-file.ensures.1) (λ own. let found = c.in_err-file.ensures.fault own in subst F (sym found.1) (no_certificate found.0))
+    rw (err_passed_on _ c.from_residual-in_err-file.ensures.1) (λ own. let found = c.in_err-file.ensures.fault own in subst F (sym found.1) (no_certificate found.0 c.split_file-parts.ensures.cut c.in_ok-program.ensures.spelled))
 
 pub returns-clause-made : goal.returns-clause-made
 returns-clause-made c =

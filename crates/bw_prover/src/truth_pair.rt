@@ -3,19 +3,19 @@
 /// What belongs to the rows on which a condition is TRUE, and to those on which it is FALSE: nodes,
 /// registers, or whether a register is wanted.
 #[derive(Clone, Copy)]
-pub(crate) struct TruthPair<T: Copy> {
-    pub(crate) yes: T,
-    pub(crate) no: T,
+pub struct TruthPair<T: Copy> {
+    pub yes: T,
+    pub no: T,
 }
 
 impl<T: Copy> TruthPair<T> {
     /// Returns a pair.
-    pub(crate) fn of(yes: T, no: T) -> Self {
+    pub fn of(yes: T, no: T) -> Self {
         TruthPair { yes, no }
     }
 
     /// Returns the pair of the condition, or of its opposite if it is negated.
-    pub(crate) fn opposite_if(self, negated: bool) -> Self {
+    pub fn opposite_if(self, negated: bool) -> Self {
         if negated {
             TruthPair::of(self.no, self.yes)
         } else {

@@ -1,5 +1,0 @@
-use Rattle.bw_plan.proofs.ColumnLemmas.{certificate_named}
-use Rattle.bw_plan.proofs.emit.certificate.Goals as goal
-
-pub returns : goal.returns
-returns c = certificate_named c.args.schema.now.columns.items c.new.result (rw c.new.ensures c.in_ok-chains.ensures)

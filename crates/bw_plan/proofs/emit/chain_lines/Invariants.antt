@@ -1,6 +1,0 @@
-use Rattle.std.proofs.Common.{◌≡◌, true}
-use Rattle.bw_plan.specs.ChainNames.{are_chains_named}
-use Rattle.bw_plan.proofs.emit.chain_lines.Given as goal
-
-abbrev pub invariant-loop-number : goal.invariant-loop-number
-invariant-loop-number l = are_chains_named l.schema.columns.items l.lines.items ≡ true
