@@ -6,6 +6,5 @@ pub mod SameLemmas
 pub mod SelectionLemmas
 pub mod SplitLemmas
 pub mod StatedFactLemmas
-pub mod TextLemmas
 pub mod ValidLemmas
 pub mod VerdictLemmas

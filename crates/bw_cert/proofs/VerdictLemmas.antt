@@ -19,7 +19,7 @@ use Rattle.bw_cert_text.specs.CertificateText.{certificate_from, certificate_of}
 use Rattle.bw_program.proofs.ProgramSpelling.{spelled_text as program_read}
 use Rattle.bw_cert_text.proofs.TextSpelling.{spelled_text as certificate_read}
 use Rattle.bw_cert.specs.Valid.{Valid, check_certificate}
-use Rattle.bw_report.specs.declared.accepted.Accepted.{Accepted}
+use Rattle.bw_cert.specs.declared.accepted.Accepted.{Accepted}
 use Rattle.bw_cert.specs.declared.certified_file.CertifiedFile.{CertifiedFile}
 use Rattle.bw_cert.specs.FileVerdict.{Certifies, IsFileFault, too_long, program_refused}
 use Rattle.bw_cert.specs.FileVerdict.{certificate_refused, line_refused, text_refused, counts_of}

@@ -1,4 +1,3 @@
-pub mod CheckText
 pub mod FirstFault
 pub mod FirstWrong
 pub mod FileVerdict

@@ -8,6 +8,7 @@ ghost use Rattle.bw_cert_text.specs.CertificateShape.{CertificateShape};
 ghost use Rattle.bw_cert.specs.FileVerdict.{Certifies, IsFileFault, counts_of, is_file_fault};
 ghost use Rattle.bw_cert.specs.FileVerdict.{program_and_counts, told_of};
 
+use crate::accepted::Accepted;
 use crate::certified::Certified;
 use crate::checker::check;
 use crate::file_laws::one_verdict;
@@ -15,7 +16,6 @@ use crate::program_file::{MAX_PROGRAM_FILE_LEN, split_file};
 use bw_cert_text::Certificate;
 use bw_model::{Cond, Fault, Schema, code};
 use bw_program::Program;
-use bw_report::Accepted;
 use std::alloc::Global;
 
 /// A certified program, and the numbers of the file that it came from.

@@ -8,26 +8,24 @@
 //!
 //! A program file is the text of both. [`check_file`] accepts it if and only if it spells a program
 //! and a certificate that is valid for it and the condition; else it returns the first error.
-//! [`check_text`] does so from the texts of a schema and a statement, and returns the numbers of
-//! what was accepted.
 //!
 //! Read `specs/Valid.antt` first, then `checker.rt`. For program files, read
 //! `specs/ProgramFile.antt` and `specs/FileVerdict.antt`, then `certified_file.rt`.
 #![tactic(auto)]
 
+mod accepted;
 mod certified;
 mod certified_file;
-mod check_call;
 mod checker;
 mod file_laws;
 mod laws;
 mod program_file;
 mod stated_facts;
 
+pub use accepted::Accepted;
 pub use bw_cert_text::Certificate;
 pub use certified::Certified;
 pub use certified_file::{CertifiedFile, check_file};
-pub use check_call::check_text;
 pub use checker::check;
 pub use file_laws::one_verdict;
 pub use laws::{

@@ -1,8 +1,9 @@
 //! Lines that no call of the program reaches: with maximal numbers, and with the error of which no
 //! example is known.
+use bw_cert::Accepted;
 use bw_io::ToWrite;
 use bw_model::{Fault, Place};
-use bw_report::{Accepted, By, Served, accepted_line, report, stats_line};
+use bw_report::{By, Served, accepted_line, report, stats_line};
 use std::test::Fail;
 
 #[test]

@@ -1,7 +1,7 @@
 //! The calls of `bw` over a CSV text, complete over sources and sinks of bytes: [`direct`] and
 //! [`load`].
 //!
-//! The other calls are those of `bw_query`, `bw_cert` and `bw_schemas`. A law of `bw_laws` relates
+//! The other calls are those of `bw_query`, `bw_shell` and `bw_schemas`. A law of `bw_laws` relates
 //! loading and querying. An error that names a device is returned only if that device has counted a
 //! failure.
 //!

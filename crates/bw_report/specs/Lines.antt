@@ -2,7 +2,7 @@
 use Rattle.std.specs.Prelude.{ℕ, nat_lt, if◌then◌else◌, List, ◌++◌, codes, Result}
 use Rattle.std.specs.Fmt.{decimal}
 use Rattle.bw_model.specs.declared.fault.Fault.{Fault}
-use Rattle.bw_report.specs.declared.accepted.Accepted.{Accepted}
+use Rattle.bw_cert.specs.declared.accepted.Accepted.{Accepted}
 use Rattle.bw_io.specs.Sink.{GoesOut, SinkState}
 use Rattle.bw_report.specs.declared.served.By.{By}
 use Rattle.bw_report.specs.declared.served.By.TheVariants.{Program, Rows}

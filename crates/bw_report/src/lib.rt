@@ -1,14 +1,12 @@
 //! The reports of a call beside its result: the line of an error with its exit status ([`report`]),
 //! scan statistics ([`Served`], [`stats_line`]), and the numbers of an accepted program file
-//! ([`Accepted`], [`accepted_line`]).
+//! ([`accepted_line`]).
 //!
 //! Read `specs/Lines.antt` first, which has the texts of the lines.
 #![tactic(auto)]
 
-mod accepted;
 mod lines;
 mod served;
 
-pub use accepted::Accepted;
 pub use lines::{accepted_line, report, stats_line};
 pub use served::{By, Served};

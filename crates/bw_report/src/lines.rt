@@ -6,8 +6,8 @@ ghost use Rattle.bw_report.specs.Lines.{status_of, IsWritten, accepted_line, by_
 ghost use Rattle.bw_report.specs.Lines.{with_count};
 ghost use Rattle.bw_io.specs.Sink.{GoesOut};
 
-use crate::accepted::Accepted;
 use crate::served::{By, Served};
+use bw_cert::Accepted;
 use bw_io::{Sink, write_whole};
 use bw_model::{Fault, Place, words_of};
 use itoa::Buffer;

@@ -1,5 +1,5 @@
-//! The calls of `bw`, from end to end over sources and sinks of bytes. Each is re-exported from the
-//! crate that has it:
+//! The calls of `bw`, from end to end over sources and sinks of bytes. [`check_text`] is here; each
+//! other is re-exported from the crate that has it:
 //!
 //! - over a CSV text: [`load`], [`direct`]
 //! - over a table file: [`answer`], [`dump`]
@@ -13,11 +13,15 @@
 //! returns the parts of a program file, and the lines of an error, of scan statistics and of an
 //! accepted program file ([`report`], [`stats_line`], [`accepted_line`]).
 //!
+//! Read `specs/CheckText.antt` first, then `check_call.rt`.
+//!
 //! A program uses the contract of each call. A failed call has written nothing, unless a write
 //! failed. An error that names an I/O device is returned only if that device has counted a failure.
 #![tactic(auto)]
 
-pub use bw_cert::{MAX_PROGRAM_FILE_LEN, ProgramFile, check_text, split_file};
+mod check_call;
+
+pub use bw_cert::{Accepted, MAX_PROGRAM_FILE_LEN, ProgramFile, split_file};
 pub use bw_csv_calls::{direct, load};
 pub use bw_io::{Input, read_limited};
 pub use bw_memory::MemoryTable;
@@ -25,6 +29,7 @@ pub use bw_query::{
     ProgramCache, RejectedFile, answer, answer_in_memory, answer_with_programs, certify_text, dump,
     plan_text,
 };
-pub use bw_report::{Accepted, By, Served, accepted_line, report, stats_line};
+pub use bw_report::{By, Served, accepted_line, report, stats_line};
 pub use bw_schemas::{infer, info};
 pub use bw_session::{Listener, answer_statements};
+pub use check_call::check_text;

@@ -4,8 +4,8 @@ use Rattle.std.proofs.Common.{◌≡◌, true, false}
 use Rattle.bw_sql.specs.QueryShape.{query_shape}
 use Rattle.bw_model.specs.SchemaText.{schema_shape}
 use Rattle.bw_model.proofs.ErrLemmas.{err_passed_on}
-use Rattle.bw_cert.proofs.TextLemmas.{query_spelled, numbers_given, accepted_so}
-use Rattle.bw_cert.proofs.check_call.check_text.Goals as goal
+use Rattle.bw_shell.proofs.TextLemmas.{query_spelled, numbers_given, accepted_so}
+use Rattle.bw_shell.proofs.check_call.check_text.Goals as goal
 
 pub returns-in_err-query-clause-accepts : goal.returns-in_err-query-clause-accepts
 returns-in_err-query-clause-accepts c = λ accepted is.

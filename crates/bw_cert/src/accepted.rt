@@ -1,4 +1,4 @@
-//! The report on an accepted program file.
+//! The numbers of an accepted program file.
 
 /// The numbers of a program and of its certificate: its instructions, the skips among them, and the
 /// NODE, CHAIN and ROW lines.

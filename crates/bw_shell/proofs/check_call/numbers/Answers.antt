@@ -1,5 +1,5 @@
-use Rattle.bw_cert.proofs.TextLemmas.{numbers_told, never_told}
-use Rattle.bw_cert.proofs.check_call.numbers.Goals as goal
+use Rattle.bw_shell.proofs.TextLemmas.{numbers_told, never_told}
+use Rattle.bw_shell.proofs.check_call.numbers.Goals as goal
 use Rattle.bw_model.proofs.ErrLemmas.{err_passed_on}
 
 pub returns-in_err-found-clause-accepted : goal.returns-in_err-found-clause-accepted

@@ -5,13 +5,12 @@ ghost use Rattle.bw_model.specs.CondTree.{tree_of};
 ghost use Rattle.bw_model.specs.Fault.{MatchesUnlessOom, is_memory};
 ghost use Rattle.bw_program.specs.Program.{ProgramShape};
 ghost use Rattle.bw_cert_text.specs.CertificateShape.{CertificateShape};
-ghost use Rattle.bw_cert.specs.CheckText.{IsAccepted, IsCheckFault};
-ghost use Rattle.bw_report.specs.declared.accepted.Accepted.{Accepted as Numbers};
+ghost use Rattle.bw_shell.specs.CheckText.{IsAccepted, IsCheckFault};
+ghost use Rattle.bw_cert.specs.declared.accepted.Accepted.{Accepted as Numbers};
 ghost use Rattle.bw_cert.specs.FileVerdict.{Certifies, IsFileFault, counts_of};
 
-use crate::certified_file::check_file;
+use bw_cert::{Accepted, check_file};
 use bw_model::{Cond, Fault, Schema};
-use bw_report::Accepted;
 use bw_sql::parse;
 use std::alloc::Global;
 

@@ -8,7 +8,7 @@ use Rattle.bw_model.specs.SchemaText.{schema_of, schema_shape, IsSchemaText}
 use Rattle.bw_program.specs.Program.{ProgramShape}
 use Rattle.bw_cert_text.specs.CertificateShape.{CertificateShape}
 use Rattle.bw_sql.specs.Statement.{IsReadAs}
-use Rattle.bw_report.specs.declared.accepted.Accepted.{Accepted}
+use Rattle.bw_cert.specs.declared.accepted.Accepted.{Accepted}
 use Rattle.bw_cert.specs.FileVerdict.{Certifies, IsFileFault, counts_of}
 
 -- The first text spells a schema, the statement a query under it, and the file a program and a

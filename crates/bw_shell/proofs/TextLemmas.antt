@@ -15,9 +15,9 @@ use Rattle.bw_sql.specs.QueryShape.{QueryShape, query_shape}
 use Rattle.bw_sql.specs.Statement.{Spells}
 use Rattle.bw_sql.proofs.SameNames.{columns_too, spells_too}
 use Rattle.bw_sql.proofs.Texts.{text_query}
-use Rattle.bw_report.specs.declared.accepted.Accepted.{Accepted}
+use Rattle.bw_cert.specs.declared.accepted.Accepted.{Accepted}
 use Rattle.bw_cert.specs.declared.certified_file.CertifiedFile.{CertifiedFile}
-use Rattle.bw_cert.specs.CheckText.{IsAccepted}
+use Rattle.bw_shell.specs.CheckText.{IsAccepted}
 use Rattle.bw_cert.specs.FileVerdict.{Certifies, counts_of, program_and_counts, told_of}
 
 module _ (text sql file : List ℕ) (accepted : Accepted) (is : IsAccepted text sql file accepted) (schema : Schema) (read : ◌≡◌ {A = Result SchemaShape Fault} (Ok (schema_shape is.schema)) (Ok (schema_shape schema))) where
