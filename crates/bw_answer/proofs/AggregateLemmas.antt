@@ -1,44 +1,34 @@
 -- Aggregates, each once.
 use Rattle.std.proofs.Common.{◌≡◌, ◌≢◌, ◌∙◌, refl, sym, ap, ℕ, zero, suc, ◌+◌, ◌==◌, ◌<◌, ◌≤◌, ◌||◌}
 use Rattle.std.proofs.Common.{Bool, true, false, not, List, [], ◌∷◌, ◌++◌, map, filter, length}
-use Rattle.std.proofs.Common.{get_or, drop, cond, append-nil, None, true≢false}
+use Rattle.std.proofs.Common.{get_or, drop, cond, append-nil, None, subst, true≢false}
 use Rattle.std.specs.List.{list_all, list_any}
-use Rattle.std.proofs.lemmas.Bool.{eqb-true, eq-eqb, and_from, or_right}
+use Rattle.std.proofs.lemmas.Bool.{eqb-true, and_from, or_right}
 use Rattle.std.proofs.lemmas.List.{drop_all, drop_more}
 use Rattle.std.proofs.lemmas.List.Elements.{filter-append}
 use Rattle.std.proofs.lemmas.Map.Views.{any-filter_same}
+use Rattle.bw_model.specs.contracts.query.ItemEq.TheImpl.Laws.{laws-law}
 use Rattle.bw_model.specs.declared.query.Item.{Item}
 use Rattle.bw_model.specs.declared.query.Item.TheVariants.{Plain, CountAll, Count, Sum, Min, Max}
 use Rattle.bw_model.specs.Row.{Value}
 use Rattle.bw_model.specs.Total.{is_aggregate, item_within, total}
 use Rattle.bw_rowwise.specs.Accumulator.{Tally, tally_of}
-use Rattle.bw_answer.specs.Aggregates.{aggregates_of, answer_for, column_in, each_once, function_of}
-use Rattle.bw_answer.specs.Aggregates.{is_same}
+use Rattle.bw_answer.specs.Aggregates.{aggregates_of, answer_for, each_once, is_same}
 use Rattle.bw_answer.specs.Answer.{value_text}
 use Rattle.bw_answer.specs.Totals.{is_of}
 use Rattle.bw_model.proofs.BitsLemmas.{both}
 
--- a function and a column are an item's
-abbrev item_from : ℕ → ℕ → Item
-item_from zero column = Plain column
-item_from (suc zero) column = CountAll
-item_from (suc (suc zero)) column = Count column
-item_from (suc (suc (suc zero))) column = Sum column
-item_from (suc (suc (suc (suc zero)))) column = Min column
-item_from (suc (suc (suc (suc (suc n))))) column = Max column
-
-item_again : (item : Item) → item_from (function_of item) (column_in item) ≡ item
-item_again (Plain column) = refl
-item_again _ = refl
-
 same_is : (a b : Item) → is_same a b ≡ true → a ≡ b
-same_is a b e =
-    let parts = both (function_of a == function_of b) (column_in a == column_in b) e in
-    sym (item_again a) ∙ ap (λ n. item_from n (column_in a)) (eqb-true (function_of a) (function_of b) parts.0)
-    ∙ ap (item_from (function_of b)) (eqb-true (column_in a) (column_in b) parts.1) ∙ item_again b
+same_is (Plain a) (Plain b) e = ap Plain (eqb-true a b e)
+same_is CountAll CountAll e = refl
+same_is (Count a) (Count b) e = ap Count (eqb-true a b e)
+same_is (Sum a) (Sum b) e = ap Sum (eqb-true a b e)
+same_is (Min a) (Min b) e = ap Min (eqb-true a b e)
+same_is (Max a) (Max b) e = ap Max (eqb-true a b e)
+same_is _ _ e = absurd (true≢false (sym e))
 
 is_itself : (a b : Item) → a ≡ b → is_same a b ≡ true
-is_itself a b e = and_from _ _ (eq-eqb (function_of a) (function_of b) (ap function_of e)) (eq-eqb (column_in a) (column_in b) (ap column_in e))
+is_itself a b e = subst (λ other. is_same a other ≡ true) e (laws-law.refl a)
 
 -- what is the same as an item isn't the same as another one
 apart_by : (b : Bool) (x item other : Item) → is_same other x ≡ b → is_same x item ≡ false → is_same other item ≡ true → not (is_same other x) ≡ true

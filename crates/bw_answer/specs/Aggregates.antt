@@ -1,31 +1,13 @@
 -- The aggregates of a query, each once, and their results.
-use Rattle.std.specs.Prelude.{ℕ, ℤ, Bool, ◌==◌, ◌&&◌, not, List, [], ◌∷◌, filter, Option, None}
-use Rattle.std.specs.Prelude.{if◌then◌else◌}
+use Rattle.std.specs.Prelude.{ℤ, Bool, not, List, [], ◌∷◌, filter, Option, None, if◌then◌else◌}
+use Rattle.bw_model.specs.contracts.query.ItemPartialEq.TheImpl as item_eq
 use Rattle.bw_model.specs.declared.query.Item.{Item}
-use Rattle.bw_model.specs.declared.query.Item.TheVariants.{Plain, CountAll, Count, Sum, Min, Max}
 use Rattle.bw_model.specs.Total.{is_aggregate}
 use Rattle.bw_rowwise.specs.Accumulator.{Tally}
 
--- the number of an item's function, and the item's column
-abbrev pub function_of : Item → ℕ
-function_of (Plain column) = 0
-function_of CountAll = 1
-function_of (Count column) = 2
-function_of (Sum column) = 3
-function_of (Min column) = 4
-function_of (Max column) = 5
-
-abbrev pub column_in : Item → ℕ
-column_in (Plain column) = column
-column_in CountAll = 0
-column_in (Count column) = column
-column_in (Sum column) = column
-column_in (Min column) = column
-column_in (Max column) = column
-
--- two items are the same: they have the same function and the same column
+-- two items are equal, as the derived `==` says
 abbrev pub is_same : Item → Item → Bool
-is_same item other = (function_of item == function_of other) && (column_in item == column_in other)
+is_same = (item_eq.ghosts).eq
 
 -- the items, each once, in the order in which they first appear
 unfoldable pub each_once : List Item → List Item

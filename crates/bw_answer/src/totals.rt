@@ -9,8 +9,7 @@ ghost use Rattle.bw_model.specs.Row.{Value, values_of};
 ghost use Rattle.bw_model.specs.Selection.{matching_rows};
 ghost use Rattle.bw_rowwise.specs.Accumulator.{count_rows, tally_of};
 ghost use Rattle.bw_rowwise.specs.Prepared.{IsPreparedFrom};
-ghost use Rattle.bw_answer.specs.Aggregates.{aggregates_of, answer_for, column_in, function_of};
-ghost use Rattle.bw_answer.specs.Aggregates.{is_same};
+ghost use Rattle.bw_answer.specs.Aggregates.{aggregates_of, answer_for, is_same};
 ghost use Rattle.bw_answer.specs.Answer.{record_text, value_text};
 ghost use Rattle.bw_answer.specs.Draft.{Holds};
 ghost use Rattle.bw_answer.specs.Totals.{is_of, has_room};
@@ -57,7 +56,7 @@ fn include(totals: &mut Vec<Accumulator>, item: Item) -> Result<(), Fault>
 fn has_total(totals: &[Accumulator], item: Item) -> bool
     ensures { result ≡ list_any (λ tally. is_same tally.item item) totals.now }
 {
-    totals.iter().any(|total| is_same(total.item(), item))
+    totals.iter().any(|total| total.item() == item)
 }
 
 /// Returns the total of an item, or null if it has none.
@@ -65,46 +64,11 @@ fn total_for(totals: &[Accumulator], item: Item) -> Option<i128>
     ensures { result ≡ answer_for totals.now item }
 {
     for total in totals {
-        if is_same(total.item(), item) {
+        if total.item() == item {
             return total.finish();
         }
     }
     None
-}
-
-/// Returns whether two items are the same.
-fn is_same(item: Item, other: Item) -> bool
-    ensures { result ≡ is_same item other }
-{
-    function_of(item) == function_of(other) && column_in(item) == column_in(other)
-}
-
-/// Returns the number of an item's function.
-fn function_of(item: Item) -> u32
-    ensures { result ≡ function_of item }
-{
-    match item {
-        Item::Plain(_) => 0,
-        Item::CountAll => 1,
-        Item::Count(_) => 2,
-        Item::Sum(_) => 3,
-        Item::Min(_) => 4,
-        Item::Max(_) => 5,
-    }
-}
-
-/// Returns the column of an item, or 0 for the number of rows.
-fn column_in(item: Item) -> usize
-    ensures { result ≡ column_in item }
-{
-    match item {
-        Item::CountAll => 0,
-        Item::Plain(column)
-        | Item::Count(column)
-        | Item::Sum(column)
-        | Item::Min(column)
-        | Item::Max(column) => column,
-    }
 }
 
 /// Adds a row to each total, if it matches.

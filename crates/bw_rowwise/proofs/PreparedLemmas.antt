@@ -7,9 +7,9 @@ use Rattle.bw_model.specs.declared.cond.Op.{Op}
 use Rattle.bw_model.specs.declared.cond.Operand.{Operand}
 use Rattle.bw_model.specs.Cond.{operand_value}
 use Rattle.bw_model.specs.Row.{Value}
-use Rattle.bw_model.specs.Truth.{all_of, in_list, any_of, between, compare_values, greatest}
+use Rattle.bw_model.specs.Truth.{all_of, any_of, between, compare_values, greatest}
 use Rattle.bw_model.specs.Truth.{is_null, is_truth, least, negation, truth_from}
-use Rattle.bw_rowwise.specs.declared.numbers.Numbers.{Numbers}
+use Rattle.bw_rowwise.specs.declared.prepared.Items.{Items}
 use Rattle.bw_rowwise.specs.declared.prepared.Prepared.{Prepared, Prepared-F, fold-roll-Prepared}
 use Rattle.bw_rowwise.specs.declared.prepared.Prepared.{roll-Prepared}
 use Rattle.bw_rowwise.specs.declared.prepared.Prepared.TheFolds.{map-Prepared}
@@ -19,8 +19,8 @@ use Rattle.bw_rowwise.specs.declared.prepared.Prepared.TheVariants.{rolls-Always
 use Rattle.bw_rowwise.specs.declared.prepared.Prepared.TheVariants.{rolls-Between, rolls-Among}
 use Rattle.bw_rowwise.specs.declared.prepared.Prepared.TheVariants.{rolls-IsNull, rolls-And}
 use Rattle.bw_rowwise.specs.declared.prepared.Prepared.TheVariants.{rolls-Or, rolls-Not, rolls-Test}
-use Rattle.bw_rowwise.specs.Numbers.{among_numbers}
-use Rattle.bw_rowwise.specs.Prepared.{prepared_step, prepared_truth, Absorbs, JoinAlike}
+use Rattle.bw_rowwise.specs.Prepared.{among_items, prepared_step, prepared_truth, Absorbs}
+use Rattle.bw_rowwise.specs.Prepared.{JoinAlike}
 use Rattle.bw_rowwise.proofs.LogicLemmas.{greatest_assoc, least_assoc}
 use Rattle.bw_rowwise.proofs.TruthLemmas.{all_more, all_pushed, any_more, any_pushed}
 use Rattle.bw_rowwise.proofs.TruthLemmas.{greatest-first, least-first}
@@ -39,9 +39,8 @@ truth-Cmp row op x y = truth_folded row (Prepared-F.Cmp op x y) (rolls-Cmp op x 
 pub truth-Between : (row : List Value) (x y z : Operand) → prepared_truth row (Between x y z) ≡ between (operand_value row x) (operand_value row y) (operand_value row z)
 truth-Between row x y z = truth_folded row (Prepared-F.Between x y z) (rolls-Between x y z)
 
-pub truth-Among : (row : List Value) (x : Operand) (numbers : Numbers) (others : Vec Operand Global) → prepared_truth row (Among x numbers others)
-    ≡ greatest (among_numbers (operand_value row x) numbers.sorted.items) (in_list (operand_value row x) (map (operand_value row) others.items))
-truth-Among row x numbers others = truth_folded row (Prepared-F.Among x numbers others) (rolls-Among x numbers others)
+pub truth-Among : (row : List Value) (x : Operand) (items : Items) → prepared_truth row (Among x items) ≡ among_items row (operand_value row x) items
+truth-Among row x items = truth_folded row (Prepared-F.Among x items) (rolls-Among x items)
 
 pub truth-IsNull : (row : List Value) (x : Operand) → prepared_truth row (IsNull x) ≡ truth_from (is_null (operand_value row x))
 truth-IsNull row x = truth_folded row (Prepared-F.IsNull x) (rolls-IsNull x)

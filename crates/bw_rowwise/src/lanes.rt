@@ -4,16 +4,15 @@ ghost use Rattle.bw_lanes.specs.Lanes.{lanes_of_words};
 ghost use Rattle.bw_model.specs.Cond.{operand_value};
 ghost use Rattle.bw_model.specs.Groups.{group_size};
 ghost use Rattle.bw_model.specs.Row.{value_in};
-ghost use Rattle.bw_model.specs.Truth.{all_of, in_list, any_of, between, compare_values, greatest};
-ghost use Rattle.bw_model.specs.Truth.{is_null, is_truth, truth_from};
+ghost use Rattle.bw_model.specs.Truth.{all_of, in_list, any_of, between, compare_values, is_null};
+ghost use Rattle.bw_model.specs.Truth.{is_truth, truth_from};
 ghost use Rattle.bw_model.specs.declared.cond.Truth.TheVariants.{Yes};
 ghost use Rattle.bw_rowwise.specs.Lanes.{AreTruths, AreUnpacked, lanes_in, value_at};
-ghost use Rattle.bw_rowwise.specs.Numbers.{among_numbers};
-ghost use Rattle.bw_rowwise.specs.Prepared.{prepared_truth, row_at};
+ghost use Rattle.bw_rowwise.specs.Prepared.{among_items, among_others, null_truth, prepared_truth};
+ghost use Rattle.bw_rowwise.specs.Prepared.{row_at};
 
 use crate::column_lanes::ColumnLanes;
-use crate::numbers::Numbers;
-use crate::prepared::Prepared;
+use crate::prepared::{Items, Prepared};
 use crate::truths::Truths;
 use crate::unpacked::{Unpacked, column_lanes};
 use bw_lanes::Selection;
@@ -50,7 +49,7 @@ fn truths<S: Segment>(cond: &Prepared, segment: &S, unpacked: &Unpacked) -> Trut
         Prepared::Always => Truths::all(Truth::Yes),
         Prepared::Cmp(op, x, y) => compare(*op, *x, *y, segment, unpacked),
         Prepared::Between(x, y, z) => between(*x, *y, *z, segment, unpacked),
-        Prepared::Among(x, numbers, others) => among(*x, numbers, others, segment, unpacked),
+        Prepared::Among(x, items) => among(*x, items, segment, unpacked),
         Prepared::IsNull(x) => test_null(*x, segment, unpacked),
         Prepared::And(parts) => all_of(parts, segment, unpacked),
         Prepared::Or(parts) => any_of(parts, segment, unpacked),
@@ -202,41 +201,53 @@ fn between<S: Segment>(
     least.both(&compare(Op::Le, x, z, segment, unpacked))
 }
 
-/// Returns in each lane whether an operand is one of these numbers or of these other operands, as
-/// `IN` has it.
-fn among<S: Segment>(
-    x: Operand,
-    numbers: &Numbers,
-    others: &[Operand],
-    segment: &S,
-    unpacked: &Unpacked,
-) -> Truths
+/// Returns in each lane whether an operand is one of these items, as `IN` has it.
+fn among<S: Segment>(x: Operand, items: &Items, segment: &S, unpacked: &Unpacked) -> Truths
     requires { AreUnpacked (S.meaning segment.now).rows unpacked.now }
-    ensures { AreTruths result (λ lane. greatest
-        (among_numbers (operand_value (row_at (S.meaning segment.now).rows lane) x)
-        numbers.now.sorted.items)
-        (in_list (operand_value (row_at (S.meaning segment.now).rows lane) x)
-        (map (operand_value (row_at (S.meaning segment.now).rows lane)) others.now))) }
+    ensures { AreTruths result (λ lane. among_items (row_at (S.meaning segment.now).rows lane)
+        (operand_value (row_at (S.meaning segment.now).rows lane) x) items.now) }
 {
-    let found = side_of(x, segment, unpacked).lanes().among(numbers);
-    found.either(&among_others(x, others, segment, unpacked))
+    let found = side_of(x, segment, unpacked).lanes().among(&items.numbers);
+    found.either(&among_others(x, items, segment, unpacked))
 }
 
-/// Returns in each lane whether an operand is one of these others, as `IN` has it.
-fn among_others<S: Segment>(
+/// Returns in each lane whether an operand is one of a list's columns, or NULL, as `IN` has it.
+fn among_others<S: Segment>(x: Operand, items: &Items, segment: &S, unpacked: &Unpacked) -> Truths
+    requires { AreUnpacked (S.meaning segment.now).rows unpacked.now }
+    ensures { AreTruths result (λ lane. among_others (row_at (S.meaning segment.now).rows lane)
+        (operand_value (row_at (S.meaning segment.now).rows lane) x) items.now) }
+{
+    let found = among_columns(x, &items.columns, segment, unpacked);
+    found.either(&truth_of_null(items.has_null))
+}
+
+/// Returns in each lane what a NULL in a list decides, if there is one.
+fn truth_of_null(has_null: bool) -> Truths
+    ensures { AreTruths result (λ _. null_truth has_null) }
+{
+    if has_null {
+        Truths::all(Truth::Unknown)
+    } else {
+        Truths::all(Truth::No)
+    }
+}
+
+/// Returns in each lane whether an operand is one of these columns, as `IN` has it.
+fn among_columns<S: Segment>(
     x: Operand,
-    others: &[Operand],
+    columns: &[usize],
     segment: &S,
     unpacked: &Unpacked,
 ) -> Truths
     requires { AreUnpacked (S.meaning segment.now).rows unpacked.now }
     ensures { AreTruths result
         (λ lane. in_list (operand_value (row_at (S.meaning segment.now).rows lane) x)
-        (map (operand_value (row_at (S.meaning segment.now).rows lane)) others.now)) }
+        (map (value_in (row_at (S.meaning segment.now).rows lane)) columns.now)) }
 {
     let mut greatest = Truths::all(Truth::No);
-    for other in others {
-        greatest = greatest.either(&compare(Op::Eq, x, *other, segment, unpacked));
+    for column in columns {
+        let equal = compare(Op::Eq, x, Operand::Col(*column), segment, unpacked);
+        greatest = greatest.either(&equal);
     }
     greatest
 }

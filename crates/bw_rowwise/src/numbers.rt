@@ -23,17 +23,14 @@ pub struct Numbers {
 }
 
 impl Numbers {
-    /// Returns these numbers, sorted. Fails only if memory is refused.
-    pub fn new(alloc: Global, mut numbers: Vec<i64>) -> Result<Self, AllocError>
+    /// Returns these numbers, sorted, each once. Fails only if memory is refused.
+    pub fn new(alloc: Global, numbers: Vec<i64>) -> Result<Self, AllocError>
         ensures { IfOk result (λ made. (x : Value) → among_numbers x made.sorted.items
             ≡ among_numbers x numbers.items) }
     {
-        numbers.sort_unstable();
-        let places = places_of(alloc, &numbers)?;
-        Ok(Numbers {
-            sorted: numbers,
-            places,
-        })
+        let sorted = sorted_once(numbers);
+        let places = places_of(alloc, &sorted)?;
+        Ok(Numbers { sorted, places })
     }
 
     /// Returns whether a value is one of the numbers, as `IN` has it: UNKNOWN if it is null, and
@@ -62,6 +59,16 @@ impl Numbers {
     {
         self.sorted.binary_search(&n).is_ok()
     }
+}
+
+/// Returns these numbers sorted, each once.
+fn sorted_once(mut numbers: Vec<i64>) -> Vec<i64>
+    ensures ascending { IsSorted int_cmp result.items }
+    ensures same { (x : Value) → among_numbers x result.items ≡ among_numbers x numbers.items }
+{
+    numbers.sort_unstable();
+    numbers.dedup();
+    numbers
 }
 
 /// Returns the place of a number.

@@ -1,12 +1,12 @@
-//! Conditions prepared for many rows: the numbers of each list are sorted.
-ghost use Rattle.std.specs.Prelude.{◌≡◌, List, map, IfOk, IsOkUnless, IsTrue};
+//! Conditions prepared for many rows: each item of a list stands once, and its numbers are sorted.
+ghost use Rattle.std.specs.Prelude.{◌≡◌, List, map, IfOk, IsOkUnless, IsTrue, OnOk};
 ghost use Rattle.bw_model.specs.Cond.{operand_value, truth_of};
 ghost use Rattle.bw_model.specs.Fault.{no_memory};
-ghost use Rattle.bw_model.specs.Row.{Value};
-ghost use Rattle.bw_model.specs.Truth.{in_list, greatest};
-ghost use Rattle.bw_rowwise.specs.Numbers.{among_numbers};
-ghost use Rattle.bw_rowwise.specs.Prepared.{prepared_truth, Absorbs, IsPreparedFrom, JoinAlike};
-ghost use Rattle.bw_rowwise.specs.Prepared.{with_null};
+ghost use Rattle.bw_model.specs.Row.{Value, value_in};
+ghost use Rattle.bw_model.specs.Truth.{compare_values, in_list, greatest};
+ghost use Rattle.bw_model.specs.declared.cond.Op.TheVariants.{Eq};
+ghost use Rattle.bw_rowwise.specs.Prepared.{among_items, prepared_truth, Absorbs, IsPreparedFrom};
+ghost use Rattle.bw_rowwise.specs.Prepared.{JoinAlike};
 
 use crate::hash::hash_of;
 use crate::numbers::Numbers;
@@ -21,8 +21,8 @@ pub enum Prepared {
     Always,
     Cmp(Op, Operand, Operand),
     Between(Operand, Operand, Operand),
-    /// The operand is one of the numbers or of the other operands, as `IN` has it.
-    Among(Operand, Numbers, Vec<Operand>),
+    /// The operand is one of the items, as `IN` has it.
+    Among(Operand, Items),
     IsNull(Operand),
     And(Vec<Prepared>),
     Or(Vec<Prepared>),
@@ -30,11 +30,12 @@ pub enum Prepared {
     Test(Box<Prepared>, Truth),
 }
 
-/// The items of a list: its numbers, and its other items.
+/// The items of a list, each once: its numbers, its columns, and whether NULL is among them.
 #[derive(Drop)]
-struct Items {
-    numbers: Numbers,
-    others: Vec<Operand>,
+pub struct Items {
+    pub numbers: Numbers,
+    pub columns: Vec<usize>,
+    pub has_null: bool,
 }
 
 impl Prepared {
@@ -49,10 +50,7 @@ impl Prepared {
             Cond::Always => Ok(Prepared::Always),
             Cond::Cmp(op, x, y) => Ok(Prepared::Cmp(*op, *x, *y)),
             Cond::Between(x, y, z) => Ok(Prepared::Between(*x, *y, *z)),
-            Cond::Among(x, items) => {
-                let items = items_of(alloc, items)?;
-                Ok(Prepared::Among(*x, items.numbers, items.others))
-            }
+            Cond::Among(x, items) => Ok(Prepared::Among(*x, items_of(alloc, items)?)),
             Cond::IsNull(x) => Ok(Prepared::IsNull(*x)),
             Cond::And(parts) => Ok(Prepared::And(all_of(alloc, parts)?)),
             Cond::Or(parts) => Ok(Prepared::Or(all_of(alloc, parts)?)),
@@ -111,39 +109,39 @@ fn has_at(conds: &[Cond], place: usize, cond: &Cond) -> bool
     place < conds.len() && conds[place].is_same(cond)
 }
 
-/// Returns the numbers among the items of a list, sorted, and the other items, of whose NULLs only
-/// one is kept: it decides as much as all of them.
+/// Returns the items of a list, each once. Of its NULLs one decides as much as all of them.
 fn items_of(alloc: Global, items: &[Operand]) -> Result<Items, Fault>
     ensures items { IfOk result (λ found. (row : List Value) (x : Value)
-        → greatest (among_numbers x found.numbers.sorted.items)
-        (in_list x (map (operand_value row) found.others.items))
-        ≡ in_list x (map (operand_value row) items.now)) }
+        → among_items row x found ≡ in_list x (map (operand_value row) items.now)) }
     ensures only_oom { IsOkUnless result no_memory }
 {
     let mut numbers = Vec::new(alloc);
-    let mut others = Vec::new(alloc);
+    let mut columns = Vec::new(alloc);
     let mut has_null = false;
     for item in items {
         match item {
             Operand::Lit(n) => numbers.push(*n)?,
-            Operand::Col(_) => others.push(*item)?,
+            Operand::Col(column) => push_once(&mut columns, *column)?,
             Operand::Null => has_null = true,
         }
     }
-    let others = with_null(others, has_null)?;
     Ok(Items {
         numbers: Numbers::new(alloc, numbers)?,
-        others,
+        columns,
+        has_null,
     })
 }
 
-/// Returns operands, and after them NULL if there is to be one.
-fn with_null(mut operands: Vec<Operand>, has_null: bool) -> Result<Vec<Operand>, Fault>
-    ensures operands { IfOk result (λ found. found.items ≡ with_null operands.items has_null) }
+/// Adds a column to those that don't have it.
+fn push_once(columns: &mut Vec<usize>, column: usize) -> Result<(), Fault>
+    ensures added { OnOk result ((row : List Value) (x : Value)
+        → in_list x (map (value_in row) columns.new.items)
+        ≡ greatest (in_list x (map (value_in row) columns.old.items))
+        (compare_values Eq x (value_in row column))) }
     ensures only_oom { IsOkUnless result no_memory }
 {
-    if has_null {
-        operands.push(Operand::Null)?;
+    if !columns.contains(&column) {
+        columns.push(column)?;
     }
-    Ok(operands)
+    Ok(())
 }

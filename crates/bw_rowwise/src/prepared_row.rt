@@ -1,12 +1,12 @@
 //! The truth of a prepared condition on a row.
 ghost use Rattle.std.specs.Prelude.{◌≡◌, map};
 ghost use Rattle.bw_model.specs.Cond.{operand_value};
-ghost use Rattle.bw_model.specs.Row.{values_of};
+ghost use Rattle.bw_model.specs.Row.{value_in, values_of};
 ghost use Rattle.bw_model.specs.Truth.{all_of, in_list, any_of};
-ghost use Rattle.bw_rowwise.specs.Prepared.{prepared_truth};
+ghost use Rattle.bw_rowwise.specs.Prepared.{among_others, prepared_truth};
 
 use crate::logic::{between, both, compare_values, either, opposite};
-use crate::prepared::Prepared;
+use crate::prepared::{Items, Prepared};
 use bw_model::{Op, Operand, Row, Truth, Value};
 
 impl Prepared {
@@ -22,9 +22,9 @@ impl Prepared {
             Prepared::Between(x, y, z) => {
                 between(value_of(*x, row), value_of(*y, row), value_of(*z, row))
             }
-            Prepared::Among(x, numbers, others) => {
+            Prepared::Among(x, items) => {
                 let x = value_of(*x, row);
-                either(numbers.among(x), among(x, others, row))
+                either(items.numbers.among(x), among_others(x, items, row))
             }
             Prepared::IsNull(x) => Truth::of(value_of(*x, row).is_none()),
             Prepared::And(parts) => all_of(parts, row),
@@ -78,14 +78,27 @@ fn value_of(operand: Operand, row: &Row) -> Value
     }
 }
 
-/// Returns whether a value is one of the items, as `IN` has it.
+/// Returns whether a value is one of a list's columns, or NULL, as `IN` has it.
+fn among_others(x: Value, items: &Items, row: &Row) -> Truth
+    ensures { result ≡ among_others (values_of row.now) x items.now }
+{
+    let found = among_columns(x, &items.columns, row);
+    if items.has_null {
+        either(found, Truth::Unknown)
+    } else {
+        found
+    }
+}
+
+/// Returns whether a value is one of these columns, as `IN` has it.
 #[tactic(auto, using(crate::proofs::LogicLemmas::greatest_assoc))]
-fn among(x: Value, items: &[Operand], row: &Row) -> Truth
-    ensures { result ≡ in_list x (map (operand_value (values_of row.now)) items.now) }
+fn among_columns(x: Value, columns: &[usize], row: &Row) -> Truth
+    ensures { result ≡ in_list x (map (value_in (values_of row.now)) columns.now) }
 {
     let mut greatest = Truth::No;
-    for item in items {
-        greatest = either(greatest, compare_values(Op::Eq, x, value_of(*item, row)));
+    for column in columns {
+        let value = value_of(Operand::Col(*column), row);
+        greatest = either(greatest, compare_values(Op::Eq, x, value));
         if greatest == Truth::Yes {
             break;
         }

@@ -86,9 +86,9 @@ fn add_named(unpacked: &mut Unpacked, cond: &Prepared) -> Result<(), Fault>
         Prepared::Always => Ok(()),
         Prepared::Cmp(_, x, y) => add_all(unpacked, &[*x, *y]),
         Prepared::Between(x, y, z) => add_all(unpacked, &[*x, *y, *z]),
-        Prepared::Among(x, _, others) => {
+        Prepared::Among(x, items) => {
             unpacked.add(*x)?;
-            add_all(unpacked, others)
+            add_columns(unpacked, &items.columns)
         }
         Prepared::IsNull(x) => unpacked.add(*x),
         Prepared::And(parts) => add_parts(unpacked, parts),
@@ -115,6 +115,16 @@ fn add_all(unpacked: &mut Unpacked, operands: &[Operand]) -> Result<(), Fault>
 {
     for operand in operands {
         unpacked.add(*operand)?;
+    }
+    Ok(())
+}
+
+/// Adds space for these columns.
+fn add_columns(unpacked: &mut Unpacked, columns: &[usize]) -> Result<(), Fault>
+    ensures { IsOkUnless result no_memory }
+{
+    for column in columns {
+        unpacked.add(Operand::Col(*column))?;
     }
     Ok(())
 }

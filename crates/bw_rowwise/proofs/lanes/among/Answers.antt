@@ -9,6 +9,6 @@ use Rattle.bw_rowwise.proofs.lanes.among.Goals as goal
 
 pub returns : goal.returns
 returns g c =
-    let numbers = c.args.numbers.now.sorted.items in
+    let numbers = c.args.items.now.numbers.sorted.items in
     let found = alike _ _ _ c.among-found.ensures (λ lane within. ap (λ (x : Value). among_numbers x numbers) (ap (λ (lanes : ColumnLanes). value_at lanes lane) c.lanes.ensures ∙ c.side_of.ensures lane within)) in
     c.either.ensures _ _ found c.among_others.ensures

@@ -1,4 +1,4 @@
--- A list of numbers and others is the list that they stood in.
+-- A list's items are those of the list; a part more is prepared, or changes nothing.
 use Rattle.std.proofs.Common.{◌∙◌, refl, sym, map}
 use Rattle.bw_model.specs.Cond.{operand_value, truth_of}
 use Rattle.bw_model.proofs.CondLemmas.{truth_of-Among}
@@ -8,13 +8,12 @@ use Rattle.bw_rowwise.proofs.prepared.+new.Goals as goal
 use Rattle.bw_rowwise.proofs.prepared.+new.Goals.{all_of-then-not-branch+in_ok-new+in_ok-push}
 use Rattle.bw_rowwise.proofs.prepared.+new.Goals.{all_of-else-not-branch}
 
-pub Prepared::new-returns-in_ok-items-in-Among-clause-prepared :
-    goal.Prepared::new-returns-in_ok-items-in-Among-clause-prepared
-Prepared::new-returns-in_ok-items-in-Among-clause-prepared t c = λ row.
+pub Prepared::new-returns-in_ok-items_of-in-Among-clause-prepared :
+    goal.Prepared::new-returns-in_ok-items_of-in-Among-clause-prepared
+Prepared::new-returns-in_ok-items_of-in-Among-clause-prepared t c = λ row.
     let x = c.in-Among.x in
-    let found = c.in_ok-items-in-Among.items in
-    let same = rw c.deref.ensures.value at c.in_ok-items-in-Among.ensures.items in
-    truth-Among row x found.numbers found.others ∙ same row (operand_value row x) ∙ sym (rw c.in-Among.is (truth_of-Among row x c.in-Among.items))
+    let same = rw c.deref.ensures.value at c.in_ok-items_of-in-Among.ensures.items in
+    truth-Among row x _ ∙ same row (operand_value row x) ∙ sym (rw c.in-Among.is (truth_of-Among row x c.in-Among.items))
 
 pub all_of-loop-place-preserved : goal.all_of-loop-place-preserved
 all_of-loop-place-preserved t c =
