@@ -56,9 +56,15 @@ fn kind_of(op: Op) -> ChainKind {
     }
 }
 
+/// Returns a column's minimum, if the schema has the column.
+fn minimum_of(schema: &Schema, column: usize) -> Option<i64> {
+    let found = schema.columns.get(column)?;
+    Some(found.lo)
+}
+
 /// Returns the comparison of a column with a literal.
 fn with_literal(schema: &Schema, op: Op, column: usize, n: i64) -> Option<Comparison> {
-    let lo = schema.columns.get(column)?.lo;
+    let lo = minimum_of(schema, column)?;
     let is_past = matches!(op, Op::Le | Op::Gt);
     Some(Comparison::Literal(LiteralComparison {
         kind: kind_of(op),
@@ -70,7 +76,7 @@ fn with_literal(schema: &Schema, op: Op, column: usize, n: i64) -> Option<Compar
 
 /// Returns the comparison of two columns of the same minimum.
 fn with_column(schema: &Schema, op: Op, c: usize, d: usize) -> Option<Comparison> {
-    if schema.columns.get(c)?.lo != schema.columns.get(d)?.lo {
+    if minimum_of(schema, c)? != minimum_of(schema, d)? {
         return None;
     }
     let (c, d) = (column_index(schema, c)?, column_index(schema, d)?);
