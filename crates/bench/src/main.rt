@@ -1,4 +1,4 @@
-//! Counts the records of a CSV file by the `csv` crate alone: `bench FILE`. `bench/loads.sh` times it
+//! Counts the records of a CSV file by the `csv` crate alone: `bench FILE`. `bench.py load` times it
 //! beside `bw load` of the same file.
 #![tactic(auto)]
 

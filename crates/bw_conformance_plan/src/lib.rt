@@ -2,7 +2,7 @@
 //! and their programs run over segments in both layouts, compared with the condition's truth row by
 //! row. No crate depends on this one.
 //!
-//! Read `rows.rt` first, which tests a condition over rows. `scripts/conditions` has the program
+//! Read `rows.rt` first, which tests a condition over rows. `test_conditions` has the program
 //! answer many more from table files, and `cases/plans.md` says how much is read.
 #![tactic(auto)]
 

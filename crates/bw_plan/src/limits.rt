@@ -1,5 +1,5 @@
-//! All numbers by which the planner is tuned, each with what chose it. `bench/cliffs` times the
-//! conditions that are named here; `bw plan` shows a program and its certificate, and `scripts/conditions`
+//! All numbers by which the planner is tuned, each with what chose it. `bench.py cliffs` times the
+//! conditions that are named here; `bw plan` shows a program and its certificate, and `test_conditions`
 //! which conditions have one.
 
 /// The most instructions of a program.
@@ -8,16 +8,16 @@ pub(crate) const MAX_INSTRUCTIONS: usize = 4096;
 /// The most byte comparisons of a program without skips. One takes some 40 ns per segment, another
 /// instruction 3, and the row-by-row fallback some 50 microseconds: with more comparisons it is
 /// faster. With skips an instruction takes 10 ns, so every program that fits is faster than the
-/// fallback. To repeat it: "OR of `x = n`" of `bench/cliffs`.
+/// fallback. To repeat it: "OR of `x = n`" of `bench.py cliffs`.
 pub(crate) const MAX_LOOKS: usize = 1000;
 
 /// The most items of a list: planning a longer one takes longer than looking it up row by row in a
-/// table that isn't very large. To repeat it: "1,000 in a row" of `bench/cliffs`.
+/// table that isn't very large. To repeat it: "1,000 in a row" of `bench.py cliffs`.
 pub(crate) const MAX_LIST: usize = 400;
 
 /// A set of codes that takes more instructions is long. Those of an AND or OR aren't combined into
 /// one: it takes more product rows than the sets one after another, as "OR of `x = n`" of
-/// `bench/cliffs` shows.
+/// `bench.py cliffs` shows.
 pub(crate) const LONG_SET: usize = 1200;
 
 /// The most product rows of a condition with a list whose set is long. With more, planning the list
@@ -30,7 +30,7 @@ pub(crate) const MAX_LIST_ROWS: u32 = 4000;
 pub(crate) const SKIPPED_PARTS: usize = 16;
 
 /// A condition with more levels of parts begins with the deepest one: 64 registers are too few for
-/// 100 levels, each of which keeps up to two. `scripts/conditions` has such conditions.
+/// 100 levels, each of which keeps up to two. `test_conditions` has such conditions.
 pub(crate) const MANY_LEVELS: u32 = 12;
 
 /// All comparisons of two columns from the top down take at most six times as many nodes. One takes
@@ -38,20 +38,20 @@ pub(crate) const MANY_LEVELS: u32 = 12;
 pub(crate) const MAX_SQUARES: usize = 1000;
 
 /// The most product rows of a condition's own lines: seven columns of 63 bits that are each less
-/// than the next take 68,641, and no drawn condition of `scripts/conditions` that has a program takes
+/// than the next take 68,641, and no drawn condition of `test_conditions` that has a program takes
 /// over 54,000. With more, planning and checking take longer than the row-by-row fallback takes for
 /// 100,000 rows.
 pub(crate) const MAX_CONDITION_ROWS: u32 = 70_000;
 
 /// The same if the condition's columns have more than `MANY_BITS` bits: the drawn conditions of
-/// `bench/cliffs` over as many bits have no program, and 24,000 rows show that in 2 to 10 ms.
+/// `bench.py cliffs` over as many bits have no program, and 24,000 rows show that in 2 to 10 ms.
 pub(crate) const MAX_CONDITION_ROWS_OF_MANY: u32 = 24_000;
 
 /// The bits of seven columns of 63 bits, which may be compared with one another in a row.
 pub(crate) const MANY_BITS: u32 = 441;
 
 /// From so many product rows on, an AND or OR has no program if its parts would pass the limit by as
-/// many rows each as those so far. Without it, the conditions of `scripts/conditions` that have no
+/// many rows each as those so far. Without it, the conditions of `test_conditions` that have no
 /// program take up to twice as long, 10 to 20 ms more each; it costs no condition its program.
 pub(crate) const ROWS_BEFORE_FORECAST: u32 = 3000;
 
@@ -59,7 +59,7 @@ pub(crate) const ROWS_BEFORE_FORECAST: u32 = 3000;
 pub(crate) const MAX_ROWS: u32 = 100_000;
 
 /// A condition whose own lines take as many product rows has no skips from part to part: to prove
-/// them takes several times as many. With them, eight more conditions of `scripts/conditions` have
+/// them takes several times as many. With them, eight more conditions of `test_conditions` have
 /// no program, and certificates are 30 % longer.
 pub(crate) const MAX_ROWS_TO_SKIP_PARTS: u32 = 10_000;
 
