@@ -1,6 +1,6 @@
 //! All numbers by which the planner is tuned, each with what chose it. `bench.py cliffs` times the
-//! conditions that are named here; `bw plan` shows a program and its certificate, and `test_conditions`
-//! which conditions have one.
+//! conditions that are named here; `bw plan` shows a program and its certificate, and
+//! `test_conditions` which conditions have one.
 
 /// The most instructions of a program.
 pub(crate) const MAX_INSTRUCTIONS: usize = 4096;
@@ -50,8 +50,8 @@ pub(crate) const MAX_CONDITION_ROWS_OF_MANY: u32 = 24_000;
 /// The bits of seven columns of 63 bits, which may be compared with one another in a row.
 pub(crate) const MANY_BITS: u32 = 441;
 
-/// From so many product rows on, an AND or OR has no program if its parts would pass the limit by as
-/// many rows each as those so far. Without it, the conditions of `test_conditions` that have no
+/// From so many product rows on, an AND or OR has no program if its parts would pass the limit by
+/// as many rows each as those so far. Without it, the conditions of `test_conditions` that have no
 /// program take up to twice as long, 10 to 20 ms more each; it costs no condition its program.
 pub(crate) const ROWS_BEFORE_FORECAST: u32 = 3000;
 
@@ -63,6 +63,6 @@ pub(crate) const MAX_ROWS: u32 = 100_000;
 /// no program, and certificates are 30 % longer.
 pub(crate) const MAX_ROWS_TO_SKIP_PARTS: u32 = 10_000;
 
-/// A condition whose own lines take as many product rows has no skips at all: too few nodes are left
-/// for them. Seven columns of 63 bits that are each less than the next have a program only so.
+/// A condition whose own lines take as many product rows has no skips at all: too few nodes are
+/// left for them. Seven columns of 63 bits that are each less than the next have a program only so.
 pub(crate) const MAX_ROWS_TO_SKIP: u32 = 60_000;
