@@ -14,7 +14,7 @@ proof:     ## run the gate: prove and test everything
 	./check --proof
 
 bench:     ## time whole queries beside C; it makes a table of ten million rows
-	bench/compare --only-tuned
+	bench/bench.py compare --only-tuned
 
 fmt:       ## lay out the sources of all crates
 	for crate in crates/*; do (cd $$crate && rt fmt) || exit 1; done

@@ -1,4 +1,4 @@
-"""Queries ClickHouse, with one thread, over a table in its memory. bench/session times it if
+"""Queries ClickHouse, with one thread, over a table in its memory. `bench.py session` times it if
 Debian's clickhouse-server is installed. The server runs in its own folder, listens only on
 127.0.0.1, and ends with the run."""
 import http.client
@@ -8,6 +8,7 @@ import subprocess
 import sys
 import tempfile
 import time
+from typing import Dict, Iterator, Optional, Sequence, Tuple
 
 PORT = 18123
 CONFIG = f"""<yandex>
@@ -30,17 +31,17 @@ TABLE = "CREATE TABLE m (a UInt8, b Nullable(Int8), c UInt32, d Nullable(UInt32)
 class Server:
     """A server with one thread, and a connection to it."""
 
-    def __init__(self, folder):
+    def __init__(self, folder: pathlib.Path) -> None:
         """Starts a server, whose files are in a folder."""
-        program, self.connection = shutil.which("clickhouse-server") or \
-            "/usr/sbin/clickhouse-server", None
+        program = shutil.which("clickhouse-server") or "/usr/sbin/clickhouse-server"
+        self.connection: Optional[http.client.HTTPConnection] = None
         for name, text in (("config.xml", CONFIG), ("users.xml", USERS)):
             (folder / name).write_text(text.format(folder=folder), encoding="ascii")
         words = [program, f"--config-file={folder}/config.xml"]
         self.process = subprocess.Popen(words, stdin=subprocess.DEVNULL, stdout=subprocess.DEVNULL,
                                         stderr=subprocess.DEVNULL)
 
-    def wait(self):
+    def wait(self) -> None:
         """Waits until the server answers."""
         for _ in range(300):
             try:
@@ -53,7 +54,7 @@ class Server:
             time.sleep(0.1)
         sys.exit("clickhouse-server doesn't answer")
 
-    def ask(self, statement, rows=None):
+    def ask(self, statement: str, rows: Optional[Iterator[bytes]] = None) -> str:
         """Returns the server's result as CSV. Rows are sent after the statement, a part at a
         time."""
         if self.connection is None or rows is not None:
@@ -70,12 +71,12 @@ class Server:
             sys.exit(f"clickhouse-server: {text}")
         return text
 
-    def end(self):
+    def end(self) -> None:
         self.process.terminate()
         self.process.wait()
 
 
-def lines_of(path):
+def lines_of(path: pathlib.Path) -> Iterator[bytes]:
     """Yields the rows of a CSV file without its heading, many at a time, with nulls as ClickHouse
     spells them."""
     with open(path, "rb") as file:
@@ -85,7 +86,8 @@ def lines_of(path):
             yield (part + file.readline()).replace(b"NULL", b"\\N").replace(b",\n", b",\\N\n")
 
 
-def in_clickhouse(csv, questions, runs):
+def in_clickhouse(csv: pathlib.Path, questions: Sequence[Tuple[str, str]], runs: int
+                  ) -> Optional[Dict[str, Tuple[float, str]]]:
     """Returns for each question the minimum time of `runs` calls, in milliseconds, and the lines of
     the result. Returns None if ClickHouse isn't installed."""
     if not (shutil.which("clickhouse-server") or
@@ -96,8 +98,7 @@ def in_clickhouse(csv, questions, runs):
         try:
             server.wait()
             server.ask("CREATE DATABASE IF NOT EXISTS default")
-            server.connection.request("POST", "/", TABLE.encode())
-            server.connection.getresponse().read()
+            server.ask(TABLE, iter(()))
             server.ask("INSERT INTO m FORMAT CSV", lines_of(csv))
             for question, asked in questions:
                 times = []

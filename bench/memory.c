@@ -1,4 +1,4 @@
-// Answers the eight questions of bench/compare's tuned C over a table in memory. A running `bw session` is compared with it.
+// Answers the eight questions of bench/tuned.c over a table in memory. A running `bw session` is compared with it.
 // It reads the table file once, and stores all blocks of a column back to back. Each question is a loop with 128-bit operations
 // (SSE2) over the blocks of the columns that it needs, and reads no more of their planes or slices than necessary. It validates
 // nothing, so it is faster than any program that doesn't trust its table.

@@ -1,4 +1,4 @@
-// Answers one of the questions of bench/query.sh over a table file of the columns a, b, c and d, in either layout. `bw query`
+// Answers one of the questions of bench/bench.py compare over a table file of the columns a, b, c and d, in either layout. `bw query`
 // is compared with it. It reads pieces of 64 KiB, validates every block as a reader of table files must, and works on 64 rows
 // at a time, as the bits of a word. In slices it compares the bytes of 512 rows in one loop, and makes bits of the outcome. Its
 // only vector code is what the compiler makes of its loops. It trusts the header, and needs a little-endian machine. The result

@@ -1,4 +1,4 @@
-// Answers one of the eight questions of bench/compare over a table file, in either layout. `bw query` is compared with it. It is
+// Answers one of the eight questions of bench/bench.py compare over a table file, in either layout. `bw query` is compared with it. It is
 // tuned by hand, with the 128-bit operations of SSE2, and does the work that a reader of table files must do: it reads the file
 // once, in pieces into one buffer, validates the header and every block, and stops at the first error with its number and its
 // byte and status 1. The result is written once the whole file is valid.

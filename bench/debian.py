@@ -1,4 +1,4 @@
-"""Tables of Debian's packages, for bench/import: each is made as a CSV file, unless it exists."""
+"""Tables of Debian's packages: each is made as a CSV file, unless it exists."""
 import bz2
 import csv
 import os
@@ -6,14 +6,16 @@ import pathlib
 import random
 import subprocess
 import time
+from typing import Callable, Dict, Iterator, Optional, Sequence
 
 UNICODE, GEOIP = pathlib.Path("/usr/share/unicode"), pathlib.Path("/usr/share/tor/geoip")
 FIELDS = ("Package,Version,Installed-Size,Maintainer,Architecture,Depends,Description,Homepage,"
           "Section,Priority,Filename,Size,SHA256,Tag").split(",")
 YES = ("no", "yes")
+Rows = Iterator[Sequence[object]]
 
 
-def geoip():
+def geoip() -> Rows:
     """Yields ranges of addresses and their countries, of tor-geoipdb."""
     yield "first", "last", "country"
     for line in GEOIP.read_text(encoding="utf-8").splitlines():
@@ -21,7 +23,7 @@ def geoip():
             yield line.split(",")
 
 
-def unihan():
+def unihan() -> Rows:
     """Yields the properties of Han characters, of unicode-data."""
     yield "character", "field", "value"
     for path in sorted(UNICODE.glob("Unihan_*.bz2")):
@@ -31,13 +33,14 @@ def unihan():
                     yield line.rstrip("\n").split("\t")
 
 
-def packages():
+def packages() -> Rows:
     """Yields what apt-cache knows of all packages, with their long fields."""
     yield FIELDS
     text = subprocess.run(["apt-cache", "dumpavail"], capture_output=True,
                           check=True).stdout.decode()
     for stanza in filter(None, text.split("\n\n")):
-        fields, name = {}, ""
+        fields: Dict[str, str] = {}
+        name = ""
         for line in stanza.split("\n"):
             if line.startswith(" "):
                 fields[name] += f"\n{line}"
@@ -47,7 +50,7 @@ def packages():
         yield [fields.get(each, "") for each in FIELDS]
 
 
-def listing(most=203_000):
+def listing(most: int = 203_000) -> Rows:
     """Yields the files of this system, up to a number of them."""
     yield "mode", "links", "user", "bytes", "changed", "path"
     count = 0
@@ -70,7 +73,7 @@ def listing(most=203_000):
                 return
 
 
-def fertility():
+def fertility() -> Rows:
     """Yields made-up rows in the shape of the data set Fertility of R's package AER."""
     draw = random.Random(1)
     yield "rownames,morekids,gender1,gender2,age,afam,hispanic,other,work".split(",")
@@ -81,7 +84,7 @@ def fertility():
                draw.randrange(53))
 
 
-def million():
+def million() -> Rows:
     """Yields a million distinct texts."""
     draw = random.Random(2)
     yield ("name",)
@@ -89,12 +92,12 @@ def million():
         yield (f"{draw.choice('abcdefgh')}{draw.randrange(10 ** 11):011}x{number % 10}",)
 
 
-TABLES = {"geoip": geoip, "Fertility": fertility, "file listing": listing, "packages": packages,
-          "Unihan": unihan,
-          "a million texts": million}
+TABLES: Dict[str, Callable[[], Rows]] = {
+    "geoip": geoip, "Fertility": fertility, "file listing": listing, "packages": packages,
+    "Unihan": unihan, "a million texts": million}
 
 
-def made(folder, name):
+def made(folder: pathlib.Path, name: str) -> Optional[pathlib.Path]:
     """Returns the file of a table, or None if its package isn't installed."""
     path = folder / f"{name.replace(' ', '-')}.csv"
     if not path.exists():

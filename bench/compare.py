@@ -1,0 +1,197 @@
+"""Times whole queries beside C, sqlite3 and mawk, which answer the same questions.
+
+First bw is compared with bench/tuned.c, C that is tuned by hand and validates each block as bw
+does. Damaged table files show that both reject the same ones, with the same error at the same byte.
+With --only-tuned that is all. Then follow plain C (bench/query.c), sqlite3 and mawk, and a load in
+each layout beside sqlite3's import, timed once. --sorted compares with plain C over rows sorted by
+the column of each condition, which a program can skip more of. --svg draws the figures as bars."""
+from __future__ import annotations
+
+import argparse
+import pathlib
+import re
+import subprocess
+import sys
+from typing import Dict, Iterator, List, Optional, Sequence, Tuple
+
+import pictures
+from data import (LAYOUTS, QUESTIONS, Question, bw_program, compiled, database_of,
+                  four_columns, schema_file, table_files, tables_of_rows)
+from timing import TOP, Words, agree, least, run, run_in_turn, show
+
+RUNS, ROWS = 15, 10_000_000
+ENGINES = ["bw, planes", "bw, slices", "C, planes", "C, slices", "sqlite3", "mawk over CSV"]
+# mawk's test of a row, and its end, for the questions of plain C
+AWK = {
+    "count_a_below_8": ("$1 < 8 { n++ }", "print n + 0"),
+    "sum_d_a_below_8": ("$1 < 8 { s += $4 }", 'printf "%.0f\\n", s'),
+    "count_a_from_250": ("$1 >= 250 { n++ }", "print n + 0"),
+    "count_c_between": ("$3 >= 500 && $3 <= 900 { n++ }", "print n + 0"),
+    "sum_d_c_below_5000": ('$3 < 5000 && $2 != "NULL" { s += $4 }', 'printf "%.0f\\n", s'),
+    "count_b_in_or_d_null": ('$2 == "1" || $2 == "3" || $2 == "5" || $4 == "" { n++ }',
+                             "print n + 0"),
+}
+PLAIN = [question for question in QUESTIONS if question.name in AWK]
+PROGRAMS = ["below_8_by_planes", "below_8_by_bytes"]
+# the rows of a table file of two segments, of 512 and of 2 rows, and bits that are flipped there,
+# as fault, byte and bit: each of the faults 301 to 310, 306 and 307 in both segments, and 308 and
+# 307 in null planes too
+SMALL = "a,b,c,d\n" + "7,3,700,4294967295\n255,NULL,1000000,\n" * 257
+IN_HEADER = [(301, 0, 0), (302, 8, 2), (303, 9, 1), (304, 10, 2), (310, 15, 1), (304, 16, 6),
+             (304, 17, 7), (304, 35, 7), (304, 36, 1), (304, 57, 0), (304, 89, 0), (305, 13, 2),
+             (309, 12, 1)]
+IN_BLOCKS = {
+    "planes": [(306, 670, 0), (306, 2206, 1), (307, 606, 0), (307, 734, 1), (307, 2334, 1),
+               (306, 4958, 0), (307, 5022, 1), (308, 4382, 2), (308, 4894, 2), (308, 8669, 7)],
+    "slices": [(306, 670, 7), (306, 2207, 0), (307, 606, 0), (307, 671, 3), (307, 2783, 0),
+               (306, 5406, 7), (307, 5407, 3), (308, 4832, 0), (308, 5342, 2), (308, 9565, 0)],
+}
+Figures = List[Tuple[str, List[Optional[float]]]]
+
+
+def add_options(parser: argparse.ArgumentParser) -> None:
+    """Adds the options of this comparison."""
+    parser.add_argument("--only-tuned", action="store_true", help="beside tuned C alone")
+    parser.add_argument("--sorted", action="store_true", help="sorted rows, beside plain C alone")
+    parser.add_argument("--svg", type=pathlib.Path, metavar="FILE", help="draw the figures")
+
+
+def measure(given: argparse.Namespace) -> None:
+    """Prints the tables."""
+    bw, folder, rows = bw_program(), given.folder, given.rows
+    if given.sorted:
+        compare_sorted(bw, folder, rows, given.runs)
+        return
+    compare_tuned(bw, folder, rows, given.runs)
+    if given.only_tuned:
+        return
+    found = [load_times(bw, folder, rows), *query_times(bw, folder, rows)]
+    show(f"Whole queries, ms, {rows:,} rows; minimum of five, of mawk and loads one",
+         ["Question", *ENGINES],
+         ([name, *("" if taken is None else f"{taken:,.0f}" for taken in times)]
+          for name, times in found))
+    if given.svg:
+        given.svg.write_text(pictures.bars(f"Milliseconds over {rows:,} rows", ENGINES, found),
+                             encoding="ascii")
+
+
+def fault_of(words: Words) -> Optional[Tuple[int, int]]:
+    """Returns the number and the byte of the error with which a call fails, if it fails so."""
+    done = subprocess.run(list(words), capture_output=True, text=True, stdin=subprocess.DEVNULL,
+                          check=False)
+    told = re.search(r"\b(\d+) (?:[a-z ]+ )?at byte (\d+)$", done.stderr.strip())
+    return (int(told[1]), int(told[2])) if done.returncode and told and not done.stdout else None
+
+
+def calls_of(bw: str, tuned: pathlib.Path, question: Question, table: pathlib.Path) -> List[Words]:
+    """Returns the calls of bw and of tuned C for a question."""
+    return [[bw, "query", table, f"SELECT {question.asked}"], [tuned, question.name, table]]
+
+
+def compare_damaged(bw: str, tuned: pathlib.Path, folder: pathlib.Path) -> None:
+    """Checks that both programs reject table files in which one bit was flipped, with the same
+    error at the same byte."""
+    csv, path, count = folder / "small.csv", folder / "damaged.bw", 0
+    csv.write_text(SMALL, encoding="ascii")
+    for layout, table in table_files(bw, schema_file(folder), csv).items():
+        whole = table.read_bytes()
+        for question in QUESTIONS:
+            agree(question.asked, [run(words).text
+                                   for words in calls_of(bw, tuned, question, table)])
+        for fault, byte, bit in IN_HEADER + IN_BLOCKS[layout]:
+            path.write_bytes(whole[:byte] + bytes([whole[byte] ^ 1 << bit]) + whole[byte + 1:])
+            question = QUESTIONS[count % len(QUESTIONS)]
+            told = [fault_of(words) for words in calls_of(bw, tuned, question, path)]
+            if told[0] is None or told[0] != told[1] or told[0][0] != fault:
+                sys.exit(f"bit {bit} of byte {byte} in {layout} is error {fault}, but bw and the "
+                         f"tuned program report: {told}")
+            count += 1
+    print(f"bw and the tuned program reject {count} damaged files, with the same error at the "
+          "same byte.\n", flush=True)
+
+
+def compare_tuned(bw: str, folder: pathlib.Path, rows: int, runs: int) -> None:
+    """Prints the times beside tuned C."""
+    tuned = compiled(folder, "tuned", "-O3", "-march=x86-64-v2")
+    compare_damaged(bw, tuned, folder)
+    tables = tables_of_rows(bw, folder, rows)
+
+    def lines() -> Iterator[Sequence[str]]:
+        for question in QUESTIONS:
+            calls = {f"{number} {layout}": words for layout, table in tables.items()
+                     for number, words in enumerate(calls_of(bw, tuned, question, table))}
+            found = run_in_turn(calls, runs)
+            agree(question.asked, [each.text for each in found.values()])
+            cells = [question.shown]
+            for layout in LAYOUTS:
+                ours, theirs = (found[f"{number} {layout}"].wall for number in (0, 1))
+                cells += [f"{ours:.1f}", f"{theirs:.1f}", f"{ours / theirs:.2f}"]
+            yield cells
+    show(f"Beside tuned C, ms, {rows:,} rows; minimum of {runs}",
+         ["Question", *(head for layout in LAYOUTS
+                        for head in (f"bw, {layout}", "tuned C", "bw / tuned C"))], lines())
+
+
+def load_times(bw: str, folder: pathlib.Path, rows: int) -> Tuple[str, List[Optional[float]]]:
+    """Returns the times of one load in each layout and of sqlite3's import, in the order of the
+    engines. The others load nothing."""
+    words = [schema_file(folder), four_columns(folder, rows), folder / "loaded.bw"]
+    times: List[Optional[float]] = [run([bw, "load", "--layout", layout, *words]).wall
+                                    for layout in LAYOUTS]
+    (folder / f"rows-{rows}.db").unlink(missing_ok=True)
+    imported, _ = least(lambda: database_of(folder, rows), 1)
+    return "load, or import, of the CSV", [*times, None, None, imported, None]
+
+
+def query_times(bw: str, folder: pathlib.Path, rows: int) -> Figures:
+    """Returns the times of the engines for each question of plain C."""
+    c, csv = compiled(folder, "query", "-O2"), four_columns(folder, rows)
+    tables, database, found = tables_of_rows(bw, folder, rows), database_of(folder, rows), []
+    for question in PLAIN:
+        sql, (test, end) = f"SELECT {question.asked}", AWK[question.name]
+        calls: Dict[str, Words] = {f"bw, {layout}": [bw, "query", table, sql]
+                                   for layout, table in tables.items()}
+        calls.update({f"C, {layout}": [c, question.name, table]
+                      for layout, table in tables.items()})
+        calls["sqlite3"] = ["sqlite3", database, sql]
+        taken = run_in_turn(calls, 5)
+        taken.update(run_in_turn(
+            {"mawk over CSV": ["mawk", "-F,", f"NR > 1 && {test} END {{ {end} }}", csv]}, 1))
+        # sqlite3 and mawk write no heading
+        agree(question.asked, [each.text.split("\n")[-1] for each in taken.values()])
+        times: List[Optional[float]] = [taken[engine].wall for engine in ENGINES]
+        found.append((question.shown, times))
+    return found
+
+
+def compare_sorted(bw: str, folder: pathlib.Path, rows: int, runs: int) -> None:
+    """Prints the times beside plain C over sorted rows, with loads and skips."""
+    c = compiled(folder, "query", "-O2")
+
+    def lines() -> Iterator[Sequence[str]]:
+        for question in PLAIN:
+            tables = tables_of_rows(bw, folder, rows, question.column)
+            files = PROGRAMS if question.name == "count_a_below_8" else []
+            for layout, table in tables.items():
+                for file in ["", *files]:
+                    program = TOP / "bench" / f"{file}.prog"
+                    more: Words = ["--program", program] if file else []
+                    yield line_of(bw, c, question, layout, table, file, more, runs)
+    show(f"Sorted rows beside plain C, ms, {rows:,} rows; minimum of {runs}",
+         ["Question", "layout", "C", "bw", "bw / C", "loads", "skips"], lines())
+
+
+def line_of(bw: str, c: pathlib.Path, question: Question, layout: str, table: pathlib.Path,
+            file: str, more: Words, runs: int) -> Sequence[str]:
+    """Returns the line of a question over sorted rows."""
+    sql = f"SELECT {question.asked}"
+    found = run_in_turn({"C": [c, question.name, table],
+                         "bw": [bw, "query", *more, table, sql]}, runs)
+    agree(question.asked, [each.text for each in found.values()])
+    told = subprocess.run([bw, "query", "--stats", *more, table, sql], capture_output=True,
+                          text=True, check=True).stderr
+    counts = re.search(r"loads (\d+) skips (\d+)", told)
+    theirs, ours = found["C"].wall, found["bw"].wall
+    return [f"{question.shown}, by {file}.prog" if file else question.shown, layout,
+            f"{theirs:.1f}", f"{ours:.1f}", f"{ours / theirs:.2f}",
+            *(counts.groups() if counts else ("", ""))]
