@@ -1,7 +1,8 @@
-"""Answers the eight questions of bench/bench.py session by numpy over arrays in memory: python3 arrays.py
-RUNS CSV FOLDER, by a Python that has numpy. The columns of CSV are stored in FOLDER at the first
-run. Prints for each question its name and the minimum time of RUNS runs, in milliseconds, then the
-lines of its result and an empty line. A null is 0 in its array, and 1 in an array of nulls."""
+"""Answers the eight questions of bench/bench.py session by numpy over arrays in memory: python3
+arrays.py RUNS CSV FOLDER, by a Python that has numpy. The columns of CSV are stored in FOLDER at
+the first run. Prints for each question its name and the minimum time of RUNS runs, in milliseconds,
+then the lines of its result and an empty line. A null is 0 in its array, and 1 in an array of
+nulls."""
 import os
 import pathlib
 import sys
