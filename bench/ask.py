@@ -200,9 +200,6 @@ def others(folder: pathlib.Path, name: str, sql: str, by_pandas: Callable[[Any],
         with duckdb.connect(str(folder / f"{name}.duckdb")) as connection:
             yield clock.time("DuckDB", lambda: [
                 tuple(row) for row in connection.execute(sql).fetchall()])
-    missing = [each for each, module in (("pandas", pandas), ("DuckDB", duckdb)) if not module]
-    if missing:
-        print(f"{' and '.join(missing)}: not installed here.\n")
 
 
 def time_top_ten(folder: pathlib.Path, drawn: Drawn) -> None:
@@ -315,6 +312,9 @@ def measure(given: argparse.Namespace) -> None:
     make(folder, "numbers", write_numbers, given.rows)
     print(f"{given.rows:,} rows of whole numbers, {given.texts:,} of texts; SQLite "
           f"{sqlite3.sqlite_version}, Python {sys.version.split()[0]}.\n")
+    missing = [name for name in ("pandas", "duckdb") if not installed(name)]
+    if missing:
+        print(f"Not installed here: {', '.join(missing)}.\n")
     parts: Dict[str, Callable[[], object]] = {
         "count": lambda: time_count(folder, bw, drawn),
         "top": lambda: time_top_ten(folder, drawn),
