@@ -72,7 +72,8 @@ def lines(title: str, axes: Tuple[str, str], names: Sequence[str], xs: Sequence[
     def at(x: float, y: float) -> Tuple[float, float]:
         return (left + wide * (math.log10(x) - x_low) / (x_high - x_low),
                 top + high * (y_high - math.log10(y)) / (y_high - y_low))
-    out = [text(10, 20, title, ' font-size="14"'), *legend(names, 30, 150)]
+    out = [text(10, 20, title, ' font-size="14"')]
+    out += legend(names, 30, (left + wide) / len(names))
     for power in range(y_low, y_high + 1):
         _, y = at(min(xs), 10.0 ** power)
         out.append(f'<line x1="{left}" y1="{y:.1f}" x2="{left + wide}" y2="{y:.1f}" '
