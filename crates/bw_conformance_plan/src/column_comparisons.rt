@@ -179,6 +179,32 @@ fn comparisons_that_share_columns_are_served(rt: HostRuntime) -> Result<(), Fail
     Ok(())
 }
 
+/// Columns of four bits, the last of which takes no null.
+const FOUR_BITS: &str = "\
+    TABLE t\n\
+    COLUMN x 0 15\n\
+    COLUMN y 0 15\n\
+    COLUMN z 0 15\n\
+    COLUMN w 0 15 NOT NULL\n\
+    ";
+
+// Compared columns demand opposite orders here, and no order shows one of the skips that the planner
+// writes at first.
+#[test]
+fn conditions_with_a_skip_that_has_no_proof_are_served(rt: HostRuntime) -> Result<(), Fail> {
+    let alloc = rt.alloc();
+    let schema = Schema::parse(alloc, FOUR_BITS.as_bytes())?;
+    let mut numbers = Numbers::new(13);
+    let rows = rows_of(alloc, &mut numbers, &schema, &[0, 7, 15], 700)?;
+    for text in [
+        "(w < 15 OR w = z) AND (y < 6 OR z >= x) AND (z <= y OR z <> w) AND (z <= w OR x <= y)",
+        "(y >= 1 AND (z < 7 OR z <> y OR w <= z) AND (y > z OR w = z)) AND z < 3 AND x > w",
+    ] {
+        cost_of(&rt, alloc, &schema, text, &rows)?;
+    }
+    Ok(())
+}
+
 #[test]
 fn seven_columns_of_63_bits_in_order_are_served(rt: HostRuntime) -> Result<(), Fail> {
     assert_longest(&rt, 6, 9_223_372_036_854_775_806)
