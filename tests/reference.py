@@ -1,0 +1,87 @@
+"""sqlite3 over the values that were drawn or read, beside which answers are compared. bwtools has
+no part in it."""
+from __future__ import annotations
+
+import math
+import re
+import sqlite3
+from fractions import Fraction
+from typing import Any, Iterable, Sequence
+
+from tests.support import TestCase
+
+
+class Sum:
+    """The sum of values, exactly: of whole numbers, of decimals of up to four digits, or of
+    doubles."""
+
+    def __init__(self) -> None:
+        self.values: list[Any] = []
+
+    def step(self, value: Any) -> None:
+        if value is not None:
+            self.values.append(value)
+
+    def exact(self) -> Fraction:
+        is_decimal = all(round(value, 4) == value for value in self.values)
+        return sum(map(Fraction, map(repr, self.values)), Fraction()) if is_decimal \
+            else Fraction(math.fsum(self.values))
+
+    def finalize(self) -> Any:
+        if not self.values:
+            return None
+        return sum(self.values) if all(isinstance(value, int) for value in self.values) \
+            else float(self.exact())
+
+
+class Mean(Sum):
+    """The mean of values, likewise."""
+
+    def finalize(self) -> Any:
+        return float(self.exact() / len(self.values)) if self.values else None
+
+
+class Reference:
+    """Tables, each with the names and types of its columns, and rows."""
+
+    def __init__(self) -> None:
+        self.exact, self.plain = (sqlite3.connect(":memory:") for _ in range(2))
+        self.exact.create_aggregate("sum", 1, Sum)
+        self.exact.create_aggregate("avg", 1, Mean)
+
+    def add(self, name: str, columns: Sequence[tuple[str, str]],
+            rows: Iterable[Sequence[Any]]) -> None:
+        """Adds a table."""
+        kept = list(rows)
+        for database in (self.exact, self.plain):
+            database.execute(f"CREATE TABLE {name} ({', '.join(map(' '.join, columns))})")
+            database.executemany(
+                f"INSERT INTO {name} VALUES ({', '.join('?' * len(columns))})", kept)
+
+    def rows(self, statement: str) -> list[tuple[Any, ...]]:
+        """Returns the rows of an answer. Exact sums can't be used before OVER."""
+        database = self.plain if re.search(r"\bover\b", statement, re.IGNORECASE) \
+            else self.exact
+        return database.execute(statement).fetchall()
+
+    def close(self) -> None:
+        self.exact.close()
+        self.plain.close()
+
+
+def is_near(found: Any, wanted: Any) -> bool:
+    """Returns whether two values are equal: doubles within one unit in the last place."""
+    if isinstance(found, float) and isinstance(wanted, float) and math.isfinite(wanted):
+        return abs(found - wanted) <= math.ulp(max(abs(found), abs(wanted)))
+    return type(found) is type(wanted) and found == wanted
+
+
+class Compared(TestCase):
+    """Tests of answers beside those of sqlite3."""
+
+    def compare(self, found: Sequence[Sequence[Any]], wanted: Sequence[Sequence[Any]]) -> None:
+        """Compares rows, in their order."""
+        for place, (row, other) in enumerate(zip(found, wanted)):
+            if len(row) != len(other) or not all(map(is_near, row, other)):
+                self.fail(f"row {place} is {row}, expected {other}")
+        self.assertEqual(len(found), len(wanted))
