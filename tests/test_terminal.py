@@ -1,22 +1,14 @@
-#!/usr/bin/env python3
-"""Tests what bw prints below the line of an error, or after a result that was found row by row, at
-a terminal or with --explain: the place of the error and how to fix it, or why there was no program.
-
-It runs the program of the environment variable BW, else the one that ./bw runs, with a
-pseudo-terminal as standard error; with a pipe, which gets only the error's line; and with a pipe
-and --explain, before the command and after it, where the output is that of a terminal. A line that
-begins with `FAILED`, at the end, is a case that fails; its output follows. It takes a few seconds,
-and is for Linux."""
+"""What bw prints below the line of an error, or after a result that was found row by row, at a
+terminal or with --explain: the place of the error and how to fix it, or why there was no program. A
+pipe gets only the error's line, unless there is --explain, before the command or after it."""
 import contextlib
 import os
 import pty
 import subprocess
-import sys
 
-sys.dont_write_bytecode = True
-import common
+from tests import pages, support
+from tests.support import BW
 
-BW = common.program()
 SCHEMA = "examples/common.schema"
 CSV = "examples/common.csv"
 
@@ -242,8 +234,7 @@ def at_terminal(words, folder):
     bytes."""
     ours, theirs = pty.openpty()
     subprocess.run([BW, *words], cwd=folder, stdin=subprocess.DEVNULL, stdout=subprocess.DEVNULL,
-                   stderr=theirs, check=False,
-                   timeout=60)
+                   stderr=theirs, check=False, timeout=support.LONGEST)
     os.set_blocking(ours, False)
     text = b""
     with contextlib.suppress(BlockingIOError):
@@ -254,37 +245,40 @@ def at_terminal(words, folder):
     return text.decode().replace("\r\n", "\n")
 
 
-def piped(words, folder):
-    """Returns what a call prints on standard error if that is a pipe."""
-    return subprocess.run([BW, *words], cwd=folder, stdin=subprocess.DEVNULL,
-                          stdout=subprocess.DEVNULL, stderr=subprocess.PIPE,
-                          check=False, timeout=60).stderr.decode()
+class Told(support.TestCase):
+    """A folder with the files of the calls."""
 
-
-def main():
-    failed = []
-    with common.new_folder(BW) as folder:
+    @classmethod
+    def setUpClass(cls):
+        cls.folder = cls.new_class_folder()
+        pages.furnish(cls.folder)
         for name, content in FILES.items():
-            (folder / name).write_bytes(content)
+            (cls.folder / name).write_bytes(content)
         for name in ("apart", "alike"):
-            subprocess.run([BW, "load", f"{name}.schema", f"{name}.csv", f"{name}.bw"], cwd=folder,
-                           check=True)
-        for words, below in CASES + ROWS:
-            alone = piped(words, folder)
-            came = at_terminal(words, folder)
-            wanted = alone + "".join(f"    {line}\n" for line in below)
-            asked = {piped(["--explain", *words], folder), piped([*words, "--explain"], folder)}
-            is_alone = not alone if (words, below) in ROWS else alone.startswith("bw: ") and \
-                alone.count("\n") == 1
-            print("bw " + " ".join(words)[:200])
-            print("".join(f"    {line}\n" for line in came.splitlines()), end="")
-            if not is_alone or came != wanted or asked != {wanted}:
-                failed.append((words, alone, wanted, came, asked))
-    for words, alone, wanted, came, asked in failed:
-        print(f"FAILED bw {' '.join(words)[:200]}\n    alone: {alone!r}\n    wanted: {wanted!r}\n "
-              f"   at a terminal: {came!r}\n"
-              f"    with --explain: {sorted(asked)!r}")
-    return common.ended("terminal", len(CASES + ROWS) - len(failed), len(failed))
+            support.bw("load", f"{name}.schema", f"{name}.csv", f"{name}.bw", cwd=cls.folder)
+
+    def compare(self, words, below):
+        """Compares what a call prints below its own line in each way. Returns that line."""
+        alone = support.bw(*words, cwd=self.folder).err
+        wanted = alone + "".join(f"    {line}\n" for line in below)
+        self.assertEqual(at_terminal(words, self.folder), wanted)
+        for asked in (["--explain", *words], [*words, "--explain"]):
+            self.assertEqual(support.bw(*asked, cwd=self.folder).err, wanted)
+        return alone
 
 
-sys.exit(main())
+@support.each([(" ".join(words)[-90:], words, below) for words, below in CASES])
+class Errors(Told):
+    """Below the line of an error."""
+
+    def check(self, _, words, below):
+        alone = self.compare(words, below)
+        self.assertRegex(alone, r"\Abw: .*\n\Z")
+
+
+@support.each([(" ".join(words)[-90:], words, below) for words, below in ROWS])
+class Rows(Told):
+    """After a result that was found row by row."""
+
+    def check(self, _, words, below):
+        self.assertEqual(self.compare(words, below), "")
