@@ -604,3 +604,92 @@ class Joined:
 def with_iso_dates(statement: str) -> str:
     """Returns a statement as SQLite gets it."""
     return DATE.sub(lambda found: f"'2024-{int(found[1]):02}-{int(found[2]):02}'", statement)
+
+
+class Fields:
+    """Fields of a CSV of columns of several kinds, and conditions over them that bw-ask and SQLite
+    read alike."""
+
+    # the columns, and their types in SQLite
+    TYPES = {"id": "INTEGER", "city": "TEXT", "fare": "REAL", "tip": "REAL", "rate": "REAL",
+             "day": "TEXT", "due": "TEXT", "at": "TEXT", "ok": "INTEGER", "n": "INTEGER"}
+
+    def __init__(self, chance: random.Random) -> None:
+        self.chance = chance
+        names = ["Boston", "Bost", "boston", "O'Hare", "Zürich", 'the "Hub"', "one, two",
+                 "line\nfeed", " blank", "007", "Ünder"]
+        self.names = [*names, *(f"{chance.choice(names)}{chance.choice(' -x')}{n}"
+                                for n in range(20))]
+
+    def field(self, column: str) -> str:
+        """Returns a field that a column may have, or one near such a field."""
+        chance = self.chance
+        if column == "city":
+            name = chance.choice(self.names)
+            return name if chance.random() < .6 else name[:chance.randrange(len(name) + 1)] or "A"
+        if column in ("day", "due"):
+            year, month = chance.randrange(22, 26), chance.randrange(1, 13)
+            return f"20{year}-{month:02}-{chance.randrange(1, 29):02}"
+        if column == "at":
+            day = f"2024-0{chance.randrange(1, 4)}-{chance.randrange(1, 29):02}"
+            return f"{day}T{chance.randrange(24):02}:{chance.choice('0135')}0:07"
+        if column == "ok":
+            return chance.choice(("true", "false"))
+        if column in ("fare", "tip"):
+            return f"{chance.randrange(-300, 300) / 100:.2f}".replace("-0.00", "0.00")
+        if column == "rate":
+            number = f"{chance.randrange(-200, 200) / chance.choice((1, 10, 100)):.2f}"
+            return number.rstrip("0").rstrip(".")
+        return str(chance.randrange(-20, 20))
+
+    def rows(self, count: int) -> list[list[str]]:
+        """Returns rows, of which the first column numbers them."""
+        def field(column: str) -> str:
+            found = self.field(column)
+            return "" if self.chance.random() < .12 else "0" if found == "-0" else found
+
+        return [[str(number), *map(field, list(self.TYPES)[1:])] for number in range(count)]
+
+    def literal(self, column: str) -> str:
+        """Returns a literal to compare a column with, whether a row has it or not."""
+        chance = self.chance
+        if chance.random() < .06:
+            return "NULL"
+        if column == "ok":
+            return chance.choice(("TRUE", "FALSE", "1", "0"))
+        field = self.field(column)
+        if self.TYPES[column] == "TEXT":
+            if column == "day" and chance.random() < .2:
+                field += " 12:30:00"
+            if column == "at" and chance.random() < .2:
+                field = field[:10]
+            return "'" + field.replace("'", "''") + "'"
+        more = chance.choice(("5", "05", "0", "001"))
+        return field if chance.random() < .6 else f"{field}{'' if '.' in field else '.'}{more}"
+
+    def predicate(self) -> str:
+        chance = self.chance
+        column = chance.choice(list(self.TYPES)[1:])
+        sign, negated = chance.choice(COMPARE), chance.choice(("", "NOT "))
+        first, second, third = (self.literal(column) for _ in range(3))
+        other = {"fare": "tip", "tip": "fare", "day": "due", "due": "day"}.get(column, column)
+        if chance.random() < .04:
+            return chance.choice(("ok", "NOT ok", "ok IS NOT TRUE"))
+        return chance.choice([f"{column} {sign} {first}"] * 3 + [
+            f"{first} {sign} {column}", f"{column} {negated}BETWEEN {first} AND {second}",
+            f"{column} {negated}IN ({first}, {second}, {third})", f"{column} {negated}IN ({first})",
+            f"{column} IS {negated}NULL", f"{column} {sign} {other}",
+            f"{column} {negated}IN ({first}, {other}, {second})",
+            f"{first} {negated}IN ({column}, {second}, {other})",
+            f"{first} {negated}BETWEEN {column} AND {second}",
+            f"{column} {negated}BETWEEN {other} AND {second}", f"{first} {sign} {second}"])
+
+    def condition(self, depth: int) -> str:
+        """Returns a condition whose parts are nested to this depth."""
+        if depth == 0 or self.chance.random() < .2:
+            return self.predicate()
+        first, second = (self.condition(depth - 1) for _ in range(2))
+        truth = f"{self.chance.choice(('', 'NOT '))}{self.chance.choice(('TRUE', 'FALSE', 'NULL'))}"
+        return self.chance.choice((
+            f"NOT ({first})", f"({first}) IS {truth}", f"({first}) OR ({second})",
+            f"({first}) AND ({second})", f"{self.predicate()} OR ({second})"))

@@ -98,10 +98,12 @@ def sh(command: str, folder: pathlib.Path, seconds: int = LONGEST, **names: str)
 
 @functools.lru_cache(None)
 def import_package() -> None:
-    """Imports all of bwtools, so that a forked program needn't."""
+    """Imports all of bwtools, and has it compile most patterns, so that a forked program
+    needn't."""
     for path in sorted((PYTHON / "bwtools").rglob("*.py")):
         name = ".".join(path.relative_to(PYTHON).with_suffix("").parts)
         importlib.import_module(name.removesuffix(".__init__"))
+    numbers_of(b"a,b,c,d,e,f\n1,1.5,2024-05-01,12:30,true,x\n-2,,2024-05-02,12:31,false,1e5\n")
     # the programs, which are short, turn it off
     gc.enable()
 
@@ -131,6 +133,7 @@ def run_forked(name: str, words: list[str], cwd: Any, names: dict[str, str]) -> 
     status: Any = 1
     try:
         signal.alarm(LONGEST)
+        gc.disable()
         os.chdir(cwd or os.getcwd())
         os.environ.update(names)
         sys.argv = [name, *words]
