@@ -693,3 +693,83 @@ class Fields:
         return self.chance.choice((
             f"NOT ({first})", f"({first}) IS {truth}", f"({first}) OR ({second})",
             f"({first}) AND ({second})", f"{self.predicate()} OR ({second})"))
+
+
+class Spellings:
+    """Rows of a number, a text, a date, a UTC time and a boolean, each or null, in many spellings,
+    and conditions over them."""
+
+    def __init__(self, chance: random.Random) -> None:
+        self.chance = chance
+
+    def rows(self, count: int) -> tuple[list[list[Any]], list[list[str]]]:
+        """Returns rows as SQLite has them, numbered, and their fields."""
+        chance, rows, fields = self.chance, [], []
+        for number in range(count):
+            pairs = [self.number(), self.text(), self.day(), self.time(), self.truth()]
+            words = [chance.choice(each) for each in (("", "NA", "null", "-"), ("",),
+                                                      ("", "NULL"), ("", "N/A"), ("", "null"))]
+            nulls = [chance.random() < .1 for _ in pairs]
+            rows.append([number, *(None if null else value
+                                   for null, (value, _) in zip(nulls, pairs))])
+            fields.append([str(number), *(word if null else field for null, word, (_, field)
+                                          in zip(nulls, words, pairs))])
+        return rows, fields
+
+    def number(self) -> tuple[float, str]:
+        chance = self.chance
+        value = decimal.Decimal(chance.randrange(-4000, 4000)).scaleb(-chance.randrange(0, 4))
+        plain = f"{value:f}"
+        return float(value), chance.choice((plain, plain if plain[0] == "-" else f"+{plain}",
+                                            f"{plain}{'0' if '.' in plain else '.0'}"))
+
+    def text(self) -> tuple[str, str]:
+        return (self.chance.choice(("DE", "NA", "-", "NULL", "Ünder", "de", "N/A", "O'Hare")),) * 2
+
+    def day(self) -> tuple[str, str]:
+        day = datetime.date(2024, 1, 1) + datetime.timedelta(self.chance.randrange(400))
+        return day.isoformat(), f"{day.day}.{day.month:02}.{day.year}"
+
+    def time(self) -> tuple[str, str]:
+        chance = self.chance
+        at = datetime.datetime(2024, 1, 1) + datetime.timedelta(
+            seconds=chance.randrange(10 ** 7), milliseconds=chance.randrange(0, 1000, 125))
+        offset = chance.choice((0, 60, -330))
+        zone = chance.choice(("Z", "+00:00")) if not offset \
+            else f"{'-' if offset < 0 else '+'}{abs(offset) // 60:02}:{abs(offset) % 60:02}"
+        local = at + datetime.timedelta(minutes=offset)
+        return at.isoformat("T", "milliseconds") + "Z", \
+            local.isoformat(chance.choice("T "), "milliseconds") + zone
+
+    def truth(self) -> tuple[int, str]:
+        truth = self.chance.random() < .5
+        return int(truth), self.chance.choice(("true", "True", "TRUE") if truth
+                                              else ("false", "False", "FALSE"))
+
+    def condition(self, depth: int) -> tuple[str, ...]:
+        """Returns a condition for ask and for SQLite."""
+        chance = self.chance
+        if depth:
+            pairs = zip(self.condition(depth - 1), self.condition(depth - 1))
+            form = chance.choice(("({}) AND ({})", "({}) OR ({})", "NOT ({}) OR ({})"))
+            return tuple(form.format(*each) for each in pairs)
+        at = datetime.datetime(2024, 1, 1) + datetime.timedelta(seconds=chance.randrange(10 ** 7))
+        plain = at.isoformat("T", "milliseconds") + "Z"
+        literals = {
+            "num": [(text, text) for text in (str(chance.randrange(-40, 40)), "0.0005",
+                                              f"{chance.randrange(-4000, 4000) / 1000:.4f}")],
+            "land": [(text, text) for text in ("'DE'", "'NA'", "'D'", "'e'", "'NULL'",
+                                               "'O''Hare'")],
+            "day": [(f"'{at.day}.{at.month}.{at.year}'", f"'{at.date()}'"),
+                    (f"'{at.date()}'", f"'{at.date()}'")],
+            "at": [(f"'{(at + datetime.timedelta(hours=2)).isoformat(' ')}+02:00'", f"'{plain}'"),
+                   (f"'{plain}'", f"'{plain}'")],
+            "ok": [("TRUE", "1"), ("FALSE", "0")]}
+        column = chance.choice(list(literals))
+        three = [chance.choice(literals[column]) for _ in range(3)]
+        negated = chance.choice(("", "NOT "))
+        form = chance.choice((f"{column} {chance.choice(COMPARE)} {{}}",
+                              f"{column} {negated}IN ({{}}, {{}})",
+                              f"{column} {negated}BETWEEN {{}} AND {{}}",
+                              f"{column} IS {negated}NULL"))
+        return tuple(form.format(*each) for each in zip(*three))
