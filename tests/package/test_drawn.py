@@ -1,26 +1,14 @@
 """Drawn statements beside sqlite3 over the same values."""
-import csv
-import io
 import random
-import sqlite3
 
 import bwtools
-from bwtools.sql import grammar
-from bwtools.sql.statement import Statement
-from bwtools.telling import Refused
 
 from tests import drawn, reference, support
 from tests.drawn import COLUMNS, TYPES
-from tests.reference import Compared
+from tests.reference import Asked, Compared, csv_of
 
 READERS = {"INTEGER": lambda field: int({"true": 1, "false": 0}.get(field, field)), "REAL": float,
            "TEXT": str}
-
-
-def csv_of(records):
-    out = io.StringIO()
-    csv.writer(out, lineterminator="\n").writerows(records)
-    return out.getvalue()
 
 
 class Joins(Compared):
@@ -51,55 +39,6 @@ class Joins(Compared):
                 self.assertEqual(len(list(answer.python_rows())), len(rows))
                 self.assertEqual(sum(len(block[0]) for block in answer.fields()), len(rows))
         self.assertGreater(ways[2], 300)
-
-
-class Asked(Compared):
-    """A table, of which statements are asked in both ways."""
-
-    def set_up(self, path, data, table, *words):
-        """Imports a table, and gives sqlite3 its values."""
-        support.imported(path, data, *words)
-        self.connection, self.base = bwtools.connect(path), reference.Reference()
-        self.addCleanup(self.connection.close)
-        self.addCleanup(self.base.close)
-        self.base.add(table.name, [(each.name, each.type) for each in table.columns],
-                      zip(*(each.values for each in table.columns)))
-
-    def answers(self, sql):
-        """Yields the answer of each way that serves a statement, or what refuses it."""
-        statement = Statement(sql, self.connection.catalog)
-        for ask in (lambda: grammar.answer(statement, self.connection.engine),
-                    lambda: self.connection.by_sqlite.answer(statement)):
-            try:
-                answer = ask()
-            except Refused as refused:
-                yield refused
-            else:
-                if answer:
-                    yield answer
-
-    def ask(self, sql, instead):
-        """Compares the answers to a statement. Returns how many ways served it."""
-        try:
-            wanted = self.base.rows(instead)
-        except sqlite3.Error as error:
-            wanted = error
-        try:
-            found = list(self.answers(sql))
-        except Refused as refused:
-            self.assertIsInstance(wanted, sqlite3.Error, refused)
-            return 0
-        for answer in found:
-            if isinstance(wanted, sqlite3.Error) or isinstance(answer, Refused):
-                self.assertIsInstance(answer, Refused, wanted)
-                self.assertIsInstance(wanted, sqlite3.Error, answer)
-                continue
-            rows = list(answer.rows())
-            self.compare(rows, wanted)
-            self.assertEqual(sum(len(block[0]) for block in answer.fields()), len(rows))
-        if len(found) == 2 and not any(isinstance(answer, Refused) for answer in found):
-            self.assertEqual(*((list(answer.headings), answer.kinds) for answer in found))
-        return len(found)
 
 
 @support.each([(f"seed {seed}", seed) for seed in range(6)])
