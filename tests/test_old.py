@@ -2,7 +2,7 @@
 from tests import support
 
 
-@support.each(["install-test", "XX",
+@support.each(["XX",
                "lint", "promises"])
 class Scripts(support.TestCase):
     def check(self, name):
