@@ -6,7 +6,7 @@ import datetime
 import decimal
 import random
 import re
-from typing import Any, Callable, Iterable, Iterator, Sequence
+from typing import Any, Callable, Iterator, Sequence
 
 COMPARE = ("=", "<>", "<", ">", "<=", ">=")
 
@@ -114,52 +114,52 @@ class Column:
     """A column of drawn values, as SQLite has them: its name, its kind, SQLite's type, and the
     fields of the CSV."""
 
-    def __init__(self, name, kind, chance, rows):
+    def __init__(self, name: str, kind: str, chance: random.Random, rows: int) -> None:
         self.name, self.kind, self.digits = name, kind, chance.choice((1, 2, 4))
         nulls = chance.choice((0, 0, .1, .5))
         draw = getattr(self, kind)(chance)
-        self.values = [None if chance.random() < nulls else draw() for _ in range(rows)]
+        self.values: list[Any] = [None if chance.random() < nulls else draw() for _ in range(rows)]
         self.type = {"whole": "INTEGER", "wide": "INTEGER", "truths": "INTEGER", "decimals": "REAL",
                      "floats": "REAL"}.get(kind, "TEXT")
         self.known = [value for value in dict.fromkeys(self.values) if value is not None]
 
     @property
-    def is_number(self):
+    def is_number(self) -> bool:
         return self.type != "TEXT"
 
-    def whole(self, chance):
+    def whole(self, chance: random.Random) -> Callable[[], Any]:
         low, count = chance.choice((0, -5, 1000)), chance.choice((2, 20, 300, 2000))
         return lambda: low + chance.randrange(count)
 
-    def wide(self, chance):
+    def wide(self, chance: random.Random) -> Callable[[], Any]:
         return lambda: chance.randrange(-10 ** 12, 10 ** 12)
 
-    def decimals(self, chance):
+    def decimals(self, chance: random.Random) -> Callable[[], Any]:
         power, count = 10 ** self.digits, chance.choice((30, 5000, 10 ** 9))
         return lambda: (chance.randrange(count) - count // 4) / power
 
-    def floats(self, chance):
+    def floats(self, chance: random.Random) -> Callable[[], Any]:
         return lambda: chance.choice((chance.uniform(-1, 1), chance.gauss(0, 1e6),
                                       chance.random() / 7, .5))
 
-    def truths(self, chance):
+    def truths(self, chance: random.Random) -> Callable[[], Any]:
         return lambda: chance.randrange(2)
 
-    def dates(self, chance):
+    def dates(self, chance: random.Random) -> Callable[[], Any]:
         days = chance.choice((10, 500, 9000))
         return lambda: str(datetime.date(2001, 1, 1) + datetime.timedelta(chance.randrange(days)))
 
-    def times(self, chance):
+    def times(self, chance: random.Random) -> Callable[[], Any]:
         return lambda: str(datetime.datetime(2024, 2, 28)
                            + datetime.timedelta(seconds=chance.randrange(300_000)))
 
-    def texts(self, chance):
+    def texts(self, chance: random.Random) -> Callable[[], Any]:
         return lambda: chance.choice(TEXTS)
 
-    def names(self, chance):
+    def names(self, chance: random.Random) -> Callable[[], Any]:
         return lambda: f"{chance.choice('abcXYZéÉ')}{chance.randrange(2000)}"
 
-    def field(self, value):
+    def field(self, value: Any) -> str:
         """Returns the CSV field of a value."""
         if value is None:
             return ""
@@ -169,7 +169,7 @@ class Column:
             return f"{value:.{self.digits}f}"
         return repr(value) if self.kind == "floats" else str(value)
 
-    def literal(self, chance):
+    def literal(self, chance: random.Random) -> str:
         """Returns a literal to compare the column with: usually one of its values, or one near
         it."""
         value = chance.choice(self.known) if self.known \
@@ -195,7 +195,7 @@ class Table:
     KINDS = ("whole", "whole", "wide", "decimals", "decimals", "floats", "truths", "dates", "times",
              "texts", "texts", "names")
 
-    def __init__(self, name, seed, rows=None):
+    def __init__(self, name: str, seed: int, rows: int | None = None) -> None:
         chance = random.Random(seed)
         rows = chance.choice((2, 30, 300, 2000)) if rows is None else rows
         kinds = [*chance.sample(self.KINDS, chance.randrange(4, 9)), "whole"]
@@ -208,7 +208,7 @@ class Table:
         self.columns.append(Column("id", "whole", chance, 0))
         self.columns[-1].values = self.columns[-1].known = list(range(1, rows + 1))
 
-    def lines(self):
+    def lines(self) -> Iterator[Sequence[str]]:
         """Yields the records of the CSV, the heading first."""
         yield [column.name for column in self.columns]
         yield from zip(*([column.field(value) for value in column.values]
@@ -218,28 +218,29 @@ class Table:
 class Statements:
     """Draws statements over a table. `are_plain` leaves out what only SQLite does."""
 
-    def __init__(self, table, chance, are_plain):
+    def __init__(self, table: Any, chance: random.Random, are_plain: bool) -> None:
         self.table, self.chance, self.are_plain = table, chance, are_plain
 
-    def column(self, *kinds):
+    def column(self, *kinds: str) -> Any:
         found = [each for each in self.table.columns if not kinds or each.kind in kinds]
         return self.chance.choice(found or self.table.columns)
 
-    def number(self):
+    def number(self) -> Any:
         return self.chance.choice([each for each in self.table.columns if each.is_number])
 
-    def statement(self):
+    def statement(self) -> tuple[str, str]:
         """Returns a statement, and the one for sqlite3 alone. It has terms of ORDER BY for the
         groups that those of the statement leave equal, which are to ascend: sqlite3 has them in
         another order, if the terms are as many as the groups' columns."""
-        forms = [self.rows, self.groups, self.groups, self.totals, self.distinct]
+        forms: list[Callable[[], Any]] = [self.rows, self.groups, self.groups, self.totals,
+                                          self.distinct]
         found = self.chance.choice(forms if self.are_plain else [*forms, self.odd, self.odd])()
-        return found if isinstance(found, tuple) else (found, found)
+        return (found, found) if isinstance(found, str) else (found[0], found[1])
 
-    def where(self):
+    def where(self) -> str:
         return f" WHERE {self.condition(2)}" if self.chance.random() < .7 else ""
 
-    def condition(self, depth):
+    def condition(self, depth: int) -> str:
         """Returns a condition."""
         chance = self.chance
         if depth and chance.random() < .5:
@@ -253,7 +254,7 @@ class Statements:
             return f"({found}) IS {truth}"
         return f"NOT {found}" if chance.random() < .1 else found
 
-    def predicate(self):
+    def predicate(self) -> str:
         chance, column = self.chance, self.column()
         name, negated = column.name, chance.choice(("", "", "NOT "))
         form = chance.choice(("compare", "compare", "compare", "between", "in", "null", "like",
@@ -278,7 +279,7 @@ class Statements:
             sides.reverse()
         return f" {chance.choice(COMPARE)} ".join(sides)
 
-    def like(self, column, negated):
+    def like(self, column: Any, negated: str) -> str:
         """Returns a LIKE or a GLOB."""
         chance = self.chance
         value = str(chance.choice(column.known or ["x"])).replace("'", "''")
@@ -292,7 +293,7 @@ class Statements:
         pattern = pattern.swapcase() if chance.random() < .2 else pattern
         return f"{column.name} {negated}LIKE '{pattern}'{escape}"
 
-    def columns(self, column):
+    def columns(self, column: Any) -> str:
         """Returns a comparison of two columns."""
         texts = column.kind in ("texts", "names")
         others = [each for each in self.table.columns if each.is_number == column.is_number and
@@ -300,7 +301,7 @@ class Statements:
                    each.kind in ("texts", "names"))]
         return f"{column.name} {self.chance.choice(COMPARE)} {self.chance.choice(others).name}"
 
-    def odd_predicate(self, column):
+    def odd_predicate(self, column: Any) -> str:
         """Returns a predicate that only SQLite has."""
         chance, table = self.chance, self.table.name
         if column.is_number:
@@ -313,12 +314,12 @@ class Statements:
                               f"{column.name} = (SELECT MAX({column.name}) FROM {table})",
                               f"substr({column.name}, 1, 1) < 'c'"))
 
-    def limit(self):
+    def limit(self) -> str:
         chance = self.chance
         form = chance.choice(("", "", " LIMIT {0}", " LIMIT {0} OFFSET {1}", " LIMIT {1}, {0}"))
         return form.format(chance.choice((0, 1, 5, 50, 5000)), chance.choice((0, 1, 20)))
 
-    def order(self, names, chances=.6):
+    def order(self, names: Sequence[str], chances: float = .6) -> str:
         """Returns ORDER BY over some expressions, or nothing."""
         chance = self.chance
         if chance.random() > chances:
@@ -328,7 +329,7 @@ class Statements:
                  for each in chance.sample(names, min(len(names), chance.choice((1, 1, 2))))]
         return f" ORDER BY {', '.join(terms)}"
 
-    def rows(self):
+    def rows(self) -> str:
         """Returns a statement of rows."""
         chance, table = self.chance, self.table
         columns = chance.sample(table.columns, chance.randrange(1, len(table.columns)))
@@ -342,7 +343,7 @@ class Statements:
         return (f"SELECT {', '.join(items)} FROM {table.name}{self.where()}{self.order(terms)}"
                 f"{self.limit()}")
 
-    def distinct(self):
+    def distinct(self) -> str:
         """Returns a SELECT DISTINCT."""
         chance, table = self.chance, self.table
         columns = chance.sample(table.columns, chance.choice((1, 1, 2)))
@@ -351,7 +352,7 @@ class Statements:
         return (f"SELECT DISTINCT {', '.join(items)} FROM {table.name}{self.where()}"
                 f"{self.order(names, .4)}{self.limit()}")
 
-    def aggregate(self):
+    def aggregate(self) -> str:
         """Returns an aggregate."""
         column, chance = self.column(), self.chance
         forms = [f"COUNT({column.name})", f"COUNT(DISTINCT {column.name})", f"MIN({column.name})",
@@ -365,7 +366,7 @@ class Statements:
                                   else f"TOTAL({number})"))
         return chance.choice(forms)
 
-    def item(self):
+    def item(self) -> str:
         """Returns an expression over aggregates."""
         found, number = self.aggregate(), self.number().name
         return self.chance.choice((found, found, found,
@@ -376,7 +377,7 @@ class Statements:
                                    "CASE WHEN COUNT(*) > 3 THEN 'many' ELSE 'few' END",
                                    "CAST(COUNT(*) AS TEXT) || '!'"))
 
-    def totals(self):
+    def totals(self) -> str:
         """Returns a statement of totals of all rows."""
         items = ", ".join(self.item() for _ in range(self.chance.randrange(1, 4)))
         having = f" HAVING COUNT(*) > {self.chance.choice((0, 10))}" if self.chance.random() < .1 \
@@ -385,10 +386,10 @@ class Statements:
         limit = self.limit() if self.chance.random() < .1 else ""
         return f"SELECT {items} FROM {self.table.name}{where}{having}{limit}"
 
-    def key(self, column):
+    def key(self, column: Any) -> str:
         """Returns what makes groups: usually a column, else an expression over it."""
         if self.chance.random() < .85:
-            return column.name
+            return str(column.name)
         if column.is_number:
             return self.chance.choice((f"{column.name} % 7", f"abs({column.name})",
                                        f"{column.name} > 5", f"round({column.name} / 10)"))
@@ -396,7 +397,7 @@ class Statements:
                                    f"upper({column.name})",
                                    f"strftime('%m', {column.name})", f"{column.name} || '!'"))
 
-    def groups(self):
+    def groups(self) -> tuple[str, str]:
         """Returns a statement with GROUP BY, and the one for sqlite3."""
         chance, table = self.chance, self.table
         keys = [self.key(each)
@@ -418,7 +419,7 @@ class Statements:
         more = ", " + ", ".join(keys) if order else ""
         return f"{found}{order}{limit}", f"{found}{order}{more}{limit}"
 
-    def odd(self):
+    def odd(self) -> str:
         """Returns a statement that only SQLite answers."""
         chance, name = self.chance, self.table.name
         one, two, number = self.column().name, self.column().name, self.number().name
@@ -442,7 +443,7 @@ class Statements:
             f"SELECT length({one}), COUNT(*) FROM {name}{self.where()} GROUP BY length({one}) "
             "ORDER BY 1"))
 
-    def where_of(self, alias):
+    def where_of(self, alias: str) -> str:
         column = self.column()
         sign = self.chance.choice(COMPARE)
         return f" WHERE {alias}.{column.name} {sign} {column.literal(self.chance)}"
@@ -474,12 +475,14 @@ class Joined:
         chosen = self.random
         if chosen.random() < 0.12:
             return ""
-        return {"k": lambda: str(chosen.randrange(12)), "s": lambda: chosen.choice(JOINED_TEXTS),
-                "d": lambda: f"2024-{chosen.randrange(1, 4):02}-{chosen.randrange(1, 29):02}",
-                "m": lambda: f"{chosen.randrange(-300, 900) / 100:.2f}",
-                "f": lambda: repr(chosen.choice([0.1, 1e-7, 2.5, 1e9, chosen.random()])),
-                "b": lambda: chosen.choice(["true", "false"]),
-                "n": lambda: str(chosen.randrange(-5, 50))}[name.lstrip("u")]()
+        ways: dict[str, Callable[[], str]] = {
+            "k": lambda: str(chosen.randrange(12)), "s": lambda: chosen.choice(JOINED_TEXTS),
+            "d": lambda: f"2024-{chosen.randrange(1, 4):02}-{chosen.randrange(1, 29):02}",
+            "m": lambda: f"{chosen.randrange(-300, 900) / 100:.2f}",
+            "f": lambda: repr(chosen.choice([0.1, 1e-7, 2.5, 1e9, chosen.random()])),
+            "b": lambda: chosen.choice(["true", "false"]),
+            "n": lambda: str(chosen.randrange(-5, 50))}
+        return ways[name.lstrip("u")]()
 
     def rows(self, table: str) -> list[list[str]]:
         """Returns the fields of a table's rows."""

@@ -59,7 +59,9 @@ def plain(cell: str) -> str:
 def lines_in(cell: str) -> list[str]:
     """Returns the lines of output in a cell, which strokes separate; the line of an error begins
     with its number."""
-    text, status = re.fullmatch(r"(.*?) ?(\(status \d+\))?", cell).groups()
+    parts = re.fullmatch(r"(.*?) ?(\(status \d+\))?", cell)
+    assert parts
+    text, status = parts.groups()
     found = [] if text in ("", "nothing") else plain(text).split("/")
     found = [f"bw: {line}" if re.match(r"[1-8]\d\d [a-z]", line) else line for line in found]
     return found + ([status] if status else [])

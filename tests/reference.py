@@ -8,7 +8,7 @@ import math
 import re
 import sqlite3
 from fractions import Fraction
-from typing import Any, Iterable, Iterator, Sequence
+from typing import Any, Callable, Iterable, Iterator, Sequence
 
 import bwtools
 from bwtools.sql import grammar
@@ -116,8 +116,10 @@ class Asked(Compared):
     def answers(self, sql: str) -> Iterator[Any]:
         """Yields the answer of each way that serves a statement, or what refuses it."""
         statement = Statement(sql, self.connection.catalog)
-        for ask in (lambda: grammar.answer(statement, self.connection.engine),
-                    lambda: self.connection.by_sqlite.answer(statement)):
+        ways: list[Callable[[], Any]] = [
+            lambda: grammar.answer(statement, self.connection.engine),
+            lambda: self.connection.by_sqlite.answer(statement)]
+        for ask in ways:
             try:
                 answer = ask()
             except Refused as refused:

@@ -18,7 +18,7 @@ import tempfile
 import traceback
 import unittest
 import warnings
-from typing import Any, Callable, Iterable, NamedTuple, NoReturn, Sequence
+from typing import Any, Callable, Iterable, NamedTuple, NoReturn, Sequence, TypeVar
 
 from bwtools import importing, kinds, writing
 from bwtools.options import add_options, parsed
@@ -249,7 +249,10 @@ def options(*words: str) -> argparse.Namespace:
     return parsed(parser, words)
 
 
-def in_file(data: bytes, work: Callable[[str], Any]) -> Any:
+Made = TypeVar("Made")
+
+
+def in_file(data: bytes, work: Callable[[str], Made]) -> Made:
     """Returns what a function returns for the path of a file of these bytes."""
     with tempfile.TemporaryDirectory(prefix="bw test ") as name:
         path = pathlib.Path(name, "in.csv")
@@ -304,6 +307,7 @@ class Imported(TestCase):
     by the name of its file."""
 
     tables: dict[str, tuple[str, ...]] = {}
+    folder: pathlib.Path
 
     @classmethod
     def setUpClass(cls) -> None:

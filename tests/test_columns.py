@@ -11,7 +11,7 @@ import random
 from bwtools import answers, store
 
 from tests import drawn, support
-from tests.support import BW, bw, tool
+from tests.support import bw, tool
 
 try:
     import sqlite3

@@ -13,7 +13,7 @@ import tempfile
 import time
 import unittest
 
-from bwtools import aligned, command, formats
+from bwtools import aligned, formats
 from bwtools.asking import statements_in
 from bwtools.kinds import Dates, Decimals, Styled, Truths, Whole
 from bwtools.programs.ask import split
@@ -271,4 +271,3 @@ class Programs(Imported):
             with self.subTest(part):
                 self.assertIn(part, shown)
         self.assertIn("SELECT city,", (self.folder / "history").read_text())
-

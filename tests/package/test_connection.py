@@ -374,4 +374,3 @@ class Numpy(Connections):
             for value in (numpy.int64(2), numpy.int8(2), numpy.float64(2.0)):
                 self.assertEqual(connection.execute(f"SELECT city FROM trips WHERE id = ?{more}",
                                                     [value]).fetchall(), [("Bergen",)])
-

@@ -91,4 +91,3 @@ class Folders(unittest.TestCase):
         contents, listed = self.found()
         self.assertEqual(set(contents), set(listed))
         self.assertEqual(os.listdir(self.folder), ["shards"])
-

@@ -195,4 +195,3 @@ class DataFrames(Frames):
                 "SELECT city, count(*) AS n FROM kinds WHERE id < ? GROUP BY city", self.connection,
                 params=[4])
         self.assertEqual(found.values.tolist(), [[None, 1], ["Bergen", 1], ["Boston", 1]])
-

@@ -58,4 +58,3 @@ class Together(unittest.TestCase):
             kinds.add(wanted[0][0] if isinstance(wanted, tuple) else "refused")
         self.assertEqual(kinds, {"whole", "decimals", "floats", "texts", "dates", "times",
                                  "clocks", "truths", "nulls", "refused"})
-

@@ -365,4 +365,3 @@ class Files(Imported):
                     self.assertEqual(list(found.rows()), list(one.answer(sql).rows()))
             asker = several.engine(several.catalog.only).asker
             self.assertEqual(len(asker.sessions.sessions), 3)
-

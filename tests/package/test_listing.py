@@ -3,7 +3,6 @@ import io
 import math
 import signal
 import sqlite3
-import unittest
 from unittest import mock
 
 import bwtools
@@ -380,4 +379,3 @@ class Guarded(Listings):
                 connection.execute(
                     'SELECT "order" + 0, "count" + 0, abs(count_), "to" FROM words').fetchall(),
                 [(1, 2, 2, 3)])
-

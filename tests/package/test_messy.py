@@ -240,4 +240,3 @@ class Messy(unittest.TestCase):
             with self.subTest(name):
                 data = "\n".join(["a", *words, *map(str, numbers)]) + "\n"
                 self.assertEqual(table_of(data.encode()).columns[0].looks_like, wanted)
-

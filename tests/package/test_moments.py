@@ -58,4 +58,3 @@ class Moments(unittest.TestCase):
                 self.assertEqual(times_of(found.numbers, found.shape), fields)
                 one = moments.read_moment("%Y-%m-%dT%H:%M:%S", fields[0])
                 self.assertEqual((one.number, one.digits), (found.numbers[0], digits))
-

@@ -77,4 +77,3 @@ class Names(unittest.TestCase):
     def test_names_differ(self):
         self.assertEqual(names_of(["a", "A", "a b", "a_b", "a"]),
                          ["a", "A_2", "a_b_2", "a_b", "a_3"])
-

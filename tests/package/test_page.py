@@ -2,8 +2,6 @@
 import doctest
 import importlib.util
 import os
-import pathlib
-import unittest
 
 from tests.support import ROOT, Imported
 
@@ -32,4 +30,3 @@ class Page(Imported):
         runner.run(test, out=told.append, clear_globs=False)
         test.globs["connection"].close()
         self.assertEqual(runner.failures, 0, "".join(told))
-

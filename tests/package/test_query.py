@@ -124,4 +124,3 @@ class First(Imported):
                         answer = connection.answer(sql)
                         self.assertEqual((answer.way, list(answer.rows())), (1, wanted))
                 self.assertNotIn("sessions", vars(asker))
-

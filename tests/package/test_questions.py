@@ -161,4 +161,3 @@ class Questions(Imported, reference.Compared):
         place = 7 if name == "visits.bw" else None
         return [repr(float(field)) if at == place and field else field for at,
                 field in enumerate(row)]
-

@@ -3,7 +3,6 @@ with a reason. docs/ARCHITECTURE.md has the rule."""
 import pathlib
 import subprocess
 import sys
-import unittest
 
 import bwtools
 from tests.support import Imported
@@ -57,4 +56,3 @@ class Start(Imported):
             with self.subTest(sql):
                 found, _ = self.modules("t.bw", sql)
                 self.assertEqual(found & {"dataclasses", "inspect", "argparse"}, set())
-

@@ -395,4 +395,3 @@ class Parameters(Statements):
         for value in (numpy.datetime64("2024-02-01"), numpy.array([1, 2]), numpy.float64("nan"),
                       numpy.complex128(1)):
             self.refused("SELECT ?", "parameter 1 ", value)
-

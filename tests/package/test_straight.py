@@ -249,4 +249,3 @@ class Imports(unittest.TestCase):
                 file.write(data)
                 file.flush()
                 Straight(file)
-

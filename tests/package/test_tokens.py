@@ -112,4 +112,3 @@ class Tokens(unittest.TestCase):
     def test_marks(self):
         self.assertTrue(Token("mark", "(", 0).is_mark("(", ")"))
         self.assertFalse(Token("text", "'('", 0).is_mark("("))
-

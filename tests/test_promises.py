@@ -1,6 +1,5 @@
-#!/usr/bin/env python3
-"""Checks docs/PROMISES.md and docs/promises.txt against each other and against the tree, and
-README.md's figures.
+"""docs/PROMISES.md and docs/promises.txt beside each other and beside the tree, README.md's
+figures, and the links and places of all pages.
 
 The page has groups, `## NAME`, and in each group promises, `### NAME`. A promise is sentences. They
 name some of the calls that guarantee it, `bw_crate::path::call`, and some clauses of a call,
@@ -15,32 +14,14 @@ clause that guarantees it,
 with the mutants that the prover rejects for that clause, if there are any: edits in
 crates/NAME/must-fail, which the gate tries, or in crates/NAME/mutants, which scripts/mutants tries.
 The label is omitted if a call has only one clause without a label, or if a method has only its
-trait's contract. Instead of clauses, a promise may have the line `tests: scripts/NAME,
-scripts/NAME`, or `the check itself`. Lines that begin with `#` are comments.
-
-It fails if:
-
-- a line names a call, a clause, an edit or a script that isn't in the tree
-- an edit is named by no line or by two, no longer applies, or calls something that is gone, or a
-  function with more or fewer arguments than it has
-- no line names a clause of a call that a library exports
-- a promise has no sentence, names no call of its own on the page, or names one there that none of
-  its lines has
-- page and data file have different promises, or a group has none
-- two headings are the same, or a line of the page has more than 300 characters
-- there are more must-fail edits than the gate has time for
-- a figure of README.md isn't that of docs/BENCHMARKS.md
-- a link of any page leads to no file or heading
-- a piece of a source that docs/THEOREM.md quotes doesn't stand there, or a number of lines isn't
-  that of the file
-- a page isn't in README.md's list of pages, doesn't begin with its place there, or doesn't end with
-  a link to the next page"""
+trait's contract. Instead of clauses, a promise may have the line `tests: tests/NAME.py,
+tests/NAME.py`, or `the check itself`. Lines that begin with `#` are comments."""
 import functools
-import pathlib
 import re
-import sys
 
-ROOT = pathlib.Path(__file__).resolve().parent.parent
+from tests import support
+from tests.support import ROOT
+
 PAGE, DATA = ROOT / "docs" / "PROMISES.md", ROOT / "docs" / "promises.txt"
 MOST = 90
 LONGEST = 300
@@ -98,6 +79,7 @@ def labels_of(text):
     return labels
 
 
+@functools.lru_cache(None)
 def contracts(crate):
     """Returns the clause labels of each function, by its name and by owner and name. Also returns
     the names that the library exports and the methods of what it exports, with their labels."""
@@ -418,95 +400,126 @@ def amiss_in_quotes(text):
     return len(quotes) + len(counts), wrong
 
 
-def main():
-    text = PAGE.read_text(encoding="utf-8")
-    looked_at, wrong_in_readme = amiss_in_figures(README.read_text(encoding="utf-8"),
-                                                  BENCHMARKS.read_text(encoding="utf-8"))
-    groups, wrong_in_page = amiss(text)
-    sections = promises_of_page(text)
-    data, wrong = promises_of_data(DATA.read_text(encoding="utf-8"))
-    for promise in sections:
-        wrong_in_page += amiss_in_sentences(promise, data.get(promise["name"], []))
-    names = [promise["name"] for promise in sections]
-    if list(data) != names:
-        odd = sorted(set(data) ^ set(names)) or "in another order"
-        wrong.append(f"the page has other promises: {odd}")
-    known = {}
-    named = {}
-    lines = set()
-    bare = 0
-    for number, line in (each for promise in data.values() for each in promise):
-        if line == "the check itself":
-            continue
-        if line.startswith("tests: "):
-            wrong += [f"line {number}: no script {name}" for name in line[7:].split(", ")
-                      if not re.fullmatch(r"scripts/[\w-]+", name) or not (ROOT / name).is_file()]
-            continue
-        found = CLAUSE.match(line)
-        if not found:
-            wrong.append(f"line {number}: no call, clause and mutants")
-            continue
-        crate, path, label, edits = found.groups()
-        if crate not in known:
-            known[crate], _ = contracts(crate)
-        lines.add((crate, path, label or ""))
-        bare += not edits
-        if path not in known[crate]:
-            wrong.append(f"line {number}: no call {crate}::{path}")
-        elif (label or known[crate][path]) and (label or "") not in known[crate][path]:
-            wrong.append(f"line {number}: {crate}::{path} has no clause "
-                         f"{label or 'without a label'}")
-        for edit in edits.split(", ") if edits else []:
-            body = EDIT.match(edit.strip())
-            if not body:
-                wrong.append(f"line {number}: {edit} is no mutant")
-                continue
-            named.setdefault("/".join(body.groups()), []).append(number)
-    shown = sorted(ROOT.glob("crates/*/must-fail/*.edit"))
-    others = sorted(ROOT.glob("crates/*/mutants/*.edit"))
-    there = {f"{edit.parent.parent.name}/{edit.stem}" for edit in shown + others}
-    if len(shown) > MOST:
-        wrong.append(f"{len(shown)} edits in must-fail, and the gate is to try {MOST} at most")
-    if len(there) < len(shown + others):
-        wrong.append("an edit stands in must-fail and in mutants")
-    for edit in shown + others:
-        why = why_not(edit)
-        if why:
-            wrong.append(f"{edit.relative_to(ROOT)} doesn't apply: {why}")
-    wrong += [f"line {numbers[0]}: no mutant {edit}" for edit, numbers in named.items()
-              if edit not in there]
-    wrong += [f"lines {numbers}: {edit} is named more than once" for edit, numbers in named.items()
-              if len(numbers) > 1]
-    wrong += [f"the mutant {edit} is named by no line" for edit in sorted(there - set(named))]
-    for crate in sorted(path.name for path in (ROOT / "crates").iterdir()
-                        if re.match(r"bw_(?!conformance)", path.name)):
-        for called, label in contracts(crate)[1]:
-            if not any((crate, name, label) in lines for name in called):
-                wrong.append(
-                    f"{crate}::{called[-1]} {label}: the clause is named by no line"
-                    .replace(" :", ":"))
-    found = [("docs/promises.txt", wrong), ("docs/PROMISES.md", wrong_in_page),
-             ("README.md", wrong_in_readme)]
-    pages, wrong_in_order = amiss_in_order(README.read_text(encoding="utf-8"))
-    looked_at += pages
-    found += [(page, [each]) for page, each in wrong_in_order]
-    quotes, misquoted = amiss_in_quotes(THEOREM.read_text(encoding="utf-8"))
-    looked_at += quotes
-    found.append(("docs/THEOREM.md", misquoted))
-    for page in all_pages():
-        links, dangles = dangling(page)
-        looked_at += links
-        found.append((page.relative_to(ROOT), dangles))
-    wrong = [f"{page}: {each}" for page, several in found for each in several]
-    print("".join(f"{each}\n" for each in wrong), end="")
-    print(f"promises: {groups} groups of {len(sections)} promises by {len(lines)} clauses, of "
-          f"which {bare} name no mutant")
-    print(f"promises: {len(shown)} mutants that the gate tries, and {len(others)} others")
-    print(f"promises: {looked_at} figures of README.md, quotes of sources, and links of "
-          "all pages")
-    print(f"promises: {max(len(sections) + len(there) + looked_at - len(wrong), 0)} passed, "
-          f"{len(wrong)} failed")
-    return 1 if wrong or not sections else 0
+@functools.lru_cache(None)
+def page_and_data():
+    """Returns the promises of the page, and those of the data file."""
+    return promises_of_page(PAGE.read_text(encoding="utf-8")), \
+        promises_of_data(DATA.read_text(encoding="utf-8"))[0]
 
 
-sys.exit(main())
+def lines_of_clauses():
+    """Yields the lines of the data file that name a clause, with their numbers."""
+    for lines in page_and_data()[1].values():
+        yield from ((number, line) for number, line in lines
+                    if line != "the check itself" and not line.startswith("tests: "))
+
+
+def mutants():
+    """Returns the edits that the gate tries, and the others."""
+    return [sorted(ROOT.glob(f"crates/*/{folder}/*.edit")) for folder in ("must-fail", "mutants")]
+
+
+class Promises(support.TestCase):
+    """The page and the data file."""
+
+    def test_form_of_the_page(self):
+        groups, wrong = amiss(PAGE.read_text(encoding="utf-8"))
+        self.assertEqual(wrong, [])
+        self.assertGreater(groups, 5)
+
+    def test_sentences(self):
+        sections, data = page_and_data()
+        self.assertEqual([each for promise in sections for each in
+                          amiss_in_sentences(promise, data.get(promise["name"], []))], [])
+
+    def test_page_and_data_have_the_same_promises(self):
+        sections, data = page_and_data()
+        self.assertEqual(list(data), [promise["name"] for promise in sections])
+        self.assertEqual(promises_of_data(DATA.read_text(encoding="utf-8"))[1], [])
+
+    def test_named_tests_are_there(self):
+        for lines in page_and_data()[1].values():
+            for number, line in lines:
+                for name in line[7:].split(", ") if line.startswith("tests: ") else ():
+                    with self.subTest(name, line=number):
+                        self.assertRegex(name, r"\Atests/test_\w+\.py\Z")
+                        self.assertTrue((ROOT / name).is_file())
+
+    def test_named_clauses_are_there(self):
+        for number, line in lines_of_clauses():
+            with self.subTest(line, line=number):
+                found = CLAUSE.match(line)
+                self.assertTrue(found, "no call, clause and mutants")
+                crate, path, label, edits = found.groups()
+                known = contracts(crate)[0]
+                self.assertIn(path, known)
+                if label or known[path]:
+                    self.assertIn(label or "", known[path])
+                for edit in edits.split(", ") if edits else ():
+                    self.assertRegex(edit.strip(), EDIT)
+
+    def test_each_clause_of_a_library_is_named(self):
+        named = {(found[1], found[2], found[3] or "")
+                 for found in (CLAUSE.match(line) for _, line in lines_of_clauses()) if found}
+        wrong = [f"{crate}::{called[-1]} {label}".rstrip()
+                 for crate in sorted(path.name for path in (ROOT / "crates").iterdir()
+                                     if re.match(r"bw_(?!conformance)", path.name))
+                 for called, label in contracts(crate)[1]
+                 if not any((crate, name, label) in named for name in called)]
+        self.assertEqual(wrong, [])
+
+
+class Mutants(support.TestCase):
+    """The edits that the prover must reject."""
+
+    def test_each_is_named_once(self):
+        named = [edit.strip() for _, line in lines_of_clauses()
+                 for edit in ((CLAUSE.match(line) or [""] * 5)[4] or "").split(", ") if edit]
+        there = [f"{edit.parent.parent.name}/{edit.stem}" for edits in mutants() for edit in edits]
+        self.assertEqual(sorted(named), sorted(there))
+
+    def test_each_applies(self):
+        for edit in (edit for edits in mutants() for edit in edits):
+            with self.subTest(edit.relative_to(ROOT)):
+                self.assertIsNone(why_not(edit))
+
+    def test_the_gate_has_time_for_must_fail(self):
+        self.assertLessEqual(len(mutants()[0]), MOST)
+
+
+class Pages(support.TestCase):
+    """Figures, quotes, links and places."""
+
+    def test_figures_of_readme(self):
+        wrong = amiss_in_figures(README.read_text(encoding="utf-8"),
+                                 BENCHMARKS.read_text(encoding="utf-8"))[1]
+        self.assertEqual(wrong, [])
+
+    def test_quotes_of_theorem(self):
+        quotes, wrong = amiss_in_quotes(THEOREM.read_text(encoding="utf-8"))
+        self.assertEqual(wrong, [])
+        self.assertGreater(quotes, 5)
+
+    def test_order(self):
+        self.assertEqual(amiss_in_order(README.read_text(encoding="utf-8"))[1], [])
+
+    def test_links(self):
+        for page in all_pages():
+            with self.subTest(page.relative_to(ROOT)):
+                self.assertEqual(dangling(page)[1], [])
+
+    def test_named_files_are_there(self):
+        """A command or a file of the tree that a page names in backticks."""
+        for page in all_pages():
+            text = page.read_text(encoding="utf-8")
+            if page.name not in ("CHANGELOG.md", "TRIED.md"):
+                for name in re.findall(r"`((?:scripts|tests|bench|cases|examples)/[\w./-]+)", text):
+                    with self.subTest(name, page=page.relative_to(ROOT)):
+                        self.assertTrue((ROOT / name).exists())
+
+    def test_each_page_of_cases_has_a_class(self):
+        text = "".join(path.read_text(encoding="utf-8")
+                       for path in (ROOT / "tests").glob("test_*.py"))
+        for page in (ROOT / "cases").glob("*.md"):
+            with self.subTest(page.name):
+                self.assertIn(f"cases/{page.name}", text)
