@@ -11,6 +11,7 @@ import io
 import os
 import pathlib
 import re
+import shutil
 import signal
 import subprocess
 import sys
@@ -158,6 +159,14 @@ def content(folder: pathlib.Path) -> dict[str, bytes]:
     """Returns the files in a folder and below, hidden ones as well, without symlinks."""
     return {str(path.relative_to(folder)): path.read_bytes() for path in folder.rglob("*")
             if path.is_file() and not path.is_symlink()}
+
+
+def copy_python(folder: pathlib.Path) -> None:
+    """Copies the Python programs, without what was compiled of them, so that they can be
+    changed."""
+    shutil.copytree(PYTHON, folder, ignore=shutil.ignore_patterns("__pycache__"))
+    for path in [folder, *folder.rglob("*")]:
+        path.chmod(path.stat().st_mode | 0o200)
 
 
 def write_script(path: pathlib.Path, text: str) -> pathlib.Path:

@@ -586,8 +586,7 @@ class Places(Tools):
 
     def setUp(self):
         super().setUp()
-        shutil.copytree(PYTHON, self.folder / "copy",
-                        ignore=shutil.ignore_patterns("__pycache__"))
+        support.copy_python(self.folder / "copy")
         (self.folder / "bin").mkdir()
         for name in support.TOOLS:
             (self.folder / "bin" / name).symlink_to(PYTHON / "bin" / name)

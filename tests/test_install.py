@@ -14,7 +14,7 @@ import sys
 import time
 
 from tests import support
-from tests.support import BW, LONGEST, PYTHON, ROOT, TOOLS
+from tests.support import BW, LONGEST, PYTHON, ROOT, TOOLS, copy_python
 
 # the options of every command
 SHARED = {"--explain", "--help"}
@@ -39,11 +39,6 @@ def content(folder):
         found[below] = os.readlink(path) if path.is_symlink() else path.is_dir() or \
             (path.read_bytes(), path.stat().st_mode)
     return found
-
-
-def copy_python(folder):
-    """Copies the package, without what tests have compiled."""
-    shutil.copytree(PYTHON, folder, ignore=shutil.ignore_patterns("__pycache__"))
 
 
 class Installed(support.TestCase):
@@ -97,7 +92,8 @@ class Install(Installed):
         if not (ROOT / "dist" / "bw").exists():
             self.skipTest("the packed tar: dist/bw isn't there")
         for name in ("bw.tar.xz", "two.tar.xz"):
-            done = run([ROOT / "scripts" / "ship", "--pack", self.folder / name])
+            # in a hurry
+            done = run([ROOT / "scripts" / "ship", "--pack", self.folder / name], XZ_OPT="-0")
             self.assertEqual(done.status, 0, done)
         self.assertEqual(*((self.folder / name).read_bytes()
                            for name in ("bw.tar.xz", "two.tar.xz")))
@@ -170,7 +166,7 @@ class Install(Installed):
         self.assertFalse(os.path.lexists(prefix / "bin" / "bw-old"))
 
     def test_a_broken_off_install_is_taken_up(self):
-        for delay in (0.03, 0.05, 0.08):
+        for delay in (0.04, 0.08):
             broken = self.folder / str(delay)
             with subprocess.Popen([sys.executable, ROOT / "install", broken],
                                   env={**os.environ, "BW": str(BW)}, stdout=subprocess.DEVNULL,
@@ -210,6 +206,7 @@ class Copies(Installed):
         shutil.copy2(BW, self.folder / "dist" / "bw")
         support.write_script(self.folder / "bw", "echo proving >&2\nexit 1")
         self.assert_works(self.folder / "copied" / "bin")
+        (self.folder / "dist" / "bw").unlink()
         support.write_script(self.folder / "dist" / "bw", "exit 1")
         done = run(self.ask)
         self.assertEqual((done.status, done.out), (1, ""))

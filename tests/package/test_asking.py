@@ -205,7 +205,8 @@ class Programs(Imported):
         return out, shown
 
     def test_what_is_waited_for_is_shown_after_a_second(self):
-        slow = f"sleep 1.5; exec {BW} \"$@\""
+        quick = f'exec "{BW}" "$@"'
+        slow = f"sleep 1.5; {quick}"
         # it is ended once the line is there
         endless = "WITH RECURSIVE n(i) AS (SELECT 1 UNION ALL SELECT i + 1 FROM n) " \
                   "SELECT COUNT(*) FROM n, cities WHERE cities.n = 20"
@@ -213,7 +214,7 @@ class Programs(Imported):
                 (["SELECT COUNT(*) FROM t"], slow, "bw answers, 1 s", "COUNT(*)\n3\n"),
                 (["SELECT upper(city) FROM t"], f'if [ "$1" = session ]; then {slow}; fi',
                  "bw lists, 1 s", "upper(city)\nBERN\nULM\nGENèVE\n"),
-                ([endless], f"exec {BW} \"$@\"", "SQLite computes, 1 s", "")):
+                ([endless], quick, "SQLite computes, 1 s", "")):
             with self.subTest(words):
                 out, shown = self.waited("cities.bw", *words, program=program)
                 self.assertEqual(out, wanted)
@@ -221,7 +222,7 @@ class Programs(Imported):
                 # the line is removed
                 self.assertTrue(shown.endswith("\r\x1b[K"), shown)
         self.assertEqual(self.waited("cities.bw", "SELECT COUNT(*) FROM t",
-                                     program=f"exec {BW} \"$@\""), ("COUNT(*)\n3\n", ""))
+                                     program=quick), ("COUNT(*)\n3\n", ""))
 
     def at_terminal(self, keys):
         """Returns what a terminal shows while these lines are typed, each after a prompt."""
