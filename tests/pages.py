@@ -228,20 +228,21 @@ class Page(support.TestCase):
     lost: dict[Any, list[str]]
 
     def __init_subclass__(cls, page: str, by_blocks: bool = False) -> None:
-        cls.page, cls.by_blocks, cls.rooms, cls.done, cls.lost = page, by_blocks, {}, {}, {}
-        calls = calls_of(ROOT / page)
-        cls.rooms = {cls.room_of(call): [] for call in calls if call.section}
-        for call in calls:
-            for room in [cls.room_of(call)] if call.section else cls.rooms:
-                cls.rooms[room].append(call)
+        cls.page, cls.by_blocks, cls.done, cls.lost = page, by_blocks, {}, {}
+        calls, tested = calls_of(ROOT / page), set[int]()
+        if by_blocks:
+            cls.rooms = {block: [call for call in calls if call.block == block]
+                         for block in dict.fromkeys(call.block for call in calls)}
+        else:
+            names = dict.fromkeys(call.section for call in calls if call.section) or {"": None}
+            cls.rooms = {name: [call for call in calls if call.section in ("", name)]
+                         for name in names}
         for room, own in cls.rooms.items():
             for place, call in enumerate(own):
-                if cls.room_of(call) == room:
+                # those before the first section are tested once
+                if id(call) not in tested:
+                    tested.add(id(call))
                     cls.add_test(room, place, call)
-
-    @classmethod
-    def room_of(cls, call: Call) -> Any:
-        return call.block if cls.by_blocks else call.section
 
     @classmethod
     def add_test(cls, room: Any, place: int, call: Call) -> None:
@@ -250,7 +251,7 @@ class Page(support.TestCase):
             self.check(room, place, call)
 
         test.__doc__ = f"{cls.page}:{call.line}"
-        name = f"test_{support.slug(call.section)}_"
+        name = f"test_{support.slug(call.section or 'beginning')}_"
         number = sum(each.startswith(name) for each in vars(cls)) + 1
         setattr(cls, f"{name}{number:03}", test)
 

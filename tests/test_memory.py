@@ -8,6 +8,7 @@ import shutil
 import subprocess
 import sys
 import unittest
+from unittest import mock
 
 from tests import support
 from tests.support import BW, ROOT
@@ -99,6 +100,15 @@ class Calls(Refusing):
                      came[2].startswith(REFUSED[:8]))]
         self.assertEqual(wrong, [])
         self.assertTrue(any(came[0] == 6 for _, came in found))
+
+
+class Compilers(support.TestCase):
+    """Without a C compiler it is said what to install."""
+
+    def test_no_compiler(self):
+        with mock.patch.dict(os.environ, CC="no-such-compiler"), \
+                self.assertRaisesRegex(unittest.SkipTest, "install a C compiler"):
+            Calls.setUpClass()
 
 
 class Sessions(Refusing):

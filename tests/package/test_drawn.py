@@ -41,7 +41,7 @@ class Joins(Compared):
         self.assertGreater(ways[2], 300)
 
 
-@support.each([(f"seed {seed}", seed) for seed in range(6)])
+@support.each([(f"seed {seed}", seed) for seed in range(4)])
 class Tables(Asked):
     """Statements over a table of columns of every kind. Every third one is a folder of shards."""
 
