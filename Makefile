@@ -4,7 +4,7 @@
 help:      ## list these
 	@sed -n 's/^\([a-z]*\):[^#]*## /make \1	/p' Makefile | expand -t 16
 
-test:      ## run the quick test on the program that ./bw runs; it needs python3 alone
+test:      ## run all tests on the program that ./bw runs; it needs python3 alone
 	./check
 
 check:     ## prove one crate: make check CRATE=bw_sql
@@ -19,8 +19,8 @@ bench:     ## time whole queries beside C; it makes a table of ten million rows
 fmt:       ## lay out the sources of all crates
 	for crate in crates/*; do (cd $$crate && rt fmt) || exit 1; done
 
-lint:      ## check the scripts by ruff or flake8, mypy and shellcheck
-	scripts/lint
+lint:      ## check the sources by ruff or flake8, mypy and shellcheck
+	./check test_lint
 
 ship:      ## make dist/bw of these sources
 	scripts/ship

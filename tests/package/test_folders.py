@@ -1,0 +1,93 @@
+"""A folder of shards, whenever an import that replaces it is stopped."""
+import contextlib
+import os
+import pathlib
+import signal
+import tempfile
+import unittest
+from unittest import mock
+
+from bwtools import pairs, placing, putting, store
+from bwtools.column import Column
+from bwtools.shards import FILE, Folder, shard_file
+
+from tests.support import texts
+
+
+class Folders(unittest.TestCase):
+    def setUp(self):
+        folder = tempfile.TemporaryDirectory(prefix="unittests-")
+        self.addCleanup(folder.cleanup)
+        self.folder = pathlib.Path(folder.name)
+        self.path = self.folder / "shards"
+
+    def put(self, content, count=2):
+        """Puts a folder of shards in place, each of this content, which is a text too."""
+        with placing.new_folder(self.path) as room:
+            made = room / "made"
+            made.mkdir()
+            records = []
+            for place in range(count):
+                path = shard_file(made, place)
+                path.write_text(content)
+                records.append(pairs.record_of(path, path.name, 1))
+            store.write(made / FILE, [Column("a", "a", texts(content))], "t", records)
+            placing.put_folder(made, str(self.path), putting.refuse_out)
+
+    def found(self):
+        """Returns the contents of the shards, and the text of their columns file."""
+        with contextlib.closing(Folder(str(self.path))) as folder:
+            contents = []
+            for place, record in enumerate(folder.shards):
+                with open(folder.path_of(place), "rb") as file:
+                    self.assertTrue(pairs.is_of(record, file))
+                    contents.append(file.read().decode())
+            self.assertEqual(folder.foreign_files(), [])
+            return contents, list(folder.columns[0].kind.listed)
+
+    def killed(self, content, is_done):
+        """Puts a folder in a process that is killed before the folders are exchanged, or after."""
+        process = os.fork()
+        if process == 0:
+            def exchange(one, other, real=placing.exchange):
+                if is_done:
+                    real(one, other)
+                os.kill(os.getpid(), signal.SIGKILL)
+
+            with mock.patch("bwtools.placing.exchange", exchange):
+                self.put(content, 3)
+            os._exit(0)
+        return os.waitpid(process, 0)[1]
+
+    def test_stopped_before_and_after_the_exchange(self):
+        for is_done, wanted in ((False, ["old"] * 2), (True, ["new"] * 3)):
+            self.put("old")
+            with self.subTest(is_done):
+                self.assertEqual(self.killed("new", is_done), signal.SIGKILL)
+                self.assertEqual(self.found(), (wanted, wanted[:1]))
+                self.assertEqual(len(os.listdir(self.folder)), 2)
+                # what it left is removed by the next one
+                self.put("third")
+                self.assertEqual(self.found(), (["third"] * 2, ["third"]))
+                self.assertEqual(os.listdir(self.folder), ["shards"])
+
+    def test_stopped_over_a_table_file(self):
+        self.path.write_text("a table")
+        self.assertEqual(self.killed("new", True), signal.SIGKILL)
+        self.assertEqual(self.found(), (["new"] * 3, ["new"]))
+
+    def test_two_at_once(self):
+        self.put("old")
+        children = []
+        for number in range(3):
+            process = os.fork()
+            if process == 0:
+                for turn in range(10):
+                    self.put(f"{number} {turn}", number + 1)
+                os._exit(0)
+            children.append(process)
+        for process in children:
+            self.assertEqual(os.waitpid(process, 0)[1], 0)
+        contents, listed = self.found()
+        self.assertEqual(set(contents), set(listed))
+        self.assertEqual(os.listdir(self.folder), ["shards"])

@@ -1,0 +1,218 @@
+"""The columns file: what was written is read, and what others made is refused."""
+import contextlib
+import os
+import pathlib
+import sqlite3
+import tempfile
+import time
+import unittest
+
+from bwtools import kinds, store
+from bwtools.column import Column
+from bwtools.sorted_list import SortedList
+from bwtools.store import Store, TableFile
+from bwtools.style import Style
+from bwtools.telling import Refused
+
+from tests.support import described, texts
+
+WORDS = ("", "a", "a\0b", "b\n", "é", "\ue000", "\U0001f600")
+COLUMNS = [Column("a", "A é", texts(*WORDS), [], ["", "\U0001f600"], "so", "numbers"),
+           Column("n", "n", kinds.Whole(), ["NA", "-"], ["1", "2"]),
+           Column("price", "unit price", kinds.Styled(kinds.Decimals(2, 1), Style(",")), [],
+                  ["0,5", "1,5"]),
+           Column("at", "at", kinds.Times("%Y-%m-%d %H:%M", 0, "Z")),
+           Column("ok", "ok", kinds.Truths("no", "yes")), Column("gone", "gone", kinds.Nulls()),
+           Column("none", "none", texts())]
+FILES = [TableFile("shard-001.bw", 5, 7, 1 << 60, 1 << 40, "ab" * 32)]
+
+
+class Files(unittest.TestCase):
+    def setUp(self):
+        folder = tempfile.TemporaryDirectory(prefix="unittests-")
+        self.addCleanup(folder.cleanup)
+        self.path = pathlib.Path(folder.name) / "it's a ?%20 name.columns"
+        self.write()
+
+    def write(self, columns=COLUMNS):
+        self.path.unlink(missing_ok=True)
+        store.write(self.path, columns, "t", FILES)
+
+
+class Whole(Files):
+    def test_what_was_written_is_read(self):
+        with contextlib.closing(Store(self.path)) as found:
+            self.assertEqual((found.name, found.files), ("t", FILES))
+            self.assertEqual(list(map(described, found.columns)), list(map(described, COLUMNS)))
+            self.assertEqual(found.columns[0].looks_like, "numbers")
+            found.verify()
+
+    def test_a_list_is_the_one_in_memory(self):
+        many = sorted({str(number * number) for number in range(3000)})
+        for values in (WORDS, many, ()):
+            self.write([Column("a", "a", texts(*values))])
+            with contextlib.closing(Store(self.path)) as found:
+                listed, wanted = found.columns[0].kind.listed, SortedList(values)
+                self.assertEqual(len(listed), len(wanted))
+                tried = ["", "\0", "a", "a\0", "aa", "é", "\uffff", "\U0010ffff", *values[:50],
+                         *(f"{value}x" for value in values[:50])]
+                self.assertEqual(list(map(listed.place, tried)), list(map(wanted.place, tried)))
+                for codes in ([], [0, 0, 2], [len(values) - 1], range(0, len(values), 3),
+                              range(len(values))):
+                    if values:
+                        self.assertEqual(listed.values(codes), wanted.values(codes))
+                self.assertEqual(list(listed), list(values))
+                for codes in ([-1], [len(values)], [1 << 62], [-1 << 63]):
+                    with self.assertRaises(IndexError):
+                        listed.values(codes)
+
+    def test_doubles(self):
+        values = (-1e300, -0.5, 0.0, 5e-324, 1.5, 1e300, float("inf"))
+        path = self.path.with_name("doubles")
+        with contextlib.closing(sqlite3.connect(path, isolation_level=None)) as made:
+            self.assertEqual(store.write_list(made, 0, values), len(values))
+            listed = store.StoredList(made, 0, len(values), float)
+            self.assertEqual((list(listed), listed.place(1.0), listed.place(1.5)),
+                             (list(values), (3, False), (4, True)))
+
+    def test_a_list_that_does_not_ascend(self):
+        for values in (("b", "a"), ("a", "a")):
+            with self.subTest(values), self.assertRaisesRegex(Refused, "don't ascend"):
+                self.write([Column("a", "a", texts(*values))])
+        with self.assertRaisesRegex(Refused, "don't ascend"):
+            self.write([Column("a", "a", texts(*map(str, range(100000, 122000)), "1"))])
+
+    def test_it_is_read_only_and_as_it_was(self):
+        before = self.path.read_bytes()
+        with contextlib.closing(Store(self.path)) as found:
+            with self.assertRaises(sqlite3.OperationalError):
+                found.database.execute("DELETE FROM columns")
+        self.assertEqual(self.path.read_bytes(), before)
+        self.assertEqual(len(os.listdir(self.path.parent)), 1)
+
+
+class Foreign(Files):
+    """Files that others made, or that are damaged."""
+
+    def refused(self, wanted="is not a columns file"):
+        begun = time.monotonic()
+        with self.assertRaisesRegex(Refused, wanted) as refused:
+            with contextlib.closing(Store(self.path)) as found:
+                found.verify()
+        self.assertNotIn("\n", str(refused.exception))
+        self.assertLess(time.monotonic() - begun, 10)
+
+    def test_files_of_other_forms(self):
+        for data in (b"", b"[]", b"{" * 200_000, b"[" * 200_000, b"\0" * 4096,
+                     b"SQLite format 3\0", b"SQLite format 3\0" + b"\1" * 5000):
+            self.path.write_bytes(data)
+            with self.subTest(data[:20]):
+                self.refused()
+        self.path.write_bytes(b'{"bw columns": 1, "table": null, "columns": []}')
+        self.refused("is a columns file of an earlier version: import the file again")
+
+    def test_bytes_that_are_damaged(self):
+        """Each header byte, and bytes all over the file: it is refused, or reads as it was."""
+        data, right = self.path.read_bytes(), list(map(described, COLUMNS))
+        for at in (*range(100), *range(100, len(data), 97)):
+            for bit in (1, 0x80):
+                self.path.write_bytes(data[:at] + bytes([data[at] ^ bit]) + data[at + 1:])
+                with contextlib.suppress(Refused), contextlib.closing(Store(self.path)) as found:
+                    found.verify()
+                    if list(map(described, found.columns)) != right:
+                        # a text that ascends all the same, or a word: no check can know it
+                        self.assertEqual(len(found.columns), len(right), at)
+        for end in (1, 99, 100, 4096, len(data) - 1):
+            self.path.write_bytes(data[:end])
+            with self.subTest(end):
+                self.refused("columns file|damaged")
+
+    def changed(self, *statements):
+        """Changes the file by SQL, with a schema that may be written."""
+        self.write()
+        with contextlib.closing(sqlite3.connect(self.path, isolation_level=None)) as made:
+            made.execute("PRAGMA synchronous = off")
+            made.execute("PRAGMA writable_schema = on")
+            for sql in statements:
+                made.execute(sql)
+
+    def test_another_schema(self):
+        for sql in ("CREATE VIEW v AS SELECT 1", "CREATE TABLE more (a)", "DROP TABLE nulls",
+                    "CREATE TRIGGER tr AFTER INSERT ON nulls BEGIN SELECT 1; END", "ANALYZE",
+                    "DROP TABLE values_0", "CREATE INDEX i ON nulls (word)",
+                    "ALTER TABLE nulls ADD COLUMN more", "ALTER TABLE settings RENAME TO s",
+                    "ALTER TABLE nulls ADD COLUMN g AS (length(word))",
+                    "UPDATE sqlite_master SET sql = replace(sql, 'NOT NULL', '') WHERE name = "
+                    "'values_0'",
+                    "UPDATE sqlite_master SET sql = 'CREATE VIEW named AS SELECT ''t'' AS name', "
+                    "type = 'view', rootpage = 0 WHERE name = 'named'"):
+            self.changed(sql)
+            with self.subTest(sql):
+                self.refused("is not a columns file .*")
+
+    def test_fields_that_are_checked(self):
+        for sql in ("UPDATE columns SET name = 5 WHERE place = 1",
+                    "UPDATE columns SET name = 'a b'",
+                    "UPDATE columns SET name = x'00' WHERE place = 1",
+                    "UPDATE columns SET name = 'A' WHERE place = 1",
+                    "UPDATE columns SET kind = 'other' WHERE place = 1",
+                    "UPDATE columns SET kind = 'texts' WHERE place = 1",
+                    "UPDATE columns SET kind = 'whole' WHERE place = 0",
+                    "UPDATE columns SET listed = 1000000 WHERE place = 0",
+                    "UPDATE columns SET listed = 3 WHERE place = 0",
+                    "UPDATE columns SET listed = -1 WHERE place = 0",
+                    "UPDATE columns SET listed = 'x' WHERE place = 0",
+                    "UPDATE columns SET listed = 1e300 WHERE place = 0",
+                    "UPDATE columns SET least = NULL WHERE place = 0",
+                    "UPDATE columns SET place = 70 WHERE place = 6", "DELETE FROM columns",
+                    "UPDATE settings SET value = 1000000000 WHERE name = 'digits'",
+                    "UPDATE settings SET value = -1 WHERE name = 'digits'",
+                    "UPDATE settings SET value = '2' WHERE name = 'digits'",
+                    "UPDATE settings SET value = 2.5 WHERE name = 'digits'",
+                    "UPDATE settings SET value = x'00' WHERE name = 'digits'",
+                    "UPDATE settings SET value = 5 WHERE name = 'form'",
+                    "UPDATE settings SET value = '%Z' WHERE name = 'form'",
+                    "UPDATE settings SET name = 'other' WHERE name = 'digits'",
+                    "UPDATE settings SET place = 99", "UPDATE settings SET place = 'x'",
+                    "INSERT INTO settings SELECT * FROM settings", "DELETE FROM settings",
+                    "INSERT INTO nulls VALUES (99, 'x')", "UPDATE nulls SET word = x'00'",
+                    "DELETE FROM named", "INSERT INTO named VALUES ('u')",
+                    "UPDATE named SET name = x'00'", "UPDATE files SET size = 'x'",
+                    "UPDATE files SET file = '../x'", "UPDATE files SET sha256 = x'00'",
+                    "UPDATE values_0 SET code = 50 WHERE code = 6",
+                    "UPDATE values_0 SET code = -5 WHERE code = 0",
+                    "UPDATE values_0 SET value = x'61' WHERE code = 6",
+                    "UPDATE values_0 SET value = 'zz' WHERE code = 0",
+                    "DELETE FROM values_0 WHERE code = 3", "DELETE FROM values_0",
+                    "INSERT INTO values_0 VALUES (7, 'later')",
+                    "PRAGMA user_version = 2", "PRAGMA application_id = 5",
+                    "PRAGMA journal_mode = WAL"):
+            self.changed(sql)
+            with self.subTest(sql):
+                self.refused("columns file")
+
+    def test_many_rows(self):
+        for table, row in (("nulls", "0, 'x'"), ("settings", "0, x, x"),
+                           ("columns", "x + 100, 'a', 'a', 'whole', '', '', NULL, NULL, NULL"),
+                           ("named", "'t'")):
+            self.changed("WITH RECURSIVE c (x) AS (SELECT 0 UNION ALL SELECT x + 1 FROM c LIMIT "
+                         f"70000) INSERT INTO {table} SELECT {row} FROM c")
+            with self.subTest(table):
+                self.refused()
+
+    def test_a_look_up_checks_what_it_reads(self):
+        for sql, tried in (("UPDATE values_0 SET value = 'zz' WHERE code = 1", "a"),
+                           ("UPDATE values_0 SET code = 50 WHERE code = 6", "\U0001f600"),
+                           ("DELETE FROM values_0 WHERE code = 2", "a\0"),
+                           ("UPDATE values_0 SET value = x'61' WHERE code = 6", "z")):
+            self.changed(sql)
+            with contextlib.closing(Store(self.path)) as found:
+                listed = found.columns[0].kind.listed
+                with self.subTest(sql), self.assertRaisesRegex(Refused, "damaged"):
+                    listed.place(tried)
+                    listed.values([5, 6])
+
+    def test_tables_that_share_pages(self):
+        self.changed("UPDATE sqlite_master SET rootpage = (SELECT rootpage FROM sqlite_master "
+                     "WHERE name = 'nulls') WHERE name = 'values_6'")
+        self.refused("columns file|damaged")

@@ -1,0 +1,165 @@
+"""Numbers that are written, what is said of each column, and files that are put into their
+places."""
+import contextlib
+import io
+import os
+import pathlib
+import tempfile
+import unittest
+from unittest import mock
+
+from bwtools import placing, progress, writing
+from bwtools.telling import Refused
+
+from tests.support import numbers_of, options, table_of
+
+
+class Tables(unittest.TestCase):
+    def test_numbers(self):
+        self.assertEqual(numbers_of(b"a,b,c,d\n1,x,1.5,2024-05-01\n,b,2,1970-01-01\n5,x,,\n"),
+                         [["1", "", "5"], ["1", "0", "1"], ["15", "20", ""], ["19844", "0", ""]])
+
+    def test_nulls_of_one_column(self):
+        self.assertEqual(numbers_of(b'a\n5\n""\n'), [["5", "NULL"]])
+
+    def test_a_column_that_becomes_texts_late(self):
+        data = "a,b\n" + "".join(f"{number},{number % 7}\n"
+                                 for number in range(9000)) + "x,1\ny,1\nz,1\n12a,3\n"
+        texts = sorted([*map(str, range(9000)), "x", "y", "z", "12a"])
+        with mock.patch("bwtools.source.CHARACTERS_AT_ONCE",
+                        1 << 12), mock.patch("bwtools.gathering.MANY", 100):
+            table = table_of(data.encode())
+            found = [number for chunk in table.chunks() for number in chunk[0]]
+        self.assertEqual(list(table.columns[0].kind.listed), texts)
+        self.assertEqual([texts[int(number)] for number in found],
+                         [*map(str, range(9000)), "x", "y", "z", "12a"])
+        self.assertEqual((table.columns[0].why, table.columns[0].looks_like),
+                         ("9,000 of 9,004 fields look like numbers", "numbers"))
+
+    def test_a_column_of_many_odd_spellings(self):
+        data = "a\n" + "".join(f"+{number}\n" for number in range(5000))
+        with mock.patch("bwtools.source.CHARACTERS_AT_ONCE",
+                        1 << 12), mock.patch("bwtools.runs.MOST_TEXTS", 500):
+            table = table_of(data.encode())
+            table.write(os.devnull)
+        self.assertEqual((table.columns[0].ends, table.tallies[0].counts.changed),
+                         (["0", "4999"], 5000))
+
+    def test_report(self):
+        table = table_of(b"a,b\n1.5,x\n2.25,NA\n3.0,\n")
+        table.write(os.devnull)
+        with contextlib.redirect_stdout(io.StringIO()) as out:
+            table.report()
+        lines = ["COLUMN  HEADING  WHAT IT IS               FROM  TO    NULLS              NOTES",
+                 "a                decimals times 10^2      1.50  3.00                     "
+                 "spelling changed in 2 fields, values kept",
+                 "b                texts as places among 2  NA    x     1 null as nothing  "
+                 "'NA' is a text in 1 field, and null by --null b=NA",
+                 "3 rows, separated by ',', in utf-8", ""]
+        self.assertEqual(out.getvalue(), "\n".join(lines))
+
+    def test_schema(self):
+        table = table_of(b"a,b,c\n1,x,\n,y,\n-5,z,\n")
+        table.write(os.devnull)
+        self.assertEqual(table.schema("t"),
+                         "TABLE t\nCOLUMN a -5 1\nCOLUMN b 0 2 NOT NULL\nCOLUMN c 0 0\n")
+
+    def test_changed_spelling_is_counted_alike(self):
+        fields = ["1.5", "2.25", "3", "4.10", "+5.00"]
+        for many in (0, 1 << 11):
+            with mock.patch("bwtools.gathering.MANY",
+                            many), mock.patch("bwtools.gathering.FIRST", many), \
+                    mock.patch("bwtools.source.CHARACTERS_AT_ONCE", 16):
+                table = table_of(("a\n" + "\n".join(fields * 20) + "\n").encode())
+                table.write(os.devnull)
+                # all but 2.25 and 4.10
+                self.assertEqual(table.tallies[0].counts.changed, 60)
+
+    def test_a_file_that_changes_is_refused(self):
+        with tempfile.TemporaryDirectory() as name:
+            path = pathlib.Path(name) / "in.csv"
+            path.write_bytes(b"a\n1\n")
+            table = writing.NumberTable(str(path), options())
+            path.write_bytes(b"a\n1\n2\n")
+            with self.assertRaisesRegex(Refused, "the file changed while it was read"):
+                table.write(os.devnull)
+
+    def test_too_much_is_refused(self):
+        with mock.patch("bwtools.writing.MOST_BYTES",
+                        3), self.assertRaisesRegex(Refused, "more than 1 GiB"):
+            table_of(b"a\n1\n2\n").write(os.devnull)
+
+
+class Files(unittest.TestCase):
+    def setUp(self):
+        folder = tempfile.TemporaryDirectory(prefix="unittests-")
+        self.addCleanup(folder.cleanup)
+        self.folder = pathlib.Path(folder.name)
+
+    def test_targets(self):
+        file, link, pipe = self.folder / "file", self.folder / "link", self.folder / "pipe"
+        file.touch()
+        link.symlink_to(file)
+        os.mkfifo(pipe)
+        placing.refuse_target(file, [self.folder / "other"])
+        placing.refuse_target(self.folder / "none", [])
+        for path, sources, wanted in [(link, [], "a symlink"), (pipe, [], "a FIFO"),
+                                      (self.folder, [], "a folder"),
+                                      (os.devnull, [], "a device"),
+                                      (file, [link], "is the file to read")]:
+            with self.subTest(wanted), self.assertRaisesRegex(Refused, wanted):
+                placing.refuse_target(path, sources)
+
+    def test_all_files_are_put_or_none(self):
+        for each in ("one", "two"):
+            (self.folder / each).write_text(each, encoding="utf-8")
+        (self.folder / "first").write_text("before", encoding="utf-8")
+        with self.assertRaises(OSError):
+            placing.put(self.folder, [(self.folder / "one", self.folder / "first"),
+                                      (self.folder / "two", self.folder / "no" / "where")])
+        self.assertEqual((self.folder / "first").read_text(encoding="utf-8"), "before")
+        (self.folder / "one").write_text("one", encoding="utf-8")
+        placing.put(self.folder, [(self.folder / "one", self.folder / "first"),
+                                  (self.folder / "two", self.folder / "second")])
+        self.assertEqual([(self.folder / each).read_text(encoding="utf-8")
+                          for each in ("first", "second")], ["one", "two"])
+
+    def test_new_folder_is_gone(self):
+        with placing.new_folder(self.folder / "out") as folder:
+            self.assertEqual(folder.parent, self.folder)
+        self.assertFalse(folder.exists())
+        with self.assertRaisesRegex(Refused,
+                                    "isn't a folder"), \
+                placing.new_folder(self.folder / "no" / "out"):
+            pass
+
+
+class Progress(unittest.TestCase):
+    def test_says_nothing_off_a_terminal(self):
+        with contextlib.redirect_stderr(io.StringIO()) as err, \
+                mock.patch("bwtools.progress.FIRST", 0.0), \
+                progress.Progress("read") as shown:
+            shown.add(5, 7)
+        self.assertEqual(err.getvalue(), "")
+
+    def test_is_wanted_at_a_terminal(self):
+        ours, theirs = os.openpty()
+        self.addCleanup(os.close, ours)
+        with open(theirs, "w",
+                  encoding="utf-8") as terminal, contextlib.redirect_stderr(terminal), \
+                mock.patch("bwtools.progress.FIRST", 0.0), \
+                progress.Progress("read") as shown, progress.Progress("read", False) as other:
+            self.assertTrue(shown.is_wanted and not other.is_wanted)
+            shown.add(1500)
+            self.assertEqual(os.read(ours, 100), b"\rread 1,500 rows\x1b[K")
+
+    def test_line_is_written_over_and_taken_away(self):
+        with contextlib.redirect_stderr(io.StringIO()) as err, progress.Progress("read") as shown:
+            shown.is_wanted, shown.begun = True, shown.begun - 2
+            shown.add(1000, 10 ** 6)
+            self.assertEqual(err.getvalue(), "")
+            shown.next = 0.0
+            shown.add(234, 10 ** 6)
+            self.assertRegex(err.getvalue(), "^\rread 1,234 rows, 0\\.5 MB/s\x1b\\[K$")
+            shown.add(1)
+        self.assertRegex(err.getvalue(), "MB/s\x1b\\[K\r\x1b\\[K$")

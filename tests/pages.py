@@ -1,0 +1,306 @@
+"""Tests of the calls on pages: each call is a test, which runs it and compares what it prints.
+
+A page is Markdown. In its blocks, indented by four spaces, sh runs a line that begins with `$ `,
+which lines that begin with `> ` continue; the other lines are its output. An empty line ends a
+block. `cases/README.md` describes tables too."""
+from __future__ import annotations
+
+import difflib
+import pathlib
+import re
+import shlex
+import shutil
+import subprocess
+import sys
+import tempfile
+from typing import Any, NamedTuple
+
+from tests import support
+from tests.support import BW, ROOT, Done
+
+# the exit status of an error, by the first digit of its number
+STATUS = {"1": 3, "2": 3, "3": 3, "4": 3, "5": 3, "6": 4, "7": 5, "8": 6}
+
+
+class Call(NamedTuple):
+    """A command and the lines that it prints, with its section, block and line of the page. The
+    block is 0 if the command is of a table."""
+
+    section: str
+    block: int
+    line: int
+    command: str
+    prints: list[str]
+
+
+def quoted(cell: str, before: str) -> str:
+    """Returns a cell for a command, after this text of the command: within its single quotes, or in
+    quotes of its own."""
+    return cell.replace("'", "'\\''") if before.count("'") % 2 else shlex.quote(cell)
+
+
+def command_of(template: str, given: list[str]) -> str:
+    """Returns a table's command for a row: `…` is replaced by the first cell that the command gets,
+    and `…2` by the second."""
+    return re.sub(r"…(\d?)", lambda place: quoted(given[int(place.group(1) or 1) - 1],
+                                                  template[:place.start()]), template)
+
+
+def cells_of(line: str) -> list[str]:
+    """Returns the cells of a table's line."""
+    return [cell.strip().replace("\\|", "|") for cell in re.split(r"(?<!\\)\|", line)[1:-1]]
+
+
+def plain(cell: str) -> str:
+    """Returns a cell without the backticks around it."""
+    return cell[1:-1] if re.fullmatch("`[^`]*`", cell) else cell
+
+
+def lines_in(cell: str) -> list[str]:
+    """Returns the lines of output in a cell, which strokes separate; the line of an error begins
+    with its number."""
+    parts = re.fullmatch(r"(.*?) ?(\(status \d+\))?", cell)
+    assert parts
+    text, status = parts.groups()
+    found = [] if text in ("", "nothing") else plain(text).split("/")
+    found = [f"bw: {line}" if re.match(r"[1-8]\d\d [a-z]", line) else line for line in found]
+    return found + ([status] if status else [])
+
+
+class Reader:
+    """Reads the calls of a page. A table's first cell has the commands that are run for each row. A
+    column `prints` has the output of each, a column `why` is for the reader, and the commands get
+    the others."""
+
+    def __init__(self, page: pathlib.Path) -> None:
+        self.calls: list[Call] = []
+        self.section, self.block, self.is_within = "", 0, False
+        self.table: tuple[list[str], list[str]] | None = None
+        for number, line in enumerate(page.read_text(encoding="utf-8").splitlines(), 1):
+            if line.startswith("##"):
+                self.section = line.lstrip("# ")
+            self.read_block(number, line)
+            self.read_table(number, line)
+
+    def read_block(self, number: int, line: str) -> None:
+        """Reads a line that may be one of a block."""
+        if line.startswith("    $ "):
+            self.block += not self.is_within
+            self.calls.append(Call(self.section, self.block, number, line[6:], []))
+        elif line.startswith("    > ") and self.is_within and not self.calls[-1].prints:
+            self.calls[-1] = self.calls[-1]._replace(
+                command=f"{self.calls[-1].command}\n{line[6:]}")
+        elif line.startswith("    ") and self.is_within:
+            self.calls[-1].prints.append(line[4:])
+        self.is_within = line.startswith("    ") and (self.is_within or line[4:6] == "$ ")
+
+    def read_table(self, number: int, line: str) -> None:
+        """Reads a line that may be one of a table."""
+        if not line.startswith("|"):
+            self.table = None
+        elif self.table is None:
+            heads = cells_of(line)
+            self.table = heads, re.findall("`([^`]+)`", heads[0]) if "…" in heads[0] else []
+        elif not re.fullmatch(r"[|: -]+", line) and self.table[1]:
+            heads, commands = self.table
+            cells = [plain(cell) for cell in cells_of(line)]
+            if len(cells) != len(heads) or "prints" not in heads:
+                raise ValueError(f"line {number}: a row has a cell for each column, one of which "
+                                 "is headed `prints`")
+            given = [cell for head, cell in zip(heads, cells) if head not in ("prints", "why")]
+            prints = lines_in(cells[heads.index("prints")])
+            self.calls += [Call(self.section, 0, number, command_of(command, given), prints)
+                           for command in commands]
+
+
+def calls_of(page: pathlib.Path) -> list[Call]:
+    """Returns the calls of a page, in its order."""
+    return Reader(page).calls
+
+
+def status_of(printed: list[str]) -> int:
+    """Returns the status that printed lines show: that of the error among them, or 0."""
+    faults = [line for line in printed if re.match(r"bw: [1-8]\d\d ", line)]
+    return STATUS[faults[0][4]] if faults else 0
+
+
+def printed_by(done: Done) -> list[str]:
+    """Returns what a call printed, first on standard output and then on standard error, and its
+    status if the output doesn't show it."""
+    printed = done.out.splitlines() + done.err.splitlines()
+    return printed + ([] if done.status == status_of(printed) else [f"(status {done.status})"])
+
+
+def on_wrong_stream(done: Done) -> list[str]:
+    """Returns the lines that are on the wrong stream. Results and the version belong on standard
+    output; errors, `--stats` lines and messages on wrong arguments on standard error."""
+    def is_for_errors(line: str) -> bool:
+        return done.status == 2 or bool(re.match(r"bw: \d{3} |served ", line))
+
+    return [line for line in done.out.splitlines() if is_for_errors(line)] + \
+        [line for line in done.err.splitlines() if not is_for_errors(line)]
+
+
+def with_pandas() -> str | None:
+    """Returns a python3 that has pandas: the one on the PATH, or the system's."""
+    for python in filter(None, [shutil.which("python3"), shutil.which("/usr/bin/python3")]):
+        if support.run([python, "-c", "import pandas"]).status == 0:
+            return python
+    return None
+
+
+# sections that need a program that may be missing: its name in their calls, how to find it, and its
+# Debian package
+NEEDS = {"pandas": ("python3", with_pandas, "python3-pandas"),
+         "R": ("Rscript", lambda: shutil.which("Rscript"), "r-base-core"),
+         "The sqlite3 shell": ("sqlite3", lambda: shutil.which("sqlite3"), "sqlite3")}
+
+
+def furnish(folder: pathlib.Path) -> None:
+    """Gives a folder the examples, the cases and the scripts, and `bin`, which has bw beside the
+    Python programs."""
+    (folder / "bin").mkdir()
+    (folder / "bin" / "bw").symlink_to(BW)
+    for name in support.TOOLS:
+        # the module site, of no use here, takes longer to start than a small question
+        support.write_script(folder / "bin" / name, shlex.join(
+            ["exec", sys.executable, "-S", str(support.PYTHON / "bin" / name)]) + ' "$@"')
+    for name in ("examples", "cases", "scripts"):
+        (folder / name).symlink_to(ROOT / name)
+
+
+def script_of(calls: list[Call], told: pathlib.Path) -> str:
+    """Returns a script that runs calls one after another, and writes to a folder what each prints
+    and its status."""
+    lines = []
+    for number, call in enumerate(calls):
+        path = shlex.quote(str(told / str(number)))
+        lines.append(f"(eval {shlex.quote(call.command)}) </dev/null >{path}.out 2>{path}.err\n"
+                     f"echo $? >{path}.status")
+    return "\n".join(lines) + "\n"
+
+
+def run_calls(calls: list[Call], folder: pathlib.Path, told: pathlib.Path) -> list[Done | None]:
+    """Runs calls in a folder. Returns what each left, or None for those that didn't end."""
+    (told / "script").write_text(script_of(calls, told), encoding="utf-8")
+    support.sh(f". {shlex.quote(str(told / 'script'))}", folder, seconds=300)
+    found: list[Done | None] = []
+    for number in range(len(calls)):
+        path = told / str(number)
+        found.append(Done(int(path.with_suffix(".status").read_text() or 0),
+                          *(support.text_of(path.with_suffix(end).read_bytes())
+                            for end in (".out", ".err")))
+                     if path.with_suffix(".status").exists() else None)
+    return found
+
+
+def not_restored(folder: pathlib.Path) -> list[str]:
+    """Returns the table files of a folder that differ after being dumped and loaded again, in the
+    same layout and with the schema that `bw info` prints. A table of version 2 that doesn't need it
+    is restored as one of version 1. What `bw dump` rejects is left out."""
+    wrong = []
+    for table in filter(pathlib.Path.is_file, sorted(folder.glob("*.bw"))):
+        told, dumped = (subprocess.run([BW, word, table], stdin=subprocess.DEVNULL, check=False,
+                                       stdout=subprocess.PIPE, stderr=subprocess.PIPE)
+                        for word in ("info", "dump"))
+        if told.returncode or dumped.returncode:
+            continue
+        schema, rows, again = folder / "again.schema", folder / "again.csv", folder / "again"
+        schema.write_bytes(told.stdout)
+        rows.write_bytes(dumped.stdout)
+        before = table.read_bytes()
+        done = support.bw("load", "--layout", ["planes", "slices"][before[9]], schema, rows, again)
+        after = again.read_bytes() if done.status == 0 else b""
+        if after != before and (before[8] == 1 or after != before[:8] + b"\1" + before[9:]):
+            wrong.append(table.name)
+    return wrong
+
+
+class Page(support.TestCase):
+    """The calls of a page, `class Name(Page, page="docs/PAGE.md")`. Those of a section run one
+    after another in a new folder, after those before the first section; with `by_blocks`, those of
+    each block. The first test of a section runs all of its calls."""
+
+    page = ""
+    by_blocks = False
+    rooms: dict[Any, list[Call]]
+    done: dict[Any, dict[int, Done | None]]
+    lost: dict[Any, list[str]]
+
+    def __init_subclass__(cls, page: str, by_blocks: bool = False) -> None:
+        cls.page, cls.by_blocks, cls.done, cls.lost = page, by_blocks, {}, {}
+        calls, tested = calls_of(ROOT / page), set[int]()
+        if by_blocks:
+            cls.rooms = {block: [call for call in calls if call.block == block]
+                         for block in dict.fromkeys(call.block for call in calls)}
+        else:
+            names = dict.fromkeys(call.section for call in calls if call.section) or {"": None}
+            cls.rooms = {name: [call for call in calls if call.section in ("", name)]
+                         for name in names}
+        for room, own in cls.rooms.items():
+            for place, call in enumerate(own):
+                # those before the first section are tested once
+                if id(call) not in tested:
+                    tested.add(id(call))
+                    cls.add_test(room, place, call)
+
+    @classmethod
+    def add_test(cls, room: Any, place: int, call: Call) -> None:
+        """Makes a test of a call."""
+        def test(self: Page) -> None:
+            self.check(room, place, call)
+
+        test.__doc__ = f"{cls.page}:{call.line}"
+        name = f"test_{support.slug(call.section or 'beginning')}_"
+        number = sum(each.startswith(name) for each in vars(cls)) + 1
+        setattr(cls, f"{name}{number:03}", test)
+
+    def tool_of(self, section: str) -> tuple[str, str] | None:
+        """Returns the name and path of what a section needs. Skips the test if it isn't here."""
+        if section not in NEEDS:
+            return None
+        name, find, package = NEEDS[section]
+        path = find()
+        if not path:
+            self.skipTest(f"{self.page}, {section}: install {package}")
+        return name, path
+
+    def run_room(self, room: Any) -> None:
+        """Runs the calls of a section or a block, once."""
+        if room in self.done:
+            return
+        calls = self.rooms[room]
+        needed = self.tool_of(calls[-1].section)
+        with tempfile.TemporaryDirectory(prefix="bw-page-") as name:
+            folder, told = pathlib.Path(name, "folder"), pathlib.Path(name, "told")
+            folder.mkdir()
+            told.mkdir()
+            furnish(folder)
+            if needed:
+                (folder / "bin" / needed[0]).unlink(missing_ok=True)
+                support.write_script(folder / "bin" / needed[0], f'exec "{needed[1]}" "$@"')
+            self.done[room] = dict(enumerate(run_calls(calls, folder, told)))
+            self.lost[room] = not_restored(folder)
+
+    def check(self, room: Any, place: int, call: Call) -> None:
+        """Compares what a call printed with the page."""
+        self.run_room(room)
+        done, at = self.done[room][place], f"{self.page}:{call.line}\n$ {call.command[:2000]}\n"
+        if done is None:
+            self.fail(f"{at}it didn't end, or not within 300 seconds")
+        printed = printed_by(done)
+        if self.by_blocks and re.search(r"bw [^|]*\|[^|]", call.command):
+            # the status is that of the last command of the line
+            printed = done.out.splitlines() + done.err.splitlines()
+        if printed != call.prints:
+            self.fail(at + "\n".join(difflib.unified_diff(call.prints, printed, "wanted", "came",
+                                                          lineterm="")))
+        if not self.by_blocks and "2>" not in call.command:
+            self.assertEqual(on_wrong_stream(done), [], f"{at}prints this on the other stream")
+
+    def test_tables_come_back_from_their_dumps(self) -> None:
+        """The table files of a section are the same after a dump and a load."""
+        for room, calls in self.rooms.items():
+            if calls[-1].section not in NEEDS:
+                self.run_room(room)
+                self.assertEqual(self.lost[room], [], room)

@@ -1,0 +1,325 @@
+"""What the tests share: the program, folders, calls of programs, tests made of a list, and tables
+that are loaded."""
+from __future__ import annotations
+
+import argparse
+import contextlib
+import functools
+import gc
+import importlib
+import io
+import os
+import pathlib
+import re
+import shutil
+import signal
+import subprocess
+import sys
+import tempfile
+import traceback
+import unittest
+import warnings
+from typing import Any, Callable, Iterable, NamedTuple, NoReturn, Sequence, TypeVar
+
+from bwtools import importing, kinds, writing
+from bwtools.options import add_options, parsed
+from bwtools.programs import import_
+from bwtools.sorted_list import SortedList
+from bwtools.source import Source
+from bwtools.telling import Refused
+
+ROOT = pathlib.Path(__file__).resolve().parent.parent
+PYTHON = ROOT / "python"
+# the Python programs, and the module of each
+TOOLS = {"bw-ask": "ask", "bw-from-numbers": "from_numbers", "bw-import": "import_",
+         "bw-shards": "shards", "bw-to-numbers": "to_numbers"}
+# how many seconds a call may take
+LONGEST = 120
+
+# if standard input is closed, no other file may get its number
+try:
+    os.fstat(0)
+except OSError:
+    os.open(os.devnull, os.O_RDONLY)
+
+
+@functools.lru_cache(None)
+def program() -> pathlib.Path:
+    """Returns the program to test: that of the environment variable BW, else the one that ./bw
+    runs."""
+    path = os.environ.get("BW") or subprocess.run(
+        [ROOT / "bw", "--where"], stdout=subprocess.PIPE, text=True, check=True).stdout.strip()
+    found = pathlib.Path(path).resolve()
+    if not os.access(found, os.X_OK) or found.is_dir():
+        raise OSError(f"{found} is not a program")
+    return found
+
+
+# the Python programs look there
+BW = program()
+os.environ["BW"] = str(BW)
+
+
+class Done(NamedTuple):
+    """What a call left: its status, its output and its errors."""
+
+    status: int
+    out: str
+    err: str
+
+
+def text_of(data: bytes) -> str:
+    return data.decode("utf-8", "replace")
+
+
+def run(words: Sequence[Any], given: bytes | str = b"", cwd: Any = None, **names: str) -> Done:
+    """Runs a command, with these variables in its environment."""
+    done = subprocess.run(list(map(str, words)), cwd=cwd, timeout=LONGEST, check=False,
+                          input=given.encode() if isinstance(given, str) else given,
+                          stdout=subprocess.PIPE, stderr=subprocess.PIPE,
+                          env={**os.environ, **names})
+    return Done(done.returncode, text_of(done.stdout), text_of(done.stderr))
+
+
+def bw(*words: Any, given: bytes | str = b"", cwd: Any = None) -> Done:
+    """Runs bw."""
+    return run([BW, *words], given, cwd)
+
+
+def sh(command: str, folder: pathlib.Path, seconds: int = LONGEST, **names: str) -> Done:
+    """Runs a command by sh in a folder, whose `bin` is on the PATH."""
+    path = f"{folder / 'bin'}:{os.environ.get('PATH', os.defpath)}"
+    done = subprocess.run(["timeout", str(seconds), "sh", "-c", command], cwd=folder,
+                          env={**os.environ, **names, "PATH": path, "LC_ALL": "C"},
+                          stdin=subprocess.DEVNULL, stdout=subprocess.PIPE,
+                          stderr=subprocess.PIPE, check=False)
+    more = f"no end within {seconds} seconds\n" if done.returncode == 124 else ""
+    return Done(done.returncode, text_of(done.stdout), text_of(done.stderr) + more)
+
+
+@functools.lru_cache(None)
+def import_package() -> None:
+    """Imports all of bwtools, and has it compile most patterns, so that a forked program
+    needn't."""
+    for path in sorted((PYTHON / "bwtools").rglob("*.py")):
+        name = ".".join(path.relative_to(PYTHON).with_suffix("").parts)
+        importlib.import_module(name.removesuffix(".__init__"))
+    numbers_of(b"a,b,c,d,e,f\n1,1.5,2024-05-01,12:30,true,x\n-2,,2024-05-02,12:31,false,1e5\n")
+    # the programs, which are short, turn it off
+    gc.enable()
+
+
+def tool(name: str, *words: Any, given: bytes | str = b"", cwd: Any = None,
+         **names: str) -> Done:
+    """Runs a Python program in a fork of this process, which saves the start of another Python. Its
+    files are a program's own."""
+    import_package()
+    with tempfile.TemporaryFile() as stdin, tempfile.TemporaryFile() as out, \
+            tempfile.TemporaryFile() as err:
+        stdin.write(given.encode() if isinstance(given, str) else given)
+        stdin.seek(0)
+        process = os.fork()
+        if not process:
+            for number, file in enumerate((stdin, out, err)):
+                os.dup2(file.fileno(), number)
+            run_forked(name, list(map(str, words)), cwd, names)
+        status = os.waitstatus_to_exitcode(os.waitpid(process, 0)[1])
+        out.seek(0)
+        err.seek(0)
+        return Done(status, text_of(out.read()), text_of(err.read()))
+
+
+def run_forked(name: str, words: list[str], cwd: Any, names: dict[str, str]) -> NoReturn:
+    """Runs a Python program to its end, in a process of its own."""
+    status: Any = 1
+    try:
+        signal.alarm(LONGEST)
+        gc.disable()
+        os.chdir(cwd or os.getcwd())
+        os.environ.update(names)
+        sys.argv = [name, *words]
+        sys.stdin = open(0, encoding="utf-8", closefd=False)
+        sys.stdout = open(1, "w", encoding="utf-8", closefd=False)
+        sys.stderr = open(2, "w", encoding="utf-8", errors="backslashreplace", closefd=False)
+        status = importlib.import_module(f"bwtools.programs.{TOOLS[name]}").main()
+    except SystemExit as ended:
+        status = ended.code
+    except BaseException:
+        traceback.print_exc()
+    finally:
+        for file in (sys.stdout, sys.stderr):
+            try:
+                file.flush()
+            except OSError:
+                pass
+        os._exit(status or 0)
+
+
+def content(folder: pathlib.Path) -> dict[str, bytes]:
+    """Returns the files in a folder and below, hidden ones as well, without symlinks."""
+    return {str(path.relative_to(folder)): path.read_bytes() for path in folder.rglob("*")
+            if path.is_file() and not path.is_symlink()}
+
+
+def copy_python(folder: pathlib.Path) -> None:
+    """Copies the Python programs, without what was compiled of them, so that they can be
+    changed."""
+    shutil.copytree(PYTHON, folder, ignore=shutil.ignore_patterns("__pycache__"))
+    for path in [folder, *folder.rglob("*")]:
+        path.chmod(path.stat().st_mode | 0o200)
+
+
+def write_script(path: pathlib.Path, text: str) -> pathlib.Path:
+    """Writes a program in shell."""
+    path.write_text(f"#!/bin/sh\n{text}\n", encoding="utf-8")
+    path.chmod(0o755)
+    return path
+
+
+class TestCase(unittest.TestCase):
+    """A test whose differences are shown as a whole."""
+
+    maxDiff = None
+
+    def new_folder(self) -> pathlib.Path:
+        """Makes a folder that is removed after the test."""
+        folder = tempfile.TemporaryDirectory(prefix="bw test ")
+        self.addCleanup(folder.cleanup)
+        return pathlib.Path(folder.name)
+
+    @classmethod
+    def new_class_folder(cls) -> pathlib.Path:
+        """Makes a folder that is removed after the tests of the class."""
+        folder = tempfile.TemporaryDirectory(prefix="bw test ")
+        cls.addClassCleanup(folder.cleanup)
+        return pathlib.Path(folder.name)
+
+
+def slug(text: str) -> str:
+    """Returns a text as a part of a name."""
+    return re.sub(r"\W+", "_", text.lower()).strip("_")
+
+
+def each(cases: Iterable[Any]) -> Callable[[type], type]:
+    """Makes a test of each case: a class's `check` gets its value, or its values, of which the
+    first is its name."""
+    def decorate(cls: type) -> type:
+        for number, case in enumerate(cases, 1):
+            def test(self: Any, case: Any = case) -> None:
+                self.check(*case if isinstance(case, tuple) else [case])
+
+            test.__doc__ = str(case[0] if isinstance(case, tuple) else case)
+            name = f"test_{slug(test.__doc__)[:60] or number}"
+            setattr(cls, name if not hasattr(cls, name) else f"{name}_{number}", test)
+        return cls
+    return decorate
+
+
+class Import:
+    """A small file as it is imported: its kinds, its report, its numbers and its fields as they
+    come back; or why it is refused."""
+
+    def __init__(self, data: str | bytes, *words: str) -> None:
+        self.refusal, self.report = "", ""
+        try:
+            table = table_of(data if isinstance(data, bytes) else data.encode(), *words)
+            table.write(os.devnull)
+        except Refused as refused:
+            self.refusal = str(refused).partition(": ")[2]
+            return
+        with contextlib.redirect_stdout(io.StringIO()) as out:
+            table.report()
+        self.report = out.getvalue()
+        self.columns = table.columns
+        self.kinds = [column.kind.name for column in table.columns]
+        rows = list(zip(*map(self.joined, zip(*table.chunks()))))
+        self.rows = [",".join(self.back(place, number) for place, number in enumerate(row))
+                     for row in rows]
+        self.numbers = [[int(number) for number in column if number not in ("", "NULL")]
+                        for column in zip(*rows)]
+
+    @staticmethod
+    def joined(parts: Any) -> list[str]:
+        return [number for part in parts for number in part]
+
+    def back(self, place: int, number: str) -> str:
+        return "" if number in ("", "NULL") else self.columns[place].kind.text(int(number))
+
+    def greatest(self, place: int) -> str:
+        """Returns MAX of a column, as it is printed."""
+        return self.columns[place].kind.text(max(self.numbers[place]))
+
+
+@functools.lru_cache(64)
+def options(*words: str) -> argparse.Namespace:
+    """Returns the options that arguments of the command line give."""
+    parser = argparse.ArgumentParser()
+    add_options(parser)
+    return parsed(parser, words)
+
+
+Made = TypeVar("Made")
+
+
+def in_file(data: bytes, work: Callable[[str], Made]) -> Made:
+    """Returns what a function returns for the path of a file of these bytes."""
+    with tempfile.TemporaryDirectory(prefix="bw test ") as name:
+        path = pathlib.Path(name, "in.csv")
+        path.write_bytes(data)
+        return work(str(path))
+
+
+def source_of(data: bytes, *words: str) -> Source:
+    """Returns a source of these bytes, whose file is open though it is deleted."""
+    return in_file(data, lambda path: Source(path, options(*words)))
+
+
+def table_of(data: bytes, *words: str) -> writing.NumberTable:
+    """Returns the table of a file of these bytes."""
+    return in_file(data, lambda path: writing.NumberTable(path, options(*words)))
+
+
+def numbers_of(data: bytes, *words: str) -> list[list[str]]:
+    """Returns the columns of numbers of a file of these bytes."""
+    columns: list[list[str]] = []
+    for chunk in table_of(data, *words).chunks():
+        columns = [[*first, *then] for first, then in zip(columns or [[] for _ in chunk], chunk)]
+    return columns
+
+
+def texts(*values: str) -> kinds.Texts:
+    """Returns the kind of a column of these texts."""
+    return kinds.Texts(SortedList(values))
+
+
+def described(column: Any) -> tuple[Any, ...]:
+    """Returns what the store keeps of a column."""
+    return (column.name, column.heading, column.kind.name, column.kind.settings(),
+            list(column.nulls), list(column.ends), column.why,
+            None if column.kind.listed is None else list(column.kind.listed))
+
+
+def imported(path: pathlib.Path, data: str, *words: str) -> pathlib.Path:
+    """Imports a CSV of these characters as the table file, or the folder, of a path, which it
+    returns."""
+    raw = path.with_name(f"{path.name}.csv")
+    raw.write_bytes(data.encode())
+    given = import_.parser_of().parse_args([str(raw), str(path), *words])
+    with contextlib.redirect_stdout(io.StringIO()), warnings.catch_warnings():
+        warnings.simplefilter("ignore", ResourceWarning)
+        importing.import_file(given, given.table, given.shards is not None)
+    return path
+
+
+class Imported(TestCase):
+    """Tests over tables in a folder: `tables` has the CSV of each, and the options of its import,
+    by the name of its file."""
+
+    tables: dict[str, tuple[str, ...]] = {}
+    folder: pathlib.Path
+
+    @classmethod
+    def setUpClass(cls) -> None:
+        cls.folder = cls.new_class_folder()
+        for name, words in cls.tables.items():
+            imported(cls.folder / name, *words)

@@ -1,0 +1,312 @@
+"""./install as users run it, in empty folders. From the tree and from the packed tar it installs a
+program, tools and pages that work with nothing else on the PATH; it rejects what isn't its own, and
+removes only what it wrote. The man pages and the completions must name the commands and options of
+the program's help. The tools must work from a copy of their folder and by a symlink."""
+import functools
+import importlib.util
+import os
+import pathlib
+import re
+import shutil
+import signal
+import subprocess
+import sys
+import time
+
+from tests import support
+from tests.support import BW, LONGEST, PYTHON, ROOT, TOOLS, copy_python
+
+# the options of every command
+SHARED = {"--explain", "--help"}
+
+
+def run(words, **names):
+    """Runs a command with only the system on its PATH."""
+    names = {"PATH": f"{pathlib.Path(sys.executable).parent}:/usr/bin:/bin",
+             "HOME": "/nonexistent", "LC_ALL": "C.UTF-8", **names}
+    done = subprocess.run(list(map(str, words)), stdin=subprocess.DEVNULL, check=False, text=True,
+                          stdout=subprocess.PIPE, stderr=subprocess.PIPE, timeout=LONGEST,
+                          env=names)
+    return support.Done(done.returncode, done.stdout, done.stderr)
+
+
+def content(folder):
+    """Returns what is in a folder and below: the bytes and modes of files, and the texts of
+    symlinks."""
+    found = {}
+    for path in folder.rglob("*"):
+        below = str(path.relative_to(folder))
+        found[below] = os.readlink(path) if path.is_symlink() else path.is_dir() or \
+            (path.read_bytes(), path.stat().st_mode)
+    return found
+
+
+class Installed(support.TestCase):
+    """A folder to install in."""
+
+    def setUp(self):
+        self.folder = self.new_folder()
+
+    def install(self, *words, top=ROOT, **names):
+        """Runs ./install. The tar has its own program."""
+        return run([top / "install", *words], **({"BW": str(BW)} if top == ROOT else {}), **names)
+
+    def assert_works(self, place, **names):
+        """Tests that the tools of a folder work."""
+        (self.folder / "t.csv").write_text("city,fare\nBern,2.50\nGraz,12.05\n")
+        made = run([place / "bw-import", self.folder / "t.csv", self.folder / "t.bw"], **names)
+        self.assertEqual(made.status, 0, made)
+        done = run([place / "bw-ask", self.folder / "t.bw",
+                    "SELECT fare FROM t WHERE city = 'Graz'"], **names)
+        self.assertEqual(done, (0, "fare\n12.05\n", ""))
+
+    def check_installs(self, top):
+        """Installs from a folder into an empty one, installs again, and uninstalls."""
+        prefix = self.folder / "a prefix"
+        done = self.install(prefix, top=top)
+        self.assertEqual((done.status, done.err), (0, ""))
+        self.assertIn(f"export PATH='{prefix}/bin':", done.out)
+        kept, package = content(prefix), prefix / "share" / "bw" / "python" / "bwtools"
+        self.assertEqual(run([prefix / "bin" / "bw", "--version"]), run([BW, "--version"]))
+        self.assert_works(prefix / "bin")
+        done = run([prefix / "bin" / "bw-ask", "--help"])
+        self.assertRegex(done.out, r"\Ausage: bw-ask ")
+        for path in package.rglob("*.py"):
+            self.assertTrue(os.path.isfile(importlib.util.cache_from_source(path)), path)
+        self.assertEqual(sorted(os.listdir(prefix / "bin")), ["bw", *TOOLS])
+        again = self.install(prefix, top=top, PATH=f"{os.environ['PATH']}:{prefix}/bin")
+        self.assertEqual((again.status, content(prefix)), (0, kept))
+        self.assertNotIn("PATH", again.out)
+        (package / "__pycache__" / "kind.cpython-39.pyc").write_bytes(b"of another Python")
+        gone = self.install("--uninstall", prefix, top=top)
+        self.assertEqual((gone.status, content(prefix)), (0, {}), gone)
+
+
+class Install(Installed):
+    """What is installed, replaced and removed."""
+
+    def test_from_the_tree(self):
+        self.check_installs(ROOT)
+
+    def test_from_the_tar(self):
+        if not (ROOT / "dist" / "bw").exists():
+            self.skipTest("the packed tar: dist/bw isn't there")
+        for name in ("bw.tar.xz", "two.tar.xz"):
+            # in a hurry
+            done = run([ROOT / "scripts" / "ship", "--pack", self.folder / name], XZ_OPT="-0")
+            self.assertEqual(done.status, 0, done)
+        self.assertEqual(*((self.folder / name).read_bytes()
+                           for name in ("bw.tar.xz", "two.tar.xz")))
+        run(["tar", "-C", self.folder, "-xf", self.folder / "bw.tar.xz"])
+        top, = [each for each in self.folder.iterdir() if each.is_dir()]
+        self.assert_works(top / "python" / "bin")
+        self.check_installs(top)
+
+    def test_foreign_files_are_not_overwritten(self):
+        prefix = self.folder / "p"
+        (prefix / "bin").mkdir(parents=True)
+        (prefix / "bin" / "bw-ask").write_text("mine")
+        before = content(prefix)
+        done = self.install(prefix)
+        self.assertEqual(done.status, 3)
+        self.assertIn(str(prefix / "bin" / "bw-ask"), done.err)
+        self.assertEqual(self.install("--uninstall", prefix).status, 3)
+        self.assertEqual(content(prefix), before)
+
+    def test_changed_files_are_kept(self):
+        prefix = self.folder / "p"
+        (prefix / "bin").mkdir(parents=True)
+        (prefix / "bin" / "other").write_text("mine")
+        self.install(prefix)
+        (prefix / "share/bw/python/bin/bw-ask").write_text("changed")
+        done = self.install(prefix)
+        self.assertEqual(done.status, 3)
+        self.assertIn("bw-ask", done.err)
+        done = self.install("--uninstall", prefix)
+        self.assertEqual(done.status, 0)
+        self.assertIn("bw-ask", done.out)
+        left = {name for name, each in content(prefix).items() if each is not True}
+        self.assertEqual(left, {"bin/other", "share/bw/python/bin/bw-ask"})
+
+    def test_what_is_no_place_or_program(self):
+        for name, target in (("a symlink", "other"), ("a broken symlink", "nowhere")):
+            with self.subTest(name):
+                place = self.folder / name
+                (place / "bin").mkdir(parents=True)
+                (place / "bin" / "bw").symlink_to(target)
+                self.assertEqual(self.install(place).status, 3)
+                self.assertEqual(os.readlink(place / "bin" / "bw"), target)
+        done = run([ROOT / "install", self.folder / "q"], BW=str(self.folder / "none"))
+        self.assertEqual(done.status, 3)
+        self.assertIn("is not a program", done.err)
+        self.assertFalse((self.folder / "q").exists())
+        (self.folder / "file").write_text("mine")
+        self.assertEqual(self.install(self.folder / "file").status, 5)
+        self.assertEqual((self.folder / "file").read_text(), "mine")
+
+    def test_the_default(self):
+        self.assertEqual(self.install(HOME=str(self.folder / "home")).status, 0)
+        self.assertTrue((self.folder / "home/.local/bin/bw-import").exists())
+
+    def test_an_older_install_is_replaced(self):
+        copied, prefix, fresh = (self.folder / name for name in ("tree", "p", "r"))
+        for name in ("install", "LICENSE", *(f"docs/{page.name}"
+                                             for page in (ROOT / "docs").glob("bw*.1"))):
+            (copied / name).parent.mkdir(parents=True, exist_ok=True)
+            shutil.copy2(ROOT / name, copied / name)
+        copy_python(copied / "python")
+        for name in ("bw-old", "bw-ask"):
+            (copied / "python" / "bin" / name).write_text("#!/bin/sh\n")
+        run([copied / "install", prefix], BW=str(BW))
+        self.assertTrue((prefix / "bin" / "bw-old").is_symlink())
+        self.assertEqual(self.install(prefix).status, 0)
+        self.assert_works(prefix / "bin")
+        self.install(fresh)
+        self.assertEqual(content(prefix).keys(), content(fresh).keys())
+        self.assertFalse(os.path.lexists(prefix / "bin" / "bw-old"))
+
+    def test_a_broken_off_install_is_taken_up(self):
+        for delay in (0.04, 0.08):
+            broken = self.folder / str(delay)
+            with subprocess.Popen([sys.executable, ROOT / "install", broken],
+                                  env={**os.environ, "BW": str(BW)}, stdout=subprocess.DEVNULL,
+                                  stderr=subprocess.DEVNULL) as process:
+                time.sleep(delay)
+                process.send_signal(signal.SIGKILL)
+            with self.subTest(delay=delay):
+                self.assertEqual(self.install(broken).status, 0)
+                self.assertEqual(self.install("--uninstall", broken).status, 0)
+                self.assertEqual([name for name in content(broken) if not name.endswith(".part")],
+                                 [])
+
+
+class Copies(Installed):
+    """The tools from a copy of their folder and by symlinks, with the program of BW, of the PATH or
+    of dist/."""
+
+    def setUp(self):
+        super().setUp()
+        copy_python(self.folder / "copied")
+        self.ask = [self.folder / "copied" / "bin" / "bw-ask", self.folder / "t.bw",
+                    "SELECT fare FROM t"]
+
+    def test_a_copy_and_symlinks(self):
+        self.assert_works(self.folder / "copied" / "bin", BW=str(BW))
+        (self.folder / "links").mkdir()
+        for name in TOOLS:
+            (self.folder / "links" / name).symlink_to(self.folder / "copied" / "bin" / name)
+        self.assert_works(self.folder / "links", BW=str(BW))
+        done = run(self.ask)
+        self.assertEqual(done.status, 3)
+        self.assertIn("BW=FILE", done.err)
+
+    def test_a_checkout(self):
+        """The shipped program is taken, unless it doesn't run here."""
+        (self.folder / "dist").mkdir()
+        shutil.copy2(BW, self.folder / "dist" / "bw")
+        support.write_script(self.folder / "bw", "echo proving >&2\nexit 1")
+        self.assert_works(self.folder / "copied" / "bin")
+        (self.folder / "dist" / "bw").unlink()
+        support.write_script(self.folder / "dist" / "bw", "exit 1")
+        done = run(self.ask)
+        self.assertEqual((done.status, done.out), (1, ""))
+        self.assertIn("proving", done.err)
+
+
+class Pip(Installed):
+    """pip installs the package, if setuptools is installed, and its programs work."""
+
+    def test_pip(self):
+        # setuptools before 71 makes packages by wheel
+        test = ("import setuptools, pip; at = int(setuptools.__version__.split('.')[0]); assert "
+                "at >= 61\nif at < 71: import wheel")
+        python = next((each for each in dict.fromkeys((sys.executable, "/usr/bin/python3"))
+                       if os.path.exists(each) and run([each, "-c", test]).status == 0), None)
+        if not python:
+            self.skipTest("pip: install setuptools, and wheel")
+        copy_python(self.folder / "python")
+        target = self.folder / "to"
+        done = run([python, "-m", "pip", "install", "--no-build-isolation", "--no-index",
+                    "--no-deps", "--no-compile", "--quiet", "--target", target,
+                    self.folder / "python"], HOME=str(self.folder))
+        self.assertEqual(done.status, 0, done)
+        self.assertEqual(sorted(os.listdir(target / "bin")), [*TOOLS])
+        self.assert_works(target / "bin", BW=str(BW), PYTHONPATH=str(target))
+
+
+@functools.lru_cache(None)
+def help_of(*words):
+    """Returns the commands and the options that help names."""
+    told = "".join(run([BW, *words, "--help"])[1:])
+    commands = re.findall(r"^  ([a-z]+) ", told.partition("Commands:")[2].partition("Options:")[0],
+                          re.M)
+    options = told.partition("Options:")[2].partition("\n\n")[0]
+    return commands, set(re.findall(r"--[a-z]+", options))
+
+
+class ManPages(support.TestCase):
+    """The man pages name the version and the same commands and options as help."""
+
+    def test_bw(self):
+        page = (ROOT / "docs" / "bw.1").read_text(encoding="utf-8").replace(r"\-", "-")
+        commands, everywhere = help_of()
+        section, _, rest = page.partition(".SH COMMANDS")[2].partition(".SH OPTIONS")
+        named = {re.match(r"\\fB([a-z]+)", part)[1]: set(re.findall("--[a-z]+", part)) | SHARED
+                 for part in re.split(r"^\.TP\n(?=\\fB[a-z])", section, flags=re.M)[1:]}
+        self.assertTrue(commands)
+        self.assertEqual(named, {each: help_of(each)[1] for each in commands})
+        self.assertEqual(set(re.findall("--[a-z]+", rest.partition(".SH")[0])), everywhere)
+        version = run([BW, "--version"]).out.split("\n")[0]
+        self.assertIn(f'"{version}"', page.split("\n")[0])
+
+    def test_python_programs(self):
+        done = run([sys.executable, ROOT / "scripts" / "manpages", "--check"])
+        self.assertEqual(done, (0, "", ""))
+        self.assertEqual(sorted(page.stem for page in (ROOT / "docs").glob("bw-*.1")), [*TOOLS])
+
+    def test_man_warns_of_nothing(self):
+        if not shutil.which("groff"):
+            self.skipTest("the man page: install groff")
+        for page in (ROOT / "docs").glob("bw*.1"):
+            with self.subTest(page.name):
+                done = run(["groff", "-man", "-Tutf8", "-ww", "-z", page])
+                self.assertEqual(done, (0, "", ""))
+
+
+def completed_by_bash(*words):
+    """Returns what bash's completion offers for the last of these words."""
+    script = ('. "$1"; shift; COMP_WORDS=("$@"); COMP_CWORD=$(($# - 1)); _bw; '
+              'printf "%s\\n" "${COMPREPLY[@]}"')
+    done = run(["bash", "-c", script, "bash", PYTHON / "completions" / "bw.bash", *words])
+    return set(done.out.split("\n")) - {""} if done.status == 0 else done
+
+
+class Completions(support.TestCase):
+    """The completions offer file names and the same commands and options as help."""
+
+    def test_bash(self):
+        commands, everywhere = help_of()
+        for command in commands:
+            self.assertEqual(completed_by_bash("bw", command, "--"), help_of(command)[1], command)
+        self.assertEqual(completed_by_bash("bw", ""), {*commands, *everywhere})
+        self.assertEqual(completed_by_bash("bw", "que"), {"query"})
+        self.assertEqual(completed_by_bash("bw", "load", "--layout", ""), {"planes", "slices"})
+        table = self.new_folder() / "some table.bw"
+        table.touch()
+        self.assertEqual(completed_by_bash("bw", "query", str(table)[:-9]), {str(table)})
+
+    def test_zsh(self):
+        text = (PYTHON / "completions" / "_bw").read_text(encoding="utf-8")
+        commands, _ = help_of()
+        self.assertEqual(sorted(re.findall(r"^    '([a-z]+):", text, re.M)), sorted(commands))
+        for command in commands:
+            line = next((line for line in text.split("\n")
+                         if re.match(rf"    [a-z|]*\b{command}\b[a-z|]*\) ", line)), "")
+            self.assertTrue(line, command)
+            self.assertEqual(set(re.findall(r"--[a-z]+", line)) | SHARED, help_of(command)[1],
+                             command)
+
+    def test_zsh_reads_its_completion(self):
+        if not shutil.which("zsh"):
+            self.skipTest("the completion of zsh: install zsh")
+        self.assertEqual(run(["zsh", "-n", PYTHON / "completions" / "_bw"]), (0, "", ""))

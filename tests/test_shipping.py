@@ -1,0 +1,197 @@
+"""The test command, the comparison of dist/ with the tree, and the wait for another call that
+proves, in a small tree with stand-ins for the program and for the kit's command rt."""
+import fcntl
+import os
+import shutil
+import subprocess
+import sys
+import threading
+
+from tests import support
+from tests.support import ROOT
+
+LABEL, LOGIC = "rattle-kit-1", "0123456789abcdef"
+SAME, OTHER = f"{LABEL} logic {LOGIC}", f"rattle-kit-2 logic {LOGIC}"
+ODD = f"{LABEL} logic fedcba9876543210"
+# the stand-in for `rt ci`: one crate is proved, and VERDICT decides on the other
+GATE = """printf '== bw_text\\nnoise\\nrt: bw_text proved\\n== bw\\nan open goal\\n'
+printf 'rt: bw %s\\nrt: bw ran\\n' "$VERDICT"
+mkdir -p crates/bw/out && cp dist/bw crates/bw/out/bw
+[ "$VERDICT" = proved ]"""
+# the tests of the small tree
+TESTS = """import os
+import unittest
+
+
+class Small(unittest.TestCase):
+    def test_passes(self):
+        print("a line")
+
+    def test_is_skipped(self):
+        self.skipTest("something: install it")
+
+    def test_fails(self):
+        self.assertNotIn("FAIL", os.environ)
+"""
+
+
+class Trees(support.TestCase):
+    """A tree of one source and a program that only prints its version."""
+
+    def setUp(self):
+        self.folder = self.new_folder()
+        for name in ("scripts", "dist", "tests", "tools", "crates/bw/src"):
+            (self.folder / name).mkdir(parents=True)
+        for path in [ROOT / "check", *filter(os.path.isfile, (ROOT / "scripts").iterdir())]:
+            shutil.copy2(path, self.folder / path.relative_to(ROOT))
+        (self.folder / "crates.txt").write_text("bw:\n")
+        (self.folder / "crates" / "bw" / "src" / "main.rt").write_text("fn main() {}\n")
+        self.write_changelog("1.2.3")
+        self.shipped = support.write_script(self.folder / "dist" / "bw",
+                                            f"echo 'bw 1.2.3'; echo 'Rattle logic {LOGIC}'")
+        self.record = {
+            "program": self.printed("sha256sum", self.shipped).split()[0],
+            "sources": self.printed(self.folder / "scripts" / "sources", "--sum").strip(),
+            "logic": LOGIC, "built": f"by {LABEL}"}
+        self.write_record(self.record)
+
+    @staticmethod
+    def printed(*words):
+        return subprocess.run(words, stdout=subprocess.PIPE, text=True, check=True).stdout
+
+    def write_changelog(self, version):
+        (self.folder / "CHANGELOG.md").write_text(f"# Changelog\n\n## {version} (2026-01-02)\n")
+
+    def write_record(self, record):
+        (self.folder / "dist" / "RECORD").write_text(
+            "".join(f"{name} {value}\n" for name, value in record.items()))
+
+    def run_in(self, *words, kit=None, gate=GATE, **names):
+        """Runs a command in the tree. Returns its status and its lines. If `kit` is given, a
+        stand-in for rt prints it as its version, and else does `gate`."""
+        tools = self.folder / "tools"
+        shutil.rmtree(tools)
+        tools.mkdir()
+        if kit:
+            support.write_script(tools / "rt",
+                                 f'[ "$*" != version ] || {{ echo "{kit}"; exit; }}\n{gate}')
+        (tools / "python3").symlink_to(sys.executable)
+        done = subprocess.run(words, cwd=self.folder, stdin=subprocess.DEVNULL, text=True,
+                              stdout=subprocess.PIPE, stderr=subprocess.STDOUT, check=False,
+                              env={"PATH": f"{tools}:/usr/bin:/bin", **names})
+        return done.returncode, done.stdout.splitlines()
+
+
+class Shipped(Trees):
+    """The comparison of dist/ for kits of the recorded and of other labels and logics, and for
+    programs of other bytes."""
+
+    def check(self, status, line, *words, kit):
+        """Tests the status, and a line or the beginning of one."""
+        came, lines = self.run_in("scripts/shipped", *words, kit=kit)
+        self.assertEqual(came, status, lines)
+        self.assertTrue(any(each.startswith(line) for each in lines), lines)
+
+    def test_the_record(self):
+        self.check(0, "logic: ok", kit=SAME)
+        self.check(0, "logic: ok", kit=OTHER)
+        self.check(1, "logic: the kit's logic is fedcba9876543210", kit=ODD)
+        self.check(1, "logic: the kit's logic is unknown", kit=None)
+        for name, why in (("sources", "sources: dist/RECORD is of other sources"),
+                          ("program", "sum: dist/bw isn't the program of dist/RECORD")):
+            self.write_record({**self.record, name: "0" * 64})
+            self.check(1, why, kit=SAME)
+
+    def test_a_program(self):
+        built = self.folder / "built"
+        shutil.copy2(self.shipped, built)
+        for kit in (SAME, OTHER):
+            self.check(0, "program: ok", built, kit=kit)
+        self.check(1, "version: --version says", built, kit=ODD)
+        with open(built, "a", encoding="utf-8") as program:
+            program.write("# by another compiler\n")
+        self.check(1, "program: dist/bw isn't", built, kit=SAME)
+        self.check(0, f"skipped: program: dist/bw was built by {LABEL}, here rattle-kit-2: not "
+                      "compared", built, kit=OTHER)
+        self.check(1, "program: there is no built program", "nothing", kit=SAME)
+        self.write_changelog("1.2.4")
+        self.check(1, "version: --version says", self.shipped, kit=SAME)
+
+
+class Check(Trees):
+    """The test command."""
+
+    def setUp(self):
+        super().setUp()
+        (self.folder / "tests" / "__init__.py").touch()
+        (self.folder / "tests" / "test_small.py").write_text(TESTS)
+        support.write_script(self.folder / "bw", 'echo "$PWD/dist/bw"')
+
+    def test_tests(self):
+        status, lines = self.run_in("./check")
+        self.assertEqual((status, lines[-1]), (0, "2 passed, 0 failed, 1 skipped"), lines)
+        self.assertIn("skipped: something: install it", lines)
+        self.assertNotIn("a line", lines)
+        status, lines = self.run_in("./check", FAIL="1")
+        self.assertEqual((status, lines[-2:]), (1, ["FAILED: test_small",
+                                                    "1 passed, 1 failed, 1 skipped"]))
+        self.assertTrue(any("test_fails" in line for line in lines), lines)
+
+    def test_names(self):
+        for words, wanted in (("test_small.Small.test_passes", "1 passed, 0 failed"),
+                              ("tests/test_small.py", "2 passed, 0 failed, 1 skipped"),
+                              ("-k passes", "1 passed, 0 failed"),
+                              ("test_none", "0 passed, 1 failed")):
+            with self.subTest(words):
+                status, lines = self.run_in("./check", *words.split(" "))
+                self.assertEqual((status, lines[-1]), (int("none" in words), wanted), lines)
+
+    def test_a_module_that_ends_its_process(self):
+        (self.folder / "tests" / "test_ends.py").write_text("import os\nos._exit(0)\n")
+        status, lines = self.run_in("./check", RT_JOBS="1")
+        self.assertEqual(status, 1)
+        self.assertTrue(any(line.startswith("test_ends: its process ended") for line in lines),
+                        lines)
+
+    def test_wrong_arguments(self):
+        for words in (["--quick"], ["--proof", "--all"], ["--proof", "test_small"]):
+            with self.subTest(words):
+                status, lines = self.run_in("./check", *words)
+                self.assertEqual(status, 2)
+                self.assertRegex(lines[0], r"\Ausage: ./check ")
+        for word in ("--proof", "--all"):
+            with self.subTest(word):
+                status, lines = self.run_in("./check", word)
+                self.assertEqual((status, len(lines)), (2, 1))
+                self.assertIn("Rattle kit", lines[0])
+
+    def test_the_gate(self):
+        status, lines = self.run_in("./check", "--proof", kit=SAME, VERDICT="proved")
+        self.assertEqual((status, lines[-1]), (0, "5 passed, 0 failed, 1 skipped"), lines)
+        self.assertIn("rt: bw proved", lines)
+        self.assertNotIn("noise", lines)
+        self.assertIn("noise", (self.folder / "out" / "proof.log").read_text())
+        self.assertTrue(any(line.startswith("   in all ") for line in lines))
+        status, lines = self.run_in("./check", "--proof", kit=SAME, VERDICT="NOT PROVED")
+        self.assertEqual((status, lines[-2:]), (1, ["FAILED: scripts/gate",
+                                                    "4 passed, 1 failed, 1 skipped"]))
+        self.assertIn("an open goal", lines)
+        self.assertNotIn("noise", lines)
+
+
+class Prove(Trees):
+    """A call of scripts/prove waits for another one in the same tree."""
+
+    def test_prove(self):
+        gate = "mkdir -p out && cp ../../dist/bw out/bw"
+        (self.folder / "out").mkdir()
+        held = os.open(self.folder / "out", os.O_RDONLY)
+        fcntl.flock(held, fcntl.LOCK_EX)
+        threading.Timer(.5, os.close, [held]).start()
+        status, lines = self.run_in("scripts/prove", kit=SAME, gate=gate)
+        self.assertEqual((status, lines[0]),
+                         (0, "bw: waiting for another call that proves and builds here"))
+        self.assertIn("bw: 1 of 1 crates: bw", lines[-1])
+        status, lines = self.run_in("scripts/prove", kit=SAME, gate=gate)
+        self.assertEqual(status, 0)
+        self.assertFalse(any("waiting" in line for line in lines), lines)
