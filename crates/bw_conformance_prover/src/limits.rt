@@ -1,7 +1,7 @@
 //! Programs and conditions past a limit.
 use crate::tables::Numbers;
 use bw_model::{Cond, Schema};
-use bw_program::Instr;
+use bw_program::{Instr, Program};
 use bw_prover::{Hints, Unproved, prove};
 use std::alloc::{AllocError, Global};
 use std::test::Fail;
