@@ -9,14 +9,18 @@ use std::test::Fail;
 
 /// A kind of lines.
 #[derive(Clone, Copy, Debug)]
-enum Kind {
+enum LineKind {
     Node,
     Chain,
     Row,
 }
 
 /// The kinds, and the number by which a line that breaks its rule is rejected.
-const KINDS: [(Kind, u16); 3] = [(Kind::Node, 601), (Kind::Chain, 603), (Kind::Row, 602)];
+const KINDS: [(LineKind, u16); 3] = [
+    (LineKind::Node, 601),
+    (LineKind::Chain, 603),
+    (LineKind::Row, 602),
+];
 
 /// The number of lines of each kind in a diagram.
 #[derive(Clone, Copy, Debug)]
@@ -27,24 +31,24 @@ struct Held {
 }
 
 impl Held {
-    fn of(self, kind: Kind) -> u64 {
+    fn of(self, kind: LineKind) -> u64 {
         match kind {
-            Kind::Node => self.nodes,
-            Kind::Chain => self.chains,
-            Kind::Row => self.rows,
+            LineKind::Node => self.nodes,
+            LineKind::Chain => self.chains,
+            LineKind::Row => self.rows,
         }
     }
 }
 
 /// Adds a line after this many others of its kind: one that satisfies its rule whatever else the
 /// diagram contains, or one that breaks it.
-fn add(diagram: &mut Diagram<'_>, kind: Kind, before: u64, obeys: bool) -> Result<(), Fault> {
+fn add(diagram: &mut Diagram<'_>, kind: LineKind, before: u64, obeys: bool) -> Result<(), Fault> {
     match kind {
-        Kind::Node => {
+        LineKind::Node => {
             let variable = if obeys { 13 } else { 14 };
             diagram.add_node(before.saturating_add(2), variable, 0, 1)
         }
-        Kind::Chain => {
+        LineKind::Chain => {
             let columns = ChainColumns::One {
                 kind: ChainKind::Equal,
                 column: b"a",
@@ -56,7 +60,7 @@ fn add(diagram: &mut Diagram<'_>, kind: Kind, before: u64, obeys: bool) -> Resul
             };
             diagram.add_chain(before, &columns)
         }
-        Kind::Row => {
+        LineKind::Row => {
             let product = u64::from(obeys);
             diagram.add_row(before, Connective::And, 1, 1, product, Reason::Shortcut)
         }
@@ -67,7 +71,7 @@ fn add(diagram: &mut Diagram<'_>, kind: Kind, before: u64, obeys: bool) -> Resul
 fn check_next(
     rt: &(impl AllocGlobal + Abort),
     diagram: &mut Diagram<'_>,
-    kind: Kind,
+    kind: LineKind,
     code: u16,
     held: Held,
 ) {

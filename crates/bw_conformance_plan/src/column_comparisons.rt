@@ -1,5 +1,5 @@
 //! Comparisons of columns with one another: skips, if no row has the two equal so far.
-use crate::rows::{Numbers, cost_of, cost_of_rows, rows_of};
+use crate::rows::{NumberSource, cost_of, cost_of_rows, rows_of};
 use bw_model::{Row, Schema, code};
 use std::alloc::Global;
 use std::process::Abort;
@@ -149,7 +149,7 @@ fn chain(alloc: Global, count: usize, most: i64) -> Result<(Schema, String), Fai
 fn assert_longest(rt: &(impl Abort + AllocGlobal), count: usize, most: i64) -> Result<(), Fail> {
     let alloc = rt.alloc();
     let (schema, text) = chain(alloc, count, most)?;
-    let mut numbers = Numbers::new(7);
+    let mut numbers = NumberSource::new(7);
     let rows = rows_of(alloc, &mut numbers, &schema, &[0, 1, 500, most], 700)?;
     cost_of(rt, alloc, &schema, text.as_str(), &rows)?;
     let (schema, text) = chain(alloc, count.saturating_add(1), most)?;
@@ -166,7 +166,7 @@ fn comparisons_that_share_columns_are_served(rt: HostRuntime) -> Result<(), Fail
     let alloc = rt.alloc();
     let most = i64::MAX - 1;
     let (schema, _) = chain(alloc, 3, most)?;
-    let mut numbers = Numbers::new(9);
+    let mut numbers = NumberSource::new(9);
     let rows = rows_of(alloc, &mut numbers, &schema, &[0, 1, 500, most], 700)?;
     for text in [
         "c0 < c1 AND c1 < c2 AND c2 < c3",
@@ -194,7 +194,7 @@ const FOUR_BITS: &str = "\
 fn conditions_with_a_skip_that_has_no_proof_are_served(rt: HostRuntime) -> Result<(), Fail> {
     let alloc = rt.alloc();
     let schema = Schema::parse(alloc, FOUR_BITS.as_bytes())?;
-    let mut numbers = Numbers::new(13);
+    let mut numbers = NumberSource::new(13);
     let rows = rows_of(alloc, &mut numbers, &schema, &[0, 7, 15], 700)?;
     for text in [
         "(w < 15 OR w = z) AND (y < 6 OR z >= x) AND (z <= y OR z <> w) AND (z <= w OR x <= y)",

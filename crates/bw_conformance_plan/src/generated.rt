@@ -1,5 +1,5 @@
 //! Generated conditions of every kind.
-use crate::rows::{Numbers, cost_of, rows_of};
+use crate::rows::{NumberSource, cost_of, rows_of};
 use bw_model::Schema;
 use std::alloc::{AllocError, Global};
 use std::process::Abort;
@@ -21,7 +21,7 @@ const COLUMNS: [&str; 7] = ["a", "x", "y", "z", "b", "w", "g"];
 
 const COMPARISONS: [&str; 6] = ["=", "<>", "<", ">", "<=", ">="];
 
-/// Numbers that conditions compare with, and that rows are near.
+/// NumberSource that conditions compare with, and that rows are near.
 const NEAR: [i64; 16] = [
     -9223372036854775807,
     -300,
@@ -42,13 +42,13 @@ const NEAR: [i64; 16] = [
 ];
 
 /// Returns one of some texts.
-fn one_of<'a>(numbers: &mut Numbers, texts: &[&'a str]) -> &'a str {
+fn one_of<'a>(numbers: &mut NumberSource, texts: &[&'a str]) -> &'a str {
     let at = numbers.below(texts.len() as u64) as usize;
     texts.get(at).copied().unwrap_or("a")
 }
 
 /// Returns a literal, or at times NULL.
-fn literal(alloc: Global, numbers: &mut Numbers) -> Result<String, AllocError> {
+fn literal(alloc: Global, numbers: &mut NumberSource) -> Result<String, AllocError> {
     if numbers.below(12) == 0 {
         return String::from_str(alloc, "NULL");
     }
@@ -58,7 +58,7 @@ fn literal(alloc: Global, numbers: &mut Numbers) -> Result<String, AllocError> {
 }
 
 /// Returns two columns with the same minimum.
-fn columns(numbers: &mut Numbers) -> (&'static str, &'static str) {
+fn columns(numbers: &mut NumberSource) -> (&'static str, &'static str) {
     if numbers.below(4) == 0 {
         return (
             one_of(numbers, &COLUMNS[4..6]),
@@ -72,7 +72,7 @@ fn columns(numbers: &mut Numbers) -> (&'static str, &'static str) {
 }
 
 /// Returns a predicate.
-fn predicate(alloc: Global, numbers: &mut Numbers) -> Result<String, AllocError> {
+fn predicate(alloc: Global, numbers: &mut NumberSource) -> Result<String, AllocError> {
     let column = one_of(numbers, &COLUMNS);
     let op = one_of(numbers, &COMPARISONS);
     let not = one_of(numbers, &["", "NOT "]);
@@ -107,7 +107,7 @@ fn predicate(alloc: Global, numbers: &mut Numbers) -> Result<String, AllocError>
 /// Returns a condition whose parts nest this deep.
 pub(crate) fn condition(
     alloc: Global,
-    numbers: &mut Numbers,
+    numbers: &mut NumberSource,
     depth: u32,
 ) -> Result<String, AllocError> {
     if depth == 0 || numbers.below(5) == 0 {
@@ -141,7 +141,7 @@ pub(crate) fn condition(
 fn pick(rt: &(impl Abort + AllocGlobal), seed: u64, count: u32) -> Result<(), Fail> {
     let alloc = rt.alloc();
     let schema = Schema::parse(alloc, COLUMNS_TABLE.as_bytes())?;
-    let mut numbers = Numbers::new(seed);
+    let mut numbers = NumberSource::new(seed);
     let rows = rows_of(alloc, &mut numbers, &schema, &NEAR, 1500)?;
     for number in 0..count {
         let text = condition(alloc, &mut numbers, number % 4)?;

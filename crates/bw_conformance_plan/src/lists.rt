@@ -1,5 +1,5 @@
 //! Lists of numbers: what fits into a program, and the rows that it selects.
-use crate::rows::{Numbers, cost_of, cost_of_rows, rows_of};
+use crate::rows::{NumberSource, cost_of, cost_of_rows, rows_of};
 use bw_model::{Row, Schema, code};
 use std::alloc::Global;
 use std::process::Abort;
@@ -18,7 +18,7 @@ const WIDTHS: &str = "\
 /// Returns scattered numbers of this many bits, of which the first and the last bytes are often all
 /// zeros or ones.
 fn scatter_numbers(alloc: Global, count: u64, bits: u32) -> Result<Vec<i64>, Fail> {
-    let mut numbers = Numbers::new(u64::from(bits));
+    let mut numbers = NumberSource::new(u64::from(bits));
     let mut made = Vec::new(alloc);
     for number in 0..count {
         let any = numbers.below(1 << bits.min(62));
@@ -64,7 +64,7 @@ fn assert_served(
     let schema = Schema::parse(alloc, WIDTHS.as_bytes())?;
     for count in counts {
         let numbers = scatter_numbers(alloc, *count, bits)?;
-        let mut source = Numbers::new(*count);
+        let mut source = NumberSource::new(*count);
         let rows = rows_of(alloc, &mut source, &schema, &numbers, 1200)?;
         let text = among(alloc, column, &numbers)?;
         for (before, after) in [("", ""), ("NOT (", ")"), ("a < 9 OR ", " AND b > 5")] {
@@ -106,7 +106,13 @@ fn assert_as_list(
 ) -> Result<(), Fail> {
     let schema = Schema::parse(alloc, WIDTHS.as_bytes())?;
     let numbers = scatter_numbers(alloc, count, bits)?;
-    let rows = rows_of(alloc, &mut Numbers::new(count), &schema, &numbers, 1200)?;
+    let rows = rows_of(
+        alloc,
+        &mut NumberSource::new(count),
+        &schema,
+        &numbers,
+        1200,
+    )?;
     let list = among(alloc, column, &numbers)?;
     let list = cost_of(rt, alloc, &schema, list.as_str(), &rows)?;
     let text = equations(alloc, column, &numbers)?;

@@ -1,5 +1,5 @@
 //! Programs that take a condition's parts in another order than they are written in.
-use crate::rows::{Numbers, cost_in_order, rows_of};
+use crate::rows::{NumberSource, cost_in_order, rows_of};
 use bw_model::{Row, Schema, code};
 use std::process::Abort;
 use std::test::Fail;
@@ -43,7 +43,7 @@ const ORDERS: [(&str, &str); 7] = [
 
 /// Returns three groups of rows and a short one.
 fn rows(rt: &impl AllocGlobal, schema: &Schema) -> Result<Vec<Row>, Fail> {
-    rows_of(rt.alloc(), &mut Numbers::new(29), schema, &NEAR, 1700)
+    rows_of(rt.alloc(), &mut NumberSource::new(29), schema, &NEAR, 1700)
 }
 
 #[test]

@@ -18,11 +18,11 @@ use std::test::Fail;
 
 /// A source of pseudo-random numbers, the same in every run.
 #[derive(Drop)]
-pub(crate) struct Numbers(u64);
+pub(crate) struct NumberSource(u64);
 
-impl Numbers {
+impl NumberSource {
     pub(crate) fn new(seed: u64) -> Self {
-        Numbers(seed | 1)
+        NumberSource(seed | 1)
     }
 
     /// Returns the next number.
@@ -51,7 +51,7 @@ pub(crate) struct Cost {
 }
 
 /// Returns a value of a column: one near its minimum, its maximum or another number, or any.
-fn value(numbers: &mut Numbers, column: &Column, near: i64) -> Value {
+fn value(numbers: &mut NumberSource, column: &Column, near: i64) -> Value {
     if column.nullable && numbers.below(6) == 0 {
         return None;
     }
@@ -72,7 +72,7 @@ fn value(numbers: &mut Numbers, column: &Column, near: i64) -> Value {
 /// Returns this many rows of a table, some with values near these numbers.
 pub(crate) fn rows_of(
     alloc: Global,
-    numbers: &mut Numbers,
+    numbers: &mut NumberSource,
     schema: &Schema,
     near: &[i64],
     count: usize,

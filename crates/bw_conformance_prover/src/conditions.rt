@@ -1,6 +1,6 @@
 //! Generated conditions. Columns are compared in one direction, so that one order of variables fits
 //! all comparisons.
-use crate::tables::Numbers;
+use crate::tables::NumberSource;
 use std::alloc::{AllocError, Global};
 
 const COMPARISONS: [&str; 6] = ["=", "<>", "<", ">", "<=", ">="];
@@ -9,13 +9,13 @@ const COMPARISONS: [&str; 6] = ["=", "<>", "<", ">", "<=", ">="];
 const LEFT_FIRST: [&str; 4] = ["=", "<>", "<", ">="];
 
 /// Returns one of some texts.
-fn one_of<'a>(numbers: &mut Numbers, texts: &[&'a str]) -> &'a str {
+fn one_of<'a>(numbers: &mut NumberSource, texts: &[&'a str]) -> &'a str {
     let at = numbers.below(texts.len() as u64) as usize;
     texts.get(at).copied().unwrap_or("a")
 }
 
 /// Returns a literal, or at times NULL.
-fn literal(alloc: Global, numbers: &mut Numbers) -> Result<String, AllocError> {
+fn literal(alloc: Global, numbers: &mut NumberSource) -> Result<String, AllocError> {
     match numbers.below(12) {
         0 => String::from_str(alloc, "NULL"),
         1 => String::from_str(alloc, "300"),
@@ -26,7 +26,7 @@ fn literal(alloc: Global, numbers: &mut Numbers) -> Result<String, AllocError> {
 }
 
 /// Returns a predicate.
-fn predicate(alloc: Global, numbers: &mut Numbers) -> Result<String, AllocError> {
+fn predicate(alloc: Global, numbers: &mut NumberSource) -> Result<String, AllocError> {
     let column = one_of(numbers, &["a", "b", "c"]);
     let op = one_of(numbers, &COMPARISONS);
     let not = one_of(numbers, &["", "NOT "]);
@@ -53,7 +53,7 @@ fn predicate(alloc: Global, numbers: &mut Numbers) -> Result<String, AllocError>
 /// Returns a condition whose parts nest this deep.
 pub(crate) fn condition(
     alloc: Global,
-    numbers: &mut Numbers,
+    numbers: &mut NumberSource,
     depth: u32,
 ) -> Result<String, AllocError> {
     if depth == 0 || numbers.below(5) == 0 {

@@ -1,5 +1,5 @@
 //! Programs and conditions past a limit.
-use crate::tables::Numbers;
+use crate::tables::NumberSource;
 use bw_model::{Cond, Schema};
 use bw_program::{Instr, Program};
 use bw_prover::{Hints, Unproved, prove};
@@ -18,7 +18,7 @@ fn widest(alloc: Global) -> Result<Schema, Fail> {
 
 /// Returns 4,096 instructions, which load planes and combine any two registers.
 fn longest(alloc: Global) -> Result<Vec<Instr>, AllocError> {
-    let mut numbers = Numbers::new(11);
+    let mut numbers = NumberSource::new(11);
     let mut instrs = Vec::new(alloc);
     for register in 0..64u8 {
         instrs.push(Instr::Load(register, register, register % 63))?;

@@ -2,7 +2,7 @@
 use crate::changes::assert_changes_judged;
 use crate::conditions::condition;
 use crate::judge::{Case, Verdict, query_of};
-use crate::tables::{Numbers, SMALL, WIDE, small_rows, table, wide_rows};
+use crate::tables::{NumberSource, SMALL, WIDE, small_rows, table, wide_rows};
 use bw_model::{Row, Schema};
 use bw_plan::propose;
 use std::alloc::Global;
@@ -44,7 +44,7 @@ fn assert_drawn(
     count: u32,
     changes: bool,
 ) -> Result<(), Fail> {
-    let mut numbers = Numbers::new(u64::from(count));
+    let mut numbers = NumberSource::new(u64::from(count));
     for number in 0..count {
         let text = condition(alloc, &mut numbers, number % 4)?;
         assert_certified(rt, alloc, schema, rows, text.as_str(), changes)?;
@@ -62,7 +62,7 @@ fn planned_programs_of_a_small_table_are_certified(rt: HostRuntime) -> Result<()
 #[test]
 fn planned_programs_of_a_wide_table_are_certified(rt: HostRuntime) -> Result<(), Fail> {
     let schema = table(rt.alloc(), WIDE)?;
-    let rows = wide_rows(rt.alloc(), &mut Numbers::new(31))?;
+    let rows = wide_rows(rt.alloc(), &mut NumberSource::new(31))?;
     assert_drawn(&rt, rt.alloc(), &schema, &rows, 40, false)
 }
 

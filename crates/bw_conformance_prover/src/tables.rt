@@ -25,11 +25,11 @@ pub(crate) const WIDE: &str = "\
 
 /// A source of pseudo-random numbers, the same in every run.
 #[derive(Drop)]
-pub(crate) struct Numbers(u64);
+pub(crate) struct NumberSource(u64);
 
-impl Numbers {
+impl NumberSource {
     pub(crate) fn new(seed: u64) -> Self {
-        Numbers(seed | 1)
+        NumberSource(seed | 1)
     }
 
     /// Returns a number below a limit, or 0 if the limit is 0.
@@ -67,7 +67,7 @@ pub(crate) fn small_rows(alloc: Global) -> Result<Vec<Row>, Fail> {
 }
 
 /// Returns 512 rows of the wide table.
-pub(crate) fn wide_rows(alloc: Global, numbers: &mut Numbers) -> Result<Vec<Row>, Fail> {
+pub(crate) fn wide_rows(alloc: Global, numbers: &mut NumberSource) -> Result<Vec<Row>, Fail> {
     let mut rows = Vec::new(alloc);
     for _ in 0..512 {
         let a = number_up_to(numbers, 255);
@@ -82,7 +82,7 @@ pub(crate) fn wide_rows(alloc: Global, numbers: &mut Numbers) -> Result<Vec<Row>
 }
 
 /// Returns a number up to a greatest one, often a small one.
-fn number_up_to(numbers: &mut Numbers, most: u64) -> i64 {
+fn number_up_to(numbers: &mut NumberSource, most: u64) -> i64 {
     let limit = match numbers.below(3) {
         0 => 9,
         1 => 256,

@@ -1,5 +1,5 @@
 //! A writer of programs that isn't the planner.
-use crate::tables::Numbers;
+use crate::tables::NumberSource;
 use bw_program::{ColumnIndex, Instr, Register};
 use std::alloc::{AllocError, Global};
 
@@ -16,7 +16,7 @@ pub(crate) enum Style {
 
 /// A part of a condition: a column's code is less than a bound, or isn't if it is negated.
 #[derive(Clone, Copy)]
-pub(crate) struct Part {
+pub(crate) struct Bound {
     pub(crate) column: ColumnIndex,
     pub(crate) width: u8,
     pub(crate) nullable: bool,
@@ -42,7 +42,7 @@ const IDLE: u8 = 5;
 #[derive(Drop)]
 pub(crate) struct Writer {
     pub(crate) instrs: Vec<Instr>,
-    numbers: Numbers,
+    numbers: NumberSource,
     shift: u8,
 }
 
@@ -51,7 +51,7 @@ impl Writer {
     pub(crate) fn new(alloc: Global, seed: u64) -> Self {
         Writer {
             instrs: Vec::new(alloc),
-            numbers: Numbers::new(seed),
+            numbers: NumberSource::new(seed),
             shift: (seed % 64) as u8,
         }
     }
@@ -119,7 +119,7 @@ impl Writer {
     }
 
     /// Appends a part, whose result is in its register.
-    fn part(&mut self, part: Part, style: Style) -> Result<(), AllocError> {
+    fn part(&mut self, part: Bound, style: Style) -> Result<(), AllocError> {
         let first = self.instrs.len();
         self.fill(PART, false)?;
         self.fill(EQUAL, true)?;
@@ -142,7 +142,7 @@ impl Writer {
     }
 
     /// Compares a column's bits from the top.
-    fn bits_down(&mut self, part: Part) -> Result<(), AllocError> {
+    fn bits_down(&mut self, part: Bound) -> Result<(), AllocError> {
         for bit in (0..part.width).rev() {
             let load = Instr::Load(self.register(BIT), part.column, bit);
             self.put(load)?;
@@ -160,7 +160,7 @@ impl Writer {
     }
 
     /// Compares a column's bits from the lowest one up.
-    fn bits_up(&mut self, part: Part) -> Result<(), AllocError> {
+    fn bits_up(&mut self, part: Bound) -> Result<(), AllocError> {
         for bit in 0..part.width {
             let load = Instr::Load(self.register(BIT), part.column, bit);
             self.put(load)?;
@@ -171,7 +171,7 @@ impl Writer {
     }
 
     /// Compares a column's bytes from the top.
-    fn bytes_down(&mut self, part: Part) -> Result<(), AllocError> {
+    fn bytes_down(&mut self, part: Bound) -> Result<(), AllocError> {
         let slices = part.width.saturating_add(7) / 8;
         for slice in (0..slices.min(8)).rev() {
             let byte = (part.bound >> (8 * u32::from(slice)) & 255) as u8;
@@ -191,7 +191,7 @@ impl Writer {
     pub(crate) fn parts(
         &mut self,
         any: bool,
-        parts: &[Part],
+        parts: &[Bound],
         style: Style,
     ) -> Result<(), AllocError> {
         self.fill(RESULT, !any)?;

@@ -4,8 +4,8 @@ ghost use Rattle.bw_program.specs.Program.{fits};
 
 use crate::changes::assert_changes_judged;
 use crate::judge::{Case, Verdict, query_of};
-use crate::tables::{Numbers, SMALL, WIDE, small_rows, table, wide_rows};
-use crate::writer::{Part, Style, Writer};
+use crate::tables::{NumberSource, SMALL, WIDE, small_rows, table, wide_rows};
+use crate::writer::{Bound, Style, Writer};
 use bw_model::{Row, Schema};
 use bw_program::Program;
 use std::alloc::{AllocError, Global};
@@ -13,18 +13,18 @@ use std::process::Abort;
 use std::test::Fail;
 
 /// Returns a part over a column of a table, or over its first one.
-fn drawn_part(numbers: &mut Numbers, schema: &Schema) -> Part {
+fn drawn_part(numbers: &mut NumberSource, schema: &Schema) -> Bound {
     let column = numbers.below(schema.columns.len() as u64) as u8;
     let negated = numbers.below(2) == 0;
     match schema.columns.get(column as usize) {
-        Some(found) => Part {
+        Some(found) => Bound {
             column,
             width: width_of(schema, column),
             nullable: found.nullable,
             bound: numbers.below(found.hi.abs_diff(found.lo)),
             negated,
         },
-        None => Part {
+        None => Bound {
             column: 0,
             width: 1,
             nullable: false,
@@ -50,7 +50,7 @@ fn push_part(
     schema: &Schema,
     text: &mut String,
     word: &str,
-    part: Part,
+    part: Bound,
 ) -> Result<(), AllocError> {
     let (name, lo) = match schema.columns.get(part.column as usize) {
         Some(column) => (["a", "b", "c", "d"][(part.column % 4) as usize], column.lo),
@@ -65,10 +65,10 @@ fn push_part(
 /// Returns some parts, and the text of their AND or OR.
 fn drawn_parts(
     alloc: Global,
-    numbers: &mut Numbers,
+    numbers: &mut NumberSource,
     schema: &Schema,
     any: bool,
-    parts: &mut Vec<Part>,
+    parts: &mut Vec<Bound>,
 ) -> Result<String, AllocError> {
     let mut text = String::new(alloc);
     let word = if any { " OR " } else { " AND " };
@@ -92,7 +92,7 @@ fn written_program(
     schema: &Schema,
     seed: u64,
     any: bool,
-    parts: &[Part],
+    parts: &[Bound],
     style: Style,
 ) -> Result<Program, Fail>
     ensures { IfOk result (λ program. IsTrue (fits schema.now.columns.items program)) }
@@ -122,7 +122,7 @@ fn assert_written(
     seed: u64,
     style: Style,
 ) -> Result<(), Fail> {
-    let mut numbers = Numbers::new(seed);
+    let mut numbers = NumberSource::new(seed);
     let any = numbers.below(2) == 0;
     let mut parts = Vec::new(alloc);
     let text = drawn_parts(alloc, &mut numbers, setting.schema, any, &mut parts)?;
@@ -188,6 +188,6 @@ fn written_programs_of_a_small_table_are_certified(rt: HostRuntime) -> Result<()
 #[test]
 fn written_programs_of_a_wide_table_are_certified(rt: HostRuntime) -> Result<(), Fail> {
     let schema = table(rt.alloc(), WIDE)?;
-    let rows = wide_rows(rt.alloc(), &mut Numbers::new(37))?;
+    let rows = wide_rows(rt.alloc(), &mut NumberSource::new(37))?;
     assert_all_written(&rt, rt.alloc(), &schema, &rows, 8, 0)
 }

@@ -3,7 +3,7 @@ use crate::csv_text::of_csv;
 use crate::fallback::of_rows;
 use crate::frontier::of_statement;
 use crate::heading::put_reason;
-use crate::kind::Kind;
+use crate::kind::FileKind;
 use crate::lines::of_program;
 use crate::uncertified::of_uncertified;
 use crate::visible_bytes::Shown;
@@ -138,13 +138,13 @@ fn explain_kind(
     fault: &Fault,
 ) -> Option<String> {
     let wanted = match fault.code {
-        100..200 if words.schema() == Some(file) => Kind::Schema,
-        200..300 if words.csv() == Some(file) => Kind::Csv,
-        300..310 => Kind::Table,
-        500..600 => Kind::Program,
+        100..200 if words.schema() == Some(file) => FileKind::Schema,
+        200..300 if words.csv() == Some(file) => FileKind::Csv,
+        300..310 => FileKind::Table,
+        500..600 => FileKind::Program,
         _ => return None,
     };
-    let kind = Kind::of(&first_bytes_of(rt, file)?)?;
+    let kind = FileKind::of(&first_bytes_of(rt, file)?)?;
     if kind == wanted {
         return None;
     }
@@ -286,7 +286,10 @@ fn regular_file(rt: &HostRuntime, path: &str) -> Option<File> {
 
 /// Shows the part of a statement around a byte.
 fn explain_byte(rt: &HostRuntime, sql: &str, byte: u64) {
-    if let Some(part) = usize::try_from(byte).ok().and_then(|at| Part::of(sql, at)) {
+    if let Some(part) = usize::try_from(byte)
+        .ok()
+        .and_then(|at| Excerpt::of(sql, at))
+    {
         let _ = eprintln!(rt;
             "    {}{}\n    {}^",
             Plain(part.before),
@@ -355,18 +358,18 @@ fn file_of<'a>(words: &CommandArgs<'a>, ended: &CommandFailure<'a>) -> Option<&'
 
 /// A part of a statement's line around a byte.
 #[derive(Clone, Copy)]
-struct Part<'a> {
+struct Excerpt<'a> {
     before: &'a str,
     after: &'a str,
 }
 
-impl<'a> Part<'a> {
+impl<'a> Excerpt<'a> {
     /// Returns the part around this byte, if a character begins there or the statement ends.
     fn of(sql: &'a str, at: usize) -> Option<Self> {
         let before = end_of_line(sql.get(..at)?)?;
         let room = EXCERPT.saturating_sub(columns_of(before));
         let after = begin_of_line(sql.get(at..)?, room)?;
-        Some(Part { before, after })
+        Some(Excerpt { before, after })
     }
 }
 

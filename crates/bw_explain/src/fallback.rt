@@ -41,7 +41,7 @@ pub(crate) fn of_rows(alloc: Global, schema: &Schema, sql: &[u8]) -> Result<Stri
     writeln!(
         text,
         "{}",
-        Reason {
+        FallbackReason {
             part,
             columns,
             first
@@ -244,14 +244,14 @@ fn text_of(column: &Column) -> &str {
 
 /// Why a condition without smaller parts that lack a program has none itself.
 #[derive(Clone, Copy)]
-struct Reason<'a> {
+struct FallbackReason<'a> {
     part: &'a Cond,
     columns: &'a [Column],
     /// How many of its parts the planner was asked for, if not for all.
     first: Option<usize>,
 }
 
-impl fmt::Display for Reason<'_> {
+impl fmt::Display for FallbackReason<'_> {
     fn fmt<W: fmt::Write>(&self, f: &mut fmt::Formatter<W>) -> fmt::Result {
         if let Some((one, other)) = apart(self.part, self.columns) {
             return write!(

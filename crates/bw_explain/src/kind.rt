@@ -3,18 +3,18 @@ use bw_text::Opcode;
 
 /// What a file seems to be.
 #[derive(Clone, Copy, PartialEq, Eq)]
-pub(crate) enum Kind {
+pub(crate) enum FileKind {
     Table,
     Schema,
     Program,
     Csv,
 }
 
-impl Kind {
+impl FileKind {
     /// Returns what a file seems to be by its first bytes, if they show it.
     pub(crate) fn of(bytes: &[u8]) -> Option<Self> {
         if bytes.starts_with(b"BWCOLUMN") {
-            return Some(Kind::Table);
+            return Some(FileKind::Table);
         }
         let line = bytes.split(|byte| *byte == b'\n').find(|line| line
             .iter()
@@ -24,14 +24,14 @@ impl Kind {
             .split(|byte| byte.is_ascii_whitespace())
             .find(|word| !word.is_empty())?;
         if word.eq_ignore_ascii_case(b"TABLE") || word.eq_ignore_ascii_case(b"COLUMN") {
-            Some(Kind::Schema)
+            Some(FileKind::Schema)
         } else if Opcode::of(word).is_some() {
-            Some(Kind::Program)
+            Some(FileKind::Program)
         } else if line
             .iter()
             .any(|byte| matches!(byte, b',' | b';' | b'\t' | b'|'))
         {
-            Some(Kind::Csv)
+            Some(FileKind::Csv)
         } else {
             None
         }
@@ -40,10 +40,10 @@ impl Kind {
     /// Returns the kind's name, for a sentence.
     pub(crate) fn name(self) -> &'static str {
         match self {
-            Kind::Table => "a table file",
-            Kind::Schema => "a schema",
-            Kind::Program => "a program file",
-            Kind::Csv => "a CSV file",
+            FileKind::Table => "a table file",
+            FileKind::Schema => "a schema",
+            FileKind::Program => "a program file",
+            FileKind::Csv => "a CSV file",
         }
     }
 }

@@ -41,6 +41,6 @@ pub use laws::{
 };
 pub use layout::Layout;
 pub use reader_laws::{a_file_is_read_whole, bytes_were_taken};
-pub use segments::AnySegment;
+pub use segments::{AnySegment, placement_of};
 pub use table::{Table, decode, encode};
 pub use table_reader::TableReader;

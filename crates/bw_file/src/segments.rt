@@ -123,13 +123,10 @@ impl AnySegment {
     }
 }
 
-/// Returns the placement of blocks in this layout, with a copy of the schema.
+/// Returns the placement of blocks in this layout, with a copy of the schema. Errors: 801 if memory
+/// is refused.
 #[tactic(auto, unfolding(crate::specs::Blocks::form_of))]
-pub(crate) fn placement_of(
-    alloc: Global,
-    layout: Layout,
-    schema: &Schema,
-) -> Result<Placement, Fault>
+pub fn placement_of(alloc: Global, layout: Layout, schema: &Schema) -> Result<Placement, Fault>
     ensures name { IfOk result (λ placement. placement.schema.name ≡ schema.now.name) }
     ensures columns { IfOk result (λ placement.
         placement.schema.columns.items ≡ schema.now.columns.items) }

@@ -6,7 +6,7 @@ ghost use Rattle.bw_file.specs.AnySegment.{any_layout, any_meaning};
 ghost use Rattle.bw_file.specs.Blocks.{IsPlaced, form_of};
 ghost use Rattle.bw_memory.specs.StoredSegments.{AddsSegment, AreBytesOf};
 
-use bw_file::{AnySegment, Layout};
+use bw_file::{AnySegment, Layout, placement_of};
 use bw_model::{Fault, Schema};
 use bw_planes::Planes;
 use bw_segment::{ColumnBlocks, Placement, no_blocks, push_blocks};
@@ -15,8 +15,7 @@ use std::alloc::Global;
 use std::rc::Rc;
 
 /// Returns the placement, in a layout, of a table with an equal schema.
-#[tactic(auto, unfolding(bw_file::specs::Blocks::form_of))]
-pub(crate) fn placement_of(
+pub(crate) fn shared_placement(
     alloc: Global,
     layout: Layout,
     schema: &Schema,
@@ -27,10 +26,7 @@ pub(crate) fn placement_of(
     ensures placed { IfOk result (λ placement. IsPlaced layout placement.value) }
     ensures only_oom { IsOkUnless result no_memory }
 {
-    let placement = match layout {
-        Layout::Planes => Placement::of::<Planes>(alloc, schema)?,
-        Layout::Slices => Placement::of::<Slices>(alloc, schema)?,
-    };
+    let placement = placement_of(alloc, layout, schema)?;
     Ok(Rc::new(alloc, placement)?)
 }
 

@@ -15,7 +15,7 @@ ghost use Rattle.bw_file.specs.TableReading.{IsTableFault};
 ghost use Rattle.bw_memory.specs.MemoryTable.{HasReadTable, layout_of, rows_of, schema_of};
 ghost use Rattle.bw_memory.specs.ReadSegments.{StoresAllSegments};
 
-use crate::layouts::{no_columns, placement_of, push_segment};
+use crate::layouts::{no_columns, push_segment, shared_placement};
 use crate::table::MemoryTable;
 use bw_file::{TableReader, a_file_is_read_whole, bytes_were_taken};
 use bw_io::Source;
@@ -78,7 +78,7 @@ fn read_table<S: Source>(
 {
     bytes_were_taken();
     let layout = reader.layout();
-    let placement = placement_of(alloc, layout, reader.schema())?;
+    let placement = shared_placement(alloc, layout, reader.schema())?;
     let mut columns = no_columns(alloc, layout, &placement)?;
     let segments = read_segments(reader, source, &mut columns)?;
     Ok(MemoryTable {

@@ -1,16 +1,16 @@
 //! Instructions, and what their registers hold.
 use crate::limits::{MAX_INSTRUCTIONS, MAX_LOOKS};
 use crate::plan::Plan;
-use crate::refusal::Refusal;
 use crate::registers::{Registers, Value};
 use crate::skips::Skips;
+use crate::unplanned::Unplanned;
 use bw_model::Schema;
 use bw_program::{ColumnIndex, Instr, Register};
 use bw_prover::VariableOrder;
 use std::alloc::Global;
 
 /// A register, unless there is no program or memory was refused.
-pub(crate) type Made = Result<Register, Refusal>;
+pub(crate) type Made = Result<Register, Unplanned>;
 
 /// How two registers are combined, lane by lane.
 #[derive(Clone, Copy)]
@@ -52,9 +52,9 @@ impl<'a> Code<'a> {
     }
 
     /// Appends an instruction.
-    pub(crate) fn put(&mut self, instr: Instr) -> Result<(), Refusal> {
+    pub(crate) fn put(&mut self, instr: Instr) -> Result<(), Unplanned> {
         if self.instrs.len() >= MAX_INSTRUCTIONS || !self.plan.skips && self.looks > MAX_LOOKS {
-            return Err(Refusal::TooLong);
+            return Err(Unplanned::TooLong);
         }
         if matches!(instr, Instr::ByteLt(..) | Instr::ByteEq(..)) {
             self.looks = self.looks.saturating_add(1);

@@ -1,8 +1,8 @@
 //! Comparisons of operands, as parts of a condition.
 use crate::columns::width_of;
-use crate::parts::{Part, PartResult, Reader};
-use crate::refusal::Refusal;
+use crate::formula::{Formula, FormulaResult, Reader};
 use crate::sets::Set;
+use crate::unplanned::Unplanned;
 use bw_diagram::ChainKind;
 use bw_model::{Op, Operand, Truth};
 use bw_prover::{ColumnComparison, Comparison, LiteralComparison, compare};
@@ -10,14 +10,14 @@ use bw_prover::{ColumnComparison, Comparison, LiteralComparison, compare};
 impl Reader<'_> {
     /// Returns a comparison of operands, or its opposite if it is negated. Refuses columns that the
     /// schema lacks, and two columns of unequal minimums.
-    pub(crate) fn comparison(self, op: Op, x: Operand, y: Operand, negated: bool) -> PartResult {
-        match compare(self.schema, op, x, y).ok_or(Refusal::NoProgram)? {
-            Comparison::Fixed(Truth::Unknown) => Ok(Part::Fixed(Truth::Unknown)),
-            Comparison::Fixed(truth) => Ok(Part::Fixed(Truth::of(
+    pub(crate) fn comparison(self, op: Op, x: Operand, y: Operand, negated: bool) -> FormulaResult {
+        match compare(self.schema, op, x, y).ok_or(Unplanned::NoProgram)? {
+            Comparison::Fixed(Truth::Unknown) => Ok(Formula::Fixed(Truth::Unknown)),
+            Comparison::Fixed(truth) => Ok(Formula::Fixed(Truth::of(
                 (truth == Truth::Yes) != negated,
             ))),
             Comparison::Literal(compared) => self.with_literal(compared, negated),
-            Comparison::Columns(compared) => Ok(Part::Columns(ColumnComparison {
+            Comparison::Columns(compared) => Ok(Formula::Columns(ColumnComparison {
                 negated: compared.negated != negated,
                 ..compared
             })),
@@ -25,7 +25,7 @@ impl Reader<'_> {
     }
 
     /// Returns the comparison of a column with a literal, or its opposite if it is negated.
-    fn with_literal(self, compared: LiteralComparison, negated: bool) -> PartResult {
+    fn with_literal(self, compared: LiteralComparison, negated: bool) -> FormulaResult {
         let LiteralComparison { column, limit, .. } = compared;
         let limits = match compared.kind {
             ChainKind::Equal => [limit, limit.saturating_add(1)],
@@ -34,6 +34,6 @@ impl Reader<'_> {
         let inverted = compared.negated != negated;
         let width = width_of(self.schema, column);
         let set = Set::between(self.alloc, column, width, limits, inverted)?;
-        Ok(Part::Codes(set))
+        Ok(Formula::Codes(set))
     }
 }

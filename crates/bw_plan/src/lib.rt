@@ -6,32 +6,32 @@
 //! that what its certificate states is true, is no promise of this crate: the checker says so,
 //! judging each line anew, or else the proposal isn't used.
 //!
-//! It is a compiler, which knows nothing of diagrams: `parts.rt` reads a condition, and `truths.rt`
-//! writes the instructions of its parts. The certificate is found by `bw_prover`. If a skip can't be
-//! proved, the condition is compiled again with fewer of them (`plan.rt`).
+//! It is a compiler, which knows nothing of diagrams: `formula.rt` reads a condition, and
+//! `truths.rt` writes the instructions of its parts. The certificate is found by `bw_prover`. If a
+//! skip can't be proved, the condition is compiled again with fewer of them (`plan.rt`).
 //!
 //! A program compares codes byte by byte from the top, as in ByteSlice (Feng, Lo, Kao and Xu), and
 //! skips stop a comparison early, as in BitWeaving (Li and Patel). Columns are compared with one
 //! another bit by bit: the top bits from the top down, with skips, and the others, of many or wide
 //! columns, from the lowest one up, which takes fewer nodes.
 //!
-//! Read `planner.rt` first, then `parts.rt`, `code.rt` and `truths.rt`. `limits.rt` has all numbers
-//! by which it is tuned.
+//! Read `planner.rt` first, then `formula.rt`, `code.rt` and `truths.rt`. `limits.rt` has all
+//! numbers by which it is tuned.
 #![tactic(auto)]
 
 mod code;
 mod columns;
 mod comparison;
+mod formula;
 mod limits;
-mod parts;
 mod plan;
 mod planner;
-mod refusal;
 mod registers;
 mod relations;
 mod select;
 mod sets;
 mod skips;
 mod truths;
+mod unplanned;
 
 pub use planner::{Proposal, propose, propose_in_order};

@@ -1,7 +1,7 @@
 //! With which skips a condition is compiled.
+use crate::formula::Names;
 use crate::limits::{MAX_ROWS_TO_SKIP, MAX_ROWS_TO_SKIP_PARTS, MAX_SQUARES};
-use crate::parts::Names;
-use crate::refusal::Refusal;
+use crate::unplanned::Unplanned;
 
 /// With which skips a condition is compiled.
 #[derive(Clone, Copy)]
@@ -35,7 +35,7 @@ impl Plan {
 
     /// Returns the plan without a skip by which a value isn't known, if that is known, or else
     /// without any between parts.
-    pub(crate) fn without(self, skip: Option<usize>) -> Result<Self, Refusal> {
+    pub(crate) fn without(self, skip: Option<usize>) -> Result<Self, Unplanned> {
         if !self.between_parts {
             return self.without_skips();
         }
@@ -48,9 +48,9 @@ impl Plan {
     }
 
     /// Returns the plan without skips. Refuses if this is it.
-    pub(crate) fn without_skips(self) -> Result<Self, Refusal> {
+    pub(crate) fn without_skips(self) -> Result<Self, Unplanned> {
         if !self.skips {
-            return Err(Refusal::NoProgram);
+            return Err(Unplanned::NoProgram);
         }
         Ok(Plan {
             skips: false,

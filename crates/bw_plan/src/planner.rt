@@ -7,12 +7,12 @@ ghost use Rattle.bw_cert_text.specs.Columns.{has_columns};
 ghost use Rattle.bw_plan.specs.Refusal.{IsRefusal};
 
 use crate::code::Code;
+use crate::formula::{Formula, Names, Reader};
 use crate::limits::{
     MANY_BITS, MAX_CONDITION_ROWS, MAX_CONDITION_ROWS_OF_MANY, MAX_ROWS, ROWS_BEFORE_FORECAST,
 };
-use crate::parts::{Names, Part, Reader};
 use crate::plan::Plan;
-use crate::refusal::Refusal;
+use crate::unplanned::Unplanned;
 use bw_cert_text::Certificate;
 use bw_model::{Cond, Fault, Schema};
 use bw_program::{Instr, Program, Register};
@@ -69,18 +69,18 @@ pub fn propose_in_order<'a>(
         MAX_CONDITION_ROWS
     };
     let mut prover = Prover::new(alloc, schema, cond, rows, ROWS_BEFORE_FORECAST).map_err(
-        Refusal::from,
+        Unplanned::from,
     )?;
     let mut plan = Plan::new(names, prover.rows());
     for _ in 0..4 {
         plan = match proposal_by(alloc, schema, &mut prover, &part, plan) {
             Ok(proposal) => return Ok(proposal),
-            Err(Refusal::Unknown(skip)) => plan.without(skip)?,
-            Err(Refusal::TooLong) => plan.without_skips()?,
+            Err(Unplanned::Unknown(skip)) => plan.without(skip)?,
+            Err(Unplanned::TooLong) => plan.without_skips()?,
             Err(refusal) => return Err(Fault::from(refusal)),
         };
     }
-    Err(Fault::from(Refusal::NoProgram))
+    Err(Fault::from(Unplanned::NoProgram))
 }
 
 /// Returns a program of a condition by one plan.
@@ -88,9 +88,9 @@ fn proposal_by<'a>(
     alloc: Global,
     schema: &'a Schema,
     prover: &mut Prover<'a>,
-    part: &Part,
+    part: &Formula,
     plan: Plan,
-) -> Result<Proposal<'a>, Refusal>
+) -> Result<Proposal<'a>, Unplanned>
     ensures program { IfOk result (λ proposal.
         IsTrue (fits schema.now.columns.items proposal.program)) }
     ensures certificate { IfOk result (λ proposal.
@@ -116,9 +116,9 @@ fn program_of(
     schema: &Schema,
     instrs: &[Instr],
     answer: Register,
-) -> Result<Program, Refusal>
+) -> Result<Program, Unplanned>
     ensures { IfOk result (λ program. IsTrue (fits schema.now.columns.items program)) }
 {
     let program = Program::new(alloc, schema, instrs, answer)?;
-    program.ok_or(Refusal::NoProgram)
+    program.ok_or(Unplanned::NoProgram)
 }

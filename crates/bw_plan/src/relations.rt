@@ -1,8 +1,8 @@
 //! Instructions that compare the codes of two columns with one another, bit by bit.
 use crate::code::{Code, Connective, Made};
 use crate::columns::width_of;
-use crate::refusal::Refusal;
 use crate::registers::Value;
+use crate::unplanned::Unplanned;
 use bw_diagram::ChainKind;
 use bw_program::Register;
 use bw_prover::ColumnComparison;
@@ -58,7 +58,7 @@ impl Code<'_> {
             }
             same = Some(now);
         }
-        same.ok_or(Refusal::NoProgram)
+        same.ok_or(Unplanned::NoProgram)
     }
 
     /// Adds the next bit below to a comparison from the top down. Updates whether the code is less
@@ -117,7 +117,7 @@ impl Code<'_> {
     /// Returns the registers of one bit of two columns, of which at least one has it. The second is
     /// the first if only the right column has the bit. There is none if only the left one has it,
     /// or if only equality is wanted.
-    fn bits(&mut self, relation: ColumnComparison, bit: u32) -> Result<Bits, Refusal> {
+    fn bits(&mut self, relation: ColumnComparison, bit: u32) -> Result<Bits, Unplanned> {
         let (left, right, place) = (relation.left, relation.right, (bit % 64) as u8);
         let is_less = relation.kind == ChainKind::Less;
         if bit >= width_of(self.schema, right) {

@@ -1,9 +1,9 @@
 //! Instructions that compare a column's codes with numbers, from the most significant byte down.
 use crate::code::{Code, Connective, Made};
 use crate::limits::MAX_LIST_ROWS;
-use crate::refusal::Refusal;
 use crate::registers::Value;
 use crate::sets::{Set, bounds_below, byte_of, top_slice};
+use crate::unplanned::Unplanned;
 use bw_program::{ColumnIndex, Register, SliceIndex};
 
 /// What is looked for: the low bytes of a column's codes, from this one down, that have an odd number
@@ -24,7 +24,7 @@ impl Code<'_> {
         let column = set.column;
         let top = top_slice(self.schema, column);
         if set.is_long(top) && self.plan.rows > MAX_LIST_ROWS {
-            return Err(Refusal::NoProgram);
+            return Err(Unplanned::NoProgram);
         }
         match set.bounds.as_slice() {
             [] => self.fill(false),
@@ -85,7 +85,7 @@ impl Code<'_> {
         &mut self,
         search: Search<'_>,
         out: Option<Register>,
-    ) -> Result<Option<Register>, Refusal> {
+    ) -> Result<Option<Register>, Unplanned> {
         let Search { column, slice, .. } = search;
         let inner = bounds_below(search.bounds, slice);
         let (Some(bound), Some(next)) = (inner.first(), slice.checked_sub(1)) else {
@@ -114,7 +114,7 @@ impl Code<'_> {
     }
 
     /// Returns a register that is 1 where a byte has an odd number of the bounds' bytes above it.
-    fn bytes(&mut self, search: Search<'_>) -> Result<Option<Register>, Refusal> {
+    fn bytes(&mut self, search: Search<'_>) -> Result<Option<Register>, Unplanned> {
         let Search { column, slice, .. } = search;
         let mut made = None;
         let mut before: Option<u8> = None;

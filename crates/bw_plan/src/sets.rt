@@ -1,7 +1,7 @@
 //! Sets of a column's codes.
 use crate::columns::width_of;
 use crate::limits::LONG_SET;
-use crate::refusal::Refusal;
+use crate::unplanned::Unplanned;
 use bw_model::Schema;
 use bw_program::{ColumnIndex, SliceIndex};
 use std::alloc::Global;
@@ -24,7 +24,7 @@ impl Set {
         width: u32,
         limits: [i128; 2],
         inverted: bool,
-    ) -> Result<Self, Refusal> {
+    ) -> Result<Self, Unplanned> {
         let mut set = Set {
             column,
             bounds: Vec::new(alloc),
@@ -52,7 +52,7 @@ impl Set {
         column: ColumnIndex,
         any: bool,
         sets: &[&Set],
-    ) -> Result<Self, Refusal> {
+    ) -> Result<Self, Unplanned> {
         // Each bound, doubled, plus 1 if its set, or its complement, has the codes from there on;
         // and how many of these have the code in question.
         let mut ends: Vec<u64> = Vec::new(alloc);

@@ -1,11 +1,11 @@
 //! Instructions that compute where a condition is TRUE, and where it is FALSE.
 use crate::code::{Code, Connective, Made};
 use crate::columns::is_nullable;
+use crate::formula::{Formula, deepest};
 use crate::limits::{MANY_LEVELS, SKIPPED_PARTS};
-use crate::parts::{Part, deepest};
-use crate::refusal::Refusal;
 use crate::registers::Value;
 use crate::sets::Set;
+use crate::unplanned::Unplanned;
 use bw_diagram::ChainKind;
 use bw_model::Truth;
 use bw_program::{ColumnIndex, Register};
@@ -18,13 +18,13 @@ type WantedTruths = TruthPair<bool>;
 type TruthRegisters = TruthPair<Option<Register>>;
 
 /// These registers, unless there is no program or memory was refused.
-type MadeTruths = Result<TruthRegisters, Refusal>;
+type MadeTruths = Result<TruthRegisters, Unplanned>;
 
 impl Code<'_> {
     /// Returns the register of where a whole condition is TRUE.
-    pub(crate) fn whole(&mut self, part: &Part) -> Made {
+    pub(crate) fn whole(&mut self, part: &Formula) -> Made {
         let made = self.truths(part, TruthPair::of(true, false))?;
-        let answer = made.yes.ok_or(Refusal::NoProgram)?;
+        let answer = made.yes.ok_or(Unplanned::NoProgram)?;
         let first = self.open_skips();
         if self.skips.count == 0 {
             // A skip at the end lets counts show empty segments.
@@ -37,42 +37,42 @@ impl Code<'_> {
 
     /// Returns the registers of a part of the condition.
     #[cycle(truths)]
-    fn truths(&mut self, part: &Part, wanted: WantedTruths) -> MadeTruths {
+    fn truths(&mut self, part: &Formula, wanted: WantedTruths) -> MadeTruths {
         match part {
-            Part::Fixed(truth) => self.constant(*truth, wanted),
-            Part::Codes(set) => self.in_set(set, wanted),
-            Part::Columns(compared) => self.compare_columns(*compared, wanted),
-            Part::Null(column, negated) => {
+            Formula::Fixed(truth) => self.constant(*truth, wanted),
+            Formula::Codes(set) => self.in_set(set, wanted),
+            Formula::Columns(compared) => self.compare_columns(*compared, wanted),
+            Formula::Null(column, negated) => {
                 let made = self.null_test(*column, wanted.opposite_if(*negated))?;
                 Ok(made.opposite_if(*negated))
             }
-            Part::All(any, parts) => self.all_parts(*any, parts, wanted),
-            Part::Test(part, truth, negated) => {
+            Formula::All(any, parts) => self.all_parts(*any, parts, wanted),
+            Formula::Test(part, truth, negated) => {
                 let needed = TruthPair::of(*truth != Truth::No, *truth != Truth::Yes);
                 let made = self.truths(part, needed)?;
                 self.truth_test(*truth, made, *negated, wanted)
             }
-            Part::Done => Ok(TruthPair::of(None, None)),
+            Formula::Done => Ok(TruthPair::of(None, None)),
         }
     }
 
     /// Returns the registers of the OR of all parts, or else of their AND: first of the part that is
     /// nested most deeply, if many are nested, since each level keeps a register.
     #[cycle(truths)]
-    fn all_parts(&mut self, any: bool, parts: &[Part], wanted: WantedTruths) -> MadeTruths {
+    fn all_parts(&mut self, any: bool, parts: &[Formula], wanted: WantedTruths) -> MadeTruths {
         let open = self.open_skips();
         let (deepest, depth) = deepest(parts);
         let first = if depth > MANY_LEVELS { deepest } else { 0 };
         let made = match parts.get(first) {
             Some(part) => self.truths(part, wanted)?,
-            None => return Err(Refusal::NoProgram),
+            None => return Err(Unplanned::NoProgram),
         };
         for (number, part) in parts.iter().enumerate() {
             if number == first {
                 continue;
             }
             // These take two or three instructions, so that a skip saves nothing.
-            let is_quick = matches!(part, Part::Null(..) | Part::Fixed(_));
+            let is_quick = matches!(part, Formula::Null(..) | Formula::Fixed(_));
             if number < SKIPPED_PARTS && self.plan.between_parts && !is_quick {
                 self.skip_if_settled(any, made)?;
             }
@@ -84,7 +84,7 @@ impl Code<'_> {
     }
 
     /// Skips to the end of the parts if the others can change nothing.
-    fn skip_if_settled(&mut self, any: bool, made: TruthRegisters) -> Result<(), Refusal> {
+    fn skip_if_settled(&mut self, any: bool, made: TruthRegisters) -> Result<(), Unplanned> {
         let made = made.opposite_if(any);
         match (made.yes, made.no) {
             (_, Some(excluded)) => {
@@ -105,7 +105,7 @@ impl Code<'_> {
         any: bool,
         made: TruthRegisters,
         next: TruthRegisters,
-    ) -> Result<(), Refusal> {
+    ) -> Result<(), Unplanned> {
         let (made, next) = (made.opposite_if(any), next.opposite_if(any));
         if let (Some(to), Some(y)) = (made.yes, next.yes) {
             self.join_into(Connective::And, to, y)?;
@@ -143,7 +143,7 @@ impl Code<'_> {
                 self.join_into(Connective::Or, held, other)?;
                 (held, !negated)
             }
-            _ => return Err(Refusal::NoProgram),
+            _ => return Err(Unplanned::NoProgram),
         };
         self.sides(held, &[], false, inverted, wanted)
     }

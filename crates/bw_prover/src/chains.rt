@@ -3,7 +3,7 @@ ghost use Rattle.std.specs.Prelude.{◌≡◌, ◌≤◌};
 
 use crate::columns::bit_variable;
 use crate::facts::{Cited, Facts};
-use crate::ledger::{Entry, Key};
+use crate::ledger::{Key, Keyed};
 use crate::stop::Stop;
 use bw_diagram::ChainKind;
 use bw_program::{ColumnIndex, SliceIndex};
@@ -23,7 +23,7 @@ pub(crate) struct Link {
     pub(crate) prev: Option<u32>,
 }
 
-impl Entry for Link {
+impl Keyed for Link {
     fn key(self) -> Key {
         let right = match self.right {
             Some(right) => 1 << 8 | u64::from(right),

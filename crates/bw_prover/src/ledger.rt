@@ -6,14 +6,14 @@ use std::alloc::Global;
 pub(crate) type Key = (u64, u64);
 
 /// An entry of a ledger, in which its key occurs once.
-pub(crate) trait Entry: Copy {
+pub(crate) trait Keyed: Copy {
     /// Returns its key.
     fn key(self) -> Key;
 }
 
 /// An entry, and the number of the one before it with the same hash, plus 1, or 0.
 #[derive(Clone, Copy)]
-struct Slot<T: Entry> {
+struct Slot<T: Keyed> {
     entry: T,
     before: u32,
 }
@@ -22,7 +22,7 @@ struct Slot<T: Entry> {
 /// Most of a prover's work is to find and to add entries: this takes a third of the time of an
 /// `IndexMap`.
 #[derive(Drop)]
-pub(crate) struct Ledger<T: Entry> {
+pub(crate) struct Ledger<T: Keyed> {
     slots: Vec<Slot<T>>,
     /// For each hash the number of the last entry that has it, plus 1, or 0.
     last: Vec<u32>,
@@ -33,7 +33,7 @@ pub(crate) struct Ledger<T: Entry> {
 /// How many hashes there are at first.
 const FEWEST_HASHES: usize = 256;
 
-impl<T: Entry> Ledger<T> {
+impl<T: Keyed> Ledger<T> {
     /// Returns no entries, with a limit of their number.
     pub(crate) fn new(alloc: Global, limit: u32) -> Self {
         Ledger {

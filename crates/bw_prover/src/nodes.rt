@@ -1,5 +1,5 @@
 //! The nodes of a diagram, each of which occurs once.
-use crate::ledger::{Entry, Key, Ledger};
+use crate::ledger::{Key, Keyed, Ledger};
 use crate::stop::Stop;
 use bw_diagram::Node;
 use std::alloc::Global;
@@ -7,7 +7,7 @@ use std::alloc::Global;
 /// The most nodes of a certificate, besides the two terminals.
 const MAX_NODES: u32 = 65_534;
 
-impl Entry for Node {
+impl Keyed for Node {
     fn key(self) -> Key {
         let children = u64::from(self.low) << 32 | u64::from(self.high);
         (u64::from(self.v), children)

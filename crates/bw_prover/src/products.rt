@@ -1,6 +1,6 @@
 //! Product rows: connectives of nodes, each computed once.
 use crate::facts::Cited;
-use crate::ledger::{Entry, Key, Ledger};
+use crate::ledger::{Key, Keyed, Ledger};
 use crate::nodes::Nodes;
 use crate::order::{Ranks, VariableOrder};
 use crate::stop::Stop;
@@ -89,7 +89,7 @@ impl ProductRow {
     }
 }
 
-impl Entry for ProductRow {
+impl Keyed for ProductRow {
     fn key(self) -> Key {
         self.question.key()
     }

@@ -157,7 +157,7 @@ fn run_after_header<S: Source>(
 
 /// A query, and what finds its rows.
 #[derive(Drop)]
-pub(crate) struct Prepared {
+pub(crate) struct PreparedQuery {
     pub(crate) query: Query,
     pub(crate) scan: Scan,
 }
@@ -169,7 +169,7 @@ pub(crate) fn prepare(
     schema: &Schema,
     sql: &[u8],
     program: Option<&[u8]>,
-) -> Result<Prepared, Fault>
+) -> Result<PreparedQuery, Fault>
     ensures asked { IfOk result
         (λ prepared. by_statement (given_file program.entry) sql.now schema.now
         (Ok prepared.query)) }
@@ -196,7 +196,7 @@ pub(crate) fn prepare(
     one_query_of_a_text();
     let query = parse(alloc, schema, sql)?;
     let scan = scan_for(alloc, schema, &query.cond, program)?;
-    Ok(Prepared { query, scan })
+    Ok(PreparedQuery { query, scan })
 }
 
 /// Writes all rows of a table file with all columns, as CSV text.

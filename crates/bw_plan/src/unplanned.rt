@@ -7,7 +7,7 @@ use std::alloc::{AllocError, AllocFailed};
 
 /// Why there is no proposal, or none by a plan.
 #[derive(Clone, Copy)]
-pub(crate) enum Refusal {
+pub(crate) enum Unplanned {
     /// A limit would be passed by each plan, or a form has no rule.
     NoProgram,
     /// The program has too many instructions, or takes too many registers.
@@ -19,36 +19,36 @@ pub(crate) enum Refusal {
     NoMemory,
 }
 
-impl From<AllocError> for Refusal {
+impl From<AllocError> for Unplanned {
     fn from(_error: AllocError) -> Self {
-        Refusal::NoMemory
+        Unplanned::NoMemory
     }
 }
 
-impl<T: Drop> From<AllocFailed<T>> for Refusal {
+impl<T: Drop> From<AllocFailed<T>> for Unplanned {
     fn from(_error: AllocFailed<T>) -> Self {
-        Refusal::NoMemory
+        Unplanned::NoMemory
     }
 }
 
-impl From<Unproved> for Refusal {
+impl From<Unproved> for Unplanned {
     fn from(unproved: Unproved) -> Self {
         match unproved {
-            Unproved::Memory => Refusal::NoMemory,
-            Unproved::Unknown { skip, .. } => Refusal::Unknown(Some(skip)),
-            Unproved::Unordered => Refusal::Unknown(None),
-            _ => Refusal::NoProgram,
+            Unproved::Memory => Unplanned::NoMemory,
+            Unproved::Unknown { skip, .. } => Unplanned::Unknown(Some(skip)),
+            Unproved::Unordered => Unplanned::Unknown(None),
+            _ => Unplanned::NoProgram,
         }
     }
 }
 
 /// The error that is reported, at no place: 651, or 801 for `NoMemory`.
-impl From<Refusal> for Fault {
+impl From<Unplanned> for Fault {
     ghost from_gives = { λ _ fault. IsRefusal fault };
 
-    fn from(refusal: Refusal) -> Self {
+    fn from(refusal: Unplanned) -> Self {
         match refusal {
-            Refusal::NoMemory => Fault::new(code::OUT_OF_MEMORY),
+            Unplanned::NoMemory => Fault::new(code::OUT_OF_MEMORY),
             _ => Fault::new(code::NO_PROGRAM),
         }
     }

@@ -2,8 +2,8 @@
 //! literals that an AND or OR combines are one set of codes.
 use crate::columns::{is_nullable, width_of};
 use crate::limits::MAX_LIST;
-use crate::refusal::Refusal;
 use crate::sets::{Set, top_slice};
+use crate::unplanned::Unplanned;
 use bw_model::{Cond, Op, Operand, Schema, Truth};
 use bw_program::ColumnIndex;
 use bw_prover::ColumnComparison;
@@ -11,7 +11,7 @@ use std::alloc::Global;
 
 /// A condition, or a part of it.
 #[derive(Drop)]
-pub(crate) enum Part {
+pub(crate) enum Formula {
     /// The same truth on every row.
     Fixed(Truth),
     /// Whether a column's code is in a set.
@@ -21,15 +21,15 @@ pub(crate) enum Part {
     /// Whether a column, which may be null, is null, or isn't if it is negated.
     Null(ColumnIndex, bool),
     /// The OR of all parts, or else their AND.
-    All(bool, Vec<Part>),
+    All(bool, Vec<Formula>),
     /// Whether a part has this truth, or another one if it is negated.
-    Test(Box<Part>, Truth, bool),
+    Test(Box<Formula>, Truth, bool),
     /// Nothing: an earlier part does what this one did.
     Done,
 }
 
 /// A part, unless it has no program or memory was refused.
-pub(crate) type PartResult = Result<Part, Refusal>;
+pub(crate) type FormulaResult = Result<Formula, Unplanned>;
 
 /// Reads conditions under a schema.
 #[derive(Clone, Copy)]
@@ -42,9 +42,9 @@ impl Reader<'_> {
     /// Returns a condition as instructions compute it, or its opposite if it is negated. Refuses
     /// what [`Reader::comparison`] does, and long lists.
     #[cycle(part)]
-    pub(crate) fn part_of(self, cond: &Cond, negated: bool) -> PartResult {
+    pub(crate) fn part_of(self, cond: &Cond, negated: bool) -> FormulaResult {
         match cond {
-            Cond::Always => Ok(Part::Fixed(Truth::of(!negated))),
+            Cond::Always => Ok(Formula::Fixed(Truth::of(!negated))),
             Cond::Cmp(op, x, y) => self.comparison(*op, *x, *y, negated),
             Cond::Between(x, y, z) => self.range(*x, *y, *z, negated),
             Cond::Among(x, items) => self.list(*x, items, negated),
@@ -54,7 +54,7 @@ impl Reader<'_> {
             Cond::Not(part) => self.part_of(part, !negated),
             Cond::Test(part, truth) => {
                 let part = self.part_of(part, false)?;
-                Ok(Part::Test(Box::new(self.alloc, part)?, *truth, negated))
+                Ok(Formula::Test(Box::new(self.alloc, part)?, *truth, negated))
             }
         }
     }
@@ -62,7 +62,7 @@ impl Reader<'_> {
     /// Returns the OR of some conditions, or else their AND, or its opposite if it is negated. A
     /// comparison is left out if it is the same as the one before.
     #[cycle(part)]
-    fn all_of(self, any: bool, conds: &[Cond], negated: bool) -> PartResult {
+    fn all_of(self, any: bool, conds: &[Cond], negated: bool) -> FormulaResult {
         let mut parts = Vec::new(self.alloc);
         let mut before = None;
         for cond in conds {
@@ -75,7 +75,7 @@ impl Reader<'_> {
     }
 
     /// Returns `BETWEEN`, or its opposite if it is negated.
-    fn range(self, x: Operand, y: Operand, z: Operand, negated: bool) -> PartResult {
+    fn range(self, x: Operand, y: Operand, z: Operand, negated: bool) -> FormulaResult {
         let mut parts = Vec::new(self.alloc);
         parts.push(self.comparison(Op::Ge, x, y, negated)?)?;
         parts.push(self.comparison(Op::Le, x, z, negated)?)?;
@@ -84,9 +84,9 @@ impl Reader<'_> {
 
     /// Returns `IN`, or its opposite if it is negated: first the set of the literals, however long
     /// it is, and then the other items.
-    fn list(self, x: Operand, items: &[Operand], negated: bool) -> PartResult {
+    fn list(self, x: Operand, items: &[Operand], negated: bool) -> FormulaResult {
         if items.len() > MAX_LIST {
-            return Err(Refusal::NoProgram);
+            return Err(Unplanned::NoProgram);
         }
         let mut parts = Vec::new(self.alloc);
         for are_literals in [true, false] {
@@ -100,34 +100,34 @@ impl Reader<'_> {
     }
 
     /// Returns `IS NULL`, or its opposite if it is negated.
-    fn null_test(self, x: Operand, negated: bool) -> PartResult {
+    fn null_test(self, x: Operand, negated: bool) -> FormulaResult {
         if let Operand::Col(column) = x {
-            let index = u8::try_from(column).ok().ok_or(Refusal::NoProgram)?;
+            let index = u8::try_from(column).ok().ok_or(Unplanned::NoProgram)?;
             if is_nullable(self.schema, index) {
-                return Ok(Part::Null(index, negated));
+                return Ok(Formula::Null(index, negated));
             }
         }
-        Ok(Part::Fixed(Truth::of((x == Operand::Null) != negated)))
+        Ok(Formula::Fixed(Truth::of((x == Operand::Null) != negated)))
     }
 
     /// Returns the OR of some parts, or else their AND. All sets of one column become one where the
     /// first of them was. If `only_short`, that isn't done if the set is long: it takes more product
     /// rows than the sets one after another.
-    fn combine(self, any: bool, mut parts: Vec<Part>, only_short: bool) -> PartResult {
+    fn combine(self, any: bool, mut parts: Vec<Formula>, only_short: bool) -> FormulaResult {
         for column in 0..64 {
             let mut set = self.combined_set(any, &parts, column, only_short)?;
             let has_set = set.is_some();
             for part in parts.iter_mut() {
-                if has_set && matches!(part, Part::Codes(other) if other.column == column) {
-                    *part = set.take().map_or(Part::Done, Part::Codes);
+                if has_set && matches!(part, Formula::Codes(other) if other.column == column) {
+                    *part = set.take().map_or(Formula::Done, Formula::Codes);
                 }
             }
         }
-        parts.retain(|part| !matches!(part, Part::Done));
+        parts.retain(|part| !matches!(part, Formula::Done));
         if parts.len() > 1 {
-            return Ok(Part::All(any, parts));
+            return Ok(Formula::All(any, parts));
         }
-        parts.pop().ok_or(Refusal::NoProgram)
+        parts.pop().ok_or(Unplanned::NoProgram)
     }
 
     /// Returns what all sets of a column are together, if there are several, and if the set isn't
@@ -135,14 +135,14 @@ impl Reader<'_> {
     fn combined_set(
         self,
         any: bool,
-        parts: &[Part],
+        parts: &[Formula],
         column: ColumnIndex,
         only_short: bool,
-    ) -> Result<Option<Set>, Refusal> {
+    ) -> Result<Option<Set>, Unplanned> {
         let mut sets = Vec::new(self.alloc);
         for part in parts {
             match part {
-                Part::Codes(set) if set.column == column => sets.push(set)?,
+                Formula::Codes(set) if set.column == column => sets.push(set)?,
                 _ => {}
             }
         }
@@ -187,24 +187,24 @@ impl Names {
     }
 }
 
-impl Part {
+impl Formula {
     /// Adds what its comparisons name.
     #[cycle(names)]
     pub(crate) fn add_names(&self, names: &mut Names) {
         match self {
-            Part::Codes(set) => names.add(set.column),
-            Part::Columns(compared) => {
+            Formula::Codes(set) => names.add(set.column),
+            Formula::Columns(compared) => {
                 names.add(compared.left);
                 names.add(compared.right);
                 names.relations = names.relations.saturating_add(1);
             }
-            Part::All(_, parts) => {
+            Formula::All(_, parts) => {
                 for part in parts {
                     part.add_names(names);
                 }
             }
-            Part::Test(part, ..) => part.add_names(names),
-            Part::Null(..) | Part::Fixed(_) | Part::Done => {}
+            Formula::Test(part, ..) => part.add_names(names),
+            Formula::Null(..) | Formula::Fixed(_) | Formula::Done => {}
         }
     }
 
@@ -212,8 +212,8 @@ impl Part {
     #[cycle(depth)]
     fn depth(&self) -> u32 {
         match self {
-            Part::All(_, parts) => deepest(parts).1.saturating_add(1),
-            Part::Test(part, ..) => part.depth(),
+            Formula::All(_, parts) => deepest(parts).1.saturating_add(1),
+            Formula::Test(part, ..) => part.depth(),
             _ => 0,
         }
     }
@@ -221,7 +221,7 @@ impl Part {
 
 /// Returns the place of a part that has the most levels, and how many it has.
 #[cycle(depth)]
-pub(crate) fn deepest(parts: &[Part]) -> (usize, u32) {
+pub(crate) fn deepest(parts: &[Formula]) -> (usize, u32) {
     let (mut place, mut most) = (0, 0);
     for (number, part) in parts.iter().enumerate() {
         let depth = part.depth();
