@@ -234,6 +234,7 @@ def declared(item: RawItem, owner: str = "", within: str = "") -> PublicItem:
         end = text.find("{;")
         told = CLAUSE.search(text.mask, 0, end)
         head = in_one_line(text.plain[:told.start() if told else end])
+        head = re.sub(r"([(,] ?)mut (?=\w+[:,)])", r"\1", head)
         return PublicItem(name, head.replace(f"fn {item.name}", f"fn {name}", 1), within=within,
                           clauses=tuple(clauses))
     if item.kind in ("const", "static", "type"):

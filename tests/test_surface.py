@@ -46,7 +46,7 @@ pub trait Sized {
 impl<'a> Part<'a> {
     pub const BRACKET: u8 = b'{';
 
-    pub fn cut(&self, at: usize) -> [u8; 2]
+    pub fn cut(&mut self, mut at: usize) -> [u8; 2]
         requires fits { at ≤ length
             self.now.text.now }
         ensures front { IsTrue (is_front result) }
@@ -96,7 +96,7 @@ struct Part<'a>
 
 const Part::BRACKET: u8 = b'{'
 
-fn Part::cut(&self, at: usize) -> [u8; 2]
+fn Part::cut(&mut self, at: usize) -> [u8; 2]
   requires fits { at ≤ length self.now.text.now }
   ensures front, _
 
