@@ -491,7 +491,7 @@ def totals(rows):
             str(held("ok").count("true")) if held("ok") else ""]
 
 
-@support.each([(f"seed {seed}", seed) for seed in range(8)])
+@support.each([(f"seed {seed}", seed) for seed in range(6)])
 class Meanings(Columns):
     """Drawn conditions over drawn rows select those that SQLite selects."""
 
