@@ -7,16 +7,12 @@ import decimal
 import io
 import os
 import random
+import sqlite3
 
 from bwtools import answers, store
 
 from tests import drawn, support
 from tests.support import bw, tool
-
-try:
-    import sqlite3
-except ImportError:
-    sqlite3 = None
 
 
 def records_of(text, **form):
@@ -496,8 +492,6 @@ class Meanings(Columns):
     """Drawn conditions over drawn rows select those that SQLite selects."""
 
     def check(self, _, seed):
-        if not sqlite3:
-            self.skipTest("meanings of conditions: install a Python with sqlite3")
         fields = drawn.Fields(random.Random(seed))
         rows, names = fields.rows(300), list(fields.TYPES)
         base, folder, out = sqlite3.connect(":memory:"), self.new_folder(), io.StringIO(newline="")

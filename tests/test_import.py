@@ -11,17 +11,13 @@ import random
 import resource
 import shutil
 import signal
+import sqlite3
 import subprocess
 import sys
 import time
 
 from tests import drawn, support
 from tests.support import BW, LONGEST, PYTHON, bw, content, tool, write_script
-
-try:
-    import sqlite3
-except ImportError:
-    sqlite3 = None
 
 SHOP = b"id,land,price\n1,DE,1.25\n2,NA,2.0\n3,FR,13.5\n4,,9.75\n"
 PAIR = ["t.bw", "t.bw.columns", "t.csv"]
@@ -655,8 +651,6 @@ class Spellings(Tools):
     """Drawn conditions over drawn rows in drawn spellings select those that SQLite selects."""
 
     def check(self, _, seed):
-        if not sqlite3:
-            self.skipTest("conditions over spellings: install a Python with sqlite3")
         values = drawn.Spellings(random.Random(seed))
         rows, fields = values.rows(300)
         base, out = sqlite3.connect(":memory:"), io.StringIO(newline="")
