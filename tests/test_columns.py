@@ -194,8 +194,7 @@ BACK = [
 ]
 
 
-@support.each(BACK)
-class Back(Columns):
+class ThereAndBack(Columns):
     """A file is translated to numbers, loaded as a table, and restored."""
 
     def check(self, _, data, options, wanted=None):
@@ -203,6 +202,11 @@ class Back(Columns):
         self.assertEqual(self.to_numbers(folder, data, *options).status, 0)
         self.assertEqual(self.came_back(folder),
                          wanted or records_of(data.decode(), strict=True))
+
+
+@support.each(BACK)
+class Back(ThereAndBack):
+    """Files of many kinds."""
 
 
 def made_file(seed):
@@ -229,8 +233,8 @@ def made_file(seed):
 
 
 @support.each(map(made_file, range(12)))
-class Made(Back):
-    """Drawn files, likewise."""
+class Made(ThereAndBack):
+    """Drawn files."""
 
 
 # What a file is, the options, and the content of OUT.csv
