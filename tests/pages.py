@@ -12,7 +12,6 @@ import shlex
 import shutil
 import subprocess
 import sys
-import tempfile
 from typing import Any, NamedTuple
 
 from tests import support
@@ -218,31 +217,23 @@ def not_restored(folder: pathlib.Path) -> list[str]:
 
 class Page(support.TestCase):
     """The calls of a page, `class Name(Page, page="docs/PAGE.md")`. Those of a section run one
-    after another in a new folder, after those before the first section; with `by_blocks`, those of
-    each block. The first test of a section runs all of its calls."""
+    after another in a new folder, which begins as the calls before the first section left theirs;
+    with `by_blocks`, those of each block do. The first test of a section runs all of its calls."""
 
     page = ""
     by_blocks = False
     rooms: dict[Any, list[Call]]
     done: dict[Any, dict[int, Done | None]]
     lost: dict[Any, list[str]]
+    beginning: pathlib.Path | None
 
     def __init_subclass__(cls, page: str, by_blocks: bool = False) -> None:
-        cls.page, cls.by_blocks, cls.done, cls.lost = page, by_blocks, {}, {}
-        calls, tested = calls_of(ROOT / page), set[int]()
-        if by_blocks:
-            cls.rooms = {block: [call for call in calls if call.block == block]
-                         for block in dict.fromkeys(call.block for call in calls)}
-        else:
-            names = dict.fromkeys(call.section for call in calls if call.section) or {"": None}
-            cls.rooms = {name: [call for call in calls if call.section in ("", name)]
-                         for name in names}
-        for room, own in cls.rooms.items():
-            for place, call in enumerate(own):
-                # those before the first section are tested once
-                if id(call) not in tested:
-                    tested.add(id(call))
-                    cls.add_test(room, place, call)
+        cls.page, cls.by_blocks, cls.rooms, cls.beginning = page, by_blocks, {}, None
+        cls.done, cls.lost = {}, {}
+        for call in calls_of(ROOT / page):
+            room = call.block if by_blocks else call.section
+            cls.rooms.setdefault(room, []).append(call)
+            cls.add_test(room, len(cls.rooms[room]) - 1, call)
 
     @classmethod
     def add_test(cls, room: Any, place: int, call: Call) -> None:
@@ -255,7 +246,7 @@ class Page(support.TestCase):
         number = sum(each.startswith(name) for each in vars(cls)) + 1
         setattr(cls, f"{name}{number:03}", test)
 
-    def tool_of(self, section: str) -> tuple[str, str] | None:
+    def tool_of(self, section: Any) -> tuple[str, str] | None:
         """Returns the name and path of what a section needs. Skips the test if it isn't here."""
         if section not in NEEDS:
             return None
@@ -265,22 +256,30 @@ class Page(support.TestCase):
             self.skipTest(f"{self.page}, {section}: install {package}")
         return name, path
 
+    def folder_of(self, room: Any) -> pathlib.Path:
+        """Returns a new folder for the calls of a section or a block."""
+        folder = self.new_class_folder() / "folder" if room == "" else self.new_folder() / "folder"
+        if room != "" and "" in self.rooms:
+            self.run_room("")
+            assert self.beginning
+            shutil.copytree(self.beginning, folder, symlinks=True)
+        else:
+            folder.mkdir()
+            furnish(folder)
+        if room == "":
+            type(self).beginning = folder
+        return folder
+
     def run_room(self, room: Any) -> None:
         """Runs the calls of a section or a block, once."""
         if room in self.done:
             return
-        calls = self.rooms[room]
-        needed = self.tool_of(calls[-1].section)
-        with tempfile.TemporaryDirectory(prefix="bw-page-") as name:
-            folder, told = pathlib.Path(name, "folder"), pathlib.Path(name, "told")
-            folder.mkdir()
-            told.mkdir()
-            furnish(folder)
-            if needed:
-                (folder / "bin" / needed[0]).unlink(missing_ok=True)
-                support.write_script(folder / "bin" / needed[0], f'exec "{needed[1]}" "$@"')
-            self.done[room] = dict(enumerate(run_calls(calls, folder, told)))
-            self.lost[room] = not_restored(folder)
+        needed, folder, told = self.tool_of(room), self.folder_of(room), self.new_folder()
+        if needed:
+            (folder / "bin" / needed[0]).unlink(missing_ok=True)
+            support.write_script(folder / "bin" / needed[0], f'exec "{needed[1]}" "$@"')
+        self.done[room] = dict(enumerate(run_calls(self.rooms[room], folder, told)))
+        self.lost[room] = not_restored(folder)
 
     def check(self, room: Any, place: int, call: Call) -> None:
         """Compares what a call printed with the page."""
@@ -300,7 +299,7 @@ class Page(support.TestCase):
 
     def test_tables_come_back_from_their_dumps(self) -> None:
         """The table files of a section are the same after a dump and a load."""
-        for room, calls in self.rooms.items():
-            if calls[-1].section not in NEEDS:
+        for room in self.rooms:
+            if room not in NEEDS:
                 self.run_room(room)
                 self.assertEqual(self.lost[room], [], room)

@@ -7,16 +7,12 @@ import decimal
 import io
 import os
 import random
+import sqlite3
 
 from bwtools import answers, store
 
 from tests import drawn, support
 from tests.support import bw, tool
-
-try:
-    import sqlite3
-except ImportError:
-    sqlite3 = None
 
 
 def records_of(text, **form):
@@ -198,8 +194,7 @@ BACK = [
 ]
 
 
-@support.each(BACK)
-class Back(Columns):
+class ThereAndBack(Columns):
     """A file is translated to numbers, loaded as a table, and restored."""
 
     def check(self, _, data, options, wanted=None):
@@ -207,6 +202,11 @@ class Back(Columns):
         self.assertEqual(self.to_numbers(folder, data, *options).status, 0)
         self.assertEqual(self.came_back(folder),
                          wanted or records_of(data.decode(), strict=True))
+
+
+@support.each(BACK)
+class Back(ThereAndBack):
+    """Files of many kinds."""
 
 
 def made_file(seed):
@@ -233,8 +233,8 @@ def made_file(seed):
 
 
 @support.each(map(made_file, range(12)))
-class Made(Back):
-    """Drawn files, likewise."""
+class Made(ThereAndBack):
+    """Drawn files."""
 
 
 # What a file is, the options, and the content of OUT.csv
@@ -491,13 +491,11 @@ def totals(rows):
             str(held("ok").count("true")) if held("ok") else ""]
 
 
-@support.each([(f"seed {seed}", seed) for seed in range(8)])
+@support.each([(f"seed {seed}", seed) for seed in range(6)])
 class Meanings(Columns):
     """Drawn conditions over drawn rows select those that SQLite selects."""
 
     def check(self, _, seed):
-        if not sqlite3:
-            self.skipTest("meanings of conditions: install a Python with sqlite3")
         fields = drawn.Fields(random.Random(seed))
         rows, names = fields.rows(300), list(fields.TYPES)
         base, folder, out = sqlite3.connect(":memory:"), self.new_folder(), io.StringIO(newline="")

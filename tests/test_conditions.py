@@ -1,17 +1,13 @@
 """Conditions over rows of whole numbers. Each statement is asked of a table file in bit planes and
 of one in byte slices, in a session over each. Both must be scanned by a planned program, at the
-same cost, and have the result of `bw direct`, row by row, and of SQLite, if Python has it."""
+same cost, and have the result of `bw direct`, row by row, and of SQLite."""
 import random
 import re
 import shlex
+import sqlite3
 
 from tests import drawn, support
 from tests.drawn import COMPARE, NEAR
-
-try:
-    import sqlite3
-except ImportError:
-    sqlite3 = None
 
 # columns of one, four and eight bytes, with nulls and without
 COMMON = {"a": (0, 255, False), "b": (-10, 10, True)}
@@ -178,10 +174,10 @@ class Conditions(support.TestCase):
                                   self.session(folder, "planes", statements),
                                   self.session(folder, "slices", statements))
         self.assertEqual(len(direct), len(statements))
-        meant = sqlite_results(columns, rows, asked) if sqlite3 else [None] * len(asked)
+        meant = sqlite_results(columns, rows, asked)
         served = rf"served ({by}) segments {(len(rows) + 511) // 512} loads \d+ skips \d+"
         for place, sql in enumerate(statements):
-            wanted = next(meant) if sqlite3 else None
+            wanted = next(meant)
             with self.subTest(sql[:1000]):
                 self.assertEqual(planes[place], slices[place])
                 self.assertEqual(planes[place][0], direct[place])

@@ -150,7 +150,7 @@ class Files(support.TestCase):
             self.assertEqual(came, wanted)
 
     def test_one_name_for_two_files(self):
-        """One name for two files."""
+        """OUT is an input too."""
         table = whole()
         copy = fill("rows.csv", CSV.read_bytes())
         inputs = "error: {} is an input, and can't be OUT too (status 2)"
@@ -177,8 +177,11 @@ class Files(support.TestCase):
         self.case("load from a device to the same one",
                   bw("load", SCHEMA, "/dev/null", "/dev/null"),
                   "bw: 201 no heading at record 0 (status 3)")
-        bad = b"a,b\n300,0\n"
-        copy = fill("bad.csv", bad)
+
+    def test_out_is_there(self):
+        """OUT, or a table that is read, is written by the same call."""
+        table = whole()
+        copy = fill("bad.csv", b"a,b\n300,0\n")
         refused = "bw: 205 out of range at record 1 (status 3)"
         out = fill("old.bw", table)
         self.case("load over an older table, with rows that are refused",
@@ -294,7 +297,7 @@ class Files(support.TestCase):
                   "accepted: 1 instructions, 0 skips, 16 nodes, 9 chains, 12 rows")
 
     def test_devices(self):
-        """Full devices, closed outputs, and a limit on the size of files."""
+        """Full devices and closed outputs."""
         table = whole()
         self.case("load to /dev/full", bw("load", SCHEMA, CSV, "/dev/full"),
                   "bw: 702 write failed (status 5)")
@@ -317,7 +320,10 @@ class Files(support.TestCase):
                   sh('bw load "$SCHEMA" "$CSV" closed.bw <&- >&- 2>&-') +
                   state(pathlib.Path("closed.bw"), None, table), "whole")
         self.case("dump | head -n 1, of a short table", sh("bw dump whole.bw | head -n 1"), "a,b")
-        # `ulimit -f 1`, which counts blocks of 512 bytes in some shells and of 1,024 in others
+
+    def test_a_limit_of_the_size_of_files(self):
+        """`ulimit -f 1`, which counts blocks of 512 bytes in some shells and of 1,024 in others."""
+        table = whole()
         for ignored in (False, True):
             out = pathlib.Path("limited.bw")
             out.write_bytes(b"old")

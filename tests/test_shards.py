@@ -390,7 +390,8 @@ class Pieces(support.TestCase):
         self.assertEqual("".join(bodies), "".join(lines[1:]))
         for (count, size, text), after in zip(found, [*bodies[1:], None]):
             self.assertEqual((size, count), (len(text), text.count("\n") - 1))
-            self.assertLessEqual((size <= 60, count <= rows), (True, True))
+            self.assertLessEqual(size, 60)
+            self.assertLessEqual(count, rows)
             if after is not None:
                 self.assertTrue(len(text) + len(after.split("\n")[0]) + 1 > 60 or count == rows)
 

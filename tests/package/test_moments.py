@@ -42,6 +42,14 @@ class Moments(unittest.TestCase):
                 found = moment_of(text)
                 self.assertEqual((found.part, found.digits, found.clock), (part, digits, clock))
 
+    def test_hours_of_twelve_come_back(self):
+        form = "%I:%M %p"
+        self.assertEqual([moments.written_by(form, DAY, second) for second in (0, 43200)],
+                         ["12:00 AM", "12:00 PM"])
+        for second in range(0, 86400, 1800):
+            text = moments.written_by(form, DAY, second)
+            self.assertEqual(moments.read_by(form, text)[1], second, text)
+
     def test_plain_times_come_back(self):
         draw = random.Random(4)
         for zone in ("", "Z", "+02:00", "-0330", "+01"):

@@ -114,7 +114,7 @@ class Foreign(Files):
     def test_bytes_that_are_damaged(self):
         """Each header byte, and bytes all over the file: it is refused, or reads as it was."""
         data, right = self.path.read_bytes(), list(map(described, COLUMNS))
-        for at in (*range(100), *range(100, len(data), 97)):
+        for at in (*range(100), *range(100, len(data), 197)):
             for bit in (1, 0x80):
                 self.path.write_bytes(data[:at] + bytes([data[at] ^ bit]) + data[at + 1:])
                 with contextlib.suppress(Refused), contextlib.closing(Store(self.path)) as found:
