@@ -115,9 +115,9 @@ class Answers(Tools):
         self.assertEqual((made.status, made.err), (0, ""))
         self.assertEqual(sorted(content(self.folder)), PAIR)
         found = self.ask(given=statement)
-        # an answer may have strokes of its own
-        self.assertEqual((found.status, found.err, found.out[:-1].replace("\n", "/")),
-                         (0, "", wanted))
+        # an answer may have strokes of its own, and an empty line follows each
+        self.assertEqual((found.status, found.err, found.out.replace("\n", "/")),
+                         (0, "", f"{wanted}/"))
         if what != "statements":
             self.assertEqual(self.ask(statement), (0, found.out[:-1], ""))
 
@@ -209,10 +209,12 @@ class Pairs(Tools):
     def test_another_table(self):
         """Other prices and cities, of the same number of bytes."""
         self.imported(SHOP.replace(b"1.25", b"12.5").replace(b"DE", b"AT"), name="v")
+        shutil.copy(self.table, self.folder / "u.bw")
         shutil.copy(self.columns, self.folder / "u.bw.columns")
-        shutil.copy(self.folder / "v.bw", self.folder / "u.bw")
+        # the bytes of the file, and then the file
+        shutil.copyfile(self.folder / "v.bw", self.folder / "u.bw")
         self.assert_refused(self.ask(ASKS, name="u"), OTHER, "u.bw.columns")
-        shutil.copy(self.folder / "v.bw", self.table)
+        os.replace(self.folder / "u.bw", self.table)
         self.assert_refused(self.ask(ASKS), OTHER, "t.bw.columns", "t.bw,")
         done = tool("bw-from-numbers", self.columns, given="id\n1\n")
         self.assertEqual(done.status, 3)

@@ -197,12 +197,12 @@ class Peaks(support.TestCase):
                   "one": 203}
         # a load stores the table file too, and a field of 16 MB is copied
         self.check(*((words, self.sizes[text] * (2 if text == "one" else 1)
-                      + (1 << 22 if words[0] == "load" and not fault else 0), fault)
+                      + (1 << 21 if words[0] == "load" and not fault else 0), fault)
                      for text, each in faults.items() for words, fault in (
                          (["load", "t.schema", text, f"{text}.bw"], each),
                          (["direct", "t.schema", text, "SELECT * FROM t"], each),
                          (["infer", text], 102 if text == "heading" else each))))
-        self.assertLess((self.folder / "rows.bw").stat().st_size, 1 << 22)
+        self.assertLess((self.folder / "rows.bw").stat().st_size, 1 << 21)
 
     def test_reading_a_table(self):
         support.bw("load", "t.schema", "rows", "t.bw", cwd=self.folder)
