@@ -1,3 +1,4 @@
 pub mod ColumnLemmas
+pub mod GatheredLemmas
 pub mod SelectedLemmas
 pub mod ValueLemmas

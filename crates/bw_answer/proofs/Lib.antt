@@ -2,11 +2,12 @@ pub mod AggregateLemmas
 pub mod AnswerLemmas
 pub mod ColumnLemmas
 pub mod CountLemmas
-pub mod FetchLemmas
-pub mod SelectedLemmas
+pub mod GatheredLemmas
+pub mod PlaceLemmas
 pub mod PlainFields
 pub mod PlainNames
 pub mod PositionLemmas
 pub mod RecordLemmas
 pub mod Rows
+pub mod SelectedLemmas
 pub mod TotalsLemmas

@@ -13,10 +13,6 @@ use Rattle.bw_model.specs.Row.{Value}
 use Rattle.bw_model.specs.Selection.{matching_rows, selected_items, selection}
 use Rattle.bw_model.specs.Total.{item_within, combine_totals, total}
 use Rattle.bw_rowwise.specs.Accumulator.{Tally, tally_of}
-use Rattle.bw_rowwise.specs.Prepared.{IsPreparedFrom, prepared_truth}
-use Rattle.bw_rowwise.specs.declared.prepared.Prepared.{Prepared}
-use Rattle.bw_model.specs.Truth.{is_truth}
-use Rattle.bw_model.specs.declared.cond.Truth.TheVariants.{Yes}
 use Rattle.bw_aggregate.specs.Selected.{with_selected}
 use Rattle.bw_answer.specs.Totals.{is_of}
 use Rattle.bw_model.proofs.BitsLemmas.{both}
@@ -84,11 +80,6 @@ is_of-later width rows n (t ∷ ts) e =
 -- no more rows are kept than there are
 pub few_kept : (c : Cond) (rows : List (List Value)) → length (matching_rows c rows) ≤ length rows
 few_kept c rows = let some = count_by-le-length (is_match c) rows in omega (arith, length-filter (is_match c) rows, some)
-
--- a condition that is made ready keeps the rows that the condition keeps
-pub kept_alike : (c : Cond) (prepared : Prepared) (rows : List (List Value)) → IsPreparedFrom c prepared → map (λ row. is_truth (prepared_truth row prepared) Yes) rows ≡ selection c rows
-kept_alike c prepared [] same = refl
-kept_alike c prepared (row ∷ rows) same = λ i. is_truth (same row i) Yes ∷ kept_alike c prepared rows same i
 
 -- what holds once rows are taken implies the other
 pub taken : {T E P Q : Type 0} (result : Result T E) → (P → Q) → OnOk result P → OnOk result Q

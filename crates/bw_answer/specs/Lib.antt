@@ -3,8 +3,11 @@ pub mod Answer
 pub mod TextAndTotals
 pub mod Columns
 pub mod Draft
+pub mod Gathered
+pub mod GatheredProgress
 pub mod LaneFields
 pub mod Field
 pub mod Listing
+pub mod Places
 pub mod Progress
 pub mod Totals

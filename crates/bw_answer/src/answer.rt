@@ -1,7 +1,7 @@
-//! The result of a query over rows that come one at a time, as CSV text.
+//! The result of a query over the rows of segments, as CSV text.
 ghost use Rattle.std.specs.Prelude.{◌≡◌, ◌==◌, ◌<◌, ◌≤◌, ◌+◌, ◌-◌, ◌++◌, ◌∷◌, List, [], ℕ, true};
 ghost use Rattle.std.specs.Prelude.{false, All, IsTrue, IfOk, IfErr, OnOk, length, replicate};
-ghost use Rattle.std.specs.Prelude.{vec_len};
+ghost use Rattle.std.specs.Prelude.{map, vec_len};
 ghost use Rattle.std.specs.List.{list_all};
 ghost use Rattle.bw_model.specs.Column.{admits_values, names_of};
 ghost use Rattle.bw_model.specs.Fault.{no_memory};
@@ -12,27 +12,29 @@ ghost use Rattle.bw_model.specs.Row.{Value, values_of};
 ghost use Rattle.bw_model.specs.Selection.{matching_rows, selection as selected_by};
 ghost use Rattle.bw_model.specs.Total.{is_aggregate, item_within};
 ghost use Rattle.bw_model.specs.declared.query.Item.{Item};
-ghost use Rattle.bw_rowwise.specs.Prepared.{IsPreparedFrom};
+ghost use Rattle.bw_rowwise.specs.Accumulator.{Tally};
+ghost use Rattle.bw_rowwise.specs.Columns.{HaveRows, numbers_of};
+ghost use Rattle.bw_rowwise.specs.Filter.{IsPreparedFrom};
 ghost use Rattle.bw_sql.specs.Items.{AreOfOneKind};
 ghost use Rattle.bw_answer.specs.Answer.{csv_text, is_count_all, lists_rows, meaning};
 ghost use Rattle.bw_answer.specs.TextAndTotals.{AreOver, CountsRows};
 ghost use Rattle.bw_answer.specs.Listing.{IsListing};
-ghost use Rattle.bw_answer.specs.Totals.{is_of, has_room};
+ghost use Rattle.bw_answer.specs.Gathered.{AreGathered};
+ghost use Rattle.bw_answer.specs.Places.{AreRead};
+ghost use Rattle.bw_aggregate.specs.Selected.{IsWithin};
+ghost use Rattle.bw_answer.specs.Totals.{is_of};
 
 use crate::heading::heading_text;
 use crate::listing::Listing;
-use crate::matching::is_match;
-use crate::selected::total_selected;
-use crate::totals::{add_count, add_kept, totals_of, with_totals};
+use crate::selected::{total_gathered, total_selected};
+use crate::totals::{add_count, totals_of, with_totals};
 use bw_lanes::Selection;
-use bw_model::{
-    Fault, Item, Query, Row, RowConsumer, Schema, admitted_rows_have_each_value, totals_join,
-};
-use bw_rowwise::{Accumulator, Filter, Prepared, matches_all};
+use bw_model::{Fault, Item, Query, Row, Schema, admitted_rows_have_each_value, totals_join};
+use bw_rowwise::{Accumulator, Columns, Filter, matches_all};
 use bw_segment::Segment;
 use std::alloc::Global;
 
-/// Consumes the rows of a table, one after another, and makes the text of a query's result: the
+/// Consumes the rows of a table, one segment after another, and makes the text of a query's result: the
 /// heading, and then a record for each matching row, or one record of totals over them.
 #[derive(Drop)]
 pub struct Answer<'a> {
@@ -48,12 +50,12 @@ pub struct Answer<'a> {
     /// The heading, and then the records of the matching rows, if the query lists them.
     text: Vec<u8>,
     /// The total of each aggregate of the query, each once, over the matching rows.
-    totals: Vec<Accumulator>,
+    pub(crate) totals: Vec<Accumulator>,
     ghost prepared: { IsPreparedFrom query.now.cond filter },
     ghost items: { IsTrue (list_all (item_within width) query.now.items.items) },
     ghost nonempty: { 1 ≤ length query.now.items.items },
     ghost listing: { lists ≡ lists_rows query.now.items.items },
-    ghost names: { lists ≡ true → IsListing records width query.now.items.items },
+    ghost names: { lists ≡ true → IsListing records query.now.items.items },
     ghost totalling: { lists ≡ false → IsTrue (list_all is_aggregate query.now.items.items) },
     ghost capacity: { IsTrue (list_all (is_of width rows) totals.items) },
 }
@@ -88,7 +90,7 @@ impl<'a> Answer<'a> {
             query,
             filter: Filter::new(alloc, &query.cond)?,
             lists: lists_rows(&query.items),
-            records: Listing::new(alloc, width, &query.items)?,
+            records: Listing::new(alloc, &query.items)?,
             text: heading_text(alloc, &schema.columns, &query.items)?,
             totals: totals_of(alloc, &query.items)?,
         })
@@ -215,28 +217,90 @@ impl<'a> Answer<'a> {
         self.take_selected(segment, &kept)
     }
 
-    /// Consumes a row. There must be space for it, and it must have a value for each of the table's
-    /// columns. Errors: 801 if memory is refused.
-    fn take_row(&mut self, row: &Row) -> Result<(), Fault>
-        requires same_width { length (values_of row.now) ≡ self.old.width }
-        requires capacity { self.old.rows < most_rows }
-        ensures covers { OnOk result ((start : Answer) (before : List (List Value))
-            → GoesOver start before self.old
-            → GoesOver start (before ++ values_of row.now ∷ []) self.new) }
+    /// Removes the rows that were gathered.
+    pub(crate) fn clear_rows(&mut self)
+        ensures named { HaveRows [] self.new.filter.columns }
+        ensures listed { HaveRows [] self.new.records.columns }
+        ensures covers { (names : List (List ℕ)) (query : Query) (rows : List (List Value))
+            → IsOver names query rows self.old → IsOver names query rows self.new }
+        ensures asked { query_in self.new ≡ query_in self.old }
+        ensures width { self.new.width ≡ self.old.width }
+        ensures rows { self.new.rows ≡ self.old.rows }
+        ensures totals { self.new.totals.items ≡ self.old.totals.items }
+    {
+        self.filter.clear();
+        self.records.clear();
+    }
+
+    /// Gathers a row, after the `lane` rows that were gathered.
+    pub(crate) fn put_row(&mut self, lane: usize, row: &Row)
+        requires { lane < 512 }
+        ensures named { (rows : List (List Value)) → length rows ≡ lane
+            → HaveRows rows self.old.filter.columns
+            → HaveRows (rows ++ values_of row.now ∷ []) self.new.filter.columns }
+        ensures listed { (rows : List (List Value)) → length rows ≡ lane
+            → HaveRows rows self.old.records.columns
+            → HaveRows (rows ++ values_of row.now ∷ []) self.new.records.columns }
+        ensures covers { (names : List (List ℕ)) (query : Query) (rows : List (List Value))
+            → IsOver names query rows self.old → IsOver names query rows self.new }
+        ensures asked { query_in self.new ≡ query_in self.old }
+        ensures width { self.new.width ≡ self.old.width }
+        ensures rows { self.new.rows ≡ self.old.rows }
+        ensures totals { self.new.totals.items ≡ self.old.totals.items }
+    {
+        self.filter.put_row(lane, row);
+        self.records.put_row(lane, row);
+    }
+
+    /// Returns the rows among those that were gathered, `count` of them, that match the query.
+    pub(crate) fn matching_rows(&self, count: u32) -> Selection
+        requires { count ≤ 512 }
+        ensures rows { (rows : List (List Value)) → HaveRows rows self.now.filter.columns
+            → length rows ≡ count → lanes_of_words result ≡ selected_by (query_in self.now).cond rows
+            ++ replicate (group_size - length rows) false }
+        ensures within { IsWithin count (lanes_of_words result) }
+    {
+        self.filter.matching_rows(count)
+    }
+
+    /// Consumes rows that were gathered by columns, `count` of them; `selection` selects those that
+    /// match the query. There must be space for the rows. Errors: 801 if memory is refused.
+    pub(crate) fn take_gathered(
+        &mut self,
+        count: u32,
+        selection: &Selection,
+        summed: &Columns,
+        places: &[usize],
+    ) -> Result<(), Fault>
+        requires within { IsWithin count (lanes_of_words selection.now) }
+        requires places { AreRead (numbers_of summed.now)
+            (map (λ (tally : Tally). tally.item) self.old.totals.items) places.now }
+        requires capacity { self.old.rows + count ≤ most_rows }
+        ensures covers { OnOk result ((start : Answer) (before rows : List (List Value))
+            → AreGathered rows count (query_in self.old).cond (lanes_of_words selection.now)
+            self.old.records.columns summed.now
+            → GoesOver start before self.old → GoesOver start (before ++ rows) self.new) }
+        ensures asked { OnOk result (query_in self.new ≡ query_in self.old) }
         ensures width { OnOk result (self.new.width ≡ self.old.width) }
-        ensures rows { OnOk result (self.new.rows ≡ self.old.rows + 1) }
+        ensures rows { OnOk result (self.new.rows ≡ self.old.rows + count) }
+        ensures items { OnOk result (map (λ (tally : Tally). tally.item) self.new.totals.items
+            ≡ map (λ (tally : Tally). tally.item) self.old.totals.items) }
+        ensures refused { IfErr result (λ _. (self.new.rows ≡ self.old.rows)
+            × (self.new.totals.items ≡ self.old.totals.items)) }
         ensures only_oom { IfErr result (λ fault. fault ≡ no_memory) }
     {
-        put_row(
+        put_gathered(
             &mut self.text,
             &mut self.totals,
             &mut self.records,
             self.query,
-            self.filter.cond(),
             self.lists,
-            row,
+            selection,
+            summed,
+            places,
+            count,
         )?;
-        self.rows += 1;
+        self.rows += count;
         Ok(())
     }
 
@@ -267,58 +331,6 @@ impl<'a> Answer<'a> {
     }
 }
 
-impl RowConsumer for Answer<'_> {
-    ghost takes = { λ answer row. length row == answer.width };
-
-    ghost rows = { λ answer. answer.rows };
-
-    ghost use Rattle.bw_answer.specs.Progress.{GoesOver};
-
-    ghost led = { GoesOver };
-
-    fn take(&mut self, row: &Row) -> Result<(), Fault> {
-        self.take_row(row)
-    }
-}
-
-/// Adds a row to the text or to the totals, if it matches.
-fn put_row(
-    text: &mut Vec<u8>,
-    totals: &mut [Accumulator],
-    records: &mut Listing,
-    query: &Query,
-    cond: &Prepared,
-    lists: bool,
-    row: &Row,
-) -> Result<(), Fault>
-    requires prepared { IsPreparedFrom query.now.cond cond.now }
-    requires items { IsTrue (list_all (item_within (length (values_of row.now)))
-        query.now.items.items) }
-    requires lists { lists ≡ lists_rows query.now.items.items }
-    requires names { lists ≡ true
-        → IsListing records.old (length (values_of row.now)) query.now.items.items }
-    requires capacity { IsTrue (list_all (has_room (length (values_of row.now))) totals.old) }
-    ensures covers { OnOk result ((names : List (List ℕ)) → (rows : List (List Value))
-        → AreOver names query.now rows text.old.items totals.old
-        → AreOver names query.now (rows ++ values_of row.now ∷ []) text.new.items totals.new) }
-    ensures counts { OnOk result ((rows : ℕ)
-        → IsTrue (list_all (is_of (length (values_of row.now)) rows) totals.old)
-        → IsTrue (list_all (is_of (length (values_of row.now)) (rows + 1)) totals.new)) }
-    ensures left { IfErr result (λ _. totals.new ≡ totals.old) }
-    ensures names { (width : ℕ) (items : List Item) → IsListing records.old width items
-        → IsListing records.new width items }
-    ensures only_oom { IfErr result (λ fault. fault ≡ no_memory) }
-{
-    if !lists {
-        add_kept(totals, query, cond, row);
-        return Ok(());
-    }
-    if is_match(cond, row) {
-        records.push_row(text, row)?;
-    }
-    Ok(())
-}
-
 /// Adds the matching rows of a segment, which the selection selects, to the text or to the totals.
 fn put_selected<S: Segment>(
     text: &mut Vec<u8>,
@@ -335,8 +347,7 @@ fn put_selected<S: Segment>(
     requires items { IsTrue (list_all (item_within (length (S.meaning segment.now).columns))
         query.now.items.items) }
     requires lists { lists ≡ lists_rows query.now.items.items }
-    requires names { lists ≡ true
-        → IsListing records.old (length (S.meaning segment.now).columns) query.now.items.items }
+    requires names { lists ≡ true → IsListing records.old query.now.items.items }
     requires columns { All (λ tally. IsTrue
         (item_within (length (S.meaning segment.now).columns) tally.item)) totals.old }
     requires capacity { All (λ tally. tally.count + length (S.meaning segment.now).rows ≤ most_rows)
@@ -348,8 +359,8 @@ fn put_selected<S: Segment>(
     ensures counts { OnOk result ((width rows : ℕ) → IsTrue (list_all (is_of width rows) totals.old)
         → IsTrue (list_all (is_of width (rows + length (S.meaning segment.now).rows)) totals.new)) }
     ensures left { IfErr result (λ _. totals.new ≡ totals.old) }
-    ensures names { (width : ℕ) (items : List Item) → IsListing records.old width items
-        → IsListing records.new width items }
+    ensures names { (items : List Item) → IsListing records.old items
+        → IsListing records.new items }
     ensures only_oom { IfErr result (λ fault. fault ≡ no_memory) }
 {
     totals_join();
@@ -357,6 +368,47 @@ fn put_selected<S: Segment>(
         records.push_selected(text, segment, selection)?;
     } else {
         total_selected(totals, segment, selection);
+    }
+    Ok(())
+}
+
+/// Adds the matching rows among those that were gathered, `count` of them, which the selection
+/// selects, to the text or to the totals.
+fn put_gathered(
+    text: &mut Vec<u8>,
+    totals: &mut [Accumulator],
+    records: &mut Listing,
+    query: &Query,
+    lists: bool,
+    selection: &Selection,
+    summed: &Columns,
+    places: &[usize],
+    count: u32,
+) -> Result<(), Fault>
+    requires within { IsWithin count (lanes_of_words selection.now) }
+    requires lists { lists ≡ lists_rows query.now.items.items }
+    requires names { lists ≡ true → IsListing records.old query.now.items.items }
+    requires places { AreRead (numbers_of summed.now)
+        (map (λ (tally : Tally). tally.item) totals.old) places.now }
+    requires capacity { All (λ tally. tally.count + count ≤ most_rows) totals.old }
+    ensures covers { OnOk result ((names : List (List ℕ)) (rows more : List (List Value))
+        → AreGathered more count query.now.cond (lanes_of_words selection.now) records.old.columns
+        summed.now → AreOver names query.now rows text.old.items totals.old
+        → AreOver names query.now (rows ++ more) text.new.items totals.new) }
+    ensures counts { OnOk result ((width rows : ℕ) → IsTrue (list_all (is_of width rows) totals.old)
+        → IsTrue (list_all (is_of width (rows + count)) totals.new)) }
+    ensures items { OnOk result (map (λ (tally : Tally). tally.item) totals.new
+        ≡ map (λ (tally : Tally). tally.item) totals.old) }
+    ensures left { IfErr result (λ _. totals.new ≡ totals.old) }
+    ensures names { (items : List Item) → IsListing records.old items
+        → IsListing records.new items }
+    ensures only_oom { IfErr result (λ fault. fault ≡ no_memory) }
+{
+    totals_join();
+    if lists {
+        records.push_gathered(text, selection)?;
+    } else {
+        total_gathered(totals, summed, places, selection);
     }
     Ok(())
 }

@@ -1,50 +1,27 @@
 //! A record of values, written from its last byte to its first, since digits come in that order.
-ghost use Rattle.std.specs.Prelude.{◌≡◌, ◌+◌, ◌*◌, ◌<◌, ◌≤◌, ◌++◌, ◌∷◌, All, IfErr, OnOk, drop};
-ghost use Rattle.std.specs.Prelude.{length, map};
+ghost use Rattle.std.specs.Prelude.{◌≡◌, ◌+◌, ◌*◌, ◌<◌, ◌≤◌, ◌++◌, ◌∷◌, All, drop, length};
 ghost use Rattle.std.specs.Fmt.{signed_decimal};
-ghost use Rattle.bw_model.specs.Fault.{no_memory};
 ghost use Rattle.bw_answer.specs.Answer.{record_text, value_text};
 ghost use Rattle.bw_answer.specs.LaneFields.{fields_in_lane, value_in_lane};
 
-use crate::lanes::ColumnValues;
-use bw_model::{Fault, Value};
+use bw_model::Value;
+use bw_rowwise::Columns;
 use itoa::write_digits;
 
 /// The most bytes of a field: a sign, 19 digits, and the comma or the line feed after it.
 pub(crate) const FIELD: usize = 21;
 
-/// Adds the record of these columns' values in the first lane to a text. It is written into a draft
-/// first, which must have space for it.
-pub(crate) fn push_record(
-    text: &mut Vec<u8>,
-    draft: &mut [u8],
-    lanes: &[ColumnValues],
-    columns: &[usize],
-) -> Result<(), Fault>
-    requires nonempty { 1 ≤ length columns.now }
-    requires columns { All (λ column. column < length lanes.now) columns.now }
-    requires capacity { 21 * length columns.now ≤ length draft.old }
-    ensures record { OnOk result (text.new.items
-        ≡ text.old.items ++ record_text (fields_in_lane lanes.now columns.now 0)) }
-    ensures only_oom { IfErr result (λ fault. fault ≡ no_memory) }
-{
-    let end = draft.len();
-    let start = put_record(draft, end, lanes, columns, 0);
-    text.extend_from_slice(&draft[start..])?;
-    Ok(())
-}
-
-/// Writes the record of these columns' values in a lane, so that it ends at `end`. Returns where it
-/// starts.
+/// Writes the record of the values in a lane of the columns at these places, so that it ends at
+/// `end`. Returns where it starts.
 pub(crate) fn put_record(
     text: &mut [u8],
     end: usize,
-    lanes: &[ColumnValues],
+    lanes: &Columns,
     columns: &[usize],
     number: usize,
 ) -> usize
     requires nonempty { 1 ≤ length columns.now }
-    requires columns { All (λ column. column < length lanes.now) columns.now }
+    requires columns { All (λ column. column < length lanes.now.columns.items) columns.now }
     requires number { number < 512 }
     requires capacity { (21 * length columns.now ≤ end) × (end ≤ length text.old) }
     ensures capacity { (result ≤ end) × (end ≤ result + 21 * length columns.now) }
@@ -64,11 +41,11 @@ pub(crate) fn put_record(
 
 /// Returns the value of a column in a lane.
 #[inline]
-fn value_in_lane(lanes: &[ColumnValues], number: usize, column: usize) -> Value
-    requires { (number < 512) × (column < length lanes.now) }
+fn value_in_lane(lanes: &Columns, number: usize, column: usize) -> Value
+    requires { (number < 512) × (column < length lanes.now.columns.items) }
     ensures { result ≡ value_in_lane lanes.now number column }
 {
-    lanes[column].value(number)
+    lanes.value(column, number)
 }
 
 /// Writes a number, or null, so that it ends at `end`. Returns where it starts.

@@ -7,23 +7,23 @@ ghost use Rattle.bw_model.specs.Selection.{positions_of};
 ghost use Rattle.bw_answer.specs.Answer.{csv_text};
 ghost use Rattle.bw_answer.specs.LaneFields.{fields_in_lane, positions_between};
 
-use crate::lanes::ColumnValues;
 use crate::record::put_record;
 use bw_lanes::{LANES, Selection, last_between};
 use bw_model::Fault;
+use bw_rowwise::Columns;
 
 /// Adds the records of the selected rows to a text. They are written into a draft first, `rows`
 /// rows at a time, for which it must have space.
 pub(crate) fn push_records(
     text: &mut Vec<u8>,
     draft: &mut [u8],
-    lanes: &[ColumnValues],
+    lanes: &Columns,
     columns: &[usize],
     selection: &Selection,
     rows: usize,
 ) -> Result<(), Fault>
     requires nonempty { 1 ≤ length columns.now }
-    requires columns { All (λ column. column < length lanes.now) columns.now }
+    requires columns { All (λ column. column < length lanes.now.columns.items) columns.now }
     requires rows { (1 ≤ rows) × (rows ≤ 512) }
     requires capacity { 21 * length columns.now * rows ≤ length draft.old }
     ensures records { OnOk result (text.new.items ≡ text.old.items
@@ -45,14 +45,14 @@ pub(crate) fn push_records(
 /// draft. Returns where they start.
 fn put_records(
     draft: &mut [u8],
-    lanes: &[ColumnValues],
+    lanes: &Columns,
     columns: &[usize],
     selection: &Selection,
     first: usize,
     past: usize,
 ) -> usize
     requires nonempty { 1 ≤ length columns.now }
-    requires columns { All (λ column. column < length lanes.now) columns.now }
+    requires columns { All (λ column. column < length lanes.now.columns.items) columns.now }
     requires rows { (first ≤ past) × (past ≤ 512) }
     requires capacity { 21 * length columns.now * (past - first) ≤ length draft.old }
     ensures within { result ≤ length draft.new }

@@ -1,23 +1,18 @@
 //! The totals of a query.
-ghost use Rattle.std.specs.Prelude.{◌≡◌, ◌≤◌, ◌+◌, ◌++◌, ◌∷◌, ℕ, List, [], IsTrue, IfOk, IfErr};
+ghost use Rattle.std.specs.Prelude.{◌≡◌, ◌≤◌, ◌+◌, ◌++◌, ◌∷◌, ℕ, List, [], IfOk, IfErr};
 ghost use Rattle.std.specs.Prelude.{OnOk, length, map, All};
-ghost use Rattle.std.specs.List.{list_all, list_any};
+ghost use Rattle.std.specs.List.{list_any};
 ghost use Rattle.bw_model.specs.declared.query.Item.{Item};
 ghost use Rattle.bw_model.specs.Fault.{no_memory};
 ghost use Rattle.bw_model.specs.Limits.{most_rows};
-ghost use Rattle.bw_model.specs.Row.{Value, values_of};
-ghost use Rattle.bw_model.specs.Selection.{matching_rows};
 ghost use Rattle.bw_rowwise.specs.Accumulator.{count_rows, tally_of};
-ghost use Rattle.bw_rowwise.specs.Prepared.{IsPreparedFrom};
 ghost use Rattle.bw_answer.specs.Aggregates.{aggregates_of, answer_for, is_same};
 ghost use Rattle.bw_answer.specs.Answer.{record_text, value_text};
 ghost use Rattle.bw_answer.specs.Draft.{Holds};
-ghost use Rattle.bw_answer.specs.Totals.{is_of, has_room};
 
 use crate::csv_text::CsvText;
-use crate::matching::is_match;
-use bw_model::{Fault, Item, Query, Row};
-use bw_rowwise::{Accumulator, Prepared};
+use bw_model::{Fault, Item};
+use bw_rowwise::Accumulator;
 use std::alloc::Global;
 
 /// Returns the totals over no rows, one for each aggregate among the items, even if it occurs more
@@ -69,40 +64,6 @@ fn total_for(totals: &[Accumulator], item: Item) -> Option<i128>
         }
     }
     None
-}
-
-/// Adds a row to each total, if it matches.
-#[tactic(auto, using(crate::proofs::TotalsLemmas::kept_steps))]
-pub(crate) fn add_kept(totals: &mut [Accumulator], query: &Query, cond: &Prepared, row: &Row)
-    requires prepared { IsPreparedFrom query.now.cond cond.now }
-    requires capacity { IsTrue (list_all (has_room (length (values_of row.now))) totals.old) }
-    ensures counts { (rows : ℕ)
-        → IsTrue (list_all (is_of (length (values_of row.now)) rows) totals.old)
-        → IsTrue (list_all (is_of (length (values_of row.now)) (rows + 1)) totals.new) }
-    ensures totals { (items : List Item) → (rows : List (List Value)) → totals.old
-        ≡ map (λ item. tally_of item rows) items
-        → totals.new ≡ map (λ item. tally_of item
-        (rows ++ matching_rows query.now.cond (values_of row.now ∷ []))) items }
-{
-    if !is_match(cond, row) {
-        return;
-    }
-    add_row(totals, row);
-}
-
-/// Adds a row to each total.
-fn add_row(totals: &mut [Accumulator], row: &Row)
-    requires { IsTrue (list_all (has_room (length (values_of row.now))) totals.old) }
-    ensures counts { (rows : ℕ)
-        → IsTrue (list_all (is_of (length (values_of row.now)) rows) totals.old)
-        → IsTrue (list_all (is_of (length (values_of row.now)) (rows + 1)) totals.new) }
-    ensures totals { (items : List Item) → (rows : List (List Value)) → totals.old
-        ≡ map (λ item. tally_of item rows) items
-        → totals.new ≡ map (λ item. tally_of item (rows ++ values_of row.now ∷ [])) items }
-{
-    for total in totals.iter_mut() {
-        total.add(row);
-    }
 }
 
 /// Adds `count` rows, whatever their values, to each total, as to a count of rows.

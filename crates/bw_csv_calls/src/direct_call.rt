@@ -18,7 +18,7 @@ ghost use Rattle.bw_csv.specs.Rows.{StopsUnder};
 ghost use Rattle.bw_csv_calls.specs.Direct.{IsAnswer, answer_of, is_before_csv};
 
 use crate::inputs::read_schema;
-use bw_answer::Answer;
+use bw_answer::GatheredAnswer;
 use bw_csv::{read_csv, read_rows};
 use bw_io::{Sink, Source, write_whole};
 use bw_model::{Fault, Query, Schema};
@@ -96,7 +96,7 @@ fn answer_text(alloc: Global, schema: &Schema, query: &Query, csv: &[u8]) -> Res
     ensures reader { IfErr result (λ fault. is_reader_fault fault ≡ true
         → StopsUnder schema.now.columns.items (records_of csv.now) fault) }
 {
-    let mut answer = Answer::new(alloc, schema, query)?;
+    let mut answer = GatheredAnswer::new(alloc, schema, query)?;
     read_rows(alloc, schema, csv, &mut answer)?;
     answer.into_text()
 }

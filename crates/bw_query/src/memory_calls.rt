@@ -28,7 +28,7 @@ use std::alloc::Global;
 
 /// Runs a statement over a table in memory, and writes the result as CSV text, as `answer` does
 /// over a table file. The rows are found by the program of a program file, if one is given; else by
-/// the planner's program, if it proposes one that the checker accepts; else row by row. Only the
+/// the planner's program, if it proposes one that the checker accepts; else the fallback. Only the
 /// columns that the statement needs are read, and nothing is validated again. Returns how the query
 /// was served, with the loads and skips of the program's runs.
 ///
@@ -97,7 +97,7 @@ fn run_in_memory(
 /// Answers a statement as [`answer_in_memory`] does, with programs for the conditions of many
 /// statements. The rows are found by the scan that is kept for the statement's condition. If none
 /// is, one is looked for and kept: the program of the first program file that is accepted for the
-/// condition; else the planner's, if it proposes one that the checker accepts; else row by row.
+/// condition; else the planner's, if it proposes one that the checker accepts; else the fallback.
 ///
 /// Errors, in this order: the statement's (401 to 408) and the sink's (702); 801 at any time, if
 /// memory is refused. A program file that isn't accepted is no error. Nothing is written on any

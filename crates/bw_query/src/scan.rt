@@ -25,7 +25,7 @@ use bw_plan::propose_in_order;
 use std::alloc::Global;
 
 /// What finds the rows of a query: a scan program that was certified for its condition, or the
-/// condition itself, row by row.
+/// fallback, which evaluates the condition itself.
 #[derive(Drop)]
 pub(crate) enum Scan {
     Program(Certified),
@@ -33,7 +33,7 @@ pub(crate) enum Scan {
 }
 
 /// Returns what finds the rows of a query: the program of a program file, if there is one; else the
-/// planner's, if it proposes one that the checker accepts; else row by row.
+/// planner's, if it proposes one that the checker accepts; else the fallback.
 ///
 /// Errors: those of the program file, as [`check_file`] returns them (501 to 508, 601 to 610). A
 /// candidate program that isn't accepted is no error: it isn't used. 801 at any time, if memory is
@@ -64,7 +64,7 @@ pub(crate) fn scan_for(
 
 /// Returns how a condition is to be scanned if there are program files to choose among: by the
 /// program of the first one that is accepted for it; else by the planner's that [`plan_for_table`]
-/// returns; else row by row. Errors: 801 if memory is refused.
+/// returns; else the fallback. Errors: 801 if memory is refused.
 pub(crate) fn choose(
     alloc: Global,
     table: &MemoryTable,
@@ -123,7 +123,7 @@ fn certify_by_file(
 }
 
 /// Returns the planner's program, which takes the parts of the condition in the order of another
-/// one, if it proposes one that the checker accepts; else row by row. Errors: 801 if memory is
+/// one, if it proposes one that the checker accepts; else the fallback. Errors: 801 if memory is
 /// refused.
 pub(crate) fn plan_and_certify(
     alloc: Global,
@@ -160,7 +160,7 @@ fn certify_plan(
     }
 }
 
-/// Returns the scan by a program that was found, or row by row if there is none. Errors: 801 if
+/// Returns the scan by a program that was found, or the fallback if there is none. Errors: 801 if
 /// memory was refused.
 fn scan_by(found: Result<Certified, Fault>) -> Result<Scan, Fault>
     ensures { result ≡ scan_by found }

@@ -36,7 +36,7 @@ use std::alloc::Global;
 /// Runs a statement over a table file, and writes the result as CSV text: a heading record and then
 /// the other records, with commas between fields and a line feed after each record. The rows are
 /// found by the program of a program file, if one is given; else by the planner's program, if it
-/// proposes one that the checker accepts; else row by row. Returns how the query was served, with
+/// proposes one that the checker accepts; else the fallback. Returns how the query was served, with
 /// the loads and skips of the program's runs.
 ///
 /// Errors, in this order: the file header's (301 to 305, 310), the statement's (401 to 408), the

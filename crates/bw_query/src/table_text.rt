@@ -158,7 +158,7 @@ fn take_either(
     }
 }
 
-/// Consumes the rows of a segment: those that a program selects, or that match one by one.
+/// Consumes the rows of a segment: those that a program selects, or that the fallback does.
 pub(crate) fn take_segment<S: Segment>(
     segment: &S,
     scan: &Scan,
@@ -195,8 +195,8 @@ pub(crate) fn take_segment<S: Segment>(
     }
 }
 
-/// Consumes the rows of a segment that match one by one, or only their number if nothing else is
-/// needed.
+/// Consumes the rows of a segment that the fallback selects, or only their number if nothing else
+/// is needed.
 fn take_by_rows<S: Segment>(segment: &S, counts: bool, answer: &mut Answer<'_>) -> Result<(), Fault>
     requires counts { counts ≡ true → CountsRows (query_in answer.old) }
     requires width { answer.old.width ≡ length (S.meaning segment.now).columns }

@@ -42,7 +42,7 @@ const MOST_INSTRUCTIONS: usize = 512;
 
 /// Returns how a condition is to be scanned over a table in memory: by the planner's program, if it
 /// proposes one that the checker accepts, or by one that takes the condition's parts in another
-/// order and loads less in the first 32 segments; else row by row. Errors: 801 if memory is
+/// order and loads less in the first 32 segments; else the fallback. Errors: 801 if memory is
 /// refused.
 pub(crate) fn plan_for_table(alloc: Global, table: &MemoryTable, cond: &Cond) -> Result<Scan, Fault>
     requires { IsTrue (names_within (length (schema_of table.now).columns.items) cond.now) }

@@ -11,7 +11,7 @@ use Rattle.std.specs.List.{list_all}
 use Rattle.bw_model.specs.Column.{admits_values}
 use Rattle.bw_model.specs.declared.column.Column.{Column}
 use Rattle.bw_model.specs.Row.{Value, value_in}
-use Rattle.bw_rowwise.specs.Prepared.{row_at}
+use Rattle.bw_rowwise.specs.Columns.{row_at}
 
 -- in a list of the same each is that
 pub same_at : {A : Type 0} (a : A) (count i : ℕ) → get_or (replicate count a) i a ≡ a

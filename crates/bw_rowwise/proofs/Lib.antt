@@ -1,6 +1,8 @@
+pub mod ColumnLemmas
 pub mod LaneLemmas
 pub mod LogicLemmas
 pub mod NumberLemmas
+pub mod PlacedLemmas
 pub mod PlaneLemmas
 pub mod PreparedLemmas
 pub mod TotalLemmas

@@ -1,11 +1,13 @@
--- The truth of each kind of prepared condition.
-use Rattle.std.proofs.Common.{◌≡◌, ◌∙◌, ◌<◌, ◌+◌, ℕ, zero, suc, arith, List, [], ◌∷◌, ◌++◌, get_or}
-use Rattle.std.proofs.Common.{length, map, take, Vec, Box, Global, sym, ap}
+-- The truth of each kind of prepared condition, and the places of its columns.
+use Rattle.std.proofs.Common.{◌≡◌, ◌∙◌, ◌<◌, ◌+◌, ◌&&◌, ℕ, zero, suc, arith, Bool, true, List, []}
+use Rattle.std.proofs.Common.{◌∷◌, ◌++◌, get_or, length, map, take, Vec, Box, Global, sym, ap}
+use Rattle.std.specs.List.{list_all}
+use Rattle.std.proofs.lemmas.List.Folds.{list_all-map}
 use Rattle.bw_model.specs.declared.cond.Truth.{Truth}
 use Rattle.bw_model.specs.declared.cond.Truth.TheVariants.{Yes}
 use Rattle.bw_model.specs.declared.cond.Op.{Op}
 use Rattle.bw_model.specs.declared.cond.Operand.{Operand}
-use Rattle.bw_model.specs.Cond.{operand_value}
+use Rattle.bw_model.specs.Cond.{is_within, operand_value}
 use Rattle.bw_model.specs.Row.{Value}
 use Rattle.bw_model.specs.Truth.{all_of, any_of, between, compare_values, greatest}
 use Rattle.bw_model.specs.Truth.{is_null, is_truth, least, negation, truth_from}
@@ -19,8 +21,8 @@ use Rattle.bw_rowwise.specs.declared.prepared.Prepared.TheVariants.{rolls-Always
 use Rattle.bw_rowwise.specs.declared.prepared.Prepared.TheVariants.{rolls-Between, rolls-Among}
 use Rattle.bw_rowwise.specs.declared.prepared.Prepared.TheVariants.{rolls-IsNull, rolls-And}
 use Rattle.bw_rowwise.specs.declared.prepared.Prepared.TheVariants.{rolls-Or, rolls-Not, rolls-Test}
-use Rattle.bw_rowwise.specs.Prepared.{among_items, prepared_step, prepared_truth, Absorbs}
-use Rattle.bw_rowwise.specs.Prepared.{JoinAlike}
+use Rattle.bw_rowwise.specs.Prepared.{among_items, items_within, places_step, places_within}
+use Rattle.bw_rowwise.specs.Prepared.{prepared_step, prepared_truth, Absorbs, JoinAlike}
 use Rattle.bw_rowwise.proofs.LogicLemmas.{greatest_assoc, least_assoc}
 use Rattle.bw_rowwise.proofs.TruthLemmas.{all_more, all_pushed, any_more, any_pushed}
 use Rattle.bw_rowwise.proofs.TruthLemmas.{greatest-first, least-first}
@@ -56,6 +58,40 @@ truth-Not row part = truth_folded row (Prepared-F.Not part) (rolls-Not part)
 
 pub truth-Test : (row : List Value) (part : Box Prepared Global) (t : Truth) → prepared_truth row (Test part t) ≡ truth_from (is_truth (prepared_truth row part.value) t)
 truth-Test row part t = truth_folded row (Prepared-F.Test part t) (rolls-Test part t)
+
+-- and so is whether its columns are at the first places
+places_folded : (places : ℕ) (layer : Prepared-F Prepared) {cond : Prepared} → roll-Prepared layer ≡ cond → places_within places cond ≡ places_step places (map-Prepared Prepared Bool (places_within places) layer)
+unfolding places_within
+places_folded places layer is = ap (places_within places) (sym is) ∙ fold-roll-Prepared Bool (places_step places) layer
+
+pub places-Always : (places : ℕ) → places_within places Always ≡ true
+places-Always places = places_folded places Prepared-F.Always rolls-Always
+
+pub places-Cmp : (places : ℕ) (op : Op) (x y : Operand) → places_within places (Cmp op x y) ≡ (is_within places x && is_within places y)
+places-Cmp places op x y = places_folded places (Prepared-F.Cmp op x y) (rolls-Cmp op x y)
+
+pub places-Between : (places : ℕ) (x y z : Operand) → places_within places (Between x y z) ≡ (is_within places x && is_within places y && is_within places z)
+places-Between places x y z = places_folded places (Prepared-F.Between x y z) (rolls-Between x y z)
+
+pub places-Among : (places : ℕ) (x : Operand) (items : Items) → places_within places (Among x items) ≡ (is_within places x && items_within places items)
+places-Among places x items = places_folded places (Prepared-F.Among x items) (rolls-Among x items)
+
+pub places-IsNull : (places : ℕ) (x : Operand) → places_within places (IsNull x) ≡ is_within places x
+places-IsNull places x = places_folded places (Prepared-F.IsNull x) (rolls-IsNull x)
+
+pub places-And : (places : ℕ) (parts : Vec Prepared Global) → places_within places (And parts) ≡ list_all (places_within places) parts.items
+places-And places parts = places_folded places (Prepared-F.And parts) (rolls-And parts) ∙ list_all-map _ (places_within places) parts.items
+
+pub places-Or : (places : ℕ) (parts : Vec Prepared Global) → places_within places (Or parts) ≡ list_all (places_within places) parts.items
+places-Or places parts = places_folded places (Prepared-F.Or parts) (rolls-Or parts) ∙ list_all-map _ (places_within places) parts.items
+
+pub places-Not : (places : ℕ) (part : Box Prepared Global) → places_within places (Not part) ≡ places_within places part.value
+places-Not places part = places_folded places (Prepared-F.Not part) (rolls-Not part)
+
+pub places-Test : (places : ℕ) (part : Box Prepared Global) (t : Truth) → places_within places (Test part t) ≡ places_within places part.value
+places-Test places part t = places_folded places (Prepared-F.Test part t) (rolls-Test part t)
+
+pub ruleset places = (places-Always, places-Cmp, places-Between, places-Among, places-IsNull, places-And, places-Or, places-Not, places-Test)
 
 pub ruleset truths = (truth-Always, truth-Cmp, truth-Between, truth-Among, truth-IsNull, truth-And, truth-Or, truth-Not, truth-Test)
 

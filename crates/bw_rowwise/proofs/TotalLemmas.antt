@@ -12,6 +12,7 @@ use Rattle.bw_model.specs.declared.query.Item.TheVariants.{Plain, CountAll, Coun
 use Rattle.bw_model.specs.Row.{Value, value_in}
 use Rattle.bw_model.specs.Total.{total, present, of_both}
 use Rattle.bw_rowwise.specs.Accumulator.{Tally, tally_of, IsTotalOfRows, answer_with, include_value}
+use Rattle.bw_rowwise.specs.Accumulator.{value_for}
 
 pub small_one : (rows : ℕ) (n : ℤ) → FitsSigned w64 n → IsTotalOfRows (rows + 1) (Some n)
 small_one rows n fits x is =
@@ -73,7 +74,7 @@ length_append xs None = ap (λ ys. Some (pos (length ys))) (append-nil xs)
 length_append xs (Some n) = ap (λ k. Some (pos k)) (length-append xs (n ∷ []))
 
 -- the total over some rows and one more
-pub total_append : (item : Item) (rows : List (List Value)) (row : List Value) → total item (rows ++ row ∷ []) ≡ answer_with item (total item rows) row
+pub total_append : (item : Item) (rows : List (List Value)) (row : List Value) → total item (rows ++ row ∷ []) ≡ answer_with item (total item rows) (value_for item row)
 total_append (Plain column) rows row = refl
 total_append CountAll rows row = ap (λ k. Some (pos k)) (length-append rows (row ∷ []))
 total_append (Count column) rows row = ap (λ ys. Some (pos (length ys))) (present_append column rows row) ∙ length_append (present column rows) (value_in row column)
@@ -82,10 +83,10 @@ total_append (Min column) rows row = ap (reduce int_min) (present_append column 
 total_append (Max column) rows row = ap (reduce int_max) (present_append column rows row) ∙ reduce_append int_max (present column rows) (value_in row column)
 
 -- the tally of some rows and one more
-pub tally_append : (item : Item) (count : ℕ) (answer next : Option ℤ) (now : Tally) (rows : List (List Value)) (row : List Value) →
-    record { item = item; count = count; answer = answer } ≡ now → next ≡ answer_with item answer row → now ≡ tally_of now.item rows →
+pub tally_append : (item : Item) (count : ℕ) (answer next : Option ℤ) (now : Tally) (value : Value) (rows : List (List Value)) (row : List Value) →
+    record { item = item; count = count; answer = answer } ≡ now → next ≡ answer_with item answer value → value ≡ value_for now.item row → now ≡ tally_of now.item rows →
     record { item = item; count = count + 1; answer = next } ≡ tally_of now.item (rows ++ row ∷ [])
-tally_append item count answer next now rows row view with_row before =
+tally_append item count answer next now value rows row view with_value is before =
     let same_item : item ≡ now.item = ap (λ t. t.item) view in
     let same_count : count ≡ length rows = ap (λ t. t.count) (view ∙ before) in
     let same_answer : answer ≡ total now.item rows = ap (λ t. t.answer) (view ∙ before) in

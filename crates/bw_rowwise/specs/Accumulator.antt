@@ -23,25 +23,34 @@ include_value f answer None = answer
 include_value f None (Some n) = Some n
 include_value f (Some m) (Some n) = Some (f m n)
 
--- what a row adds to an aggregate: null adds nothing
-abbrev pub added_by : Item → List Value → Value
-added_by (Plain column) row = None
-added_by CountAll row = Some (pos 1)
-added_by (Count column) row = option_map (λ _. pos 1) (value_in row column)
-added_by (Sum column) row = value_in row column
-added_by (Min column) row = value_in row column
-added_by (Max column) row = value_in row column
+-- the value of a row that an aggregate asks for: that of its column
+abbrev pub value_for : Item → List Value → Value
+value_for (Plain column) row = value_in row column
+value_for CountAll row = None
+value_for (Count column) row = value_in row column
+value_for (Sum column) row = value_in row column
+value_for (Min column) row = value_in row column
+value_for (Max column) row = value_in row column
 
--- the total of an aggregate with one row more
-abbrev pub answer_with : Item → Option ℤ → List Value → Option ℤ
-answer_with item answer row = include_value (of_both item) answer (added_by item row)
+-- what this value of a row adds to an aggregate: null adds nothing, but to a count of rows
+abbrev pub added_by : Item → Value → Value
+added_by (Plain column) value = None
+added_by CountAll value = Some (pos 1)
+added_by (Count column) value = option_map (λ _. pos 1) value
+added_by (Sum column) value = value
+added_by (Min column) value = value
+added_by (Max column) value = value
 
--- a tally with one row more
-abbrev pub tally_with : Tally → List Value → Tally
-tally_with tally row = record {
+-- the total of an aggregate with one row more, which has this value
+abbrev pub answer_with : Item → Option ℤ → Value → Option ℤ
+answer_with item answer value = include_value (of_both item) answer (added_by item value)
+
+-- a tally with one row more, which has this value
+abbrev pub tally_with : Tally → Value → Tally
+tally_with tally value = record {
   item = tally.item;
   count = tally.count + 1;
-  answer = answer_with tally.item tally.answer row;
+  answer = answer_with tally.item tally.answer value;
 }
 
 -- a tally of rows that are only counted, with this many more

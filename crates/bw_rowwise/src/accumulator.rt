@@ -1,4 +1,4 @@
-//! The total of rows that come one at a time, or as a list.
+//! The total of values that come one at a time, or of a list of rows.
 ghost use Rattle.std.specs.Prelude.{◌≡◌, ◌+◌, ◌<◌, ◌≤◌, List, [], ◌∷◌, ◌++◌, length, map, All};
 ghost use Rattle.std.specs.Prelude.{IsTrue};
 ghost use Rattle.bw_model.specs.Limits.{most_rows};
@@ -6,10 +6,10 @@ ghost use Rattle.bw_model.specs.declared.query.Item.TheVariants.{CountAll};
 ghost use Rattle.bw_model.specs.Row.{Value, values_of};
 ghost use Rattle.bw_model.specs.Total.{total, is_aggregate, item_within};
 ghost use Rattle.bw_rowwise.specs.Accumulator.{tally_of, tally_with, tally_joined, count_rows};
-ghost use Rattle.bw_rowwise.specs.Accumulator.{IsTotalOfRows};
+ghost use Rattle.bw_rowwise.specs.Accumulator.{value_for, IsTotalOfRows};
 
-use crate::total::{answer_with, combine_totals};
-use bw_model::{Item, Row, totals_join};
+use crate::total::{answer_with, combine_totals, value_for};
+use bw_model::{Item, Row, Value, totals_join};
 use std::marker::Model;
 
 /// The total of an aggregate over the rows that were added so far, which are at most 2^24.
@@ -58,15 +58,15 @@ impl Accumulator {
         self.item
     }
 
-    /// Adds a row, which must have the aggregate's column.
-    pub fn add(&mut self, row: &Row)
-        requires capacity { self.old.count < most_rows }
-        requires column { IsTrue (item_within (length (values_of row.now)) self.old.item) }
-        ensures step { self.new ≡ tally_with self.old (values_of row.now) }
-        ensures total { (rows : List (List Value)) → self.old ≡ tally_of self.old.item rows
-            → self.new ≡ tally_of self.old.item (rows ++ values_of row.now ∷ []) }
+    /// Adds a row that has this value in the aggregate's column; a count of rows needs no value.
+    pub fn add(&mut self, value: Value)
+        requires { self.old.count < most_rows }
+        ensures step { self.new ≡ tally_with self.old value }
+        ensures total { (rows : List (List Value)) (row : List Value)
+            → value ≡ value_for self.old.item row → self.old ≡ tally_of self.old.item rows
+            → self.new ≡ tally_of self.old.item (rows ++ row ∷ []) }
     {
-        self.total = answer_with(self.item, self.total, row);
+        self.total = answer_with(self.item, self.total, value);
         self.rows += 1;
     }
 
@@ -99,6 +99,13 @@ impl Accumulator {
         self.rows += count;
     }
 
+    /// A law: the total is no larger than its rows can make it.
+    pub fn has_small_total(&self)
+        ensures { IsTotalOfRows self.now.count self.now.answer }
+    {
+        let _rows = self.rows;
+    }
+
     /// Returns the total of the rows so far.
     pub fn finish(&self) -> Option<i128>
         ensures { result ≡ self.now.answer }
@@ -117,7 +124,7 @@ pub fn aggregate(item: &Item, rows: &[Row]) -> Option<i128>
 {
     let mut accumulator = Accumulator::new(*item);
     for row in rows {
-        accumulator.add(row);
+        accumulator.add(value_for(*item, row));
     }
     accumulator.finish()
 }

@@ -1,15 +1,16 @@
-//! The values of a column or of another operand in 512 lanes, one for each row, and comparisons of
-//! them.
-ghost use Rattle.std.specs.Prelude.{◌≡◌, ◌<◌, ℕ, Bool, Some, false, slice_index, slice_index_or};
+//! The values of a column in 512 lanes, one for each row, and comparisons of them.
+ghost use Rattle.std.specs.Prelude.{◌≡◌, ◌≢◌, ◌<◌, ℕ, Bool, Some, None, false, slice_index};
+ghost use Rattle.std.specs.Prelude.{slice_index_or};
 ghost use Rattle.bw_lanes.specs.Lanes.{lanes_of_words};
 ghost use Rattle.bw_model.specs.Row.{Value};
 ghost use Rattle.bw_model.specs.Truth.{compare_values, holds, is_null, truth_from};
-ghost use Rattle.bw_rowwise.specs.Lanes.{AreTruths, value_at};
+ghost use Rattle.bw_rowwise.specs.Columns.{value_at};
+ghost use Rattle.bw_rowwise.specs.Lanes.{AreTruths};
 ghost use Rattle.bw_rowwise.specs.Numbers.{among_numbers};
 ghost use Rattle.bw_segment.specs.Keys.{number_of_key};
 
 use crate::numbers::Numbers;
-use crate::planes::{both_lanes, either_lanes, every_lane, other_lanes};
+use crate::planes::{both_lanes, either_lanes, every_lane, other_lanes, put_lane};
 use crate::truths::Truths;
 use bw_lanes::{LANES, Plane, bytes_eq, codes_eq, codes_lt, lane};
 use bw_model::{Op, Truth, Value};
@@ -23,20 +24,35 @@ pub struct ColumnLanes {
 }
 
 impl ColumnLanes {
-    /// Returns the same value in each lane.
-    pub fn all(value: Value) -> Self
-        ensures { (lane : ℕ) → lane < 512 → value_at result lane ≡ value }
+    /// Returns no values.
+    pub fn empty() -> Self
+        ensures { (lane : ℕ) → lane < 512 → value_at result lane ≡ None }
     {
-        match value {
-            Some(n) => ColumnLanes {
-                none: every_lane(false),
-                keys: same_in_lanes(key(n)),
-            },
-            None => ColumnLanes {
-                none: every_lane(true),
-                keys: same_in_lanes(0),
-            },
+        ColumnLanes {
+            none: every_lane(true),
+            keys: [0; LANES],
         }
+    }
+
+    /// Removes all values.
+    pub fn clear(&mut self)
+        ensures { (lane : ℕ) → lane < 512 → value_at self.new lane ≡ None }
+    {
+        self.none = every_lane(true);
+    }
+
+    /// Puts a value into a lane.
+    #[inline]
+    pub fn put(&mut self, at: usize, value: Value)
+        requires { at < 512 }
+        ensures put { value_at self.new at ≡ value }
+        ensures others { (other : ℕ) → other < 512 → other ≢ at
+            → value_at self.new other ≡ value_at self.old other }
+    {
+        if let Some(n) = value {
+            self.keys[at] = key(n);
+        }
+        put_lane(&mut self.none, at, value.is_none());
     }
 
     /// Returns the truth of a comparison with other values in each lane.
@@ -90,7 +106,8 @@ impl ColumnLanes {
     }
 
     /// Returns the value in a lane.
-    fn value(&self, at: usize) -> Value
+    #[inline]
+    pub fn value(&self, at: usize) -> Value
         requires { at < 512 }
         ensures { result ≡ value_at self.now at }
     {
@@ -116,11 +133,4 @@ fn lanes_holding(op: Op, xs: &[u64; LANES], ys: &[u64; LANES]) -> Plane
         Op::Le => other_lanes(&codes_lt(ys, xs)),
         Op::Ge => other_lanes(&codes_lt(xs, ys)),
     }
-}
-
-/// Returns the same key in each lane.
-fn same_in_lanes(key: u64) -> [u64; LANES]
-    ensures { (lane : ℕ) → lane < 512 → slice_index result lane ≡ key }
-{
-    [key; LANES]
 }

@@ -1,9 +1,9 @@
-//! Conditions and aggregates of a query, evaluated row by row, straight from their meaning.
+//! Conditions and aggregates of a query, evaluated straight from their meaning, without a program.
 //!
-//! The contracts that the crates above use: a [`Prepared`] condition is TRUE on the rows that
-//! match, a [`Filter`] finds these in a segment, and an [`Accumulator`] totals rows that come one
-//! at a time. `bw_aggregate` adds to it the selected rows of a segment without reading them one by
-//! one.
+//! The contracts that the crates above use: a [`Filter`] finds the matching rows among 512 at once,
+//! those of a segment or others that were gathered, [`Columns`] have the values of such rows, and
+//! an [`Accumulator`] totals values that come one at a time. `bw_aggregate` adds to it the selected
+//! rows of a segment without reading them one by one.
 //!
 //! The source of the rules is SQL-92: its predicates, search conditions and set functions, which
 //! the `specs/` of `bw_model` define. Read `condition.rt` first, then `accumulator.rt`.
@@ -19,6 +19,7 @@
 
 mod accumulator;
 mod column_lanes;
+mod columns;
 mod condition;
 mod filter;
 mod hash;
@@ -27,13 +28,10 @@ mod logic;
 mod numbers;
 mod planes;
 mod prepared;
-mod prepared_row;
 mod total;
 mod truths;
-mod unpacked;
 
 pub use accumulator::{Accumulator, aggregate};
+pub use columns::Columns;
 pub use condition::{matches_all, select, truth};
 pub use filter::Filter;
-pub use numbers::Numbers;
-pub use prepared::Prepared;

@@ -1,5 +1,5 @@
 //! Planes by their lanes.
-ghost use Rattle.std.specs.Prelude.{◌≡◌, ◌<◌, ◌&&◌, ◌||◌, ℕ, Bool, false, length, not};
+ghost use Rattle.std.specs.Prelude.{◌≡◌, ◌≢◌, ◌<◌, ◌&&◌, ◌||◌, ℕ, Bool, false, length, not};
 ghost use Rattle.std.specs.Prelude.{slice_index_or};
 ghost use Rattle.bw_lanes.specs.Lanes.{lanes_of_words};
 
@@ -40,4 +40,20 @@ pub fn every_lane(is_one: bool) -> Plane
     ensures { (lane : ℕ) → lane < 512 → slice_index_or (lanes_of_words result) lane false ≡ is_one }
 {
     if is_one { mask(LANES as u32) } else { mask(0) }
+}
+
+/// Sets a lane.
+#[inline]
+pub fn put_lane(plane: &mut Plane, at: usize, is_one: bool)
+    requires { at < 512 }
+    ensures put { slice_index_or (lanes_of_words plane.new) at false ≡ is_one }
+    ensures others { (other : ℕ) → other < 512 → other ≢ at
+        → slice_index_or (lanes_of_words plane.new) other false
+        ≡ slice_index_or (lanes_of_words plane.old) other false }
+{
+    if is_one {
+        plane[at / 64] |= 1 << (at % 64);
+    } else {
+        plane[at / 64] &= !(1 << (at % 64));
+    }
 }

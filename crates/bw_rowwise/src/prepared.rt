@@ -1,21 +1,26 @@
-//! Conditions prepared for many rows: each item of a list stands once, and its numbers are sorted.
-ghost use Rattle.std.specs.Prelude.{◌≡◌, List, map, IfOk, IsOkUnless, IsTrue, OnOk};
-ghost use Rattle.bw_model.specs.Cond.{operand_value, truth_of};
+//! Conditions prepared for many rows: columns are named by their places among those that are
+//! unpacked, each item of a list stands once, and its numbers are sorted.
+ghost use Rattle.std.specs.Prelude.{◌≡◌, ◌<◌, ℕ, List, map, nat_lt, true, IfOk, IsOkUnless};
+ghost use Rattle.std.specs.Prelude.{IsTrue, OnOk};
+ghost use Rattle.std.specs.List.{list_all};
+ghost use Rattle.bw_model.specs.Cond.{truth_of};
 ghost use Rattle.bw_model.specs.Fault.{no_memory};
 ghost use Rattle.bw_model.specs.Row.{Value, value_in};
 ghost use Rattle.bw_model.specs.Truth.{compare_values, in_list, greatest};
 ghost use Rattle.bw_model.specs.declared.cond.Op.TheVariants.{Eq};
-ghost use Rattle.bw_rowwise.specs.Prepared.{among_items, prepared_truth, Absorbs, IsPreparedFrom};
-ghost use Rattle.bw_rowwise.specs.Prepared.{JoinAlike};
+ghost use Rattle.bw_rowwise.specs.Columns.{Grows, numbers_of};
+ghost use Rattle.bw_rowwise.specs.Prepared.{Absorbs, Prepares, PreparesItems, PreparesOperand};
+ghost use Rattle.bw_rowwise.specs.Prepared.{PreparesParts};
 
+use crate::columns::Columns;
 use crate::hash::hash_of;
 use crate::numbers::Numbers;
 use bw_model::{Cond, Fault, Op, Operand, Truth};
 use std::alloc::Global;
 use std::collections::HashMap;
 
-/// A condition in the form that tests rows. It has the truth of the original condition on every
-/// row.
+/// A condition in the form that tests 512 rows at once. Its columns are named by their places among
+/// those that are unpacked. It has the truth of the original condition on every row.
 #[derive(Drop)]
 pub enum Prepared {
     Always,
@@ -30,7 +35,8 @@ pub enum Prepared {
     Test(Box<Prepared>, Truth),
 }
 
-/// The items of a list, each once: its numbers, its columns, and whether NULL is among them.
+/// The items of a list, each once: its numbers, the places of its columns, and whether NULL is among
+/// them.
 #[derive(Drop)]
 pub struct Items {
     pub numbers: Numbers,
@@ -39,26 +45,42 @@ pub struct Items {
 }
 
 impl Prepared {
-    /// Prepares a condition. Errors: 801 if memory is refused.
+    /// Prepares a condition: its columns are named by their places among `columns`, where those
+    /// that aren't there are added. Errors: 801 if memory is refused.
     #[cycle(new)]
-    #[tactic(auto, using(bw_model::proofs::CondLemmas::truths, crate::proofs::PreparedLemmas::truths))]
-    pub fn new(alloc: Global, cond: &Cond) -> Result<Self, Fault>
-        ensures prepared { IfOk result (IsPreparedFrom cond.now) }
+    pub fn new(alloc: Global, cond: &Cond, columns: &mut Columns) -> Result<Self, Fault>
+        ensures prepared { IfOk result (Prepares cond.now (numbers_of columns.new)) }
+        ensures grown { OnOk result (Grows (numbers_of columns.old) (numbers_of columns.new)) }
         ensures only_oom { IsOkUnless result no_memory }
     {
         match cond {
             Cond::Always => Ok(Prepared::Always),
-            Cond::Cmp(op, x, y) => Ok(Prepared::Cmp(*op, *x, *y)),
-            Cond::Between(x, y, z) => Ok(Prepared::Between(*x, *y, *z)),
-            Cond::Among(x, items) => Ok(Prepared::Among(*x, items_of(alloc, items)?)),
-            Cond::IsNull(x) => Ok(Prepared::IsNull(*x)),
-            Cond::And(parts) => Ok(Prepared::And(all_of(alloc, parts)?)),
-            Cond::Or(parts) => Ok(Prepared::Or(all_of(alloc, parts)?)),
-            Cond::Not(part) => Ok(Prepared::Not(Box::new(alloc, Prepared::new(alloc, part)?)?)),
-            Cond::Test(part, wanted) => Ok(Prepared::Test(
-                Box::new(alloc, Prepared::new(alloc, part)?)?,
-                *wanted,
-            )),
+            Cond::Cmp(op, x, y) => {
+                let x = place_operand(*x, columns)?;
+                let y = place_operand(*y, columns)?;
+                Ok(Prepared::Cmp(*op, x, y))
+            }
+            Cond::Between(x, y, z) => {
+                let x = place_operand(*x, columns)?;
+                let y = place_operand(*y, columns)?;
+                let z = place_operand(*z, columns)?;
+                Ok(Prepared::Between(x, y, z))
+            }
+            Cond::Among(x, items) => {
+                let x = place_operand(*x, columns)?;
+                Ok(Prepared::Among(x, items_of(alloc, items, columns)?))
+            }
+            Cond::IsNull(x) => Ok(Prepared::IsNull(place_operand(*x, columns)?)),
+            Cond::And(parts) => Ok(Prepared::And(all_of(alloc, parts, columns)?)),
+            Cond::Or(parts) => Ok(Prepared::Or(all_of(alloc, parts, columns)?)),
+            Cond::Not(part) => {
+                let part = Prepared::new(alloc, part, columns)?;
+                Ok(Prepared::Not(Box::new(alloc, part)?))
+            }
+            Cond::Test(part, wanted) => {
+                let part = Prepared::new(alloc, part, columns)?;
+                Ok(Prepared::Test(Box::new(alloc, part)?, *wanted))
+            }
         }
     }
 }
@@ -66,9 +88,10 @@ impl Prepared {
 /// Prepares conditions, in their order. Of equal ones only the first is kept. AND and OR of the
 /// results have the same truths as those of the conditions.
 #[cycle(new)]
-fn all_of(alloc: Global, conds: &[Cond]) -> Result<Vec<Prepared>, Fault>
-    ensures prepared { IfOk result (λ prepared. (row : List Value)
-        → JoinAlike (map (prepared_truth row) prepared.items) (map (truth_of row) conds.now)) }
+fn all_of(alloc: Global, conds: &[Cond], columns: &mut Columns) -> Result<Vec<Prepared>, Fault>
+    ensures prepared { IfOk result
+        (λ prepared. PreparesParts conds.now (numbers_of columns.new) prepared.items) }
+    ensures grown { OnOk result (Grows (numbers_of columns.old) (numbers_of columns.new)) }
     ensures only_oom { IsOkUnless result no_memory }
 {
     let mut prepared = Vec::with_capacity(alloc, conds.len())?;
@@ -76,10 +99,22 @@ fn all_of(alloc: Global, conds: &[Cond]) -> Result<Vec<Prepared>, Fault>
     for place in 0..conds.len() {
         let cond = &conds[place];
         if !is_repeated(&mut firsts, &conds[..place], cond)? {
-            prepared.push(Prepared::new(alloc, cond)?)?;
+            prepared.push(Prepared::new(alloc, cond, columns)?)?;
         }
     }
     Ok(prepared)
+}
+
+/// Returns an operand with a column named by its place, where it is added if it isn't there.
+fn place_operand(operand: Operand, columns: &mut Columns) -> Result<Operand, Fault>
+    ensures placed { IfOk result (PreparesOperand operand (numbers_of columns.new)) }
+    ensures grown { OnOk result (Grows (numbers_of columns.old) (numbers_of columns.new)) }
+    ensures only_oom { IsOkUnless result no_memory }
+{
+    match operand {
+        Operand::Col(number) => Ok(Operand::Col(columns.place_of(number)?)),
+        Operand::Lit(_) | Operand::Null => Ok(operand),
+    }
 }
 
 /// Returns whether a condition is equal to an earlier one. `firsts` has the place of the first
@@ -109,39 +144,43 @@ fn has_at(conds: &[Cond], place: usize, cond: &Cond) -> bool
     place < conds.len() && conds[place].is_same(cond)
 }
 
-/// Returns the items of a list, each once. Of its NULLs one decides as much as all of them.
-fn items_of(alloc: Global, items: &[Operand]) -> Result<Items, Fault>
-    ensures items { IfOk result (λ found. (row : List Value) (x : Value)
-        → among_items row x found ≡ in_list x (map (operand_value row) items.now)) }
+/// Returns the items of a list, each once, with its columns named by their places. Of its NULLs one
+/// decides as much as all of them.
+fn items_of(alloc: Global, items: &[Operand], columns: &mut Columns) -> Result<Items, Fault>
+    ensures items { IfOk result (PreparesItems items.now (numbers_of columns.new)) }
+    ensures grown { OnOk result (Grows (numbers_of columns.old) (numbers_of columns.new)) }
     ensures only_oom { IsOkUnless result no_memory }
 {
     let mut numbers = Vec::new(alloc);
-    let mut columns = Vec::new(alloc);
+    let mut places = Vec::new(alloc);
     let mut has_null = false;
     for item in items {
         match item {
             Operand::Lit(n) => numbers.push(*n)?,
-            Operand::Col(column) => push_once(&mut columns, *column)?,
+            Operand::Col(number) => push_once(&mut places, columns.place_of(*number)?)?,
             Operand::Null => has_null = true,
         }
     }
     Ok(Items {
         numbers: Numbers::new(alloc, numbers)?,
-        columns,
+        columns: places,
         has_null,
     })
 }
 
-/// Adds a column to those that don't have it.
-fn push_once(columns: &mut Vec<usize>, column: usize) -> Result<(), Fault>
+/// Adds a place to those that don't have it.
+fn push_once(places: &mut Vec<usize>, place: usize) -> Result<(), Fault>
     ensures added { OnOk result ((row : List Value) (x : Value)
-        → in_list x (map (value_in row) columns.new.items)
-        ≡ greatest (in_list x (map (value_in row) columns.old.items))
-        (compare_values Eq x (value_in row column))) }
+        → in_list x (map (value_in row) places.new.items)
+        ≡ greatest (in_list x (map (value_in row) places.old.items))
+        (compare_values Eq x (value_in row place))) }
+    ensures within { OnOk result ((count : ℕ) → place < count
+        → list_all (λ place. nat_lt place count) places.old.items ≡ true
+        → list_all (λ place. nat_lt place count) places.new.items ≡ true) }
     ensures only_oom { IsOkUnless result no_memory }
 {
-    if !columns.contains(&column) {
-        columns.push(column)?;
+    if !places.contains(&place) {
+        places.push(place)?;
     }
     Ok(())
 }

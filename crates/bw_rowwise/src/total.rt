@@ -4,35 +4,50 @@ ghost use Rattle.std.specs.Int.{w64};
 ghost use Rattle.bw_model.specs.Limits.{most_rows};
 ghost use Rattle.bw_model.specs.Row.{values_of};
 ghost use Rattle.bw_model.specs.Total.{item_within, combine_totals, of_both};
-ghost use Rattle.bw_rowwise.specs.Accumulator.{answer_with, added_by, IsTotalOfRows};
+ghost use Rattle.bw_rowwise.specs.Accumulator.{answer_with, added_by, value_for, IsTotalOfRows};
 
 use bw_model::{Item, Row, Value};
 
-/// Returns the total of an aggregate with one row more, which must have the aggregate's column.
+/// Returns the total of an aggregate with one row more, which has this value in the aggregate's
+/// column.
 #[tactic(auto, using(crate::proofs::TotalLemmas::small_one, crate::proofs::TotalLemmas::small_more))]
-pub fn answer_with(item: Item, answer: Option<i128>, row: &Row) -> Option<i128>
-    requires within_limit { IsTotalOfRows most_rows answer }
-    requires column { IsTrue (item_within (length (values_of row.now)) item) }
-    ensures value { result ≡ answer_with item answer (values_of row.now) }
+pub fn answer_with(item: Item, answer: Option<i128>, value: Value) -> Option<i128>
+    requires { IsTotalOfRows most_rows answer }
+    ensures value { result ≡ answer_with item answer value }
     ensures small { (rows : ℕ) → IsTotalOfRows rows answer → IsTotalOfRows (rows + 1) result }
 {
-    match (answer, added_by(item, row)) {
+    match (answer, added_by(item, value)) {
         (Some(total), Some(n)) => Some(of_both(item, total, n)),
         (None, Some(n)) => Some(widen(n)),
         (_, None) => answer,
     }
 }
 
-/// Returns what a row adds to an aggregate.
-fn added_by(item: Item, row: &Row) -> Value
+/// Returns the value of a row that an aggregate asks for: that of its column, which the row must
+/// have.
+pub fn value_for(item: Item, row: &Row) -> Value
     requires { IsTrue (item_within (length (values_of row.now)) item) }
-    ensures { result ≡ added_by item (values_of row.now) }
+    ensures { result ≡ value_for item (values_of row.now) }
+{
+    match item {
+        Item::CountAll => None,
+        Item::Plain(column)
+        | Item::Count(column)
+        | Item::Sum(column)
+        | Item::Min(column)
+        | Item::Max(column) => row.values[column],
+    }
+}
+
+/// Returns what this value of a row adds to an aggregate.
+fn added_by(item: Item, value: Value) -> Value
+    ensures { result ≡ added_by item value }
 {
     match item {
         Item::Plain(_) => None,
         Item::CountAll => Some(1),
-        Item::Count(column) => row.values[column].map(|_| 1),
-        Item::Sum(column) | Item::Min(column) | Item::Max(column) => row.values[column],
+        Item::Count(_) => value.map(|_| 1),
+        Item::Sum(_) | Item::Min(_) | Item::Max(_) => value,
     }
 }
 

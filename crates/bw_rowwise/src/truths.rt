@@ -108,12 +108,14 @@ impl Truths {
     /// Returns those of the first `rows` lanes that are TRUE.
     pub fn true_rows(&self, rows: u32) -> Selection
         requires { rows ≤ 512 }
-        ensures { (f : ℕ → Truth) (those : List (List Value)) (keeps : List Value → Bool)
+        ensures rows { (f : ℕ → Truth) (those : List (List Value)) (keeps : List Value → Bool)
             → AreTruths self.now f → length those ≡ rows
             → ((lane : ℕ) → lane < rows → is_truth (f lane) Yes
             ≡ keeps (slice_index_or those lane []))
             → lanes_of_words result ≡ map keeps those
             ++ replicate (group_size - length those) false }
+        ensures within { (lane : ℕ) → rows ≤ lane
+            → slice_index_or (lanes_of_words result) lane false ≡ false }
     {
         both_lanes(&self.yes, &mask(rows))
     }

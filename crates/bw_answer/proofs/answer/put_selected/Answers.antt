@@ -12,7 +12,7 @@ use Rattle.bw_aggregate.specs.Selected.{with_selected}
 use Rattle.bw_answer.specs.Aggregates.{aggregates_of}
 use Rattle.bw_answer.specs.Answer.{csv_text, field_of}
 use Rattle.bw_answer.specs.TextAndTotals.{text_over}
-use Rattle.bw_answer.specs.Columns.{fields_of}
+use Rattle.bw_answer.specs.Columns.{columns_of, fields_of}
 use Rattle.bw_answer.proofs.AnswerLemmas.{text_over_more, text_over_same}
 use Rattle.bw_answer.proofs.ColumnLemmas.{map_listed, some_column}
 use Rattle.bw_answer.proofs.SelectedLemmas.{all_totals, few_kept, is_of-later, is_of-selected}
@@ -23,7 +23,7 @@ pub push_selected-requires-clause-nonempty : goal.push_selected-requires-clause-
 push_selected-requires-clause-nonempty g c =
     let named = c.requires.names c.if-lists.true in
     let some = some_column c.args.query.now.items.items (sym c.requires.lists ∙ c.if-lists.true) in
-    omega (arith, some, ap length named.0, c.args.records.now.columns.ok.0)
+    omega (arith, some, named.many, c.args.records.now.fields.ok.0)
 
 pub returns-in_ok-push_selected-clause-covers : goal.returns-in_ok-push_selected-clause-covers
 returns-in_ok-push_selected-clause-covers g c = λ names rows over.
@@ -33,12 +33,11 @@ returns-in_ok-push_selected-clause-covers g c = λ names rows over.
     let kept_all : selected_items (lanes_of_words c.args.selection.now) more ≡ matching_rows query.cond more =
     ap (λ lanes. selected_items lanes more) c.requires.picks ∙ selected_as_kept query.cond more (group_size - length more) in
     let items = query.items.items in
-    let named = (c.requires.names c.if-lists.true).0 in
-    let fields : map (fields_of c.args.records.now.columns.items) (matching_rows query.cond more) ≡ map (λ row. filter_map (field_of row) items) (matching_rows query.cond more) =
-    rw named (map_listed items (matching_rows query.cond more)) in
-    let records = ap (map (fields_of c.args.records.now.columns.items)) kept_all ∙ fields in
+    let listed = columns_of items in
+    let fields : map (fields_of listed) (matching_rows query.cond more) ≡ map (λ row. filter_map (field_of row) items) (matching_rows query.cond more) = map_listed items (matching_rows query.cond more) in
+    let records = ap (map (fields_of listed)) kept_all ∙ fields in
     record {
-      written = c.in_ok-push_selected.ensures.records ∙ ap (λ (l : List ℕ). l ++ csv_text (map (fields_of c.args.records.now.columns.items) (selected_items (lanes_of_words c.args.selection.now) more))) over.written
+      written = c.in_ok-push_selected.ensures.records listed (c.requires.names c.if-lists.true) ∙ ap (λ (l : List ℕ). l ++ csv_text (map (fields_of listed) (selected_items (lanes_of_words c.args.selection.now) more))) over.written
           ∙ ap (λ (those : List (List (List ℕ))). text_over names query rows ++ csv_text those) records ∙ text_over_more names query rows more lists;
       totalled = λ totals. absurd (cc (lists, totals));
     }

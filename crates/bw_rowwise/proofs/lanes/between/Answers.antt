@@ -1,4 +1,4 @@
 use Rattle.bw_rowwise.proofs.lanes.between.Goals as goal
 
 pub returns : goal.returns
-returns g c = c.both.ensures _ _ c.compare-least.ensures c.compare.ensures
+returns c = c.both.ensures _ _ c.compare-least.ensures c.compare.ensures

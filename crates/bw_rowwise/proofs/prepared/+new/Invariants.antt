@@ -1,10 +1,11 @@
-use Rattle.std.proofs.Common.{List, map, take}
-use Rattle.bw_model.specs.Cond.{truth_of}
-use Rattle.bw_model.specs.Row.{Value}
-use Rattle.bw_rowwise.specs.Prepared.{prepared_truth, JoinAlike}
+use Rattle.std.proofs.Common.{take}
+use Rattle.bw_rowwise.specs.Columns.{Grows, numbers_of}
+use Rattle.bw_rowwise.specs.Prepared.{PreparesParts}
 use Rattle.bw_rowwise.proofs.prepared.+new.Given as goal
 
 -- those so far are prepared
 abbrev pub invariant-all_of-loop-place : goal.invariant-all_of-loop-place
-invariant-all_of-loop-place l =
-    (row : List Value) → JoinAlike (map (prepared_truth row) l.prepared.items) (map (truth_of row) (take l.place l.conds))
+invariant-all_of-loop-place l = record {
+  parts : PreparesParts (take l.place l.conds) (numbers_of l.columns) l.prepared.items;
+  grown : Grows (numbers_of l.fn.columns) (numbers_of l.columns);
+}

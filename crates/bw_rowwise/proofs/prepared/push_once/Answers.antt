@@ -8,9 +8,9 @@ use Rattle.bw_rowwise.proofs.prepared.push_once.Goals as goal
 
 pub returns-in_ok-push-clause-added : goal.returns-in_ok-push-clause-added
 returns-in_ok-push-clause-added c = λ row x.
-    ap (λ (l : List ℕ). in_list x (map (value_in row) l)) c.in_ok-push.ensures.items ∙ column_pushed x row c.args.columns.now.items c.args.column
+    ap (λ (l : List ℕ). in_list x (map (value_in row) l)) c.in_ok-push.ensures.items ∙ column_pushed x row c.args.places.now.items c.args.place
 
 pub returns-else-not-contains-clause-added : goal.returns-else-not-contains-clause-added
 returns-else-not-contains-clause-added c = λ row x.
-    column_repeated x row c.args.columns.now.items c.args.column
-    (ap (λ (l : List ℕ). list_any (λ other. other == c.args.column) l) (sym c.deref.ensures.value) ∙ sym c.contains.ensures.value ∙ c.if-not-contains.false)
+    column_repeated x row c.args.places.now.items c.args.place
+    (ap (λ (l : List ℕ). list_any (λ other. other == c.args.place) l) (sym c.deref.ensures.value) ∙ sym c.contains.ensures.value ∙ c.if-not-contains.false)

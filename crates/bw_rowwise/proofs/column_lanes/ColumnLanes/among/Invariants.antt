@@ -1,7 +1,7 @@
 use Rattle.std.proofs.Common.{◌≡◌, ◌<◌, ℕ, not, cond, length, get_or}
 use Rattle.bw_model.specs.Truth.{is_truth}
 use Rattle.bw_model.specs.declared.cond.Truth.TheVariants.{No, Yes}
-use Rattle.bw_rowwise.specs.Lanes.{value_at}
+use Rattle.bw_rowwise.specs.Columns.{value_at}
 use Rattle.bw_rowwise.specs.Numbers.{among_numbers}
 use Rattle.bw_rowwise.proofs.column_lanes.ColumnLanes.among.Given as goal
 

@@ -1,0 +1,19 @@
+-- The column at hand is done, and its number is the same.
+use Rattle.std.proofs.Common.{◌∙◌, ℕ, List, [], arith, get_or, length-set}
+use Rattle.std.proofs.Math.Seq.{map-set_same}
+use Rattle.bw_lanes.specs.Lanes.{lanes_of_words}
+use Rattle.bw_rowwise.specs.Columns.{HasSelected}
+use Rattle.bw_rowwise.specs.declared.columns.LaneColumn.{LaneColumn}
+use Rattle.bw_rowwise.proofs.ColumnLemmas.{done_more}
+use Rattle.bw_rowwise.proofs.columns.unpack_few.Goals as goal
+
+pub loop-column-preserved : goal.loop-column-preserved
+loop-column-preserved g c =
+    let columns = c.loop-column.columns in
+    let i = c.loop-column.column-index in
+    let column = c.unpack_selected.new.self in
+    record {
+      same = map-set_same (λ (column : LaneColumn). column.number) columns i column _ c.unpack_selected.ensures.same ∙ c.loop-column.invariant.same;
+      many = length-set columns i column ∙ c.loop-column.invariant.many;
+      done = done_more (λ k column. HasSelected (g.S.Segment.meaning c.args.segment.now).rows (lanes_of_words c.args.selection.now) column.number column.lanes) columns i column (omega (arith, c.loop-column-test.true, c.loop-column.invariant.many)) c.loop-column.invariant.done c.unpack_selected.ensures.rows;
+    }
