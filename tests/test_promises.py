@@ -13,9 +13,9 @@ clause that guarantees it,
 
 with the mutants that the prover rejects for that clause, if there are any: edits in
 crates/NAME/must-fail, which the gate tries, or in crates/NAME/mutants, which scripts/mutants tries.
-The label is omitted if a call has only one clause without a label, or if a method has only its
-trait's contract. Instead of clauses, a promise may have the line `tests: tests/NAME.py,
-tests/NAME.py`, or `the check itself`. Lines that begin with `#` are comments."""
+Without a label, a line names all clauses of the call that no other line names. Instead of clauses,
+a promise may have the line `tests: tests/NAME.py, tests/NAME.py`, or `the check itself`. Lines that
+begin with `#` are comments."""
 import functools
 import re
 
@@ -400,11 +400,29 @@ def amiss_in_quotes(text):
     return len(quotes) + len(counts), wrong
 
 
+def with_labels(data):
+    """Returns the promises of the data file with a line for each clause: one without a label
+    becomes a line for each label of its call that no other line has."""
+    named = {}
+    for found in (CLAUSE.match(line) for lines in data.values() for _, line in lines):
+        if found and found[3]:
+            named.setdefault((found[1], found[2]), set()).add(found[3])
+    whole = {name: [] for name in data}
+    for name, lines in data.items():
+        for number, line in lines:
+            found = CLAUSE.match(line)
+            others = found and not found[3] and not found[4] and \
+                contracts(found[1])[0].get(found[2], set()) - named.get((found[1], found[2]), set())
+            whole[name] += [(number, f"{line} {label}".rstrip())
+                            for label in sorted(others or {""})]
+    return whole
+
+
 @functools.lru_cache(None)
 def page_and_data():
-    """Returns the promises of the page, and those of the data file."""
+    """Returns the promises of the page, and those of the data file, clause by clause."""
     return promises_of_page(PAGE.read_text(encoding="utf-8")), \
-        promises_of_data(DATA.read_text(encoding="utf-8"))[0]
+        with_labels(promises_of_data(DATA.read_text(encoding="utf-8"))[0])
 
 
 def lines_of_clauses():

@@ -10,7 +10,6 @@
 //! error. `bw_cli` has the command line.
 #![tactic(auto)]
 
-mod calls;
 mod in_file;
 mod out_file;
 mod out_stream;

@@ -4,9 +4,6 @@ ghost use Rattle.bw_io.specs.ReadAhead.{read_failures};
 ghost use Rattle.bw_memory.specs.MemoryTable.{schema_of};
 ghost use Rattle.bw_query.specs.ProgramCache.{Serves};
 
-use crate::calls::{
-    answer, answer_all, certify, check, direct, dump, infer, info, load, plan, read_table,
-};
 use crate::in_file::InFile;
 use crate::out_file::{OutFile, is_same_file};
 use crate::out_stream::OutStream;
@@ -17,7 +14,8 @@ use bw_file::{FromRead, Layout, Source, ToWrite};
 use bw_io::ReadAhead;
 use bw_model::{Fault, MAX_SCHEMA_LEN, code};
 use bw_shell::{
-    By, Input, MAX_PROGRAM_FILE_LEN, MemoryTable, ProgramCache, Served, accepted_line,
+    By, Input, MAX_PROGRAM_FILE_LEN, MemoryTable, ProgramCache, Served, accepted_line, answer,
+    answer_statements, certify_text, check_text, direct, dump, infer, info, load, plan_text,
     read_limited, report, stats_line,
 };
 use std::fs::File;
@@ -149,7 +147,7 @@ fn run_direct<'a>(
         rt.alloc(),
         &mut schema_source,
         &mut csv_source,
-        sql,
+        sql.as_bytes(),
         &mut ToWrite::new(&mut out),
     );
     let files = [(schema_path, schema.reads()), (csv_path, csv.reads())];
@@ -166,7 +164,12 @@ fn run_infer<'a>(
     let mut source = FromRead::new(&mut csv);
     let mut out = OutStream::new(rt.stdout());
     let name = name.unwrap_or("t");
-    let done = infer(rt.alloc(), name, &mut source, &mut ToWrite::new(&mut out));
+    let done = infer(
+        rt.alloc(),
+        name.as_bytes(),
+        &mut source,
+        &mut ToWrite::new(&mut out),
+    );
     or_write_failure(done, &[(csv_path, csv.reads())], out.error())
 }
 
@@ -244,7 +247,7 @@ fn answer_input(
     let mut teller = Teller::new(rt, table.schema(), stats, told);
     let mut statements = input_ahead(rt)?;
     let mut out = OutStream::new(rt.stdout());
-    let done = answer_all(
+    let done = answer_statements(
         rt.alloc(),
         table,
         programs,
@@ -301,7 +304,7 @@ fn table_of<'a>(
     mut file: InFile,
 ) -> Result<MemoryTable, CommandFailure<'a>> {
     let mut source = read_ahead(rt, &mut file)?;
-    let done = read_table(rt.alloc(), &mut source);
+    let done = MemoryTable::read(rt.alloc(), &mut source);
     drop(source);
     or_failure(done, &[(path, file.reads())])
 }
@@ -338,7 +341,7 @@ fn answer_from<'a>(
     let mut source = read_ahead(rt, &mut table)?;
     let mut out = OutStream::new(rt.stdout());
     let mut sink = ToWrite::new(&mut out);
-    let done = answer(rt.alloc(), &mut source, sql, program, &mut sink);
+    let done = answer(rt.alloc(), &mut source, sql.as_bytes(), program, &mut sink);
     drop(sink);
     drop(source);
     or_write_failure(done, &[(path, table.reads())], out.error())
@@ -368,7 +371,12 @@ fn run_plan<'a>(
     let schema = open(rt, schema_path)?;
     let schema = read_schema(rt, schema_path, schema)?;
     let mut out = OutStream::new(rt.stdout());
-    let done = plan(rt.alloc(), &schema, sql, &mut ToWrite::new(&mut out));
+    let done = plan_text(
+        rt.alloc(),
+        &schema,
+        sql.as_bytes(),
+        &mut ToWrite::new(&mut out),
+    );
     or_write_failure(done, &[], out.error())
 }
 
@@ -386,7 +394,7 @@ fn run_certify<'a>(
     let program = read_program(rt, program_path, program)?;
     let mut out = OutStream::new(rt.stdout());
     let mut sink = ToWrite::new(&mut out);
-    let done = certify(rt.alloc(), &schema, sql, &program, &mut sink);
+    let done = certify_text(rt.alloc(), &schema, sql.as_bytes(), &program, &mut sink);
     drop(sink);
     or_write_failure(done, &[], out.error())?;
     if told {
@@ -425,7 +433,7 @@ fn run_check<'a>(
     let (schema, file) = open_both(rt, schema_path, file_path)?;
     let schema = read_schema(rt, schema_path, schema)?;
     let file = read_program(rt, file_path, file)?;
-    let accepted = or_failure(check(rt.alloc(), &schema, sql, &file), &[])?;
+    let accepted = or_failure(check_text(rt.alloc(), &schema, sql.as_bytes(), &file), &[])?;
     let mut out = OutStream::new(rt.stdout());
     let told = accepted_line(&accepted, &mut ToWrite::new(&mut out));
     or_write_failure(told, &[], out.error())

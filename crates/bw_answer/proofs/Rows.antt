@@ -20,13 +20,6 @@ no_record : csv_text [] ≡ []
 unfolding csv_text
 no_record = refl
 
-pub text_of_kept : (query : Query) (row : List Value) → is_match query.cond row ≡ true
-    → csv_text (row_records query (row ∷ [])) ≡ record_text (filter_map (field_of row) query.items.items)
-text_of_kept query row e = rw e (one_record (filter_map (field_of row) query.items.items))
-
-pub text_with_dropped : (query : Query) (row : List Value) (ended : List ℕ) → is_match query.cond row ≡ false → ended ++ csv_text (row_records query (row ∷ [])) ≡ ended
-text_with_dropped query row ended e = rw (e, no_record) (append-nil ended)
-
 -- more rows
 kept_more : (query : Query) (before rows : List (List Value)) → row_records query (before ++ rows) ≡ row_records query before ++ row_records query rows
 kept_more query before rows =

@@ -34,9 +34,6 @@ use Rattle.bw_rowwise.specs.declared.prepared.Items.{Items}
 use Rattle.bw_rowwise.specs.declared.prepared.Prepared.{Prepared}
 
 -- columns that are added, once and once more
-pub grows_none : (numbers : List ℕ) → Grows numbers numbers
-grows_none numbers = ([], sym (append-nil numbers))
-
 pub grows_twice : (first second third : List ℕ) → Grows first second → Grows second third → Grows first third
 grows_twice first second third one two =
     (one.0 ++ two.0, two.1 ∙ ap (λ l. l ++ two.0) one.1 ∙ append_assoc first one.0 two.0)
@@ -71,12 +68,6 @@ value_placed numbers number place row more at =
 
 pub value_at_place : (numbers : List ℕ) (number place : ℕ) (row : List Value) → IsAt numbers number place → value_in (values_in numbers row) place ≡ value_in row number
 value_at_place numbers number place row at = get_or-map (value_in row) numbers place 0 None at.0 ∙ ap (value_in row) at.1
-
-pub column_placed : (numbers : List ℕ) (number place : ℕ) → IsAt numbers number place → PreparesOperand (Col number) numbers (Col place)
-column_placed numbers number place at = record {
-  value = λ row more. value_placed numbers number place row more at;
-  within = λ places enough. lt-ltb place places (omega (arith, enough, at.0));
-}
 
 -- conditions without parts
 pub prepares_always : (numbers : List ℕ) → Prepares asked.Always numbers made.Always

@@ -2,7 +2,6 @@
 use Rattle.std.proofs.Common.{◌∷◌, [], ◌∙◌, List, ap, map}
 use Rattle.std.proofs.lemmas.List.{map-append}
 use Rattle.bw_rowwise.specs.declared.columns.LaneColumn.{LaneColumn}
-use Rattle.bw_rowwise.proofs.PlacedLemmas.{grows_none}
 use Rattle.bw_rowwise.proofs.columns.Columns.place_of.Goals as goal
 
 pub returns-clause-grown : goal.returns-clause-grown
