@@ -1,5 +1,5 @@
 """Which modules a small question imports: they take most of its time. A module is added here only
-with a reason. docs/ARCHITECTURE.md has the rule."""
+with a reason. docs/DECISIONS.md has the rule."""
 import pathlib
 import subprocess
 import sys
