@@ -74,14 +74,14 @@ impl Certified {
         &self.schema
     }
 
-    /// Returns the condition.
+    /// Returns the condition that the program is certified for.
     pub fn condition(&self) -> &Cond
         ensures { result.now ≡ self.now.condition }
     {
         &self.condition
     }
 
-    /// Returns the program.
+    /// Returns the program that the checker accepted.
     pub fn program(&self) -> &Program
         ensures { result.now ≡ self.now.program }
     {

@@ -21,14 +21,14 @@ impl<'a> Model for EdgePairs<'a> {
 }
 
 impl<'a> EdgePairs<'a> {
-    /// Returns these pairs.
+    /// Borrows the pairs from where a line's reader or its body stores them.
     pub fn new(pairs: &'a [EdgeProducts]) -> Self
         ensures { result ≡ pairs.now }
     {
         EdgePairs { pairs }
     }
 
-    /// Returns the pairs, one after another.
+    /// Returns the pairs in the order of the skips.
     pub fn as_slice(&self) -> &'a [EdgeProducts]
         ensures { result.now ≡ self.now }
     {

@@ -39,7 +39,7 @@ pub(crate) enum ParsedLine<'a, 'b> {
     End(EndLine),
 }
 
-/// Returns `n v low high`, of a node.
+/// Reads the words after `NODE`: the node's number, its variable and its children.
 fn node_in(line: u64, words: &[&[u8]]) -> Option<NodeLine>
     ensures { result ≡ node_in line (map (λ word. word.now) words.now) }
 {
@@ -55,8 +55,8 @@ fn node_in(line: u64, words: &[&[u8]]) -> Option<NodeLine>
     })
 }
 
-/// Returns `column start len const node prev`, or `left right len node prev` of a form that compares
-/// two columns.
+/// Reads the words after a chain's form: `column start len const node prev`, or `left right len node
+/// prev` if the form compares two columns. Only `prev` may be `-`.
 fn columns_after<'a>(form: Form, words: &[&'a [u8]]) -> Option<ChainColumns<'a>>
     ensures { option_map column_fields result
         ≡ columns_after form (map (λ word. word.now) words.now) }
@@ -91,7 +91,7 @@ fn columns_after<'a>(form: Form, words: &[&'a [u8]]) -> Option<ChainColumns<'a>>
     }
 }
 
-/// Returns a chain's number, its form and what it compares.
+/// Reads the words after `CHAIN`: its number, its form and what it compares.
 fn chain_in<'a>(line: u64, words: &[&'a [u8]]) -> Option<ChainLine<'a>>
     ensures { option_map chain_fields result
         ≡ chain_in line (map (λ word. word.now) words.now) }
@@ -105,7 +105,8 @@ fn chain_in<'a>(line: u64, words: &[&'a [u8]]) -> Option<ChainLine<'a>>
     Some(ChainLine { line, n, columns })
 }
 
-/// Returns `S`, or `V v i j`.
+/// Reads why a product row is valid: `S`, by a shortcut, or `V v i j`, by the rows `i` and `j` of its
+/// nodes' cofactors by variable `v`.
 fn reason_in(words: &[&[u8]]) -> Option<Reason>
     ensures { result ≡ reason_in (map (λ word. word.now) words.now) }
 {
@@ -120,7 +121,7 @@ fn reason_in(words: &[&[u8]]) -> Option<Reason>
     }
 }
 
-/// Returns a product row's number, its connective, `a b c` and the reason.
+/// Reads the words after `ROW`: its number, its connective, three nodes and why it is valid.
 fn row_in(line: u64, words: &[&[u8]]) -> Option<ProductLine>
     ensures { result ≡ row_in line (map (λ word. word.now) words.now) }
 {
@@ -138,7 +139,8 @@ fn row_in(line: u64, words: &[&[u8]]) -> Option<ProductLine>
     })
 }
 
-/// Returns the line of a condition's step.
+/// Reads the words after a step's first one. `IS` tests for TRUE or FALSE with one number, and for
+/// UNKNOWN with two.
 fn condition_in(kind: ConditionKind, words: &[&[u8]]) -> Option<ConditionEntry>
     ensures { result ≡ condition_in kind (map (λ word. word.now) words.now) }
 {
@@ -175,7 +177,7 @@ fn condition_in(kind: ConditionKind, words: &[&[u8]]) -> Option<ConditionEntry>
     Some(entry)
 }
 
-/// Returns the line of an instruction.
+/// Reads the words after an instruction's first one: at most one number.
 fn instruction_in(kind: InstructionKind, words: &[&[u8]]) -> Option<InstructionEntry>
     ensures { result ≡ instruction_in kind (map (λ word. word.now) words.now) }
 {
@@ -190,7 +192,7 @@ fn instruction_in(kind: InstructionKind, words: &[&[u8]]) -> Option<InstructionE
     Some(entry)
 }
 
-/// Returns complete pairs of numbers.
+/// Reads pairs of numbers. A number without its partner is an error, None.
 fn edges_in(alloc: Global, words: &[&[u8]]) -> Result<Option<Vec<EdgeProducts>>, AllocError>
     ensures { IfOk result
         (λ edges. option_map (λ edges. edges.items) edges
@@ -215,7 +217,8 @@ fn edges_in(alloc: Global, words: &[&[u8]]) -> Result<Option<Vec<EdgeProducts>>,
     }
 }
 
-/// Returns `r h x` and complete pairs, which are stored in `pairs`.
+/// Reads the words after `KEEP`: `r h x` and pairs. These are stored in `pairs`, from which the line
+/// borrows them.
 fn keep_in<'a>(
     alloc: Global,
     words: &[&[u8]],

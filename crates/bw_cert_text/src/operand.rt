@@ -4,7 +4,7 @@ ghost use Rattle.bw_cert_text.specs.Operand.{optional_of, number_in};
 
 use bw_text::natural_number;
 
-/// Returns a number, or `-` for none.
+/// Reads a number that the line may leave out by `-`. Any other word is an error, None.
 #[tactic(auto, unfolding(crate::specs::Operand::optional_of))]
 pub(crate) fn optional_of(word: &[u8]) -> Option<Option<u64>>
     ensures { result ≡ optional_of word.now }
@@ -16,7 +16,7 @@ pub(crate) fn optional_of(word: &[u8]) -> Option<Option<u64>>
     }
 }
 
-/// Returns one number.
+/// Reads the only word of a line that has one number.
 pub(crate) fn number_in(words: &[&[u8]]) -> Option<u64>
     ensures { result ≡ number_in (map (λ word. word.now) words.now) }
 {

@@ -273,7 +273,7 @@ fn put_body(alloc: Global, body: BodyLines<'_>, text: &mut Vec<u8>) -> Result<()
     Ok(())
 }
 
-/// Appends such a line.
+/// Appends a line of the body, without its number.
 fn put_entry(alloc: Global, entry: &Entry<'_>, text: &mut Vec<u8>) -> Result<(), AllocError>
     ensures text { OnOk result (text.new.items ≡ text.old.items
         ++ token_line (entry_tokens (entry_fields entry.now))) }

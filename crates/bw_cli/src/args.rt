@@ -53,7 +53,7 @@ pub enum CommandArgs<'a> {
 }
 
 impl<'a> CommandArgs<'a> {
-    /// Returns the schema file.
+    /// Returns the file that SCHEMA names, if the command has this argument.
     pub fn schema(self) -> Option<&'a str> {
         match self {
             CommandArgs::Direct { schema, .. }
@@ -65,7 +65,7 @@ impl<'a> CommandArgs<'a> {
         }
     }
 
-    /// Returns the CSV file.
+    /// Returns the file that CSV names, if the command has this argument.
     pub fn csv(self) -> Option<&'a str> {
         match self {
             CommandArgs::Direct { csv, .. }
@@ -86,7 +86,7 @@ impl<'a> CommandArgs<'a> {
         }
     }
 
-    /// Returns the program file.
+    /// Returns the file of a program that is read, with or without its certificate.
     pub fn program(self) -> Option<&'a str> {
         match self {
             CommandArgs::Query { program, .. } => program,
@@ -96,7 +96,7 @@ impl<'a> CommandArgs<'a> {
         }
     }
 
-    /// Returns the statement.
+    /// Returns the text that SQL stands for, if the command has this argument.
     pub fn sql(self) -> Option<&'a str> {
         match self {
             CommandArgs::Direct { sql, .. }

@@ -41,7 +41,7 @@ const NEAR: [i64; 16] = [
     4294967295,
 ];
 
-/// Returns one of some texts.
+/// Draws one of some texts.
 fn one_of<'a>(numbers: &mut NumberSource, texts: &[&'a str]) -> &'a str {
     let at = numbers.below(texts.len() as u64) as usize;
     texts.get(at).copied().unwrap_or("a")
@@ -71,7 +71,7 @@ fn columns(numbers: &mut NumberSource) -> (&'static str, &'static str) {
     )
 }
 
-/// Returns a predicate.
+/// Draws a predicate of any form.
 fn predicate(alloc: Global, numbers: &mut NumberSource) -> Result<String, AllocError> {
     let column = one_of(numbers, &COLUMNS);
     let op = one_of(numbers, &COMPARISONS);

@@ -25,7 +25,7 @@ impl NumberSource {
         NumberSource(seed | 1)
     }
 
-    /// Returns the next number.
+    /// Returns the next number of Marsaglia's xorshift, without its low bits.
     pub(crate) fn next(&mut self) -> u64 {
         let mut x = self.0;
         x ^= x << 13;
@@ -196,7 +196,7 @@ pub(crate) fn cost_of_rows(
     cost_in_order(rt, alloc, schema, text, text, rows)
 }
 
-/// Returns the same of a condition whose parts are taken in the order of another text.
+/// Returns the cost of a program that takes the condition's parts in the order of another text.
 pub(crate) fn cost_in_order(
     rt: &impl Abort,
     alloc: Global,

@@ -8,7 +8,7 @@ const COMPARISONS: [&str; 6] = ["=", "<>", "<", ">", "<=", ">="];
 /// Comparisons of two columns that ask for the left one's bits first.
 const LEFT_FIRST: [&str; 4] = ["=", "<>", "<", ">="];
 
-/// Returns one of some texts.
+/// Draws one of some texts.
 fn one_of<'a>(numbers: &mut NumberSource, texts: &[&'a str]) -> &'a str {
     let at = numbers.below(texts.len() as u64) as usize;
     texts.get(at).copied().unwrap_or("a")
@@ -25,7 +25,7 @@ fn literal(alloc: Global, numbers: &mut NumberSource) -> Result<String, AllocErr
     }
 }
 
-/// Returns a predicate.
+/// Draws a predicate of any form.
 fn predicate(alloc: Global, numbers: &mut NumberSource) -> Result<String, AllocError> {
     let column = one_of(numbers, &["a", "b", "c"]);
     let op = one_of(numbers, &COMPARISONS);
