@@ -8,7 +8,7 @@ use Rattle.bw_answer.specs.declared.gathered.GatheredAnswer.{GatheredAnswer}
 
 -- the columns of a result have these rows
 abbrev pub Holds : List (List Value) → GatheredAnswer → Type 0
-Holds rows now = HoldRows rows now.filled now.answer.filter now.answer.records.columns now.summed
+Holds rows now = HoldRows rows now.filled now.answer.filter now.answer.output now.summed.columns
 
 -- The result of this query, over a table of columns of these names, is over these rows. The last of
 -- them may only be gathered.

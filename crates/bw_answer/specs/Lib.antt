@@ -8,6 +8,7 @@ pub mod GatheredProgress
 pub mod LaneFields
 pub mod Field
 pub mod Listing
+pub mod Output
 pub mod Places
 pub mod Progress
 pub mod Totals

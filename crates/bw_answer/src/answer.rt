@@ -10,27 +10,24 @@ ghost use Rattle.bw_model.specs.Groups.{group_size};
 ghost use Rattle.bw_model.specs.Limits.{most_rows};
 ghost use Rattle.bw_model.specs.Row.{Value, values_of};
 ghost use Rattle.bw_model.specs.Selection.{matching_rows, selection as selected_by};
-ghost use Rattle.bw_model.specs.Total.{is_aggregate, item_within};
-ghost use Rattle.bw_model.specs.declared.query.Item.{Item};
+ghost use Rattle.bw_model.specs.Total.{item_within};
 ghost use Rattle.bw_rowwise.specs.Accumulator.{Tally};
-ghost use Rattle.bw_rowwise.specs.Columns.{HaveRows, numbers_of};
+ghost use Rattle.bw_rowwise.specs.Columns.{HaveRows};
 ghost use Rattle.bw_rowwise.specs.Filter.{IsPreparedFrom};
 ghost use Rattle.bw_sql.specs.Items.{AreOfOneKind};
-ghost use Rattle.bw_answer.specs.Answer.{csv_text, is_count_all, lists_rows, meaning};
-ghost use Rattle.bw_answer.specs.TextAndTotals.{AreOver, CountsRows};
-ghost use Rattle.bw_answer.specs.Listing.{IsListing};
-ghost use Rattle.bw_answer.specs.Gathered.{AreGathered};
-ghost use Rattle.bw_answer.specs.Places.{AreRead};
+ghost use Rattle.bw_answer.specs.Answer.{csv_text, is_count_all, meaning};
+ghost use Rattle.bw_answer.specs.TextAndTotals.{CountsRows};
+ghost use Rattle.bw_answer.specs.Gathered.{AreGathered, AreSummed};
+ghost use Rattle.bw_answer.specs.Output.{HaveListed, IsOutputOf, output_is_prop, totals_in};
 ghost use Rattle.bw_aggregate.specs.Selected.{IsWithin};
 ghost use Rattle.bw_answer.specs.Totals.{is_of};
 
 use crate::heading::heading_text;
-use crate::listing::Listing;
-use crate::selected::{total_gathered, total_selected};
-use crate::totals::{add_count, totals_of, with_totals};
+use crate::output::Output;
+use crate::selected::Summed;
 use bw_lanes::Selection;
-use bw_model::{Fault, Item, Query, Row, Schema, admitted_rows_have_each_value, totals_join};
-use bw_rowwise::{Accumulator, Columns, Filter, matches_all};
+use bw_model::{Fault, Item, Query, Row, Schema, admitted_rows_have_each_value};
+use bw_rowwise::{Filter, matches_all};
 use bw_segment::Segment;
 use std::alloc::Global;
 
@@ -43,21 +40,16 @@ pub struct Answer<'a> {
     query: &'a Query,
     /// The query's condition, prepared for many rows.
     filter: Filter,
-    /// Whether the query lists rows, and doesn't aggregate them.
-    lists: bool,
-    /// The columns that it lists.
-    records: Listing,
     /// The heading, and then the records of the matching rows, if the query lists them.
     text: Vec<u8>,
-    /// The total of each aggregate of the query, each once, over the matching rows.
-    pub(crate) totals: Vec<Accumulator>,
+    /// What becomes of the matching rows.
+    pub(crate) output: Output,
     ghost prepared: { IsPreparedFrom query.now.cond filter },
     ghost items: { IsTrue (list_all (item_within width) query.now.items.items) },
     ghost nonempty: { 1 ≤ length query.now.items.items },
-    ghost listing: { lists ≡ lists_rows query.now.items.items },
-    ghost names: { lists ≡ true → IsListing records query.now.items.items },
-    ghost totalling: { lists ≡ false → IsTrue (list_all is_aggregate query.now.items.items) },
-    ghost capacity: { IsTrue (list_all (is_of width rows) totals.items) },
+    ghost of_items: { IsOutputOf output query.now.items.items }
+        by { output_is_prop output query.now.items.items },
+    ghost capacity: { IsTrue (list_all (is_of width rows) (totals_in output)) },
 }
 
 impl<'a> Answer<'a> {
@@ -89,10 +81,8 @@ impl<'a> Answer<'a> {
             rows: 0,
             query,
             filter: Filter::new(alloc, &query.cond)?,
-            lists: lists_rows(&query.items),
-            records: Listing::new(alloc, &query.items)?,
             text: heading_text(alloc, &schema.columns, &query.items)?,
-            totals: totals_of(alloc, &query.items)?,
+            output: Output::new(alloc, &query.items)?,
         })
     }
 
@@ -112,8 +102,8 @@ impl<'a> Answer<'a> {
         ensures rows { self.new.rows ≡ self.old.rows }
         ensures only_oom { IfErr result (λ fault. fault ≡ no_memory) }
     {
-        if self.lists && matches_all(&self.query.cond) {
-            self.records.reserve(&mut self.text, count)?;
+        if matches_all(&self.query.cond) {
+            self.output.reserve(&mut self.text, count)?;
         }
         Ok(())
     }
@@ -159,7 +149,7 @@ impl<'a> Answer<'a> {
         ensures width { self.new.width ≡ self.old.width }
         ensures rows { self.new.rows ≡ self.old.rows + count }
     {
-        add_count(&mut self.totals, matches);
+        self.output.add_count(matches);
         self.rows += count;
     }
 
@@ -185,15 +175,8 @@ impl<'a> Answer<'a> {
             ≡ self.old.rows + length (S.meaning segment.now).rows) }
         ensures only_oom { IfErr result (λ fault. fault ≡ no_memory) }
     {
-        put_selected(
-            &mut self.text,
-            &mut self.totals,
-            &mut self.records,
-            self.query,
-            self.lists,
-            segment,
-            selection,
-        )?;
+        self.output
+            .put_selected(&mut self.text, self.query, segment, selection)?;
         self.rows += segment.rows_in();
         Ok(())
     }
@@ -220,16 +203,16 @@ impl<'a> Answer<'a> {
     /// Removes the rows that were gathered.
     pub(crate) fn clear_rows(&mut self)
         ensures named { HaveRows [] self.new.filter.columns }
-        ensures listed { HaveRows [] self.new.records.columns }
+        ensures listed { HaveListed [] self.new.output }
         ensures covers { (names : List (List ℕ)) (query : Query) (rows : List (List Value))
             → IsOver names query rows self.old → IsOver names query rows self.new }
         ensures asked { query_in self.new ≡ query_in self.old }
         ensures width { self.new.width ≡ self.old.width }
         ensures rows { self.new.rows ≡ self.old.rows }
-        ensures totals { self.new.totals.items ≡ self.old.totals.items }
+        ensures totals { totals_in self.new.output ≡ totals_in self.old.output }
     {
         self.filter.clear();
-        self.records.clear();
+        self.output.clear();
     }
 
     /// Gathers a row, after the `lane` rows that were gathered.
@@ -239,17 +222,17 @@ impl<'a> Answer<'a> {
             → HaveRows rows self.old.filter.columns
             → HaveRows (rows ++ values_of row.now ∷ []) self.new.filter.columns }
         ensures listed { (rows : List (List Value)) → length rows ≡ lane
-            → HaveRows rows self.old.records.columns
-            → HaveRows (rows ++ values_of row.now ∷ []) self.new.records.columns }
+            → HaveListed rows self.old.output
+            → HaveListed (rows ++ values_of row.now ∷ []) self.new.output }
         ensures covers { (names : List (List ℕ)) (query : Query) (rows : List (List Value))
             → IsOver names query rows self.old → IsOver names query rows self.new }
         ensures asked { query_in self.new ≡ query_in self.old }
         ensures width { self.new.width ≡ self.old.width }
         ensures rows { self.new.rows ≡ self.old.rows }
-        ensures totals { self.new.totals.items ≡ self.old.totals.items }
+        ensures totals { totals_in self.new.output ≡ totals_in self.old.output }
     {
         self.filter.put_row(lane, row);
-        self.records.put_row(lane, row);
+        self.output.put_row(lane, row);
     }
 
     /// Returns the rows among those that were gathered, `count` of them, that match the query.
@@ -269,37 +252,26 @@ impl<'a> Answer<'a> {
         &mut self,
         count: u32,
         selection: &Selection,
-        summed: &Columns,
-        places: &[usize],
+        summed: &Summed,
     ) -> Result<(), Fault>
         requires within { IsWithin count (lanes_of_words selection.now) }
-        requires places { AreRead (numbers_of summed.now)
-            (map (λ (tally : Tally). tally.item) self.old.totals.items) places.now }
+        requires places { AreSummed summed.now (totals_in self.old.output) }
         requires capacity { self.old.rows + count ≤ most_rows }
         ensures covers { OnOk result ((start : Answer) (before rows : List (List Value))
             → AreGathered rows count (query_in self.old).cond (lanes_of_words selection.now)
-            self.old.records.columns summed.now
+            self.old.output summed.now.columns
             → GoesOver start before self.old → GoesOver start (before ++ rows) self.new) }
         ensures asked { OnOk result (query_in self.new ≡ query_in self.old) }
         ensures width { OnOk result (self.new.width ≡ self.old.width) }
         ensures rows { OnOk result (self.new.rows ≡ self.old.rows + count) }
-        ensures items { OnOk result (map (λ (tally : Tally). tally.item) self.new.totals.items
-            ≡ map (λ (tally : Tally). tally.item) self.old.totals.items) }
+        ensures items { OnOk result (map (λ (tally : Tally). tally.item) (totals_in self.new.output)
+            ≡ map (λ (tally : Tally). tally.item) (totals_in self.old.output)) }
         ensures refused { IfErr result (λ _. (self.new.rows ≡ self.old.rows)
-            × (self.new.totals.items ≡ self.old.totals.items)) }
+            × (totals_in self.new.output ≡ totals_in self.old.output)) }
         ensures only_oom { IfErr result (λ fault. fault ≡ no_memory) }
     {
-        put_gathered(
-            &mut self.text,
-            &mut self.totals,
-            &mut self.records,
-            self.query,
-            self.lists,
-            selection,
-            summed,
-            places,
-            count,
-        )?;
+        self.output
+            .put_gathered(&mut self.text, self.query, selection, summed, count)?;
         self.rows += count;
         Ok(())
     }
@@ -318,108 +290,10 @@ impl<'a> Answer<'a> {
             rows: _,
             query,
             filter: _,
-            lists,
-            records: _,
             text,
-            totals,
+            output,
         } = self;
-        if lists {
-            Ok(text)
-        } else {
-            with_totals(text, &totals, &query.items)
-        }
-    }
-}
-
-/// Adds the matching rows of a segment, which the selection selects, to the text or to the totals.
-fn put_selected<S: Segment>(
-    text: &mut Vec<u8>,
-    totals: &mut [Accumulator],
-    records: &mut Listing,
-    query: &Query,
-    lists: bool,
-    segment: &S,
-    selection: &Selection,
-) -> Result<(), Fault>
-    requires picks { lanes_of_words selection.now
-        ≡ selected_by query.now.cond (S.meaning segment.now).rows
-        ++ replicate (group_size - length (S.meaning segment.now).rows) false }
-    requires items { IsTrue (list_all (item_within (length (S.meaning segment.now).columns))
-        query.now.items.items) }
-    requires lists { lists ≡ lists_rows query.now.items.items }
-    requires names { lists ≡ true → IsListing records.old query.now.items.items }
-    requires columns { All (λ tally. IsTrue
-        (item_within (length (S.meaning segment.now).columns) tally.item)) totals.old }
-    requires capacity { All (λ tally. tally.count + length (S.meaning segment.now).rows ≤ most_rows)
-        totals.old }
-    ensures covers { OnOk result ((names : List (List ℕ)) → (rows : List (List Value))
-        → AreOver names query.now rows text.old.items totals.old
-        → AreOver names query.now (rows ++ (S.meaning segment.now).rows) text.new.items
-        totals.new) }
-    ensures counts { OnOk result ((width rows : ℕ) → IsTrue (list_all (is_of width rows) totals.old)
-        → IsTrue (list_all (is_of width (rows + length (S.meaning segment.now).rows)) totals.new)) }
-    ensures left { IfErr result (λ _. totals.new ≡ totals.old) }
-    ensures names { (items : List Item) → IsListing records.old items
-        → IsListing records.new items }
-    ensures only_oom { IfErr result (λ fault. fault ≡ no_memory) }
-{
-    totals_join();
-    if lists {
-        records.push_selected(text, segment, selection)?;
-    } else {
-        total_selected(totals, segment, selection);
-    }
-    Ok(())
-}
-
-/// Adds the matching rows among those that were gathered, `count` of them, which the selection
-/// selects, to the text or to the totals.
-fn put_gathered(
-    text: &mut Vec<u8>,
-    totals: &mut [Accumulator],
-    records: &mut Listing,
-    query: &Query,
-    lists: bool,
-    selection: &Selection,
-    summed: &Columns,
-    places: &[usize],
-    count: u32,
-) -> Result<(), Fault>
-    requires within { IsWithin count (lanes_of_words selection.now) }
-    requires lists { lists ≡ lists_rows query.now.items.items }
-    requires names { lists ≡ true → IsListing records.old query.now.items.items }
-    requires places { AreRead (numbers_of summed.now)
-        (map (λ (tally : Tally). tally.item) totals.old) places.now }
-    requires capacity { All (λ tally. tally.count + count ≤ most_rows) totals.old }
-    ensures covers { OnOk result ((names : List (List ℕ)) (rows more : List (List Value))
-        → AreGathered more count query.now.cond (lanes_of_words selection.now) records.old.columns
-        summed.now → AreOver names query.now rows text.old.items totals.old
-        → AreOver names query.now (rows ++ more) text.new.items totals.new) }
-    ensures counts { OnOk result ((width rows : ℕ) → IsTrue (list_all (is_of width rows) totals.old)
-        → IsTrue (list_all (is_of width (rows + count)) totals.new)) }
-    ensures items { OnOk result (map (λ (tally : Tally). tally.item) totals.new
-        ≡ map (λ (tally : Tally). tally.item) totals.old) }
-    ensures left { IfErr result (λ _. totals.new ≡ totals.old) }
-    ensures names { (items : List Item) → IsListing records.old items
-        → IsListing records.new items }
-    ensures only_oom { IfErr result (λ fault. fault ≡ no_memory) }
-{
-    totals_join();
-    if lists {
-        records.push_gathered(text, selection)?;
-    } else {
-        total_gathered(totals, summed, places, selection);
-    }
-    Ok(())
-}
-
-/// Returns whether the items list rows: the first is a column. Else they are aggregates.
-fn lists_rows(items: &[Item]) -> bool
-    ensures { result ≡ lists_rows items.now }
-{
-    match items {
-        [Item::Plain(_), ..] => true,
-        _ => false,
+        output.into_text(text, query)
     }
 }
 

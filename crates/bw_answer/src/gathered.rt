@@ -3,21 +3,19 @@ ghost use Rattle.std.specs.Prelude.{◌≡◌, ◌==◌, ◌+◌, ◌<◌, ◌�
 ghost use Rattle.std.specs.Prelude.{IfErr, IfOk, OnOk, length, map, vec_len};
 ghost use Rattle.std.specs.List.{list_all};
 ghost use Rattle.bw_answer.specs.Answer.{csv_text, meaning};
-ghost use Rattle.bw_answer.specs.Places.{AreRead};
+ghost use Rattle.bw_answer.specs.Gathered.{AreSummed};
+ghost use Rattle.bw_answer.specs.Output.{totals_in};
 ghost use Rattle.bw_model.specs.Column.{admits_values, names_of};
 ghost use Rattle.bw_model.specs.Fault.{no_memory};
 ghost use Rattle.bw_model.specs.Limits.{most_rows};
 ghost use Rattle.bw_model.specs.Row.{Value, values_of};
 ghost use Rattle.bw_model.specs.Total.{item_within};
-ghost use Rattle.bw_rowwise.specs.Accumulator.{Tally};
-ghost use Rattle.bw_rowwise.specs.Columns.{numbers_of};
 ghost use Rattle.bw_sql.specs.Items.{AreOfOneKind};
 
 use crate::answer::Answer;
-use crate::selected::places_of;
+use crate::selected::Summed;
 use bw_lanes::LANES;
 use bw_model::{Fault, Query, Row, RowConsumer, Schema};
-use bw_rowwise::Columns;
 use std::alloc::Global;
 
 /// Consumes rows one at a time, and makes the text of a query's result as [`Answer`] does. The
@@ -25,15 +23,13 @@ use std::alloc::Global;
 #[derive(Drop)]
 pub struct GatheredAnswer<'a> {
     answer: Answer<'a>,
-    /// The columns of the totals, and the place of each total's column.
-    summed: Columns,
-    places: Vec<usize>,
+    /// The columns of its totals.
+    summed: Summed,
     /// How many rows are gathered, and not in the answer yet.
     filled: u32,
     ghost few: { filled ≤ 512 },
     ghost capacity: { answer.rows + filled ≤ most_rows },
-    ghost placed: { AreRead (numbers_of summed)
-        (map (λ (tally : Tally). tally.item) answer.totals.items) places.items },
+    ghost placed: { AreSummed summed (totals_in answer.output) },
 }
 
 impl<'a> GatheredAnswer<'a> {
@@ -59,13 +55,10 @@ impl<'a> GatheredAnswer<'a> {
     {
         let mut answer = Answer::new(alloc, schema, query)?;
         answer.clear_rows();
-        let mut summed = Columns::new(alloc);
-        let places = places_of(alloc, &answer.totals, &mut summed)?;
-        summed.clear();
+        let summed = Summed::new(alloc, &answer.output)?;
         Ok(GatheredAnswer {
             answer,
             summed,
-            places,
             filled: 0,
         })
     }
@@ -116,7 +109,7 @@ impl<'a> GatheredAnswer<'a> {
     {
         let lane = self.filled as usize;
         self.answer.put_row(lane, row);
-        self.summed.put_row(lane, row);
+        self.summed.columns.put_row(lane, row);
         self.filled += 1;
     }
 
@@ -131,9 +124,9 @@ impl<'a> GatheredAnswer<'a> {
     {
         let selection = self.answer.matching_rows(self.filled);
         self.answer
-            .take_gathered(self.filled, &selection, &self.summed, &self.places)?;
+            .take_gathered(self.filled, &selection, &self.summed)?;
         self.answer.clear_rows();
-        self.summed.clear();
+        self.summed.columns.clear();
         self.filled = 0;
         Ok(())
     }
@@ -151,7 +144,6 @@ impl<'a> GatheredAnswer<'a> {
         let GatheredAnswer {
             answer,
             summed: _,
-            places: _,
             filled: _,
         } = self;
         answer.into_text()

@@ -13,6 +13,7 @@ mod csv_text;
 mod gathered;
 mod heading;
 mod listing;
+mod output;
 mod record;
 mod records;
 mod selected;

@@ -1,6 +1,6 @@
 //! The selected rows of a segment, or of those that were gathered, in a result's totals.
 ghost use Rattle.std.specs.Prelude.{◌≡◌, ◌+◌, ◌≤◌, IfErr, IfOk, IsTrue, All, List, count_by, length};
-ghost use Rattle.std.specs.Prelude.{ℕ, map, OnOk};
+ghost use Rattle.std.specs.Prelude.{ℕ, [], map, OnOk};
 ghost use Rattle.std.specs.List.{list_all};
 ghost use Rattle.bw_lanes.specs.Lanes.{lanes_of_words};
 ghost use Rattle.bw_model.specs.Fault.{no_memory};
@@ -12,9 +12,12 @@ ghost use Rattle.bw_rowwise.specs.Accumulator.{Tally};
 ghost use Rattle.bw_rowwise.specs.Columns.{Grows, HaveRows, numbers_of};
 ghost use Rattle.bw_aggregate.specs.Gathered.{Reads};
 ghost use Rattle.bw_aggregate.specs.Selected.{IsWithin, selected_rows, with_selected};
+ghost use Rattle.bw_answer.specs.Gathered.{AreSummed};
+ghost use Rattle.bw_answer.specs.Output.{totals_in};
 ghost use Rattle.bw_answer.specs.Places.{AreRead};
 ghost use Rattle.bw_answer.specs.Totals.{is_of};
 
+use crate::output::Output;
 use bw_aggregate::{add_gathered, add_selected};
 use bw_lanes::{Selection, count};
 use bw_model::{Fault, Item};
@@ -40,6 +43,31 @@ pub(crate) fn total_selected<S: Segment>(
     let number = count(selection);
     for total in totals.iter_mut() {
         add_selected(total, segment, selection, number);
+    }
+}
+
+/// The columns of the totals of a result, gathered over some rows, and the place of each total's
+/// column.
+#[derive(Drop)]
+pub(crate) struct Summed {
+    pub(crate) columns: Columns,
+    pub(crate) places: Vec<usize>,
+}
+
+impl Summed {
+    /// Returns the columns of totals, without a row. Errors: 801 if memory is refused.
+    pub(crate) fn new(alloc: Global, output: &Output) -> Result<Self, Fault>
+        ensures places { IfOk result (λ summed. AreSummed summed (totals_in output.now)) }
+        ensures rows { IfOk result (λ summed. HaveRows [] summed.columns) }
+        ensures only_oom { IfErr result (λ fault. fault ≡ no_memory) }
+    {
+        let mut columns = Columns::new(alloc);
+        let places = match output {
+            Output::Listing(_) => Vec::new(alloc),
+            Output::Totals(totals) => places_of(alloc, totals, &mut columns)?,
+        };
+        columns.clear();
+        Ok(Summed { columns, places })
     }
 }
 
@@ -79,14 +107,8 @@ fn place_of(item: Item, columns: &mut Columns) -> Result<usize, Fault>
 
 /// Adds the selected rows among those that were gathered to each total, whose column is at its place
 /// among the columns.
-pub(crate) fn total_gathered(
-    totals: &mut [Accumulator],
-    columns: &Columns,
-    places: &[usize],
-    selection: &Selection,
-)
-    requires places { AreRead (numbers_of columns.now)
-        (map (λ (tally : Tally). tally.item) totals.old) places.now }
+pub(crate) fn total_gathered(totals: &mut [Accumulator], summed: &Summed, selection: &Selection)
+    requires places { AreSummed summed.now totals.old }
     requires capacity { All (λ tally. tally.count
         + count_by (λ lane. lane) (lanes_of_words selection.now) ≤ most_rows) totals.old }
     ensures items { map (λ (tally : Tally). tally.item) totals.new
@@ -94,7 +116,7 @@ pub(crate) fn total_gathered(
     ensures counts { (width rows : ℕ) → IsTrue (list_all (is_of width rows) totals.old)
         → IsTrue (list_all (is_of width
         (rows + count_by (λ lane. lane) (lanes_of_words selection.now))) totals.new) }
-    ensures totals { (rows : List (List Value)) → HaveRows rows columns.now
+    ensures totals { (rows : List (List Value)) → HaveRows rows summed.now.columns
         → IsWithin (length rows) (lanes_of_words selection.now)
         → totals.new ≡ map (λ tally. with_selected tally
         (selected_items (lanes_of_words selection.now) rows)) totals.old }
@@ -103,8 +125,8 @@ pub(crate) fn total_gathered(
     for place in 0..totals.len() {
         add_gathered(
             &mut totals[place],
-            columns,
-            places[place],
+            &summed.columns,
+            summed.places[place],
             selection,
             number,
         );

@@ -25,7 +25,7 @@ use Rattle.bw_query.specs.ProgramChoice.{IsChosenAmong, IsFirstUsable, IsRejecte
 use Rattle.bw_query.specs.ProgramChoice.{first, none, texts_of}
 use Rattle.bw_query.specs.Scan.{IsChosen, IsFor, IsUsable}
 use Rattle.bw_query.specs.Served.{report_of}
-use Rattle.bw_query.specs.TableText.{IsScanOf}
+use Rattle.bw_query.specs.Segments.{IsScanOf}
 use Rattle.bw_query.proofs.ScanLemmas.{serves, usable}
 
 -- the bytes of the file of a number

@@ -15,7 +15,7 @@ use Rattle.bw_query.specs.declared.scan.Scan.TheVariants.{Program, Rows}
 use Rattle.bw_query.specs.declared.served.Scanned.{Scanned}
 use Rattle.bw_query.specs.Scan.{IsChosen, IsUsable, loads_in, skips_in}
 use Rattle.bw_query.specs.Served.{IsServed, report_of}
-use Rattle.bw_query.specs.TableText.{IsScanOf}
+use Rattle.bw_query.specs.Segments.{IsScanOf}
 
 -- a program file whose program is used is accepted
 pub usable : (file : Option (List ℕ)) (columns : List Column) (cond : Cond) (scan : Scan) → IsChosen file columns cond scan → IsUsable file columns cond
@@ -23,7 +23,7 @@ usable (Some file) columns cond (Program certified) chosen = (certified.program,
 usable (Some file) columns cond Rows chosen = absurd chosen
 usable None columns cond scan chosen = tt
 
--- no load and no skip, row by row
+-- no load and no skip by the fallback
 no_loads : (columns : List Column) (groups : List (List (List Value))) → sum_by (loads_in columns Rows) groups ≡ 0
 no_loads columns [] = refl
 no_loads columns (group ∷ groups) = no_loads columns groups

@@ -1,6 +1,7 @@
 -- Where a call over a table file ends: at the header, at the query, at a segment, or when the text
 -- is written.
-use Rattle.std.proofs.Common.{◌≡◌, ◌∙◌, ℕ, ◌+◌, List, ◌++◌, Bool, true, false, ◌==◌, inl, inr}
+use Rattle.std.proofs.Common.{◌≡◌, ◌∙◌, ℕ, ◌+◌, ◌-◌, ◌^◌, ◌<◌, List, [], ◌++◌, Bool, true, false, ◌==◌}
+use Rattle.std.proofs.Common.{inl, inr}
 use Rattle.std.proofs.Common.{Option, Some, None, Result, Ok, Err, refl, sym, ap, subst, arith}
 use Rattle.std.specs.Prelude.{OnOk}
 use Rattle.std.specs.Io.KnownBytes.{Appends, Consumes, IsAtEnd}
@@ -22,7 +23,8 @@ use Rattle.bw_io.specs.Source.{failed_by, failed_reads, is_input_fault, is_read_
 use Rattle.bw_file.specs.FileBytes.{IsFileBytes}
 use Rattle.bw_file.specs.Reading.{State, Fails, GoesOn, give}
 use Rattle.bw_file.specs.TableReading.{IsTableFault, header, is_table_fault}
-use Rattle.bw_file.specs.TableReader.{AnswersFault, schema_in, version_in, header_stated}
+use Rattle.bw_file.specs.TableReader.{AnswersFault, ReadProgress, final_result, found_so_far}
+use Rattle.bw_file.specs.TableReader.{schema_in, version_in, header_stated}
 use Rattle.bw_file.specs.declared.table_reader.TableReader.{TableReader}
 use Rattle.bw_file.proofs.FileSpelling.{read_is_spelled_by}
 use Rattle.bw_query.specs.MemoryAnswer.{is_output_fault}
@@ -30,7 +32,7 @@ use Rattle.bw_query.specs.TableAnswer.{AnswersFile, IsHeaderOf, IsTableResult, T
 use Rattle.bw_query.specs.TableAnswer.{is_no_verdict}
 use Rattle.bw_query.specs.declared.scan.Scan.{Scan}
 use Rattle.bw_query.specs.declared.served.Scanned.{Scanned}
-use Rattle.bw_query.specs.TableText.{IsScanOf, TextOver}
+use Rattle.bw_query.specs.Segments.{HasGiven, HasGivenAll, IsScanOf, IsTextOf}
 
 abbrev pub Given : Type 0
 Given = Result (List ℕ) Fault
@@ -86,30 +88,32 @@ segment_refused asks start old now reader query fault told asked answers = recor
 }
 
 -- the text of the meaning, over a table's rows, and what is reported of the scan over their groups
-pub text_over : (asks : Schema → Result Query Fault → Type 0) (start now : State) (schema : Schema) (query : Query) (scan : Scan) (text : List ℕ) (scanned : Scanned)
+pub text_over : (asks : Schema → Result Query Fault → Type 0) (start old now : State) (reader : TableReader) (query : Query) (scan : Scan) (text : List ℕ) (scanned : Scanned)
     (Told : Schema → Query → List (List Value) → Type 0)
-    → ((rows : List (List Value)) → IsScanOf schema.columns.items scan (groups_of rows) scanned → Told schema query rows)
-    → asks schema (Ok query) → TextOver start now schema query scan text scanned
+    → ((rows : List (List Value)) → IsScanOf (schema_in reader).columns.items scan (groups_of rows) scanned → Told (schema_in reader) query rows)
+    → asks (schema_in reader) (Ok query) → ReadProgress start old reader []
+    → IsTextOf (schema_in reader).columns.items query scan (λ groups. HasGivenAll old reader groups now) text scanned
     → (found : TableText asks start now text) × Told found.schema found.query found.rows
-text_over asks start now schema query scan text scanned Told told asked over = (
-  record {
-    schema = schema;
-    rows = together over.groups;
-    query = query;
-    table = record {
-      found = over.found;
-      read = over.read;
-      shape = over.shape;
-      same = over.rows;
-      text = let L : List (List Value) → Type 0 = λ rows. IsFileBytes over.read.bytes over.found.layout schema rows in
-          subst L over.rows (read_is_spelled_by over.read.bytes over.found schema over.read.took.each (sym over.shape) over.read.read);
-    };
-    asked = asked;
-    is = over.is;
-  },
-  let S : List (List (List Value)) → Type 0 = λ groups. IsScanOf schema.columns.items scan groups scanned in
-      told (together over.groups) (subst S over.cut over.counts),
-)
+text_over asks start old now reader query scan text scanned Told told asked began over =
+    let schema = schema_in reader in
+    let whole = over.all.read start began in (
+      record {
+        schema = schema;
+        rows = together over.groups;
+        query = query;
+        table = record {
+          found = found_so_far reader over.groups;
+          read = whole;
+          shape = refl;
+          same = refl;
+          text = read_is_spelled_by whole.bytes (found_so_far reader over.groups) schema whole.took.each refl whole.read;
+        };
+        asked = asked;
+        is = over.is;
+      },
+      let S : List (List (List Value)) → Type 0 = λ groups. IsScanOf schema.columns.items scan groups scanned in
+          told (together over.groups) (subst S (over.all.cut start began) over.counts),
+    )
 
 -- all bytes to come were taken
 all_came : (bytes taken : List ℕ) (old new : Option (List ℕ)) → old ≡ Some bytes → Consumes old new taken → IsAtEnd new → taken ≡ bytes
@@ -149,11 +153,22 @@ answered_or_not asks start now text found bytes known old new (Ok x) goes =
 answered_or_not asks start now text found bytes known old new (Err fault) goes = tt
 
 -- the file was read completely
-pub text_gave : (asks : Schema → Result Query Fault → Type 0) (start now : State) (schema : Schema) (query : Query) (scan : Scan) (text : List ℕ) (scanned : Scanned)
-    → asks schema (Ok query) → TextOver start now schema query scan text scanned → IsTableResult asks start now (Ok text)
-text_gave asks start now schema query scan text scanned asked over =
-    let found = text_over asks start now schema query scan text scanned (λ s q r. Unit {0}) (λ rows counts. tt) asked over in
-    record { failures = omega (arith, over.read.failures); answer = found.0 }
+pub text_gave : (asks : Schema → Result Query Fault → Type 0) (start old now : State) (reader : TableReader) (query : Query) (scan : Scan) (text : List ℕ) (scanned : Scanned)
+    → asks (schema_in reader) (Ok query) → ReadProgress start old reader []
+    → IsTextOf (schema_in reader).columns.items query scan (λ groups. HasGivenAll old reader groups now) text scanned → IsTableResult asks start now (Ok text)
+text_gave asks start old now reader query scan text scanned asked began over =
+    let found = text_over asks start old now reader query scan text scanned (λ s q r. Unit {0}) (λ rows counts. tt) asked began over in
+    record { failures = omega (arith, (over.all.read start began).failures); answer = found.0 }
+
+-- no group came so far of a file of which only the header was read
+pub none_given : (start old : State) (reader : TableReader) → ReadProgress start old reader [] → final_result reader ≡ None → start.failures < 2 ^ 64 - 1 → HasGiven old reader [] old reader
+none_given start old reader began reading fits = record {
+  read = λ start read. read;
+  same = record { version = refl; layout = refl; schema = refl; rows = refl };
+  reading = reading;
+  failures = refl;
+  fits = omega (arith, began.head.failures, began.on.failures, fits);
+}
 
 -- an error was answered that is no failed write, and nothing was written
 pub refused : (T : Type 0) (old : SinkState) (fault : Fault) → is_write_fault fault ≡ false → WriteOutcome {T = T} none_aside old old (Err fault) (Err fault)

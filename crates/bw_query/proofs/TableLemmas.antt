@@ -43,11 +43,3 @@ one_more count groups rows so_far next is more =
 -- conditions of the same truth on every row match as many
 pub matches_alike : (a b : Cond) (rows : List (List Value)) → ((row : List Value) → truth_of row a ≡ truth_of row b) → length (matching_rows a rows) ≡ length (matching_rows b rows)
 matches_alike a b rows same = λ i. length (filter (λ (row : List Value). is_truth (same row i) Yes) rows)
-
--- how many rows match in the groups so far, and in one more
-pub more_matches : (cond : Cond) (groups : List (List (List Value))) (rows : List (List Value)) (so_far next : ℕ)
-    → so_far ≡ length (matching_rows cond (together groups)) → next ≡ length (matching_rows cond rows) → so_far + next ≡ length (matching_rows cond (together (groups ++ rows ∷ [])))
-more_matches cond groups rows so_far next is more =
-    let all = ap (λ (those : List (List Value)). length (matching_rows cond those)) (together_more groups rows) in
-    let parts = ap length (filter-append (is_match cond) (together groups) rows) in
-    omega (arith, is, more, all, parts, length-append (matching_rows cond (together groups)) (matching_rows cond rows))

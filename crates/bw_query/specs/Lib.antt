@@ -1,5 +1,4 @@
 pub mod ProgramChoice
-pub mod AnswerText
 pub mod Certification
 pub mod MemoryAnswer
 pub mod Plan
@@ -7,5 +6,5 @@ pub mod ProgramCache
 pub mod Scan
 pub mod Served
 pub mod TableAnswer
-pub mod TableText
+pub mod Segments
 pub mod Trial

@@ -34,8 +34,8 @@ IsChosen None columns cond (Program certified) = (certificate : CertificateShape
     × Valid columns cond certified.program certificate
 IsChosen None columns cond Rows = Unit {0}
 
--- The scan by the result of a search for a program: by the program, if one was found; else row by
--- row. Out of memory is no scan.
+-- The scan by the result of a search for a program: by the program, if one was found; else by the
+-- fallback. Out of memory is no scan.
 abbrev pub scan_by : Result Certified Fault → Result Scan Fault
 scan_by (Ok certified) = Ok (Program certified)
 scan_by (Err fault) = if is_memory fault then Err fault else Ok Rows
@@ -59,7 +59,7 @@ IsScanFault None columns cond fault = ⊥
 abbrev pub run_over : ProgramShape → List Column → List (List Value) → State
 run_over program columns group = end_state columns (lanes_of columns group) program
 
--- the loads of a scan over a group of rows: 0, if it's row by row
+-- the loads of a scan over a group of rows: 0 for the fallback
 abbrev pub loads_in : List Column → Scan → List (List Value) → ℕ
 loads_in columns (Program certified) group = (run_over certified.program columns group).loads
 loads_in columns Rows group = 0

@@ -29,14 +29,14 @@ pub record ByProgram (program : ProgramShape) (columns : List Column) (rows : Li
   pub skips : served.skips ≡ sum_by (λ group. (run_over program columns group).skips)
       (groups_of rows)
 
--- row by row: no load and no skip
+-- by the fallback: no load and no skip
 pub record ByRows (served : Served) : Type 0 where
   pub by : served.by ≡ By.Rows
   pub loads : served.loads ≡ 0
   pub skips : served.skips ≡ 0
 
 -- With a program file: by its program, whose certificate is valid for the condition. Else by some
--- program that with some certificate is valid, or row by row.
+-- program that with some certificate is valid, or by the fallback.
 abbrev pub IsServedBy : Option (List ℕ) → List Column → Cond → List (List Value) → Served → Type 0
 IsServedBy (Some file) columns cond rows served =
     (program : ProgramShape) × (certificate : CertificateShape)

@@ -10,12 +10,14 @@
 #![tactic(auto)]
 
 mod certify_call;
+mod file_segments;
 mod file_text;
 mod memory_calls;
-mod memory_text;
+mod memory_segments;
 mod plan_call;
 mod program_cache;
 mod scan;
+mod segments;
 mod served;
 mod table_calls;
 mod table_text;

@@ -7,18 +7,17 @@ ghost use Rattle.bw_model.specs.Fault.{is_memory};
 ghost use Rattle.bw_io.specs.Sink.{WriteOutcome, is_write_fault, none_aside};
 ghost use Rattle.bw_memory.specs.MemoryTable.{rows_of, schema_of};
 ghost use Rattle.bw_query.specs.ProgramChoice.{IsServedAmong};
-ghost use Rattle.bw_query.specs.AnswerText.{text_in};
-ghost use Rattle.bw_query.specs.MemoryAnswer.{AnswersRows, IsMemoryAnswer, RowsText};
+ghost use Rattle.bw_query.specs.MemoryAnswer.{AnswersRows, IsMemoryAnswer};
 ghost use Rattle.bw_query.specs.MemoryAnswer.{is_output_fault};
 ghost use Rattle.bw_query.specs.ProgramCache.{Serves, files_of};
 ghost use Rattle.bw_query.specs.Scan.{given_file};
 ghost use Rattle.bw_query.specs.Served.{IsServed};
 ghost use Rattle.bw_query.specs.TableAnswer.{by_statement};
 
-use crate::memory_text::memory_text;
+use crate::memory_segments::memory_text;
 use crate::program_cache::ProgramCache;
 use crate::served::report_of;
-use crate::table_calls::{AnswerText, prepare};
+use crate::table_calls::prepare;
 use bw_io::{Sink, write_whole};
 use bw_memory::MemoryTable;
 use bw_model::Fault;
@@ -59,39 +58,10 @@ pub fn answer_in_memory<K: Sink>(
         → by_statement (given_file program.entry) sql.now (schema_of table.now) (Ok query)
         → IfErr result (λ fault. IsTrue (is_output_fault fault)) }
 {
-    let answered = run_in_memory(alloc, table, sql, program)?;
-    write_whole(sink, &answered.text)?;
-    Ok(answered.served)
-}
-
-/// Returns the text of the result of a statement over a table in memory. Errors are those of
-/// [`answer_in_memory`], without the sink's.
-fn run_in_memory(
-    alloc: Global,
-    table: &MemoryTable,
-    sql: &[u8],
-    program: Option<&[u8]>,
-) -> Result<AnswerText, Fault>
-    ensures answer { IsMemoryAnswer (by_statement (given_file program.entry) sql.now)
-        (schema_of table.now) (rows_of table.now) (text_in result) }
-    ensures served { IfOk result (λ answered.
-        (found : RowsText (by_statement (given_file program.entry) sql.now) (schema_of table.now)
-        (rows_of table.now) answered.text.items)
-        × IsServed (given_file program.entry) (schema_of table.now) found.query
-        (rows_of table.now) answered.served) }
-    ensures accepted { (query : Query)
-        → by_statement (given_file program.entry) sql.now (schema_of table.now) (Ok query)
-        → IfErr result (λ fault. IsTrue (is_memory fault)) }
-    ensures fault { IfErr result (λ fault. is_write_fault fault ≡ false) }
-{
     let prepared = prepare(alloc, table.schema(), sql, program)?;
-    match memory_text(alloc, table, &prepared.query, &prepared.scan) {
-        Ok(found) => Ok(AnswerText {
-            served: report_of(&prepared.scan, found.scanned),
-            text: found.text,
-        }),
-        Err(fault) => Err(fault),
-    }
+    let found = memory_text(alloc, table, &prepared.query, &prepared.scan)?;
+    write_whole(sink, &found.text)?;
+    Ok(report_of(&prepared.scan, found.scanned))
 }
 
 /// Answers a statement as [`answer_in_memory`] does, with programs for the conditions of many
@@ -129,42 +99,10 @@ pub fn answer_with_programs<K: Sink>(
     ensures serves { Serves (schema_of table.now).columns.items programs.new }
     ensures files { files_of programs.new ≡ files_of programs.old }
 {
-    let answered = run_with_programs(alloc, table, sql, programs)?;
-    write_whole(sink, &answered.text)?;
-    Ok(answered.served)
-}
-
-/// Returns the text of the answer to a statement over the rows of a table in memory. Errors are
-/// those of [`answer_with_programs`], without the sink's.
-fn run_with_programs(
-    alloc: Global,
-    table: &MemoryTable,
-    sql: &[u8],
-    programs: &mut ProgramCache,
-) -> Result<AnswerText, Fault>
-    requires { Serves (schema_of table.now).columns.items programs.old }
-    ensures answer { IsMemoryAnswer (by_statement None sql.now) (schema_of table.now)
-        (rows_of table.now) (text_in result) }
-    ensures served { IfOk result (λ answered.
-        (found : RowsText (by_statement None sql.now) (schema_of table.now) (rows_of table.now)
-        answered.text.items)
-        × IsServedAmong (files_of programs.old) (schema_of table.now) found.query
-        (rows_of table.now) answered.served) }
-    ensures accepted { (query : Query) → by_statement None sql.now (schema_of table.now) (Ok query)
-        → IfErr result (λ fault. IsTrue (is_memory fault)) }
-    ensures fault { IfErr result (λ fault. is_write_fault fault ≡ false) }
-    ensures serves { Serves (schema_of table.now).columns.items programs.new }
-    ensures files { files_of programs.new ≡ files_of programs.old }
-{
-    let schema = table.schema();
-    let query = parse(alloc, schema, sql)?;
+    let query = parse(alloc, table.schema(), sql)?;
     let number = programs.find_or_add(alloc, table, &query.cond)?;
     let scan = programs.scan(number);
-    match memory_text(alloc, table, &query, scan) {
-        Ok(found) => Ok(AnswerText {
-            served: report_of(scan, found.scanned),
-            text: found.text,
-        }),
-        Err(fault) => Err(fault),
-    }
+    let found = memory_text(alloc, table, &query, scan)?;
+    write_whole(sink, &found.text)?;
+    Ok(report_of(scan, found.scanned))
 }

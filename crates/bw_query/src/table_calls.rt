@@ -17,7 +17,6 @@ ghost use Rattle.bw_file.specs.Reading.{State, state_at};
 ghost use Rattle.bw_file.specs.TableReader.{bytes_taken, rows_given, final_result};
 ghost use Rattle.bw_io.specs.Sink.{WriteOutcome, is_write_fault, none_aside};
 ghost use Rattle.bw_io.specs.Source.{TellsFailure, is_read_fault};
-ghost use Rattle.bw_query.specs.AnswerText.{bytes_in, text_in};
 ghost use Rattle.bw_query.specs.Scan.{IsChosen, IsFor, given_file};
 ghost use Rattle.bw_query.specs.Served.{IsServed};
 ghost use Rattle.bw_query.specs.TableAnswer.{AnswersFile, HasReadHeader, IsEveryRow, IsTableResult};
@@ -79,80 +78,12 @@ pub fn answer<S: Source, K: Sink>(
         schema (Ok query) → IfErr result (λ fault. IsTrue (is_no_verdict fault)) }
     ensures table { TellsFailure (S.state table.old) (S.state table.new) result }
 {
-    let answered = run_statement(alloc, table, sql, program)?;
-    write_whole(sink, &answered.text)?;
-    Ok(answered.served)
-}
-
-/// The text of a result, and how it was found.
-#[derive(Drop)]
-pub(crate) struct AnswerText {
-    pub(crate) text: Vec<u8>,
-    pub(crate) served: Served,
-}
-
-/// Returns the text of the result of a statement over a table file, once the last segment was
-/// validated and the file has ended. Errors are those of [`answer`], without the sink's.
-fn run_statement<S: Source>(
-    alloc: Global,
-    table: &mut S,
-    sql: &[u8],
-    program: Option<&[u8]>,
-) -> Result<AnswerText, Fault>
-    requires { (S.state table.old).failures < 2 ^ 64 - 1 }
-    ensures answer { (offset : ℕ) × IsTableResult (by_statement (given_file program.entry) sql.now)
-        (state_at (S.state table.old) 0) (state_at (S.state table.new) offset) (text_in result) }
-    ensures served { IfOk result (λ answered. (offset : ℕ)
-        × (found : TableText (by_statement (given_file program.entry) sql.now)
-        (state_at (S.state table.old) 0) (state_at (S.state table.new) offset) answered.text.items)
-        × IsServed (given_file program.entry) found.schema found.query found.rows answered.served) }
-    ensures accepted { (bytes : List ℕ) (layout : Layout) (schema : Schema)
-        (rows : List (List Value)) (query : Query) → (S.state table.old).known ≡ Some bytes
-        → IsFileBytes bytes layout schema rows → by_statement (given_file program.entry) sql.now
-        schema (Ok query) → IfErr result (λ fault. IsTrue (is_no_verdict fault)) }
-    ensures fault { IfErr result (λ fault. is_write_fault fault ≡ false) }
-{
     a_file_is_read_whole();
     let mut reader = TableReader::begin(alloc, table)?;
-    run_after_header(alloc, &mut reader, table, sql, program)
-}
-
-/// Returns the same for a table file of which only the header was read.
-fn run_after_header<S: Source>(
-    alloc: Global,
-    reader: &mut TableReader,
-    table: &mut S,
-    sql: &[u8],
-    program: Option<&[u8]>,
-) -> Result<AnswerText, Fault>
-    requires counter_fits { (S.state table.old).failures < 2 ^ 64 - 1 }
-    requires fresh { (rows_given reader.old ≡ 0) × (final_result reader.old ≡ None) }
-    ensures answer { (start : State) → HasReadHeader start
-        (state_at (S.state table.old) (bytes_taken reader.old)) reader.old
-        → IsTableResult (by_statement (given_file program.entry) sql.now) start
-        (state_at (S.state table.new) (bytes_taken reader.new)) (text_in result) }
-    ensures served { IfOk result (λ answered. (start : State)
-        → HasReadHeader start (state_at (S.state table.old) (bytes_taken reader.old)) reader.old
-        → (found : TableText (by_statement (given_file program.entry) sql.now) start
-        (state_at (S.state table.new) (bytes_taken reader.new)) answered.text.items)
-        × IsServed (given_file program.entry) found.schema found.query found.rows answered.served) }
-    ensures accepted { (start : State) (bytes : List ℕ) (layout : Layout) (schema : Schema)
-        (rows : List (List Value)) (query : Query)
-        → HasReadHeader start (state_at (S.state table.old) (bytes_taken reader.old)) reader.old
-        → start.known ≡ Some bytes → IsFileBytes bytes layout schema rows
-        → by_statement (given_file program.entry) sql.now schema (Ok query)
-        → IfErr result (λ fault. IsTrue (is_no_verdict fault)) }
-    ensures fault { IfErr result (λ fault. is_write_fault fault ≡ false) }
-{
-    a_file_is_read_whole();
     let prepared = prepare(alloc, reader.schema(), sql, program)?;
-    match table_text(alloc, reader, table, &prepared.query, &prepared.scan) {
-        Ok(found) => Ok(AnswerText {
-            served: report_of(&prepared.scan, found.scanned),
-            text: found.text,
-        }),
-        Err(fault) => Err(fault),
-    }
+    let found = table_text(alloc, &mut reader, table, &prepared.query, &prepared.scan)?;
+    write_whole(sink, &found.text)?;
+    Ok(report_of(&prepared.scan, found.scanned))
 }
 
 /// A query, and what finds its rows.
@@ -222,59 +153,11 @@ pub fn dump<S: Source, K: Sink>(alloc: Global, table: &mut S, sink: &mut K) -> R
         → IfErr result (λ fault. IsTrue (is_no_verdict fault)) }
     ensures table { TellsFailure (S.state table.old) (S.state table.new) result }
 {
-    let text = dump_rows(alloc, table)?;
-    write_whole(sink, &text)
-}
-
-/// Returns the text of all rows of a table file, once the last segment was validated and the file
-/// has ended. Errors are those of [`dump`], without the sink's.
-fn dump_rows<S: Source>(alloc: Global, table: &mut S) -> Result<Vec<u8>, Fault>
-    requires { (S.state table.old).failures < 2 ^ 64 - 1 }
-    ensures answer { (offset : ℕ) × IsTableResult by_dump (state_at (S.state table.old) 0)
-        (state_at (S.state table.new) offset) (bytes_in result) }
-    ensures text { IfOk result (λ text. (offset : ℕ)
-        × TableText by_dump (state_at (S.state table.old) 0) (state_at (S.state table.new) offset)
-        text.items) }
-    ensures accepted { (bytes : List ℕ) (layout : Layout) (schema : Schema)
-        (rows : List (List Value)) → (S.state table.old).known ≡ Some bytes
-        → IsFileBytes bytes layout schema rows
-        → IfErr result (λ fault. IsTrue (is_no_verdict fault)) }
-    ensures fault { IfErr result (λ fault. is_write_fault fault ≡ false) }
-{
     a_file_is_read_whole();
     let mut reader = TableReader::begin(alloc, table)?;
-    dump_after_header(alloc, &mut reader, table)
-}
-
-/// Returns the same for a table file of which only the header was read.
-fn dump_after_header<S: Source>(
-    alloc: Global,
-    reader: &mut TableReader,
-    table: &mut S,
-) -> Result<Vec<u8>, Fault>
-    requires counter_fits { (S.state table.old).failures < 2 ^ 64 - 1 }
-    requires fresh { (rows_given reader.old ≡ 0) × (final_result reader.old ≡ None) }
-    ensures answer { (start : State) → HasReadHeader start
-        (state_at (S.state table.old) (bytes_taken reader.old)) reader.old
-        → IsTableResult by_dump start (state_at (S.state table.new) (bytes_taken reader.new))
-        (bytes_in result) }
-    ensures text { IfOk result (λ text. (start : State)
-        → HasReadHeader start (state_at (S.state table.old) (bytes_taken reader.old)) reader.old
-        → TableText by_dump start (state_at (S.state table.new) (bytes_taken reader.new))
-        text.items) }
-    ensures accepted { (start : State) (bytes : List ℕ) (layout : Layout) (schema : Schema)
-        (rows : List (List Value)) → HasReadHeader start
-        (state_at (S.state table.old) (bytes_taken reader.old)) reader.old → start.known
-        ≡ Some bytes → IsFileBytes bytes layout schema rows
-        → IfErr result (λ fault. IsTrue (is_no_verdict fault)) }
-    ensures fault { IfErr result (λ fault. is_write_fault fault ≡ false) }
-{
-    a_file_is_read_whole();
     let query = every_row(alloc, reader.schema())?;
-    match table_text(alloc, reader, table, &query, &Scan::Rows) {
-        Ok(found) => Ok(found.text),
-        Err(fault) => Err(fault),
-    }
+    let found = table_text(alloc, &mut reader, table, &query, &Scan::Rows)?;
+    write_whole(sink, &found.text)
 }
 
 /// Returns the query for all rows and all columns.

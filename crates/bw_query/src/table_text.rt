@@ -1,30 +1,22 @@
-//! The text of a result over a table file, one segment at a time.
-ghost use Rattle.std.specs.Prelude.{◌≡◌, ◌+◌, ◌-◌, ◌^◌, ◌<◌, ◌≤◌, [], None, false};
-ghost use Rattle.std.specs.Prelude.{true, IsTrue, IfOk, IfErr, OnOk, length, vec_len};
+//! The text of a result over a table's segments, one after another.
+ghost use Rattle.std.specs.Prelude.{◌≡◌, ◌+◌, ◌≤◌, [], false, IsTrue, IfOk, IfErr, length, vec_len};
 ghost use Rattle.std.specs.List.{list_all};
-ghost use Rattle.bw_model.specs.Column.{names_of};
 ghost use Rattle.bw_model.specs.Fault.{no_memory};
 ghost use Rattle.bw_model.specs.Limits.{most_rows};
 ghost use Rattle.bw_model.specs.Total.{item_within};
-ghost use Rattle.bw_model.specs.declared.query.Query.{Query};
 ghost use Rattle.bw_sql.specs.Items.{AreOfOneKind};
-ghost use Rattle.bw_answer.specs.TextAndTotals.{CountsRows};
-ghost use Rattle.bw_answer.specs.Progress.{GoesOver, IsOver, query_in};
-ghost use Rattle.bw_answer.specs.declared.answer.Answer.{Answer};
+ghost use Rattle.bw_answer.specs.Progress.{query_in};
 ghost use Rattle.bw_io.specs.Sink.{is_write_fault};
-ghost use Rattle.bw_file.specs.AnySegment.{any_meaning};
-ghost use Rattle.bw_file.specs.Reading.{State, state_at};
-ghost use Rattle.bw_file.specs.TableReader.{schema_in, bytes_taken, rows_given, final_result};
-ghost use Rattle.bw_file.specs.TableReader.{ReadProgress, AnswersFault};
-ghost use Rattle.bw_query.specs.Scan.{IsFor, loads_in, skips_in};
-ghost use Rattle.bw_query.specs.TableText.{TextOver, HasConsumedAll};
+ghost use Rattle.bw_query.specs.Scan.{IsFor};
+ghost use Rattle.bw_query.specs.Segments.{IsTextOf, TakesAll, TakesGroup};
+ghost use Rattle.bw_query.specs.declared.scan.Scan.TheVariants.{Program, Rows};
 
 use crate::scan::Scan;
+use crate::segments::Segments;
 use crate::served::{NOTHING_SCANNED, Scanned};
 use bw_answer::Answer;
-use bw_file::{AnySegment, TableReader, bytes_were_taken};
-use bw_io::Source;
-use bw_model::{Fault, Query, Schema};
+use bw_cert::Certified;
+use bw_model::{Fault, Query};
 use bw_run::{Counts, Registers, registers};
 use bw_segment::Segment;
 use std::alloc::Global;
@@ -36,181 +28,123 @@ pub(crate) struct TableText {
     pub(crate) scanned: Scanned,
 }
 
-/// Returns the text of the result of a query over a table file of which only the header was read.
-/// It is complete once the last segment was validated and the file has ended.
-pub(crate) fn table_text<S: Source>(
+/// Returns the text of the result of a query over a table, of which no segment came so far. It is
+/// complete once the last segment came and nothing follows.
+pub(crate) fn table_text<I, T: Segments<I>>(
     alloc: Global,
-    reader: &mut TableReader,
-    source: &mut S,
+    segments: &mut T,
+    input: &mut I,
     query: &Query,
     scan: &Scan,
 ) -> Result<TableText, Fault>
-    requires counter_fits { (S.state source.old).failures < 2 ^ 64 - 1 }
-    requires fresh { (rows_given reader.old ≡ 0) × (final_result reader.old ≡ None) }
-    requires items { IsTrue (list_all (item_within (vec_len (schema_in reader.old).columns))
+    requires fresh { T.gave segments.old input.old [] segments.old input.old }
+    requires none { T.given segments.old ≡ 0 }
+    requires items { IsTrue (list_all (item_within (vec_len (T.table segments.old).columns))
         query.now.items.items) }
     requires nonempty { 1 ≤ length query.now.items.items }
     requires kinds { AreOfOneKind query.now.items.items }
-    requires scan { IsFor (schema_in reader.old).columns.items query.now.cond scan.now }
-    ensures text { IfOk result (λ found. (start : State)
-        → ReadProgress start (state_at (S.state source.old) (bytes_taken reader.old)) reader.old []
-        → TextOver start (state_at (S.state source.new) (bytes_taken reader.new))
-        (schema_in reader.old) query.now scan.now found.text.items found.scanned) }
-    ensures refused { IfErr result (λ fault. (start : State)
-        → ReadProgress start (state_at (S.state source.old) (bytes_taken reader.old)) reader.old []
-        → AnswersFault start (state_at (S.state source.old) (bytes_taken reader.old))
-        (state_at (S.state source.new) (bytes_taken reader.new)) fault) }
+    requires scan { IsFor (T.table segments.old).columns.items query.now.cond scan.now }
+    ensures text { IfOk result (λ found. IsTextOf (T.table segments.old).columns.items query.now
+        scan.now (λ groups. T.ended segments.old input.old groups segments.new input.new)
+        found.text.items found.scanned) }
+    ensures refused { IfErr result (T.failed segments.old input.old segments.new input.new) }
     ensures fault { IfErr result (λ fault. is_write_fault fault ≡ false) }
 {
-    bytes_were_taken();
-    let mut answer = empty_answer(alloc, reader.schema(), reader.rows(), query)?;
-    let scanned = take_rows(reader, source, scan, &mut answer)?;
+    let mut answer = Answer::new(alloc, segments.schema(), query)?;
+    answer.reserve(segments.rows())?;
+    let scanned = take_rows(segments, input, scan, &mut answer)?;
     Ok(TableText {
         text: answer.into_text()?,
         scanned,
     })
 }
 
-/// Returns the result of a query over no rows, with memory for this many rows if each is listed.
-pub(crate) fn empty_answer<'a>(
-    alloc: Global,
-    schema: &Schema,
-    rows: u32,
-    query: &'a Query,
-) -> Result<Answer<'a>, Fault>
-    requires items { IsTrue (list_all (item_within (vec_len schema.now.columns))
-        query.now.items.items) }
-    requires nonempty { 1 ≤ length query.now.items.items }
-    requires kinds { AreOfOneKind query.now.items.items }
-    ensures covers { IfOk result
-        (λ answer. IsOver (names_of schema.now.columns.items) query.now [] answer) }
-    ensures width { IfOk result (λ answer. answer.width ≡ vec_len schema.now.columns) }
-    ensures rows { IfOk result (λ answer. answer.rows ≡ 0) }
-    ensures only_oom { IfErr result (λ fault. fault ≡ no_memory) }
-{
-    let mut answer = Answer::new(alloc, schema, query)?;
-    answer.reserve(rows)?;
-    Ok(answer)
-}
-
 /// Consumes the rows of all segments, and returns what was scanned.
-fn take_rows<S: Source>(
-    reader: &mut TableReader,
-    source: &mut S,
+fn take_rows<I, T: Segments<I>>(
+    segments: &mut T,
+    input: &mut I,
     scan: &Scan,
     answer: &mut Answer<'_>,
 ) -> Result<Scanned, Fault>
-    requires counter_fits { (S.state source.old).failures < 2 ^ 64 - 1 }
-    requires fresh { (rows_given reader.old ≡ 0) × (final_result reader.old ≡ None) }
-    requires none { answer.old.rows ≡ 0 }
-    requires width { answer.old.width ≡ length (schema_in reader.old).columns.items }
-    requires scan { IsFor (schema_in reader.old).columns.items (query_in answer.old).cond scan.now }
-    ensures took { IfOk result (λ scanned. HasConsumedAll
-        (state_at (S.state source.old) (bytes_taken reader.old))
-        (state_at (S.state source.new) (bytes_taken reader.new)) reader.old scan.now answer.old
-        answer.new scanned) }
-    ensures refused { IfErr result (λ fault. (start : State)
-        → ReadProgress start (state_at (S.state source.old) (bytes_taken reader.old)) reader.old []
-        → AnswersFault start (state_at (S.state source.old) (bytes_taken reader.old))
-        (state_at (S.state source.new) (bytes_taken reader.new)) fault) }
+    requires fresh { T.gave segments.old input.old [] segments.old input.old }
+    requires none { T.given segments.old ≡ 0 }
+    requires rows { answer.old.rows ≡ 0 }
+    requires width { answer.old.width ≡ length (T.table segments.old).columns.items }
+    requires scan { IsFor (T.table segments.old).columns.items (query_in answer.old).cond scan.now }
+    ensures taken { IfOk result (TakesAll (T.table segments.old).columns.items scan.now answer.old
+        answer.new (λ groups. T.ended segments.old input.old groups segments.new input.new)) }
+    ensures refused { IfErr result (T.failed segments.old input.old segments.new input.new) }
     ensures fault { IfErr result (λ fault. is_write_fault fault ≡ false) }
 {
-    bytes_were_taken();
-    let counts = answer.counts_rows();
     let mut registers = registers();
     let mut scanned = NOTHING_SCANNED;
-    while let Some(segment) = reader.next_segment(source)? {
-        let taken = take_either(&segment, scan, counts, &mut registers, answer);
-        drop(segment);
-        let more = taken?;
+    while let Some(more) = segments.take_next(input, scan, &mut registers, answer)? {
         scanned = scanned.plus(more);
     }
     Ok(scanned)
 }
 
-/// Consumes the rows of a segment in either layout, which is looked up once a segment.
-#[tactic(auto, unfolding(bw_file::specs::AnySegment::any_meaning))]
-fn take_either(
-    segment: &AnySegment,
-    scan: &Scan,
-    counts: bool,
-    registers: &mut Registers,
-    answer: &mut Answer<'_>,
-) -> Result<Counts, Fault>
-    requires scan { IsFor (any_meaning segment.now).columns (query_in answer.old).cond scan.now }
-    requires counts { counts ≡ true → CountsRows (query_in answer.old) }
-    requires width { answer.old.width ≡ length (any_meaning segment.now).columns }
-    requires capacity { answer.old.rows + length (any_meaning segment.now).rows ≤ most_rows }
-    ensures covers { OnOk result (GoesOver answer.old (any_meaning segment.now).rows answer.new) }
-    ensures width { OnOk result (answer.new.width ≡ answer.old.width) }
-    ensures rows { OnOk result (answer.new.rows
-        ≡ answer.old.rows + length (any_meaning segment.now).rows) }
-    ensures loads { IfOk result (λ counts. counts.loads
-        ≡ loads_in (any_meaning segment.now).columns scan.now (any_meaning segment.now).rows) }
-    ensures skips { IfOk result (λ counts. counts.skips
-        ≡ skips_in (any_meaning segment.now).columns scan.now (any_meaning segment.now).rows) }
-    ensures bounded { IfOk result (λ counts. counts.loads + counts.skips ≤ 4096) }
-    ensures only_oom { IfErr result (λ fault. fault ≡ no_memory) }
-{
-    match segment {
-        AnySegment::Planes(segment) => take_segment(segment, scan, counts, registers, answer),
-        AnySegment::Slices(segment) => take_segment(segment, scan, counts, registers, answer),
-    }
-}
-
 /// Consumes the rows of a segment: those that a program selects, or that the fallback does.
+/// Returns the counts of the program's run.
 pub(crate) fn take_segment<S: Segment>(
     segment: &S,
     scan: &Scan,
-    counts: bool,
     registers: &mut Registers,
     answer: &mut Answer<'_>,
 ) -> Result<Counts, Fault>
     requires scan { IsFor (S.meaning segment.now).columns (query_in answer.old).cond scan.now }
-    requires counts { counts ≡ true → CountsRows (query_in answer.old) }
     requires width { answer.old.width ≡ length (S.meaning segment.now).columns }
     requires capacity { answer.old.rows + length (S.meaning segment.now).rows ≤ most_rows }
-    ensures covers { OnOk result (GoesOver answer.old (S.meaning segment.now).rows answer.new) }
-    ensures width { OnOk result (answer.new.width ≡ answer.old.width) }
-    ensures rows { OnOk result (answer.new.rows
-        ≡ answer.old.rows + length (S.meaning segment.now).rows) }
-    ensures loads { IfOk result (λ counts. counts.loads
-        ≡ loads_in (S.meaning segment.now).columns scan.now (S.meaning segment.now).rows) }
-    ensures skips { IfOk result (λ counts. counts.skips
-        ≡ skips_in (S.meaning segment.now).columns scan.now (S.meaning segment.now).rows) }
-    ensures bounded { IfOk result (λ counts. counts.loads + counts.skips ≤ 4096) }
+    ensures taken { IfOk result (TakesGroup (S.meaning segment.now).columns scan.now answer.old
+        answer.new (λ group. group ≡ (S.meaning segment.now).rows)) }
     ensures only_oom { IfErr result (λ fault. fault ≡ no_memory) }
 {
     match scan {
-        Scan::Program(certified) => {
-            let (selection, counts) = certified.run_in(segment, registers);
-            certified.condition().same_meaning(&answer.query().cond);
-            answer.take_selected(segment, selection)?;
-            Ok(counts)
-        }
-        Scan::Rows => {
-            take_by_rows(segment, counts, answer)?;
-            Ok(Counts { loads: 0, skips: 0 })
-        }
+        Scan::Program(certified) => take_by_program(segment, certified, registers, answer),
+        Scan::Rows => take_by_fallback(segment, answer),
     }
 }
 
-/// Consumes the rows of a segment that the fallback selects, or only their number if nothing else
-/// is needed.
-fn take_by_rows<S: Segment>(segment: &S, counts: bool, answer: &mut Answer<'_>) -> Result<(), Fault>
-    requires counts { counts ≡ true → CountsRows (query_in answer.old) }
+/// Consumes the rows of a segment that a program selects, or only their number if nothing else is
+/// needed.
+fn take_by_program<S: Segment>(
+    segment: &S,
+    certified: &Certified,
+    registers: &mut Registers,
+    answer: &mut Answer<'_>,
+) -> Result<Counts, Fault>
+    requires scan { IsFor (S.meaning segment.now).columns (query_in answer.old).cond
+        (Program certified.now) }
     requires width { answer.old.width ≡ length (S.meaning segment.now).columns }
     requires capacity { answer.old.rows + length (S.meaning segment.now).rows ≤ most_rows }
-    ensures covers { OnOk result (GoesOver answer.old (S.meaning segment.now).rows answer.new) }
-    ensures width { OnOk result (answer.new.width ≡ answer.old.width) }
-    ensures rows { OnOk result (answer.new.rows
-        ≡ answer.old.rows + length (S.meaning segment.now).rows) }
+    ensures taken { IfOk result (TakesGroup (S.meaning segment.now).columns (Program certified.now)
+        answer.old answer.new (λ group. group ≡ (S.meaning segment.now).rows)) }
     ensures only_oom { IfErr result (λ fault. fault ≡ no_memory) }
 {
-    if counts {
-        answer.take_count(segment.rows_in());
-        Ok(())
-    } else {
-        answer.take_segment(segment)
+    certified.condition().same_meaning(&answer.query().cond);
+    if answer.only_counts() {
+        let (matches, counts) = certified.count_matches(segment, registers);
+        answer.take_matches(segment.rows_in(), matches);
+        return Ok(counts);
     }
+    let (selection, counts) = certified.run_in(segment, registers);
+    answer.take_selected(segment, selection)?;
+    Ok(counts)
+}
+
+/// Consumes the rows of a segment that the fallback selects, or only their number if every row
+/// matches and nothing else is needed.
+fn take_by_fallback<S: Segment>(segment: &S, answer: &mut Answer<'_>) -> Result<Counts, Fault>
+    requires width { answer.old.width ≡ length (S.meaning segment.now).columns }
+    requires capacity { answer.old.rows + length (S.meaning segment.now).rows ≤ most_rows }
+    ensures taken { IfOk result (TakesGroup (S.meaning segment.now).columns Rows answer.old
+        answer.new (λ group. group ≡ (S.meaning segment.now).rows)) }
+    ensures only_oom { IfErr result (λ fault. fault ≡ no_memory) }
+{
+    if answer.counts_rows() {
+        answer.take_count(segment.rows_in());
+    } else {
+        answer.take_segment(segment)?;
+    }
+    Ok(Counts { loads: 0, skips: 0 })
 }

@@ -5,7 +5,7 @@
 pub enum By {
     /// A scan program.
     Program,
-    /// The condition, in the row-by-row fallback.
+    /// The fallback, which evaluates the condition itself.
     Rows,
 }
 

@@ -56,7 +56,7 @@ pub data IsOutput (table : SessionTable) (sql : List ℕ) : Option Fault → Lis
 
 -- What a session tells its listener of a statement with this error, if there is one: nothing of an
 -- empty one; how a query was served, which is by the first program file that is accepted for its
--- condition, or if none is, by some program with a valid certificate, or row by row; the stored
+-- condition, or if none is, by some program with a valid certificate, or by the fallback; the stored
 -- bytes of one that is rejected, and its error.
 pub data IsTold (table : SessionTable) (sql : List ℕ) : Option Fault → List Note → Type 0 where
   told_nothing : AsksNothing sql → IsTold table sql None []

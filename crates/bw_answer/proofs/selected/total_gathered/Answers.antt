@@ -53,9 +53,14 @@ add_gathered-requires-clause-place c =
     let i = c.loop-place.place in
     let d = c.index-totals-place.result in
     let item = λ (tally : Tally). tally.item in
-    subst (λ (x : Item). Reads (numbers_of c.args.columns.now) x (get_or c.args.places.now i 0))
+    let numbers = numbers_of c.args.summed.now.columns in
+    let places = c.args.summed.now.places.items in
+    let at : c.index.result.now ≡ get_or places i 0 =
+    c.index.ensures ∙ get_or_default places i c.index.result.now 0 (omega (arith, c.loop-place-test.true, length-map old item, c.requires.places.many)) in
+    subst (λ (place : ℕ). Reads numbers (get_or c.loop-place.totals i d).item place) (sym at)
+    (subst (λ (x : Item). Reads numbers x (get_or places i 0))
     (get_or-map item old i d CountAll c.loop-place-test.true ∙ ap item (sym (c.loop-place.invariant.rest i d (omega arith))))
-    (c.requires.places.each i (omega (arith, c.loop-place-test.true, length-map old item)))
+    (c.requires.places.each i (omega (arith, c.loop-place-test.true, length-map old item))))
 
 pub add_gathered-requires-clause-capacity : goal.add_gathered-requires-clause-capacity
 add_gathered-requires-clause-capacity c =

@@ -14,6 +14,6 @@ invariant-loop-place l = record {
   many : length l.totals ≡ length l.fn.totals;
   rest : (k : ℕ) (d : Tally) → l.place ≤ k → get_or l.totals k d ≡ get_or l.fn.totals k d;
   done : (k : ℕ) (d : Tally) → k < l.place → Counts (count_by (λ lane. lane) (lanes_of_words l.selection)) (get_or l.fn.totals k d) (get_or l.totals k d);
-  step : (rows : List (List Value)) → HaveRows rows l.columns → IsWithin (length rows) (lanes_of_words l.selection)
+  step : (rows : List (List Value)) → HaveRows rows l.summed.columns → IsWithin (length rows) (lanes_of_words l.selection)
       → l.totals ≡ map (λ (tally : Tally). with_selected tally (selected_items (lanes_of_words l.selection) rows)) (take l.place l.fn.totals) ++ drop l.place l.fn.totals;
 }

@@ -1,42 +1,75 @@
 -- Each exit, by the contracts of its calls.
-use Rattle.std.proofs.Common.{ℕ, List, Ok, Err, subst}
+use Rattle.std.proofs.Common.{◌≡◌, ◌∙◌, true, false, ℕ, List, Ok, Err, ap, refl, subst, sym}
 use Rattle.std.specs.Io.KnownBytes.{Appends}
 use Rattle.bw_model.proofs.ErrLemmas.{err_passed_on}
+use Rattle.bw_model.specs.Fault.{is_memory}
+use Rattle.bw_memory.specs.MemoryTable.{rows_of, schema_of}
 use Rattle.bw_report.specs.declared.served.Served.{Served}
-use Rattle.bw_query.proofs.TableExits.{memory_output, refused, went}
+use Rattle.bw_query.specs.Scan.{given_file}
+use Rattle.bw_query.specs.TableAnswer.{by_statement}
+use Rattle.bw_query.proofs.MemoryExits.{rows_text, scan_counts}
+use Rattle.bw_query.proofs.ScanLemmas.{serves}
+use Rattle.bw_query.proofs.TableExits.{memory_output, memory_writes_nothing, refused, went}
 use Rattle.bw_query.proofs.memory_calls.answer_in_memory.Goals as goal
 
-pub returns-in_err-answered-clause-answer : goal.returns-in_err-answered-clause-answer
-returns-in_err-answered-clause-answer g c =
-    rw (err_passed_on _ c.from_residual.ensures.1) (_, c.in_err-answered.ensures.answer, refused Served _ _ c.in_err-answered.ensures.fault)
+pub returns-in_err-prepared-clause-answer : goal.returns-in_err-prepared-clause-answer
+returns-in_err-prepared-clause-answer g c =
+    rw (err_passed_on _ c.from_residual.ensures.1) (_, rw c.schema.ensures at c.in_err-prepared.ensures.refused, refused Served _ _ c.in_err-prepared.ensures.fault)
+
+pub returns-in_err-found-clause-answer : goal.returns-in_err-found-clause-answer
+returns-in_err-found-clause-answer g c =
+    let memory = c.in_err-found.ensures.only_oom in
+    let none = λ other. let e : true ≡ false = sym (ap is_memory memory) ∙ other in absurd (cc e) in
+    rw (err_passed_on _ c.from_residual-in_err-found.ensures.1) (_, none, refused Served _ _ (memory_writes_nothing c.in_err-found.field-0.0 memory))
 
 pub returns-in_err-write_whole-clause-answer : goal.returns-in_err-write_whole-clause-answer
 returns-in_err-write_whole-clause-answer g c =
+    let prepared = c.in_ok-prepared.prepared in
+    let found = c.in_ok-found.found in
+    let asked = rw c.schema.ensures at c.in_ok-prepared.ensures.asked in
     let goes = rw c.deref.ensures.value at c.in_err-write_whole.ensures in
     rw (err_passed_on _ c.from_residual-in_err-write_whole.ensures.1) (
       _,
-      c.in_ok-answered.ensures.answer,
-      went Served (g.K.Sink.state c.args.sink.now) (g.K.Sink.state c.write_whole.new.sink) c.in_ok-answered.answered.text.items (Err c.in_err-write_whole.field-0.0) goes,
+      rows_text c.args.table.now (by_statement (given_file c.args.program) c.args.sql.now) prepared.query prepared.scan found.text.items found.scanned asked c.in_ok-found.ensures.text,
+      went Served (g.K.Sink.state c.args.sink.now) (g.K.Sink.state c.write_whole.new.sink) found.text.items (Err c.in_err-write_whole.field-0.0) goes,
     )
 
 pub returns-clause-answer : goal.returns-clause-answer
 returns-clause-answer g c =
-    let goes = rw c.deref.ensures.value at c.in_ok-write_whole.ensures in
-    let served = Ok c.in_ok-answered.answered.served in
-    (_, c.in_ok-answered.ensures.answer, went Served _ _ c.in_ok-answered.answered.text.items served goes)
+    let prepared = c.in_ok-prepared.prepared in
+    let found = c.in_ok-found.found in
+    let asked = rw c.schema.ensures at c.in_ok-prepared.ensures.asked in
+    let goes = rw c.deref.ensures.value at c.in_ok-write_whole.ensures in (
+      _,
+      rows_text c.args.table.now (by_statement (given_file c.args.program) c.args.sql.now) prepared.query prepared.scan found.text.items found.scanned asked c.in_ok-found.ensures.text,
+      went Served _ _ found.text.items (Ok c.report_of.result) goes,
+    )
 
 pub returns-clause-served : goal.returns-clause-served
 returns-clause-served g c =
+    let table = c.args.table.now in
+    let prepared = c.in_ok-prepared.prepared in
+    let found = c.in_ok-found.found in
+    let file = given_file c.args.program in
+    let asked = rw c.schema.ensures at c.in_ok-prepared.ensures.asked in
+    let chosen = rw c.schema.ensures at c.in_ok-prepared.ensures.chosen in
     let goes = rw c.deref.ensures.value at c.in_ok-write_whole.ensures in
-    let told = c.in_ok-answered.ensures.served in (
+    let told = rows_text table (by_statement file c.args.sql.now) prepared.query prepared.scan found.text.items found.scanned asked c.in_ok-found.ensures.text in
+    let counts = scan_counts table prepared.query prepared.scan found.text.items found.scanned c.in_ok-found.ensures.text in
+    rw c.report_of.ensures (
       record {
-        query = told.0.query;
-        asked = told.0.asked;
-        text = subst (λ (text : List ℕ). Appends (g.K.Sink.state c.args.sink.now).taken (g.K.Sink.state c.write_whole.new.sink).taken text) told.0.is goes.0;
+        query = prepared.query;
+        asked = asked;
+        text = subst (λ (text : List ℕ). Appends (g.K.Sink.state c.args.sink.now).taken (g.K.Sink.state c.write_whole.new.sink).taken text) told.is goes.0;
       },
-      told.1,
+      serves file (schema_of table) prepared.query (rows_of table) prepared.scan found.scanned chosen counts,
     )
 
-pub returns-in_err-answered-clause-accepted : goal.returns-in_err-answered-clause-accepted
-returns-in_err-answered-clause-accepted g c =
-    rw (err_passed_on _ c.from_residual.ensures.1) (λ query asks. memory_output c.in_err-answered.field-0.0 (c.in_err-answered.ensures.accepted query asks))
+pub returns-in_err-prepared-clause-accepted : goal.returns-in_err-prepared-clause-accepted
+returns-in_err-prepared-clause-accepted g c =
+    let accepted = rw c.schema.ensures at c.in_err-prepared.ensures.accepted in
+    rw (err_passed_on _ c.from_residual.ensures.1) (λ query asks. memory_output c.in_err-prepared.field-0.0 (accepted (schema_of c.args.table.now) query refl asks))
+
+pub returns-in_err-found-clause-accepted : goal.returns-in_err-found-clause-accepted
+returns-in_err-found-clause-accepted g c =
+    rw (err_passed_on _ c.from_residual-in_err-found.ensures.1) (λ query asks. memory_output c.in_err-found.field-0.0 (ap is_memory c.in_err-found.ensures.only_oom))

@@ -1,42 +1,96 @@
 -- Each exit, by the contracts of its calls.
-use Rattle.std.proofs.Common.{ℕ, List, Ok, Err, subst}
+use Rattle.std.proofs.Common.{◌≡◌, ◌∙◌, true, false, ℕ, List, Ok, Err, None, ap, inl, refl, subst}
+use Rattle.std.proofs.Common.{sym}
 use Rattle.std.specs.Io.KnownBytes.{Appends}
 use Rattle.bw_model.proofs.ErrLemmas.{err_passed_on}
+use Rattle.bw_io.proofs.SinkLemmas.{no_write_fault}
+use Rattle.bw_model.specs.Fault.{is_memory}
+use Rattle.bw_memory.specs.MemoryTable.{rows_of, schema_of}
 use Rattle.bw_report.specs.declared.served.Served.{Served}
-use Rattle.bw_query.proofs.TableExits.{memory_output, refused, went}
+use Rattle.bw_sql.specs.QueryShape.{query_shape}
+use Rattle.bw_query.specs.ProgramChoice.{IsServedAmong}
+use Rattle.bw_query.specs.Served.{report_of}
+use Rattle.bw_query.specs.TableAnswer.{by_statement}
+use Rattle.bw_query.proofs.CacheLemmas.{serves_among}
+use Rattle.bw_query.proofs.MemoryExits.{rows_text, scan_counts}
+use Rattle.bw_query.proofs.TableExits.{memory_output, memory_writes_nothing, refused}
+use Rattle.bw_query.proofs.TableExits.{statement_writes_nothing, went}
 use Rattle.bw_query.proofs.memory_calls.answer_with_programs.Goals as goal
 
-pub returns-in_err-answered-clause-answer : goal.returns-in_err-answered-clause-answer
-returns-in_err-answered-clause-answer g c =
-    rw (err_passed_on _ c.from_residual.ensures.1) (_, c.in_err-answered.ensures.answer, refused Served _ _ c.in_err-answered.ensures.fault)
+pub returns-in_err-query-clause-answer : goal.returns-in_err-query-clause-answer
+returns-in_err-query-clause-answer g c =
+    let read = rw c.schema.ensures at c.in_err-query.ensures.read in
+    rw (err_passed_on _ c.from_residual.ensures.1) (_, λ other. inl (read other), refused Served _ _ (statement_writes_nothing c.in_err-query.field-0.0 c.in_err-query.ensures.fault))
+
+pub returns-in_err-number-clause-answer : goal.returns-in_err-number-clause-answer
+returns-in_err-number-clause-answer g c =
+    let fault = c.in_err-number.field-0.0 in
+    let memory = c.in_err-number.ensures.only_oom in
+    let none = λ other. let e : true ≡ false = sym memory ∙ other in absurd (cc e) in
+    rw (err_passed_on _ c.from_residual-in_err-number.ensures.1) (_, none, refused Served _ _ (no_write_fault is_memory fault memory refl))
+
+pub returns-in_err-found-clause-answer : goal.returns-in_err-found-clause-answer
+returns-in_err-found-clause-answer g c =
+    let memory = c.in_err-found.ensures.only_oom in
+    let none = λ other. let e : true ≡ false = sym (ap is_memory memory) ∙ other in absurd (cc e) in
+    rw (err_passed_on _ c.from_residual-in_err-found.ensures.1) (_, none, refused Served _ _ (memory_writes_nothing c.in_err-found.field-0.0 memory))
 
 pub returns-in_err-write_whole-clause-answer : goal.returns-in_err-write_whole-clause-answer
 returns-in_err-write_whole-clause-answer g c =
+    let found = c.in_ok-found.found in
+    let asked = (rw c.schema.ensures at c.in_ok-query.ensures.read, tt) in
     let goes = rw c.deref.ensures.value at c.in_err-write_whole.ensures in
     rw (err_passed_on _ c.from_residual-in_err-write_whole.ensures.1) (
       _,
-      c.in_ok-answered.ensures.answer,
-      went Served (g.K.Sink.state c.args.sink.now) (g.K.Sink.state c.write_whole.new.sink) c.in_ok-answered.answered.text.items (Err c.in_err-write_whole.field-0.0) goes,
+      rows_text c.args.table.now (by_statement None c.args.sql.now) c.in_ok-query.query c.scan-scan.result.now found.text.items found.scanned asked c.in_ok-found.ensures.text,
+      went Served (g.K.Sink.state c.args.sink.now) (g.K.Sink.state c.write_whole.new.sink) found.text.items (Err c.in_err-write_whole.field-0.0) goes,
     )
+
+pub memory_text-requires-clause-scan : goal.memory_text-requires-clause-scan
+memory_text-requires-clause-scan g c =
+    let found = c.in_ok-number.ensures.found in
+    c.scan-scan.ensures.certified (schema_of c.args.table.now).columns.items c.in_ok-query.query.cond found
 
 pub returns-clause-answer : goal.returns-clause-answer
 returns-clause-answer g c =
-    let goes = rw c.deref.ensures.value at c.in_ok-write_whole.ensures in
-    let served = Ok c.in_ok-answered.answered.served in
-    (_, c.in_ok-answered.ensures.answer, went Served _ _ c.in_ok-answered.answered.text.items served goes)
+    let found = c.in_ok-found.found in
+    let asked = (rw c.schema.ensures at c.in_ok-query.ensures.read, tt) in
+    let goes = rw c.deref.ensures.value at c.in_ok-write_whole.ensures in (
+      _,
+      rows_text c.args.table.now (by_statement None c.args.sql.now) c.in_ok-query.query c.scan-scan.result.now found.text.items found.scanned asked c.in_ok-found.ensures.text,
+      went Served _ _ found.text.items (Ok c.report_of.result) goes,
+    )
 
 pub returns-clause-served : goal.returns-clause-served
 returns-clause-served g c =
+    let table = c.args.table.now in
+    let query = c.in_ok-query.query in
+    let scan = c.scan-scan.result.now in
+    let found = c.in_ok-found.found in
+    let asked = (rw c.schema.ensures at c.in_ok-query.ensures.read, tt) in
+    let chosen = c.scan-scan.ensures.chosen (schema_of table).columns.items query.cond c.in_ok-number.ensures.found in
     let goes = rw c.deref.ensures.value at c.in_ok-write_whole.ensures in
-    let told = c.in_ok-answered.ensures.served in (
+    let told = rows_text table (by_statement None c.args.sql.now) query scan found.text.items found.scanned asked c.in_ok-found.ensures.text in
+    let counts = scan_counts table query scan found.text.items found.scanned c.in_ok-found.ensures.text in
+    rw c.report_of.ensures (
       record {
-        query = told.0.query;
-        asked = told.0.asked;
-        text = subst (λ (text : List ℕ). Appends (g.K.Sink.state c.args.sink.now).taken (g.K.Sink.state c.write_whole.new.sink).taken text) told.0.is goes.0;
+        query = query;
+        asked = asked;
+        text = subst (λ (text : List ℕ). Appends (g.K.Sink.state c.args.sink.now).taken (g.K.Sink.state c.write_whole.new.sink).taken text) told.is goes.0;
       },
-      told.1,
+      subst (λ (files : List (List ℕ)). IsServedAmong files (schema_of table) query (rows_of table) (report_of scan found.scanned)) c.in_ok-number.ensures.files
+          (serves_among _ (schema_of table) query (rows_of table) scan found.scanned chosen counts),
     )
 
-pub returns-in_err-answered-clause-accepted : goal.returns-in_err-answered-clause-accepted
-returns-in_err-answered-clause-accepted g c =
-    rw (err_passed_on _ c.from_residual.ensures.1) (λ query asks. memory_output c.in_err-answered.field-0.0 (c.in_err-answered.ensures.accepted query asks))
+pub returns-in_err-query-clause-accepted : goal.returns-in_err-query-clause-accepted
+returns-in_err-query-clause-accepted g c =
+    let no = rw c.schema.ensures at c.in_err-query.ensures.refused in
+    rw (err_passed_on _ c.from_residual.ensures.1) (λ query asks. memory_output c.in_err-query.field-0.0 (no (query_shape query) asks.0))
+
+pub returns-in_err-number-clause-accepted : goal.returns-in_err-number-clause-accepted
+returns-in_err-number-clause-accepted g c =
+    rw (err_passed_on _ c.from_residual-in_err-number.ensures.1) (λ query asks. memory_output c.in_err-number.field-0.0 c.in_err-number.ensures.only_oom)
+
+pub returns-in_err-found-clause-accepted : goal.returns-in_err-found-clause-accepted
+returns-in_err-found-clause-accepted g c =
+    rw (err_passed_on _ c.from_residual-in_err-found.ensures.1) (λ query asks. memory_output c.in_err-found.field-0.0 (ap is_memory c.in_err-found.ensures.only_oom))

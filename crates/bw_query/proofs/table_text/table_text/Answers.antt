@@ -1,36 +1,41 @@
--- Out of memory before, after or among the segments; and the text of all rows.
-use Rattle.std.proofs.Common.{◌∙◌, [], refl, sym}
+-- Out of memory before, after or among the groups; and the text of all rows.
+use Rattle.std.proofs.Common.{[]}
 use Rattle.bw_model.proofs.ErrLemmas.{err_passed_on}
+use Rattle.bw_model.specs.declared.fault.Fault.{Fault}
 use Rattle.bw_model.specs.Column.{names_of}
 use Rattle.bw_model.specs.Groups.{together}
-use Rattle.bw_file.specs.TableReader.{found_so_far, schema_in}
-use Rattle.bw_file.proofs.MemoryAnswers.{memory_answers}
+use Rattle.std.proofs.Common.{subst, sym}
+use Rattle.bw_query.proofs.TableExits.{memory_writes_nothing}
 use Rattle.bw_query.proofs.table_text.table_text.Goals as goal
 
 pub returns-in_err-answer-clause-refused : goal.returns-in_err-answer-clause-refused
 returns-in_err-answer-clause-refused g c =
-    rw (err_passed_on _ c.from_residual.ensures.1) (λ start read. memory_answers start _ _ c.in_err-answer.field-0.0 (c.bytes_were_taken.ensures start _ c.args.reader.now [] read).0 refl c.in_err-answer.ensures.only_oom)
+    let failed = g.met.T.Segments.fails_among c.args.segments.now c.args.input.now [] c.args.segments.now c.args.input.now c.requires.fresh in
+    rw (err_passed_on _ c.from_residual.ensures.1)
+    (subst (λ (fault : Fault). g.T.Segments.failed c.args.segments.now c.args.input.now c.args.segments.now c.args.input.now fault) (sym c.in_err-answer.ensures.only_oom) failed)
+
+pub returns-in_err-reserve-clause-refused : goal.returns-in_err-reserve-clause-refused
+returns-in_err-reserve-clause-refused g c =
+    let failed = g.met.T.Segments.fails_among c.args.segments.now c.args.input.now [] c.args.segments.now c.args.input.now c.requires.fresh in
+    rw (err_passed_on _ c.from_residual-in_err-reserve.ensures.1)
+    (subst (λ (fault : Fault). g.T.Segments.failed c.args.segments.now c.args.input.now c.args.segments.now c.args.input.now fault) (sym c.in_err-reserve.ensures.only_oom) failed)
 
 pub returns-in_err-into_text-clause-refused : goal.returns-in_err-into_text-clause-refused
 returns-in_err-into_text-clause-refused g c =
-    let all = c.in_ok-scanned.ensures.took in
-    rw (err_passed_on _ c.from_residual-in_err-into_text.ensures.1) (λ start read.
-    let whole = all.read start read in
-    memory_answers start _ _ c.in_err-into_text.field-0.0 (whole.bytes, whole.took, whole.needed)
-    (whole.failures ∙ sym (c.bytes_were_taken.ensures start _ c.args.reader.now [] read).1) c.in_err-into_text.ensures.only_oom)
+    let all = c.in_ok-scanned.ensures.taken in
+    let failed = g.met.T.Segments.fails_after c.args.segments.now c.args.input.now all.groups c.take_rows.new.segments c.take_rows.new.input all.all in
+    rw (err_passed_on _ c.from_residual-in_err-into_text.ensures.1)
+    (subst (λ (fault : Fault). g.T.Segments.failed c.args.segments.now c.args.input.now c.take_rows.new.segments c.take_rows.new.input fault) (sym c.in_err-into_text.ensures.only_oom) failed)
 
 pub returns-clause-text : goal.returns-clause-text
-returns-clause-text g c = λ start read.
-    let all = c.in_ok-scanned.ensures.took in
-    let over = rw c.schema.ensures at c.in_ok-answer.ensures.covers in
+returns-clause-text g c =
+    let all = c.in_ok-scanned.ensures.taken in
+    let names = names_of (g.T.Segments.table c.args.segments.now).columns.items in
+    let query = c.args.query.now in
+    let over = c.in_ok-reserve.ensures.covers names query [] (rw c.schema.ensures at c.in_ok-answer.ensures.covers) in
     record {
-      found = found_so_far c.args.reader.now all.groups;
       groups = all.groups;
-      read = all.read start read;
-      shape = refl;
-      rows = refl;
-      cut = all.cut start read;
+      all = all.all;
       counts = all.counts;
-      is = c.in_ok-into_text.ensures.text (names_of (schema_in c.args.reader.now).columns.items) c.args.query.now (together all.groups)
-          (all.covers.covers (names_of (schema_in c.args.reader.now).columns.items) c.args.query.now [] over);
+      is = c.in_ok-into_text.ensures.text names query (together all.groups) (all.covers.covers names query [] over);
     }

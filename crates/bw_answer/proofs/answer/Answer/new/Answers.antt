@@ -10,9 +10,6 @@ use Rattle.bw_answer.proofs.AnswerLemmas.{aggregates, heading_first}
 use Rattle.std.proofs.lemmas.Bool.{eq-eqb}
 use Rattle.bw_answer.proofs.answer.Answer.new.Goals as goal
 
-pub invariant_of-result-clause-totalling : goal.invariant_of-result-clause-totalling
-invariant_of-result-clause-totalling c = λ e. aggregates c.args.query.now.items.items c.requires.kinds (ap lists_rows (sym c.deref.ensures.value) ∙ sym c.lists_rows.ensures ∙ e)
-
 -- each item is within this many columns
 within : (width columns : ℕ) (items : List Item) → width ≡ columns → list_all (item_within columns) items ≡ true → list_all (item_within width) items ≡ true
 within width columns items same = subst (λ (n : ℕ). list_all (item_within n) items ≡ true) (sym same)
@@ -20,10 +17,12 @@ within width columns items same = subst (λ (n : ℕ). list_all (item_within n) 
 pub invariant_of-result-clause-items : goal.invariant_of-result-clause-items
 invariant_of-result-clause-items c = within _ _ c.args.query.now.items.items c.len-width.ensures c.requires.items
 
+pub invariant_of-result-clause-of_items : goal.invariant_of-result-clause-of_items
+invariant_of-result-clause-of_items c = rw c.deref-3.ensures.value at c.in_ok-new-2.ensures.of_items
+
 pub invariant_of-result-clause-capacity : goal.invariant_of-result-clause-capacity
 invariant_of-result-clause-capacity c =
-    rw (c.in_ok-totals_of.ensures.totals, c.deref-5.ensures.value)
-    (is_of-new c.len-width.result c.args.query.now.items.items (within _ _ c.args.query.now.items.items c.len-width.ensures c.requires.items))
+    (rw c.deref-3.ensures.value at c.in_ok-new-2.ensures.counts) c.len-width.result (within _ _ c.args.query.now.items.items c.len-width.ensures c.requires.items)
 
 pub returns-clause-takes : goal.returns-clause-takes
 returns-clause-takes c = λ row admitted.
@@ -36,7 +35,7 @@ returns-clause-covers c =
     let query = c.args.query.now in (
       refl,
       record {
-        written = rw (c.deref-3.ensures.value, c.deref-4.ensures.value) at c.in_ok-heading_text.ensures.heading ∙ heading_first names query;
-        totalled = λ e. rw c.deref-5.ensures.value at c.in_ok-totals_of.ensures.totals;
+        written = rw (c.deref.ensures.value, c.deref-2.ensures.value) at c.in_ok-heading_text.ensures.heading ∙ heading_first names query;
+        totalled = λ e. (rw c.deref-3.ensures.value at c.in_ok-new-2.ensures.totals) e;
       },
     )

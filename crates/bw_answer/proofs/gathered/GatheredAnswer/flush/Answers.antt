@@ -6,7 +6,8 @@ use Rattle.bw_model.specs.declared.query.Item.{Item}
 use Rattle.bw_model.specs.declared.query.Query.{Query}
 use Rattle.bw_rowwise.specs.Accumulator.{Tally}
 use Rattle.bw_rowwise.specs.Columns.{numbers_of}
-use Rattle.bw_answer.specs.Gathered.{AreGathered}
+use Rattle.bw_answer.specs.Gathered.{AreGathered, AreSummed}
+use Rattle.bw_answer.specs.Output.{totals_in}
 use Rattle.bw_answer.specs.Places.{AreRead}
 use Rattle.bw_answer.specs.Progress.{GoesOver, IsOver}
 use Rattle.bw_answer.specs.declared.answer.Answer.{Answer}
@@ -53,7 +54,7 @@ invariant_of-self c =
     record {
       few = self.few;
       capacity = omega (arith, left.0, self.capacity);
-      placed = subst (λ (totals : List Tally). AreRead (numbers_of self.summed) (map (λ (tally : Tally). tally.item) totals) self.places.items) (sym left.1) self.placed;
+      placed = subst (AreSummed self.summed) (sym left.1) self.placed;
     }
 
 pub invariant_of-self-2 : goal.invariant_of-self-2
@@ -63,6 +64,6 @@ invariant_of-self-2 c =
     record {
       few = omega arith;
       capacity = omega (arith, c.clear_rows.ensures.rows, c.in_ok-take_gathered.ensures.rows, self.capacity);
-      placed = subst (λ (numbers : List ℕ). AreRead numbers (map (λ (tally : Tally). tally.item) c.clear_rows.new.self.totals.items) self.places.items) (sym c.clear.ensures.same)
-          (subst (λ (items : List Item). AreRead (numbers_of self.summed) items self.places.items) (sym items) self.placed);
+      placed = subst (λ (numbers : List ℕ). AreRead numbers (map (λ (tally : Tally). tally.item) (totals_in c.clear_rows.new.self.output)) self.summed.places.items) (sym c.clear.ensures.same)
+          (subst (λ (items : List Item). AreRead (numbers_of self.summed.columns) items self.summed.places.items) (sym items) self.placed);
     }

@@ -1,15 +1,14 @@
 -- No row is gathered yet.
-use Rattle.std.proofs.Common.{◌≡◌, [], ℕ, List, arith, map, refl, subst, sym}
-use Rattle.bw_rowwise.specs.Accumulator.{Tally}
+use Rattle.std.proofs.Common.{[], arith, refl, subst, sym}
 use Rattle.bw_model.specs.Column.{names_of}
-use Rattle.bw_answer.specs.Places.{AreRead}
+use Rattle.bw_answer.specs.Gathered.{AreSummed}
 use Rattle.bw_answer.proofs.gathered.GatheredAnswer.new.Goals as goal
 
 pub invariant_of-result : goal.invariant_of-result
 invariant_of-result c = record {
   few = omega arith;
   capacity = omega (arith, c.clear_rows.ensures.rows, c.in_ok-answer.ensures.rows);
-  placed = subst (λ (numbers : List ℕ). AreRead numbers (map (λ (tally : Tally). tally.item) c.clear_rows.new.self.totals.items) c.in_ok-places.places.items) (sym c.clear.ensures.same) (rw c.deref.ensures.value at c.in_ok-places.ensures.places);
+  placed = c.in_ok-summed.ensures.places;
 }
 
 pub returns-clause-covers : goal.returns-clause-covers
@@ -22,6 +21,6 @@ returns-clause-covers c = record {
     many = refl;
     named = c.clear_rows.ensures.named;
     listed = c.clear_rows.ensures.listed;
-    summed = c.clear.ensures.rows;
+    summed = c.in_ok-summed.ensures.rows;
   };
 }

@@ -1,0 +1,90 @@
+-- The rows of a table's segments, taken by an answer.
+use Rattle.std.specs.Prelude.{◌≡◌, ◌≤◌, ◌+◌, ◌^◌, ◌<◌, None, ℕ, List, [], length}
+use Rattle.std.specs.List.{sum_by}
+use Rattle.bw_model.specs.declared.column.Column.{Column}
+use Rattle.bw_model.specs.declared.fault.Fault.{Fault}
+use Rattle.bw_model.specs.declared.query.Query.{Query}
+use Rattle.bw_model.specs.Column.{names_of}
+use Rattle.bw_model.specs.Groups.{groups_of, together}
+use Rattle.bw_model.specs.Row.{Value}
+use Rattle.bw_answer.specs.Answer.{csv_text, meaning}
+use Rattle.bw_answer.specs.Progress.{GoesOver}
+use Rattle.bw_answer.specs.declared.answer.Answer.{Answer}
+use Rattle.bw_file.specs.Reading.{State}
+use Rattle.bw_file.specs.TableReader.{AnswersFault, ReadProgress, ReadWhole, SameTable}
+use Rattle.bw_file.specs.TableReader.{found_so_far, final_result}
+use Rattle.bw_file.specs.declared.table_reader.TableReader.{TableReader}
+use Rattle.bw_memory.specs.MemoryTable.{schema_of}
+use Rattle.bw_memory.specs.StoredSegments.{stored_groups}
+use Rattle.bw_memory.specs.declared.table.MemoryTable.{MemoryTable}
+use Rattle.bw_run.specs.declared.run.Counts.{Counts}
+use Rattle.bw_query.specs.declared.scan.Scan.{Scan}
+use Rattle.bw_query.specs.declared.served.Scanned.{Scanned}
+use Rattle.bw_query.specs.Scan.{loads_in, skips_in}
+
+-- An answer has taken a group of rows, with these counts of the scan's run over it, and the group
+-- came.
+pub record TakesGroup (columns : List Column) (scan : Scan) (old new : Answer)
+    (Comes : List (List Value) → Type 0) (counts : Counts) : Type 0 where
+  pub group : List (List Value)
+  pub comes : Comes group
+  pub some : 1 ≤ length group
+  pub covers : GoesOver old group new
+  pub width : new.width ≡ old.width
+  pub rows : new.rows ≡ old.rows + length group
+  pub loads : counts.loads ≡ loads_in columns scan group
+  pub skips : counts.skips ≡ skips_in columns scan group
+  pub bounded : counts.loads + counts.skips ≤ 4096
+
+-- this many segments, of these groups of rows, were scanned, with the sums of the scan's loads and
+-- skips
+pub record IsScanOf (columns : List Column) (scan : Scan) (groups : List (List (List Value)))
+    (scanned : Scanned) : Type 0 where
+  pub segments : scanned.segments ≡ length groups
+  pub loads : scanned.loads ≡ sum_by (loads_in columns scan) groups
+  pub skips : scanned.skips ≡ sum_by (skips_in columns scan) groups
+
+-- an answer has taken all groups of a table
+pub record TakesAll (columns : List Column) (scan : Scan) (old new : Answer)
+    (All : List (List (List Value)) → Type 0) (scanned : Scanned) : Type 0 where
+  pub groups : List (List (List Value))
+  pub all : All groups
+  pub covers : GoesOver old (together groups) new
+  pub counts : IsScanOf columns scan groups scanned
+
+-- the text is that of the query's meaning over all groups of a table, which were scanned
+pub record IsTextOf (columns : List Column) (query : Query) (scan : Scan)
+    (All : List (List (List Value)) → Type 0) (text : List ℕ) (scanned : Scanned) : Type 0 where
+  pub groups : List (List (List Value))
+  pub all : All groups
+  pub counts : IsScanOf columns scan groups scanned
+  pub is : text ≡ csv_text (meaning (names_of columns) query (together groups))
+
+-- After a reader had read the header of a file, these groups were read, and no read failed. Then
+-- there is the next state, and reading can go on.
+pub record HasGiven (old : State) (reader : TableReader) (groups : List (List (List Value)))
+    (now : State) (next : TableReader) : Type 0 where
+  pub read : (start : State) → ReadProgress start old reader []
+      → ReadProgress start now next groups
+  pub same : SameTable reader next
+  pub reading : final_result next ≡ None
+  pub failures : now.failures ≡ old.failures
+  pub fits : old.failures < 2 ^ 64 - 1
+
+-- these groups are all rows of the file, which was read completely
+pub record HasGivenAll (old : State) (reader : TableReader) (groups : List (List (List Value)))
+    (now : State) : Type 0 where
+  pub read : (start : State) → ReadProgress start old reader []
+      → ReadWhole start now (found_so_far reader groups)
+  pub cut : (start : State) → ReadProgress start old reader []
+      → groups ≡ groups_of (together groups)
+
+-- the rest of the file has this error, or it is a failed read or out of memory
+abbrev pub HasFailed : State → TableReader → State → Fault → Type 0
+HasFailed old reader now fault = (start : State) → ReadProgress start old reader []
+    → AnswersFault start old now fault
+
+-- the groups of rows of the first segments of a table in memory, this many
+abbrev pub groups_before : MemoryTable → ℕ → List (List (List Value))
+groups_before table number = stored_groups table.layout (schema_of table).columns.items table.rows
+    number table.columns.items

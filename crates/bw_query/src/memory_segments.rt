@@ -1,0 +1,154 @@
+//! The segments of a table in memory.
+ghost use Rattle.std.specs.Prelude.{◌≡◌, ◌+◌, ◌<◌, ◌≤◌, ◌×◌, IfErr, IfOk, IfSome, IsTrue, length, vec_len};
+ghost use Rattle.std.specs.List.{list_all};
+ghost use Rattle.bw_model.specs.Fault.{no_memory};
+ghost use Rattle.bw_model.specs.Groups.{together};
+ghost use Rattle.bw_model.specs.Total.{item_within};
+ghost use Rattle.bw_sql.specs.Items.{AreOfOneKind};
+ghost use Rattle.bw_file.specs.Blocks.{form_of};
+ghost use Rattle.bw_memory.specs.MemoryTable.{groups_in, layout_of, meaning_numbered, placement_of};
+ghost use Rattle.bw_memory.specs.MemoryTable.{schema_of, segments_in};
+ghost use Rattle.bw_query.specs.Scan.{IsFor};
+ghost use Rattle.bw_query.specs.Segments.{IsTextOf, groups_before};
+
+use crate::scan::Scan;
+use crate::segments::Segments;
+use crate::table_text::{TableText, table_text, take_segment};
+use bw_answer::Answer;
+use bw_file::Layout;
+use bw_memory::MemoryTable;
+use bw_model::{Fault, Query, Schema};
+use bw_planes::Planes;
+use bw_run::{Counts, Registers};
+use bw_segment::{CodeLayout, NumberedBlocks, PackedSegment, Segment};
+use bw_slices::Slices;
+use std::alloc::Global;
+
+/// The segments of a table in memory, in its layout.
+#[derive(Drop)]
+struct MemorySegments<'a, L: CodeLayout> {
+    table: &'a MemoryTable,
+    /// The number of the next segment.
+    next: u32,
+    /// The segment before it, whose place the next one takes.
+    last: Option<PackedSegment<L, NumberedBlocks<'a>>>,
+    ghost layout: { form_of (layout_of table.now) ≡ L.packing },
+    ghost placed: { IfSome last (λ segment. segment.placement.value ≡ placement_of table.now) },
+    ghost within: { next ≤ segments_in table.now },
+}
+
+impl<'a, L: CodeLayout> MemorySegments<'a, L> {
+    /// Returns the next segment. Errors: 801 if memory is refused.
+    fn next_segment(&mut self) -> Result<PackedSegment<L, NumberedBlocks<'a>>, Fault>
+        requires { self.old.next < segments_in self.old.table.now }
+        ensures means { IfOk result (λ segment.
+            ⟦<PackedSegment<L, NumberedBlocks<'a>> as Segment>⟧.meaning segment
+            ≡ meaning_numbered self.old.table.now self.old.next) }
+        ensures placed { IfOk result (λ segment.
+            segment.placement.value ≡ placement_of self.old.table.now) }
+        ensures next { IfOk result (λ _. self.new.next ≡ self.old.next + 1) }
+        ensures table { self.new.table.now ≡ self.old.table.now }
+        ensures only_oom { IfErr result (λ fault. fault ≡ no_memory) }
+    {
+        let table = self.table;
+        let number = self.next;
+        let segment = match self.last.take() {
+            Some(last) => table.other_segment(last, number),
+            None => table.segment(number)?,
+        };
+        self.next += 1;
+        Ok(segment)
+    }
+}
+
+impl<'a, L: CodeLayout> Segments<()> for MemorySegments<'a, L> {
+    ghost table = { λ segments. schema_of segments.table.now };
+
+    ghost given = { λ segments. length (together (groups_before segments.table.now segments.next)) };
+
+    ghost left = { λ segments. segments_in segments.table.now - segments.next };
+
+    ghost gave = { λ start _ groups segments _. (segments.table.now ≡ start.table.now)
+        × (groups ≡ groups_before start.table.now segments.next) };
+
+    ghost ended = { λ start _ groups _ _. groups ≡ groups_in start.table.now };
+
+    ghost failed = { λ _ _ _ _ fault. fault ≡ no_memory };
+
+    fn schema(&self) -> &Schema {
+        self.table.schema()
+    }
+
+    fn rows(&self) -> u32 {
+        self.table.rows()
+    }
+
+    fn take_next(
+        &mut self,
+        _input: &mut (),
+        scan: &Scan,
+        registers: &mut Registers,
+        answer: &mut Answer<'_>,
+    ) -> Result<Option<Counts>, Fault> {
+        if self.next == self.table.segments() {
+            return Ok(None);
+        }
+        let segment = self.next_segment()?;
+        let counts = take_segment(&segment, scan, registers, answer)?;
+        self.last = Some(segment);
+        Ok(Some(counts))
+    }
+
+    ghost fails_among = { λ start from groups segments input gave. refl };
+
+    ghost fails_after = { λ start from groups segments input ended. refl };
+}
+
+/// Returns the text of the result of a query over a table in memory. The layout is looked up once.
+/// Errors: 801 if memory is refused.
+#[tactic(auto, unfolding(bw_file::specs::Blocks::form_of))]
+pub(crate) fn memory_text(
+    alloc: Global,
+    table: &MemoryTable,
+    query: &Query,
+    scan: &Scan,
+) -> Result<TableText, Fault>
+    requires items { IsTrue (list_all (item_within (vec_len (schema_of table.now).columns))
+        query.now.items.items) }
+    requires nonempty { 1 ≤ length query.now.items.items }
+    requires kinds { AreOfOneKind query.now.items.items }
+    requires scan { IsFor (schema_of table.now).columns.items query.now.cond scan.now }
+    ensures text { IfOk result (λ found. IsTextOf (schema_of table.now).columns.items query.now
+        scan.now (λ groups. groups ≡ groups_in table.now) found.text.items found.scanned) }
+    ensures only_oom { IfErr result (λ fault. fault ≡ no_memory) }
+{
+    match table.layout() {
+        Layout::Planes => text_in::<Planes>(alloc, table, query, scan),
+        Layout::Slices => text_in::<Slices>(alloc, table, query, scan),
+    }
+}
+
+/// Returns the same of a table in this layout.
+fn text_in<L: CodeLayout>(
+    alloc: Global,
+    table: &MemoryTable,
+    query: &Query,
+    scan: &Scan,
+) -> Result<TableText, Fault>
+    requires layout { form_of (layout_of table.now) ≡ L.packing }
+    requires items { IsTrue (list_all (item_within (vec_len (schema_of table.now).columns))
+        query.now.items.items) }
+    requires nonempty { 1 ≤ length query.now.items.items }
+    requires kinds { AreOfOneKind query.now.items.items }
+    requires scan { IsFor (schema_of table.now).columns.items query.now.cond scan.now }
+    ensures text { IfOk result (λ found. IsTextOf (schema_of table.now).columns.items query.now
+        scan.now (λ groups. groups ≡ groups_in table.now) found.text.items found.scanned) }
+    ensures only_oom { IfErr result (λ fault. fault ≡ no_memory) }
+{
+    let mut segments = MemorySegments::<L> {
+        table,
+        next: 0,
+        last: None,
+    };
+    table_text(alloc, &mut segments, &mut (), query, scan)
+}

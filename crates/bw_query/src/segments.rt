@@ -1,0 +1,87 @@
+//! The segments of a table, in order, from a file or in memory.
+ghost use Rattle.std.specs.Prelude.{◌≡◌, ◌+◌, ◌<◌, ◌≤◌, ◌++◌, ◌∷◌, [], ℕ, List, false, length};
+ghost use Rattle.std.specs.Prelude.{IfErr, IfNone, IfOk, IfSome, OnOk};
+ghost use Rattle.bw_model.specs.declared.fault.Fault.{Fault};
+ghost use Rattle.bw_model.specs.declared.schema.Schema.{Schema};
+ghost use Rattle.bw_model.specs.Fault.{no_memory};
+ghost use Rattle.bw_model.specs.Limits.{most_rows};
+ghost use Rattle.bw_model.specs.Row.{Value};
+ghost use Rattle.bw_answer.specs.Progress.{query_in};
+ghost use Rattle.bw_io.specs.Sink.{is_write_fault};
+ghost use Rattle.bw_query.specs.Scan.{IsFor};
+ghost use Rattle.bw_query.specs.Segments.{TakesGroup};
+
+use crate::scan::Scan;
+use bw_answer::Answer;
+use bw_model::{Fault, Schema};
+use bw_run::{Counts, Registers};
+
+/// The segments of a table, in order. They come from an input: the source of a table file, or
+/// nothing more than the table, if it is in memory.
+pub(crate) trait Segments<I> {
+    /// The table's schema.
+    ghost table: { Self → Schema };
+
+    /// How many rows came so far.
+    ghost given: { Self → ℕ };
+
+    /// At least as many segments are to come.
+    ghost left: { Self → ℕ };
+
+    /// From the first state of the segments and their input to the second, these groups of rows
+    /// came.
+    ghost gave: { Self → I → List (List (List Value)) → Self → I → Type 0 };
+
+    /// They came, and are all groups of the table.
+    ghost ended: { Self → I → List (List (List Value)) → Self → I → Type 0 };
+
+    /// From the first state to the second, there was an error in place of all groups.
+    ghost failed: { Self → I → Self → I → Fault → Type 0 };
+
+    /// Returns the table's schema.
+    fn schema(&self) -> &Schema
+        ensures { result.now ≡ table self.now };
+
+    /// Returns how many rows the table has, or states.
+    fn rows(&self) -> u32;
+
+    /// Lets an answer take the rows of the next segment, by a scan, and returns the counts of its
+    /// run; None after the last segment. The answer must have taken the rows that came so far.
+    fn take_next(
+        &mut self,
+        input: &mut I,
+        scan: &Scan,
+        registers: &mut Registers,
+        answer: &mut Answer<'_>,
+    ) -> Result<Option<Counts>, Fault>
+        requires began { (start : Self) × (from : I) × (groups : List (List (List Value)))
+            × gave start from groups self.old input.old }
+        requires scan { IsFor (table self.old).columns.items (query_in answer.old).cond scan.now }
+        requires width { answer.old.width ≡ length (table self.old).columns.items }
+        requires rows { answer.old.rows ≡ given self.old }
+        ensures taken { IfOk result (λ next. IfSome next (TakesGroup
+            (table self.old).columns.items scan.now answer.old answer.new
+            (λ group. (given self.new ≡ given self.old + length group)
+            × ((start : Self) (from : I) (groups : List (List (List Value)))
+            → gave start from groups self.old input.old
+            → gave start from (groups ++ group ∷ []) self.new input.new)))) }
+        ensures left { IfOk result (λ next. IfSome next (λ _. left self.new < left self.old)) }
+        ensures capacity { IfOk result (λ next. IfSome next (λ _. given self.new ≤ most_rows)) }
+        ensures table { IfOk result (λ next. IfSome next (λ _. table self.new ≡ table self.old)) }
+        ensures ended { IfOk result (λ next. IfNone next ((start : Self) (from : I)
+            (groups : List (List (List Value))) → gave start from groups self.old input.old
+            → ended start from groups self.new input.new)) }
+        ensures untouched { IfOk result (λ next. IfNone next (answer.new ≡ answer.old)) }
+        ensures refused { IfErr result (λ fault. (start : Self) (from : I)
+            (groups : List (List (List Value))) → gave start from groups self.old input.old
+            → failed start from self.new input.new fault) }
+        ensures fault { IfErr result (λ fault. is_write_fault fault ≡ false) };
+
+    /// A law: memory may be refused after any group.
+    ghost fails_among: { (start : Self) (from : I) (groups : List (List (List Value))) (now : Self)
+        (input : I) → gave start from groups now input → failed start from now input no_memory };
+
+    /// A law: and after all of them.
+    ghost fails_after: { (start : Self) (from : I) (groups : List (List (List Value))) (now : Self)
+        (input : I) → ended start from groups now input → failed start from now input no_memory };
+}
