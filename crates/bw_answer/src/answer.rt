@@ -47,8 +47,7 @@ pub struct Answer<'a> {
     ghost prepared: { IsPreparedFrom query.now.cond filter },
     ghost items: { IsTrue (list_all (item_within width) query.now.items.items) },
     ghost nonempty: { 1 ≤ length query.now.items.items },
-    ghost of_items: { IsOutputOf output query.now.items.items }
-        by { output_is_prop output query.now.items.items },
+    ghost of_items: { IsOutputOf output query.now.items.items } by { output_is_prop output query.now.items.items },
     ghost capacity: { IsTrue (list_all (is_of width rows) (totals_in output)) },
 }
 

@@ -1,7 +1,7 @@
 pub mod CacheLemmas
+pub mod GroupLemmas
 pub mod ItemLemmas
 pub mod MemoryExits
 pub mod ScanLemmas
-pub mod SegmentLemmas
 pub mod TableExits
 pub mod TableLemmas

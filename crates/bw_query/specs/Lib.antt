@@ -7,4 +7,5 @@ pub mod Scan
 pub mod Served
 pub mod TableAnswer
 pub mod Segments
+pub mod SegmentLemmas
 pub mod Trial

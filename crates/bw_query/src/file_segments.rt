@@ -6,7 +6,7 @@ ghost use Rattle.bw_answer.specs.Progress.{query_in};
 ghost use Rattle.bw_file.specs.AnySegment.{any_meaning};
 ghost use Rattle.bw_file.specs.Reading.{state_at};
 ghost use Rattle.bw_file.specs.TableReader.{bytes_taken, rows_given, rows_stated, schema_in};
-ghost use Rattle.bw_query.proofs.SegmentLemmas.{file_fails_after, file_fails_among};
+ghost use Rattle.bw_query.specs.SegmentLemmas.{file_fails_after, file_fails_among};
 ghost use Rattle.bw_query.specs.Scan.{IsFor};
 ghost use Rattle.bw_query.specs.Segments.{HasFailed, HasGiven, HasGivenAll, TakesGroup};
 

@@ -1,5 +1,6 @@
 //! The segments of a table in memory.
-ghost use Rattle.std.specs.Prelude.{◌≡◌, ◌+◌, ◌<◌, ◌≤◌, ◌×◌, IfErr, IfOk, IfSome, IsTrue, length, vec_len};
+ghost use Rattle.std.proofs.Props.{props};
+ghost use Rattle.std.specs.Prelude.{◌≡◌, ◌+◌, ◌-◌, ◌<◌, ◌≤◌, IfErr, IfOk, IfSome, IsTrue, length, vec_len};
 ghost use Rattle.std.specs.List.{list_all};
 ghost use Rattle.bw_model.specs.Fault.{no_memory};
 ghost use Rattle.bw_model.specs.Groups.{together};
@@ -9,6 +10,7 @@ ghost use Rattle.bw_file.specs.Blocks.{form_of};
 ghost use Rattle.bw_memory.specs.MemoryTable.{groups_in, layout_of, meaning_numbered, placement_of};
 ghost use Rattle.bw_memory.specs.MemoryTable.{schema_of, segments_in};
 ghost use Rattle.bw_query.specs.Scan.{IsFor};
+ghost use Rattle.bw_query.specs.SegmentLemmas.{memory_fails};
 ghost use Rattle.bw_query.specs.Segments.{IsTextOf, groups_before};
 
 use crate::scan::Scan;
@@ -33,7 +35,7 @@ struct MemorySegments<'a, L: CodeLayout> {
     /// The segment before it, whose place the next one takes.
     last: Option<PackedSegment<L, NumberedBlocks<'a>>>,
     ghost layout: { form_of (layout_of table.now) ≡ L.packing },
-    ghost placed: { IfSome last (λ segment. segment.placement.value ≡ placement_of table.now) },
+    ghost placed: { IfSome last (λ segment. segment.placement.value ≡ placement_of table.now) } by { Prim.hlevel props },
     ghost within: { next ≤ segments_in table.now },
 }
 
@@ -99,9 +101,9 @@ impl<'a, L: CodeLayout> Segments<()> for MemorySegments<'a, L> {
         Ok(Some(counts))
     }
 
-    ghost fails_among = { λ start from groups segments input gave. refl };
+    ghost fails_among = { λ start from groups segments input gave. memory_fails };
 
-    ghost fails_after = { λ start from groups segments input ended. refl };
+    ghost fails_after = { λ start from groups segments input ended. memory_fails };
 }
 
 /// Returns the text of the result of a query over a table in memory. The layout is looked up once.

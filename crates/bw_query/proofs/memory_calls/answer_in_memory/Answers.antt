@@ -1,5 +1,5 @@
 -- Each exit, by the contracts of its calls.
-use Rattle.std.proofs.Common.{◌≡◌, ◌∙◌, true, false, ℕ, List, Ok, Err, ap, refl, subst, sym}
+use Rattle.std.proofs.Common.{ℕ, List, Ok, Err, ap, refl, subst}
 use Rattle.std.specs.Io.KnownBytes.{Appends}
 use Rattle.bw_model.proofs.ErrLemmas.{err_passed_on}
 use Rattle.bw_model.specs.Fault.{is_memory}
@@ -7,7 +7,7 @@ use Rattle.bw_memory.specs.MemoryTable.{rows_of, schema_of}
 use Rattle.bw_report.specs.declared.served.Served.{Served}
 use Rattle.bw_query.specs.Scan.{given_file}
 use Rattle.bw_query.specs.TableAnswer.{by_statement}
-use Rattle.bw_query.proofs.MemoryExits.{rows_text, scan_counts}
+use Rattle.bw_query.proofs.MemoryExits.{any_memory, rows_text, scan_counts, text_is}
 use Rattle.bw_query.proofs.ScanLemmas.{serves}
 use Rattle.bw_query.proofs.TableExits.{memory_output, memory_writes_nothing, refused, went}
 use Rattle.bw_query.proofs.memory_calls.answer_in_memory.Goals as goal
@@ -18,9 +18,10 @@ returns-in_err-prepared-clause-answer g c =
 
 pub returns-in_err-found-clause-answer : goal.returns-in_err-found-clause-answer
 returns-in_err-found-clause-answer g c =
+    let fault = c.in_err-found.field-0.0 in
     let memory = c.in_err-found.ensures.only_oom in
-    let none = λ other. let e : true ≡ false = sym (ap is_memory memory) ∙ other in absurd (cc e) in
-    rw (err_passed_on _ c.from_residual-in_err-found.ensures.1) (_, none, refused Served _ _ (memory_writes_nothing c.in_err-found.field-0.0 memory))
+    let asks = by_statement (given_file c.args.program) c.args.sql.now in
+    rw (err_passed_on _ c.from_residual-in_err-found.ensures.1) (Err fault, any_memory c.args.table.now asks fault (ap is_memory memory), refused Served _ _ (memory_writes_nothing fault memory))
 
 pub returns-in_err-write_whole-clause-answer : goal.returns-in_err-write_whole-clause-answer
 returns-in_err-write_whole-clause-answer g c =
@@ -54,13 +55,13 @@ returns-clause-served g c =
     let asked = rw c.schema.ensures at c.in_ok-prepared.ensures.asked in
     let chosen = rw c.schema.ensures at c.in_ok-prepared.ensures.chosen in
     let goes = rw c.deref.ensures.value at c.in_ok-write_whole.ensures in
-    let told = rows_text table (by_statement file c.args.sql.now) prepared.query prepared.scan found.text.items found.scanned asked c.in_ok-found.ensures.text in
+    let is = text_is table prepared.query prepared.scan found.text.items found.scanned c.in_ok-found.ensures.text in
     let counts = scan_counts table prepared.query prepared.scan found.text.items found.scanned c.in_ok-found.ensures.text in
     rw c.report_of.ensures (
       record {
         query = prepared.query;
         asked = asked;
-        text = subst (λ (text : List ℕ). Appends (g.K.Sink.state c.args.sink.now).taken (g.K.Sink.state c.write_whole.new.sink).taken text) told.is goes.0;
+        text = subst (λ (text : List ℕ). Appends (g.K.Sink.state c.args.sink.now).taken (g.K.Sink.state c.write_whole.new.sink).taken text) is goes.0;
       },
       serves file (schema_of table) prepared.query (rows_of table) prepared.scan found.scanned chosen counts,
     )

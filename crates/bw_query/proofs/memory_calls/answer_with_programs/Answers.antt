@@ -1,6 +1,5 @@
 -- Each exit, by the contracts of its calls.
-use Rattle.std.proofs.Common.{◌≡◌, ◌∙◌, true, false, ℕ, List, Ok, Err, None, ap, inl, refl, subst}
-use Rattle.std.proofs.Common.{sym}
+use Rattle.std.proofs.Common.{ℕ, List, Ok, Err, None, ap, inl, refl, subst}
 use Rattle.std.specs.Io.KnownBytes.{Appends}
 use Rattle.bw_model.proofs.ErrLemmas.{err_passed_on}
 use Rattle.bw_io.proofs.SinkLemmas.{no_write_fault}
@@ -12,7 +11,7 @@ use Rattle.bw_query.specs.ProgramChoice.{IsServedAmong}
 use Rattle.bw_query.specs.Served.{report_of}
 use Rattle.bw_query.specs.TableAnswer.{by_statement}
 use Rattle.bw_query.proofs.CacheLemmas.{serves_among}
-use Rattle.bw_query.proofs.MemoryExits.{rows_text, scan_counts}
+use Rattle.bw_query.proofs.MemoryExits.{any_memory, rows_text, scan_counts, text_is}
 use Rattle.bw_query.proofs.TableExits.{memory_output, memory_writes_nothing, refused}
 use Rattle.bw_query.proofs.TableExits.{statement_writes_nothing, went}
 use Rattle.bw_query.proofs.memory_calls.answer_with_programs.Goals as goal
@@ -20,25 +19,25 @@ use Rattle.bw_query.proofs.memory_calls.answer_with_programs.Goals as goal
 pub returns-in_err-query-clause-answer : goal.returns-in_err-query-clause-answer
 returns-in_err-query-clause-answer g c =
     let read = rw c.schema.ensures at c.in_err-query.ensures.read in
-    rw (err_passed_on _ c.from_residual.ensures.1) (_, λ other. inl (read other), refused Served _ _ (statement_writes_nothing c.in_err-query.field-0.0 c.in_err-query.ensures.fault))
+    rw (err_passed_on _ c.from_residual.ensures.1) (Err c.in_err-query.field-0.0, λ other. inl (read other), refused Served _ _ (statement_writes_nothing c.in_err-query.field-0.0 c.in_err-query.ensures.fault))
 
 pub returns-in_err-number-clause-answer : goal.returns-in_err-number-clause-answer
 returns-in_err-number-clause-answer g c =
     let fault = c.in_err-number.field-0.0 in
     let memory = c.in_err-number.ensures.only_oom in
-    let none = λ other. let e : true ≡ false = sym memory ∙ other in absurd (cc e) in
-    rw (err_passed_on _ c.from_residual-in_err-number.ensures.1) (_, none, refused Served _ _ (no_write_fault is_memory fault memory refl))
+    rw (err_passed_on _ c.from_residual-in_err-number.ensures.1) (Err fault, any_memory c.args.table.now (by_statement None c.args.sql.now) fault memory, refused Served _ _ (no_write_fault is_memory fault memory refl))
 
 pub returns-in_err-found-clause-answer : goal.returns-in_err-found-clause-answer
 returns-in_err-found-clause-answer g c =
+    let fault = c.in_err-found.field-0.0 in
     let memory = c.in_err-found.ensures.only_oom in
-    let none = λ other. let e : true ≡ false = sym (ap is_memory memory) ∙ other in absurd (cc e) in
-    rw (err_passed_on _ c.from_residual-in_err-found.ensures.1) (_, none, refused Served _ _ (memory_writes_nothing c.in_err-found.field-0.0 memory))
+    rw (err_passed_on _ c.from_residual-in_err-found.ensures.1)
+    (Err fault, any_memory c.args.table.now (by_statement None c.args.sql.now) fault (ap is_memory memory), refused Served _ _ (memory_writes_nothing fault memory))
 
 pub returns-in_err-write_whole-clause-answer : goal.returns-in_err-write_whole-clause-answer
 returns-in_err-write_whole-clause-answer g c =
     let found = c.in_ok-found.found in
-    let asked = (rw c.schema.ensures at c.in_ok-query.ensures.read, tt) in
+    let asked : by_statement None c.args.sql.now (schema_of c.args.table.now) (Ok c.in_ok-query.query) = (rw c.schema.ensures at c.in_ok-query.ensures.read, tt) in
     let goes = rw c.deref.ensures.value at c.in_err-write_whole.ensures in
     rw (err_passed_on _ c.from_residual-in_err-write_whole.ensures.1) (
       _,
@@ -54,7 +53,7 @@ memory_text-requires-clause-scan g c =
 pub returns-clause-answer : goal.returns-clause-answer
 returns-clause-answer g c =
     let found = c.in_ok-found.found in
-    let asked = (rw c.schema.ensures at c.in_ok-query.ensures.read, tt) in
+    let asked : by_statement None c.args.sql.now (schema_of c.args.table.now) (Ok c.in_ok-query.query) = (rw c.schema.ensures at c.in_ok-query.ensures.read, tt) in
     let goes = rw c.deref.ensures.value at c.in_ok-write_whole.ensures in (
       _,
       rows_text c.args.table.now (by_statement None c.args.sql.now) c.in_ok-query.query c.scan-scan.result.now found.text.items found.scanned asked c.in_ok-found.ensures.text,
@@ -67,16 +66,16 @@ returns-clause-served g c =
     let query = c.in_ok-query.query in
     let scan = c.scan-scan.result.now in
     let found = c.in_ok-found.found in
-    let asked = (rw c.schema.ensures at c.in_ok-query.ensures.read, tt) in
+    let asked : by_statement None c.args.sql.now (schema_of c.args.table.now) (Ok c.in_ok-query.query) = (rw c.schema.ensures at c.in_ok-query.ensures.read, tt) in
     let chosen = c.scan-scan.ensures.chosen (schema_of table).columns.items query.cond c.in_ok-number.ensures.found in
     let goes = rw c.deref.ensures.value at c.in_ok-write_whole.ensures in
-    let told = rows_text table (by_statement None c.args.sql.now) query scan found.text.items found.scanned asked c.in_ok-found.ensures.text in
+    let is = text_is table query scan found.text.items found.scanned c.in_ok-found.ensures.text in
     let counts = scan_counts table query scan found.text.items found.scanned c.in_ok-found.ensures.text in
     rw c.report_of.ensures (
       record {
         query = query;
         asked = asked;
-        text = subst (λ (text : List ℕ). Appends (g.K.Sink.state c.args.sink.now).taken (g.K.Sink.state c.write_whole.new.sink).taken text) told.is goes.0;
+        text = subst (λ (text : List ℕ). Appends (g.K.Sink.state c.args.sink.now).taken (g.K.Sink.state c.write_whole.new.sink).taken text) is goes.0;
       },
       subst (λ (files : List (List ℕ)). IsServedAmong files (schema_of table) query (rows_of table) (report_of scan found.scanned)) c.in_ok-number.ensures.files
           (serves_among _ (schema_of table) query (rows_of table) scan found.scanned chosen counts),

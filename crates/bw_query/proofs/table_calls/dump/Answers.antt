@@ -27,9 +27,8 @@ returns-in_err-query-clause-answer g c =
     let fault = c.in_err-query.field-0.0 in
     let reader = c.in_ok-reader.reader in
     let memory = c.in_err-query.ensures.only_oom in
-    let no = λ other. let e : true ≡ false = sym (ap is_memory memory) ∙ other in absurd (cc e) in
     rw (err_passed_on _ c.from_residual-in_err-query.ensures.1) (ends by_dump _ _ _ _
-    (bytes_taken reader, asked_refused by_dump _ _ reader fault c.in_ok-reader.ensures.stated (ap failed_reads memory) no)
+    (bytes_taken reader, asked_refused by_dump _ _ reader fault c.in_ok-reader.ensures.stated (ap failed_reads memory) (λ other. let e : true ≡ false = sym (ap is_memory memory) ∙ other in absurd (cc e)))
     (refused (Unit {0}) _ _ (memory_writes_nothing fault memory)))
 
 pub returns-in_err-found-clause-answer : goal.returns-in_err-found-clause-answer

@@ -2,11 +2,18 @@
 use Rattle.std.proofs.Common.{[]}
 use Rattle.bw_model.proofs.ErrLemmas.{err_passed_on}
 use Rattle.bw_model.specs.declared.fault.Fault.{Fault}
+use Rattle.bw_model.specs.declared.query.Query.{Query}
 use Rattle.bw_model.specs.Column.{names_of}
 use Rattle.bw_model.specs.Groups.{together}
 use Rattle.std.proofs.Common.{subst, sym}
-use Rattle.bw_query.proofs.TableExits.{memory_writes_nothing}
+use Rattle.bw_query.specs.Scan.{IsFor}
 use Rattle.bw_query.proofs.table_text.table_text.Goals as goal
+
+pub take_rows-requires-clause-scan : goal.take_rows-requires-clause-scan
+take_rows-requires-clause-scan g c =
+    let names = names_of (g.T.Segments.table c.args.segments.now).columns.items in
+    let over = c.in_ok-reserve.ensures.covers names c.args.query.now [] (rw c.schema.ensures at c.in_ok-answer.ensures.covers) in
+    subst (λ (query : Query). IsFor (g.T.Segments.table c.args.segments.now).columns.items query.cond c.args.scan.now) (sym over.0) c.requires.scan
 
 pub returns-in_err-answer-clause-refused : goal.returns-in_err-answer-clause-refused
 returns-in_err-answer-clause-refused g c =

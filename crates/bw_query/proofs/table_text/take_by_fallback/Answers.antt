@@ -20,8 +20,8 @@ returns-then-counts_rows-clause-taken g c =
       bounded = omega arith;
     }
 
-pub returns-else-counts_rows-clause-taken : goal.returns-else-counts_rows-clause-taken
-returns-else-counts_rows-clause-taken g c =
+pub returns-in_ok-take_segment-clause-taken : goal.returns-in_ok-take_segment-clause-taken
+returns-in_ok-take_segment-clause-taken g c =
     let old = c.args.answer.now in
     let took = c.in_ok-take_segment.ensures in
     record {

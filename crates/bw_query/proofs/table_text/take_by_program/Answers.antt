@@ -7,14 +7,14 @@ use Rattle.bw_query.proofs.table_text.take_by_program.Goals as goal
 pub take_matches-requires-clause-matches : goal.take_matches-requires-clause-matches
 take_matches-requires-clause-matches g c =
     let rows = (g.S.Segment.meaning c.args.segment.now).rows in
-    omega (arith, matches_among c.args.certified.now.condition rows, c.count_matches.ensures.matches, c.rows_in.ensures.count)
+    omega (arith, matches_among c.args.certified.now.condition rows, c.count_matches-matches.ensures.matches, c.rows_in.ensures.count)
 
 pub returns-then-only_counts-clause-taken : goal.returns-then-only_counts-clause-taken
 returns-then-only_counts-clause-taken g c =
     let old = c.args.answer.now in
     let rows = (g.S.Segment.meaning c.args.segment.now).rows in
     let alike = matches_alike c.args.certified.now.condition old.query.now.cond rows (rw (c.condition.ensures, c.query.ensures) at c.same_meaning.ensures.truth) in
-    let run = c.count_matches.ensures in
+    let run = c.count_matches-matches.ensures in
     let took = c.take_matches.ensures in
     record {
       group = rows;

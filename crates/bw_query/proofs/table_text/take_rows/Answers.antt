@@ -42,7 +42,7 @@ take_next-requires-clause-width g c =
 pub loop-more-preserved : goal.loop-more-preserved
 loop-more-preserved g c =
     let so_far = c.loop-more.invariant in
-    let taken = rw c.in-Some.is at c.in_ok-take_next.ensures.taken in
+    let taken = rw c.in-Some.is at c.in_ok-more.ensures.taken in
     let group = taken.group in
     let more = length-append so_far.groups (group ∷ []) in
     let loads = ap (λ (schema : Schema). loads_in schema.columns.items c.args.scan.now group) so_far.same in
@@ -59,30 +59,30 @@ loop-more-preserved g c =
       };
       few_loads = omega (arith, so_far.few_loads, c.plus-scanned.ensures.loads, more, taken.bounded);
       few_skips = omega (arith, so_far.few_skips, c.plus-scanned.ensures.skips, more, taken.bounded);
-      same = (rw c.in-Some.is at c.in_ok-take_next.ensures.table) ∙ so_far.same;
+      same = (rw c.in-Some.is at c.in_ok-more.ensures.table) ∙ so_far.same;
       rows = omega (arith, taken.rows, so_far.rows, taken.comes.0);
       many = omega (arith, more, so_far.many, taken.rows, taken.some);
-      within_limit = omega (arith, taken.rows, so_far.rows, taken.comes.0, rw c.in-Some.is at c.in_ok-take_next.ensures.capacity);
+      within_limit = omega (arith, taken.rows, so_far.rows, taken.comes.0, rw c.in-Some.is at c.in_ok-more.ensures.capacity);
       width = taken.width ∙ so_far.width;
     }
 
 pub loop-more-smaller : goal.loop-more-smaller
-loop-more-smaller g c = rw c.in-Some.is at c.in_ok-take_next.ensures.left
+loop-more-smaller g c = rw c.in-Some.is at c.in_ok-more.ensures.left
 
-pub returns-in_err-take_next-clause-refused : goal.returns-in_err-take_next-clause-refused
-returns-in_err-take_next-clause-refused g c =
+pub returns-in_err-more-clause-refused : goal.returns-in_err-more-clause-refused
+returns-in_err-more-clause-refused g c =
     let so_far = c.loop-more.invariant in
-    rw (err_passed_on _ c.from_residual.ensures.1) (c.in_err-take_next.ensures.refused c.args.segments.now c.args.input.now so_far.groups so_far.gave)
+    rw (err_passed_on _ c.from_residual.ensures.1) (c.in_err-more.ensures.refused c.args.segments.now c.args.input.now so_far.groups so_far.gave)
 
-pub returns-in_err-take_next-clause-fault : goal.returns-in_err-take_next-clause-fault
-returns-in_err-take_next-clause-fault g c = rw (err_passed_on _ c.from_residual.ensures.1) c.in_err-take_next.ensures.fault
+pub returns-in_err-more-clause-fault : goal.returns-in_err-more-clause-fault
+returns-in_err-more-clause-fault g c = rw (err_passed_on _ c.from_residual.ensures.1) c.in_err-more.ensures.fault
 
 pub returns-clause-taken : goal.returns-clause-taken
 returns-clause-taken g c =
     let so_far = c.loop-more.invariant in
     record {
       groups = so_far.groups;
-      all = (rw c.in_default.is at c.in_ok-take_next.ensures.ended) c.args.segments.now c.args.input.now so_far.groups so_far.gave;
-      covers = rw (rw c.in_default.is at c.in_ok-take_next.ensures.untouched) so_far.covers;
+      all = (rw c.in_default.is at c.in_ok-more.ensures.ended) c.args.segments.now c.args.input.now so_far.groups so_far.gave;
+      covers = rw (rw c.in_default.is at c.in_ok-more.ensures.untouched) so_far.covers;
       counts = so_far.scanned;
     }

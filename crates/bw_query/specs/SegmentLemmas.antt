@@ -29,3 +29,7 @@ file_fails_after old reader groups now all = λ start read.
     let whole = all.read start read in
     memory_answers start old now no_memory (whole.bytes, whole.took, whole.needed)
     (whole.failures ∙ sym (read.on.failures ∙ read.head.failures)) refl
+
+-- out of memory is the only error of a table in memory
+pub memory_fails : no_memory ≡ no_memory
+memory_fails = refl
