@@ -1,5 +1,5 @@
 -- The columns that items name, and a row's fields in them.
-use Rattle.std.proofs.Common.{◌≡◌, ◌≢◌, ◌∙◌, ℕ, zero, suc, ◌+◌, ◌<◌, ◌≤◌, Bool, true, false, List}
+use Rattle.std.proofs.Common.{◌≡◌, ◌≢◌, ◌∙◌, ℕ, suc, ◌+◌, ◌<◌, ◌≤◌, Bool, true, false, List}
 use Rattle.std.proofs.Common.{[], ◌∷◌, ◌++◌, refl, sym, ap, map, length, take, get_or, subst, arith}
 use Rattle.std.proofs.Common.{None, true≢false}
 use Rattle.std.specs.List.{filter_map}

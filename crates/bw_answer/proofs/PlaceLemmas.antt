@@ -1,6 +1,6 @@
 -- The places of columns, one more at a time.
-use Rattle.std.proofs.Common.{◌≡◌, ◌∙◌, ◌<◌, ◌≤◌, ◌+◌, ℕ, List, [], ◌∷◌, ◌++◌, All, arith, get_or}
-use Rattle.std.proofs.Common.{length, length-append, map, subst, sym, ap, inl, inr}
+use Rattle.std.proofs.Common.{◌≡◌, ◌∙◌, ◌<◌, ◌+◌, ℕ, List, [], ◌∷◌, ◌++◌, All, arith, get_or}
+use Rattle.std.proofs.Common.{length, length-append, subst, sym, ap, inl, inr}
 use Rattle.std.proofs.lemmas.Bool.{cases_lt}
 use Rattle.std.proofs.lemmas.List.{get_or-append-add, get_or_append_left, get_or_default, length-map}
 use Rattle.bw_aggregate.specs.Gathered.{Reads}

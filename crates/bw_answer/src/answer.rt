@@ -44,11 +44,14 @@ pub struct Answer<'a> {
     text: Vec<u8>,
     /// What becomes of the matching rows.
     pub(crate) output: Output,
+    /// Whether the query only counts the matching rows.
+    only_counts: bool,
     ghost prepared: { IsPreparedFrom query.now.cond filter },
     ghost items: { IsTrue (list_all (item_within width) query.now.items.items) },
     ghost nonempty: { 1 ≤ length query.now.items.items },
     ghost of_items: { IsOutputOf output query.now.items.items } by { output_is_prop output query.now.items.items },
     ghost capacity: { IsTrue (list_all (is_of width rows) (totals_in output)) },
+    ghost alone: { only_counts ≡ list_all is_count_all query.now.items.items },
 }
 
 impl<'a> Answer<'a> {
@@ -82,6 +85,7 @@ impl<'a> Answer<'a> {
             filter: Filter::new(alloc, &query.cond)?,
             text: heading_text(alloc, &schema.columns, &query.items)?,
             output: Output::new(alloc, &query.items)?,
+            only_counts: count_all_alone(&query.items),
         })
     }
 
@@ -119,7 +123,7 @@ impl<'a> Answer<'a> {
     pub fn only_counts(&self) -> bool
         ensures { result ≡ list_all is_count_all (query_in self.now).items.items }
     {
-        count_all_alone(&self.query.items)
+        self.only_counts
     }
 
     /// Consumes `count` rows, whatever their values. The query must only count rows, and have space
@@ -291,6 +295,7 @@ impl<'a> Answer<'a> {
             filter: _,
             text,
             output,
+            only_counts: _,
         } = self;
         output.into_text(text, query)
     }

@@ -1,13 +1,12 @@
 -- Groups of rows that an answer takes.
 use Rattle.std.proofs.Common.{◌≡◌, ◌∙◌, ℕ, ◌+◌, List, [], ◌∷◌, ◌++◌, refl, sym, ap, subst}
-use Rattle.std.proofs.Common.{append_assoc, arith, filter, length, length-append}
+use Rattle.std.proofs.Common.{append_assoc, arith, filter, length}
 use Rattle.std.specs.List.{sum_by}
 use Rattle.std.proofs.lemmas.List.{append-nil}
-use Rattle.std.proofs.lemmas.List.Elements.{filter-append}
 use Rattle.std.proofs.lemmas.List.Sums.{sum_by-append}
 use Rattle.bw_model.specs.declared.cond.Cond.{Cond}
 use Rattle.bw_model.specs.declared.cond.Truth.TheVariants.{Yes}
-use Rattle.bw_model.specs.Cond.{is_match, truth_of}
+use Rattle.bw_model.specs.Cond.{truth_of}
 use Rattle.bw_model.specs.Truth.{is_truth}
 use Rattle.bw_model.specs.Groups.{together}
 use Rattle.bw_model.specs.Row.{Value}

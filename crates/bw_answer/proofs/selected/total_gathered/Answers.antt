@@ -1,6 +1,6 @@
 -- The total at hand is as it was; then it has the selected rows.
-use Rattle.std.proofs.Common.{◌≡◌, ◌∙◌, ◌+◌, ◌<◌, ℕ, List, ap, arith, count_by, get_or, length, length-set}
-use Rattle.std.proofs.Common.{map, set, subst, sym, inl, inr}
+use Rattle.std.proofs.Common.{◌≡◌, ◌∙◌, ◌<◌, ℕ, ap, arith, count_by, get_or, length, length-set}
+use Rattle.std.proofs.Common.{set, subst, sym, inl, inr}
 use Rattle.std.proofs.lemmas.Bool.{cases_eq}
 use Rattle.std.proofs.lemmas.List.{get_or-map, get_or-set_other, get_or-set_same, get_or_default}
 use Rattle.std.proofs.lemmas.List.{length-map}

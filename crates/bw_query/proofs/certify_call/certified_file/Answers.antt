@@ -1,5 +1,5 @@
 -- Each exit, by the contracts of its calls.
-use Rattle.std.proofs.Common.{List, ℕ, subst, sym}
+use Rattle.std.proofs.Common.{subst, sym}
 use Rattle.bw_model.proofs.ErrLemmas.{err_passed_on}
 use Rattle.bw_model.specs.declared.fault.Fault.{Fault}
 use Rattle.bw_program.specs.Program.{ProgramShape}

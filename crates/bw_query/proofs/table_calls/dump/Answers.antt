@@ -1,5 +1,5 @@
 -- Each exit, by the contracts of its calls.
-use Rattle.std.proofs.Common.{◌≡◌, ◌∙◌, [], true, false, sym, ap}
+use Rattle.std.proofs.Common.{◌≡◌, ◌∙◌, true, false, sym, ap}
 use Rattle.bw_model.proofs.ErrLemmas.{err_passed_on}
 use Rattle.bw_model.specs.Fault.{is_memory}
 use Rattle.bw_io.specs.Source.{failed_reads}

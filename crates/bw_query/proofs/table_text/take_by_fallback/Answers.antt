@@ -1,5 +1,5 @@
 -- The rows that the fallback selects are taken after those that the answer had taken.
-use Rattle.std.proofs.Common.{◌≤◌, [], arith, refl, sym}
+use Rattle.std.proofs.Common.{[], arith, refl, sym}
 use Rattle.bw_query.proofs.TableLemmas.{goes_nowhere}
 use Rattle.bw_query.proofs.table_text.take_by_fallback.Goals as goal
 

@@ -1,12 +1,10 @@
 -- An answer over no rows.
-use Rattle.std.proofs.Common.{◌≡◌, ◌∙◌, sym, ap, subst, List, ℕ, refl, true, length, arith}
+use Rattle.std.proofs.Common.{◌≡◌, ◌∙◌, sym, subst, List, ℕ, refl, true, length, arith}
 use Rattle.std.specs.List.{list_all}
 use Rattle.bw_model.specs.declared.query.Item.{Item}
 use Rattle.bw_model.specs.Total.{item_within}
 use Rattle.bw_model.specs.Column.{names_of}
-use Rattle.bw_answer.specs.Answer.{lists_rows}
-use Rattle.bw_answer.proofs.AggregateLemmas.{is_of-new}
-use Rattle.bw_answer.proofs.AnswerLemmas.{aggregates, heading_first}
+use Rattle.bw_answer.proofs.AnswerLemmas.{heading_first}
 use Rattle.std.proofs.lemmas.Bool.{eq-eqb}
 use Rattle.bw_answer.proofs.answer.Answer.new.Goals as goal
 
@@ -23,6 +21,9 @@ invariant_of-result-clause-of_items c = rw c.deref-3.ensures.value at c.in_ok-ne
 pub invariant_of-result-clause-capacity : goal.invariant_of-result-clause-capacity
 invariant_of-result-clause-capacity c =
     (rw c.deref-3.ensures.value at c.in_ok-new-2.ensures.counts) c.len-width.result (within _ _ c.args.query.now.items.items c.len-width.ensures c.requires.items)
+
+pub invariant_of-result-clause-alone : goal.invariant_of-result-clause-alone
+invariant_of-result-clause-alone c = rw c.deref-4.ensures.value at c.count_all_alone.ensures
 
 pub returns-clause-takes : goal.returns-clause-takes
 returns-clause-takes c = λ row admitted.

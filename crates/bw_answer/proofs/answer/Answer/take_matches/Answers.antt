@@ -1,6 +1,6 @@
 -- Each total counts the matching rows, and the text stays.
-use Rattle.std.proofs.Common.{◌≡◌, ◌∙◌, ◌+◌, ◌≤◌, List, ◌++◌, true, length, length-append, map}
-use Rattle.std.proofs.Common.{subst, sym, ap, append_assoc}
+use Rattle.std.proofs.Common.{◌≡◌, ◌∙◌, ◌+◌, ◌≤◌, ◌++◌, true, length, length-append, map}
+use Rattle.std.proofs.Common.{sym, ap, append_assoc}
 use Rattle.std.proofs.lemmas.List.Elements.{filter-append}
 use Rattle.bw_model.specs.Cond.{is_match}
 use Rattle.std.specs.List.{list_all}

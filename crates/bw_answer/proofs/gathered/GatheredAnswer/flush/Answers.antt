@@ -1,12 +1,10 @@
 -- The answer is over the rows that were gathered too, and the columns have none.
-use Rattle.std.proofs.Common.{◌≡◌, ◌∙◌, ◌++◌, [], ℕ, List, ap, append-nil, arith, map, refl, subst, sym}
-use Rattle.bw_lanes.specs.Lanes.{lanes_of_words}
+use Rattle.std.proofs.Common.{◌∙◌, ◌++◌, [], ℕ, List, ap, append-nil, arith, map, refl, subst, sym}
 use Rattle.bw_model.specs.Row.{Value}
 use Rattle.bw_model.specs.declared.query.Item.{Item}
-use Rattle.bw_model.specs.declared.query.Query.{Query}
 use Rattle.bw_rowwise.specs.Accumulator.{Tally}
 use Rattle.bw_rowwise.specs.Columns.{numbers_of}
-use Rattle.bw_answer.specs.Gathered.{AreGathered, AreSummed}
+use Rattle.bw_answer.specs.Gathered.{AreSummed}
 use Rattle.bw_answer.specs.Output.{totals_in}
 use Rattle.bw_answer.specs.Places.{AreRead}
 use Rattle.bw_answer.specs.Progress.{GoesOver, IsOver}

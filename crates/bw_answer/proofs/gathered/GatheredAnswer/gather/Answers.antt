@@ -1,5 +1,5 @@
 -- The row is the last one of those that are gathered.
-use Rattle.std.proofs.Common.{◌≡◌, ◌∙◌, ◌++◌, ◌∷◌, [], List, ap, append_assoc, arith, length-append, sym}
+use Rattle.std.proofs.Common.{◌∙◌, ◌++◌, ◌∷◌, [], List, ap, append_assoc, arith, length-append, sym}
 use Rattle.bw_model.specs.Row.{Value, values_of}
 use Rattle.bw_answer.proofs.gathered.GatheredAnswer.gather.Goals as goal
 

@@ -1,5 +1,5 @@
 -- Once the rows that were gathered are added, the answer is over all rows.
-use Rattle.std.proofs.Common.{◌≡◌, ◌∙◌, ◌++◌, [], ℕ, List, ap, append-nil, length, refl, subst, sym, arith, ◌∷◌}
+use Rattle.std.proofs.Common.{◌≡◌, ◌∙◌, ◌++◌, [], List, ap, append-nil, length, refl, subst, sym, arith, ◌∷◌}
 use Rattle.std.proofs.lemmas.Result.{IfOk-weaker}
 use Rattle.bw_model.specs.Row.{Value}
 use Rattle.bw_answer.specs.Answer.{csv_text, meaning}

@@ -1,7 +1,6 @@
 -- No row is gathered yet.
-use Rattle.std.proofs.Common.{[], arith, refl, subst, sym}
+use Rattle.std.proofs.Common.{[], arith, refl}
 use Rattle.bw_model.specs.Column.{names_of}
-use Rattle.bw_answer.specs.Gathered.{AreSummed}
 use Rattle.bw_answer.proofs.gathered.GatheredAnswer.new.Goals as goal
 
 pub invariant_of-result : goal.invariant_of-result

@@ -1,5 +1,5 @@
 -- The rows that are selected are among those that were gathered.
-use Rattle.std.proofs.Common.{◌≡◌, ◌∙◌, ◌++◌, ℕ, List, ap}
+use Rattle.std.proofs.Common.{◌∙◌, ◌++◌, ℕ, List, ap}
 use Rattle.std.proofs.lemmas.Result.{on_ok_weaker}
 use Rattle.bw_lanes.specs.Lanes.{lanes_of_words}
 use Rattle.bw_answer.specs.Answer.{csv_text}

@@ -1,9 +1,8 @@
 -- The rows that are selected are those whose values are fetched.
-use Rattle.std.proofs.Common.{◌≡◌, ◌∙◌, ◌++◌, ℕ, List, ap, subst, sym, map}
+use Rattle.std.proofs.Common.{◌∙◌, ◌++◌, ℕ, List, ap, subst, sym, map}
 use Rattle.std.proofs.lemmas.Result.{on_ok_weaker}
 use Rattle.bw_lanes.specs.Lanes.{lanes_of_words}
 use Rattle.bw_model.specs.Row.{Value}
-use Rattle.bw_rowwise.specs.Columns.{numbers_of}
 use Rattle.bw_answer.specs.Answer.{csv_text}
 use Rattle.bw_answer.specs.Columns.{fields_of}
 use Rattle.bw_answer.specs.Places.{AreAt}

@@ -1,5 +1,5 @@
 -- The text as it is, or with the record of totals.
-use Rattle.std.proofs.Common.{◌≡◌, ◌∙◌, ◌++◌, ℕ, List, map, sym, ap}
+use Rattle.std.proofs.Common.{◌∙◌, ◌++◌, ℕ, List, map, sym, ap}
 use Rattle.std.proofs.lemmas.Result.{IfOk-weaker}
 use Rattle.bw_model.specs.declared.query.Item.{Item}
 use Rattle.bw_answer.specs.Aggregates.{answer_for}

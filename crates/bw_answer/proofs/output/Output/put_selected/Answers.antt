@@ -16,7 +16,7 @@ use Rattle.bw_answer.specs.TextAndTotals.{text_over}
 use Rattle.bw_answer.specs.Columns.{columns_of, fields_of}
 use Rattle.bw_answer.proofs.AnswerLemmas.{text_over_more, text_over_same}
 use Rattle.bw_answer.proofs.ColumnLemmas.{map_listed, some_column}
-use Rattle.bw_answer.proofs.SelectedLemmas.{all_totals, few_kept, is_of-later, is_of-selected}
+use Rattle.bw_answer.proofs.SelectedLemmas.{all_totals, few_kept, is_of-selected}
 use Rattle.bw_answer.proofs.SelectedLemmas.{selected_as_kept, taken}
 use Rattle.bw_answer.proofs.output.Output.put_selected.Goals as goal
 

@@ -1,5 +1,5 @@
 -- The reader's next segment, its end or its error, after the groups so far.
-use Rattle.std.proofs.Common.{◌≡◌, ◌∙◌, ◌-◌, ◌<◌, ◌++◌, ◌∷◌, [], List, ap, arith, length, subst, sym}
+use Rattle.std.proofs.Common.{◌∙◌, List, ap, arith, length, subst, sym}
 use Rattle.bw_model.proofs.ErrLemmas.{err_passed_on}
 use Rattle.bw_model.specs.declared.column.Column.{Column}
 use Rattle.bw_model.specs.declared.fault.Fault.{Fault}
