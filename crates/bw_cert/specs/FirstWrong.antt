@@ -11,7 +11,7 @@ use Rattle.bw_cert_text.specs.declared.lines.NodeLine.{NodeLine}
 use Rattle.bw_cert_text.specs.declared.lines.ChainLine.{ChainLine}
 use Rattle.bw_cert_text.specs.declared.lines.ProductLine.{ProductLine}
 use Rattle.bw_cert_text.specs.CertificateShape.{CertificateShape}
-use Rattle.bw_cert_rules.specs.declared.nodes.TruthPair.{TruthPair}
+use Rattle.bw_cert_rules.specs.Rows.{TruthPair}
 use Rattle.bw_cert_rules.specs.Pair.{pair_of}
 use Rattle.bw_cert_rules.specs.Accepted.{Accepts}
 use Rattle.bw_cert_rules.specs.Walk.{WalkState}

@@ -30,13 +30,14 @@ use Rattle.bw_diagram.proofs.ChainLemmas.{padded_number-whole, number_spelled-wh
 use Rattle.bw_cert_text.specs.declared.lines.ConditionEntry.{ConditionEntry}
 use Rattle.bw_cert_text.specs.declared.lines.ConditionEntry.TheVariants.{Compare, CompareColumns}
 use Rattle.bw_cert_text.specs.declared.lines.ConditionEntry.TheVariants.{Fixed}
-use Rattle.bw_cert_rules.specs.declared.nodes.TruthPair.{TruthPair}
-use Rattle.bw_cert_rules.specs.declared.comparison.Bound.{Bound}
-use Rattle.bw_cert_rules.specs.declared.comparison.Order.{Order}
+use Rattle.bw_cert_rules.specs.Rows.{TruthPair}
+use Rattle.bw_diagram.specs.declared.comparison.Bound.{Bound}
+use Rattle.bw_diagram.specs.declared.comparison.Order.{Order}
 use Rattle.bw_cert_rules.specs.Rows.{if_both, exchange_nodes, value_node}
 use Rattle.bw_cert_rules.specs.Comparison.{lo_at, constant_pair, fixed_pair, pair_if_known}
-use Rattle.bw_cert_rules.specs.Comparison.{exchange_if, bound_of, terminal_of, terminal_or_cited}
-use Rattle.bw_cert_rules.specs.Comparison.{bound_node, with_literal, order_of, order_node}
+use Rattle.bw_diagram.specs.Comparison.{bound_of, terminal_of, order_of}
+use Rattle.bw_cert_rules.specs.Comparison.{exchange_if, terminal_or_cited}
+use Rattle.bw_cert_rules.specs.Comparison.{bound_node, with_literal, order_node}
 use Rattle.bw_cert_rules.specs.Comparison.{both_node, with_column, comparison}
 use Rattle.bw_cert_rules.specs.Meaning.{Tells}
 use Rattle.bw_cert_rules.proofs.NumberLemmas.{compares_to, turned_bit, lt_low, lt_high, eq_low}

@@ -7,7 +7,7 @@ use Rattle.bw_model.specs.declared.cond.Op.TheVariants.{Eq, Ne, Lt, Gt, Le, Ge}
 use Rattle.bw_model.specs.Truth.{holds, swap_operands}
 use Rattle.bw_diagram.specs.declared.chain.ChainKind.{ChainKind}
 use Rattle.bw_diagram.specs.declared.chain.ChainKind.TheVariants.{Less, Equal}
-use Rattle.bw_cert_rules.specs.Comparison.{bound_of}
+use Rattle.bw_diagram.specs.Comparison.{bound_of}
 
 -- less than, or equal to, of whole numbers
 abbrev pub compares_to : ChainKind → ℤ → ℤ → Bool

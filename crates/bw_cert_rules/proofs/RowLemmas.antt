@@ -15,7 +15,7 @@ use Rattle.bw_diagram.specs.Node.{IsNode, node_value}
 use Rattle.bw_diagram.specs.Product.{apply_connective}
 use Rattle.bw_diagram.specs.Facts.{Facts}
 use Rattle.bw_diagram.proofs.NodeLemmas.{node_value-zero, node_value-one}
-use Rattle.bw_cert_rules.specs.declared.nodes.TruthPair.{TruthPair}
+use Rattle.bw_cert_rules.specs.Rows.{TruthPair}
 use Rattle.bw_cert_rules.specs.Rows.{if_both, null_pair, value_node}
 
 -- a node that is worth this under every assignment

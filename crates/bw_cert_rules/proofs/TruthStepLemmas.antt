@@ -24,7 +24,7 @@ use Rattle.bw_cert_text.specs.declared.lines.BodyLine.{BodyLine}
 use Rattle.bw_cert_text.specs.declared.lines.ConditionEntry.{ConditionEntry}
 use Rattle.bw_cert_text.specs.declared.lines.ConditionEntry.TheVariants.{NullTest, And, Or, Not, Is}
 use Rattle.bw_cert_text.specs.declared.lines.ConditionEntry.TheVariants.{IsUnknown}
-use Rattle.bw_cert_rules.specs.declared.nodes.TruthPair.{TruthPair}
+use Rattle.bw_cert_rules.specs.Rows.{TruthPair}
 use Rattle.bw_cert_rules.specs.declared.steps.Junction.{Junction}
 use Rattle.bw_cert_rules.specs.declared.steps.Junction.TheVariants.{All, Any}
 use Rattle.bw_cert_rules.specs.Rows.{exchange_nodes}

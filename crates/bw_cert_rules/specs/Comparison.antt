@@ -1,13 +1,11 @@
 -- Comparisons in a certificate: of a column with a literal, of two columns, and those with the same
 -- truth on every row.
-use Rattle.std.specs.Prelude.{ℕ, ℤ, pos, ◌+ℤ◌, ◌-ℤ◌, ◌^◌, Bool, true, false, List, map, max, Option}
-use Rattle.std.specs.Prelude.{Some, None, slice_index_or, if◌then◌else◌, ◌||◌, ◌==◌, int_le, int_lt}
-use Rattle.std.specs.Prelude.{unsigned_abs}
+use Rattle.std.specs.Prelude.{ℕ, ℤ, pos, ◌-ℤ◌, Bool, true, false, List, map, max, Option, Some}
+use Rattle.std.specs.Prelude.{None, slice_index_or, if◌then◌else◌, ◌==◌, unsigned_abs}
 use Rattle.std.specs.Ordering.{int_eq}
 use Rattle.std.specs.Option.{option_map}
 use Rattle.bw_model.specs.declared.column.Column.{Column}
 use Rattle.bw_model.specs.declared.cond.Op.{Op}
-use Rattle.bw_model.specs.declared.cond.Op.TheVariants.{Eq, Ne, Lt, Gt, Le, Ge}
 use Rattle.bw_model.specs.declared.cond.Operand.{Operand}
 use Rattle.bw_model.specs.declared.cond.Operand.TheVariants.{Col, Lit}
 use Rattle.bw_model.specs.declared.cond.Truth.{Truth}
@@ -15,19 +13,17 @@ use Rattle.bw_model.specs.declared.cond.Truth.TheVariants.{No, Unknown, Yes}
 use Rattle.bw_model.specs.Code.{width_at}
 use Rattle.bw_model.specs.Truth.{truth_from, holds, swap_operands}
 use Rattle.bw_model.specs.Variable.{null_variable}
-use Rattle.bw_diagram.specs.declared.chain.ChainKind.{ChainKind}
-use Rattle.bw_diagram.specs.declared.chain.ChainKind.TheVariants.{Less, Equal}
+use Rattle.bw_diagram.specs.declared.comparison.Bound.{Bound}
+use Rattle.bw_diagram.specs.declared.comparison.Order.{Order}
 use Rattle.bw_diagram.specs.declared.product.Connective.TheVariants.{And, Diff}
 use Rattle.bw_diagram.specs.Chain.{first_node}
+use Rattle.bw_diagram.specs.Comparison.{bound_of, terminal_of, order_of}
 use Rattle.bw_diagram.specs.References.{product_node, comparison_node, two_column_node}
 use Rattle.bw_diagram.specs.Facts.{Facts}
 use Rattle.bw_cert_text.specs.declared.lines.ConditionEntry.{ConditionEntry}
 use Rattle.bw_cert_text.specs.declared.lines.ConditionEntry.TheVariants.{Compare, CompareColumns}
 use Rattle.bw_cert_text.specs.declared.lines.ConditionEntry.TheVariants.{Fixed}
-use Rattle.bw_cert_rules.specs.declared.nodes.TruthPair.{TruthPair}
-use Rattle.bw_cert_rules.specs.declared.comparison.Bound.{Bound}
-use Rattle.bw_cert_rules.specs.declared.comparison.Order.{Order}
-use Rattle.bw_cert_rules.specs.Rows.{pair_of_nodes, if_both, exchange_nodes, value_node}
+use Rattle.bw_cert_rules.specs.Rows.{TruthPair, pair_of_nodes, if_both, exchange_nodes, value_node}
 
 -- the minimum of the column of this number
 abbrev pub lo_at : List Column → ℕ → ℤ
@@ -56,24 +52,6 @@ abbrev pub exchange_if : Bool → Option TruthPair → Option TruthPair
 exchange_if true pair = option_map exchange_nodes pair
 exchange_if false pair = pair
 
--- A comparison of a column with a literal that is d above the column's minimum means that the
--- column's code is less than (equal to) a bound, or isn't.
-abbrev pub bound_of : Op → ℤ → Bound
-bound_of Lt d = record { kind = Less; limit = d; negated = false }
-bound_of Ge d = record { kind = Less; limit = d; negated = true }
-bound_of Le d = record { kind = Less; limit = d +ℤ pos 1; negated = false }
-bound_of Gt d = record { kind = Less; limit = d +ℤ pos 1; negated = true }
-bound_of Eq d = record { kind = Equal; limit = d; negated = false }
-bound_of Ne d = record { kind = Equal; limit = d; negated = true }
-
--- The terminal whose value is whether a number of `width` bits is less than (equal to) a bound, if
--- it is the same for all such numbers.
-abbrev pub terminal_of : ChainKind → ℤ → ℕ → Option ℕ
-terminal_of Less limit width =
-    if int_le limit (pos 0) then Some 0 else if int_le (pos (2 ^ width)) limit then Some 1 else None
-terminal_of Equal limit width = if int_lt limit (pos 0) || int_le (pos (2 ^ width)) limit
-    then Some 0 else None
-
 -- a terminal, if there is one and the line has `-`; else the node that the line references
 abbrev pub terminal_or_cited : Option ℕ → (ℕ → Option ℕ) → Option ℕ → Option ℕ
 terminal_or_cited (Some terminal) cite None = Some terminal
@@ -99,16 +77,6 @@ with_literal columns facts op col n (Compare chain value p q) =
     let e = bound_node columns facts col bound chain in
     exchange_if bound.negated (pair_if_known facts m e p q)
 with_literal columns facts op col n _ = None
-
--- A comparison of two columns of the same minimum means that the code of `left` is less than (equal
--- to) that of `right`, or isn't.
-abbrev pub order_of : Op → ℕ → ℕ → Order
-order_of Lt c d = record { kind = Less; left = c; right = d; negated = false }
-order_of Ge c d = record { kind = Less; left = c; right = d; negated = true }
-order_of Gt c d = record { kind = Less; left = d; right = c; negated = false }
-order_of Le c d = record { kind = Less; left = d; right = c; negated = true }
-order_of Eq c d = record { kind = Equal; left = c; right = d; negated = false }
-order_of Ne c d = record { kind = Equal; left = c; right = d; negated = true }
 
 -- node e of such a comparison: that of a chain over as many bits as the wider column has, or the
 -- terminal of a column that is compared with itself

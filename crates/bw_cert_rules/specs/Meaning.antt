@@ -6,7 +6,7 @@ use Rattle.bw_model.specs.Truth.{is_truth}
 use Rattle.bw_model.specs.Variable.{Assignment}
 use Rattle.bw_diagram.specs.declared.node.Node.{Node}
 use Rattle.bw_diagram.specs.Node.{IsNode, node_value}
-use Rattle.bw_cert_rules.specs.declared.nodes.TruthPair.{TruthPair}
+use Rattle.bw_cert_rules.specs.Rows.{TruthPair}
 
 -- The pair is two of these nodes, and under every assignment the first is 1 exactly if the truth is
 -- TRUE, and the second exactly if it is FALSE.

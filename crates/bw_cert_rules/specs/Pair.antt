@@ -26,7 +26,7 @@ use Rattle.bw_cert_text.specs.BodyLines.{body_lines}
 use Rattle.bw_cert_text.specs.CertificateFields.{BodyFields, body_fields}
 use Rattle.bw_cert_text.specs.declared.lines.ConditionEntry.TheVariants.{NullTest, And, Or, Not, Is}
 use Rattle.bw_cert_text.specs.declared.lines.ConditionEntry.TheVariants.{IsUnknown}
-use Rattle.bw_cert_rules.specs.declared.nodes.TruthPair.{TruthPair}
+use Rattle.bw_cert_rules.specs.Rows.{TruthPair}
 use Rattle.bw_cert_rules.specs.declared.steps.Junction.{Junction}
 use Rattle.bw_cert_rules.specs.declared.steps.Junction.TheVariants.{All, Any}
 use Rattle.bw_cert_rules.specs.Rows.{if_both, exchange_nodes, null_pair}

@@ -5,7 +5,11 @@ use Rattle.std.specs.Option.{option_and_then, option_map}
 use Rattle.bw_diagram.specs.declared.product.Connective.TheVariants.{Diff}
 use Rattle.bw_diagram.specs.References.{product_node, variable_node}
 use Rattle.bw_diagram.specs.Facts.{Facts}
-use Rattle.bw_cert_rules.specs.declared.nodes.TruthPair.{TruthPair}
+use Rattle.bw_diagram.specs.declared.truth_pair.TruthPair as pairs
+
+-- the truth pair of a condition, which is of nodes
+abbrev pub TruthPair : Type 0
+TruthPair = pairs.TruthPair ℕ
 
 -- the truth pair of two nodes: one is 1 if a condition is TRUE, the other if it is FALSE
 abbrev pub pair_of_nodes : ℕ → ℕ → TruthPair

@@ -1,39 +1,15 @@
 //! The truth pair of a comparison: of a column with a literal, of two columns, or with the same
 //! truth on every row.
-ghost use Rattle.std.specs.Prelude.{◌≡◌, ◌==◌, ◌-ℤ◌, ◌<ℤ◌, ◌^◌, pos, ◌≤◌, ◌<◌, Some, None, IsTrue};
-ghost use Rattle.std.specs.Prelude.{length, if◌then◌else◌};
+ghost use Rattle.std.specs.Prelude.{◌≡◌, ◌<◌, IsTrue, length};
 ghost use Rattle.bw_model.specs.Cond.{is_within};
-ghost use Rattle.bw_model.specs.Code.{width_at};
-ghost use Rattle.bw_model.specs.Variable.{null_variable};
-ghost use Rattle.bw_diagram.specs.Chain.{first_node};
 ghost use Rattle.bw_cert_rules.specs.Comparison.{lo_at, fixed_pair, pair_if_known, exchange_if};
-ghost use Rattle.bw_cert_rules.specs.Comparison.{bound_of, terminal_of, bound_node, with_literal};
-ghost use Rattle.bw_cert_rules.specs.Comparison.{order_of, order_node, both_node, with_column};
-ghost use Rattle.bw_cert_rules.specs.Comparison.{comparison};
+ghost use Rattle.bw_cert_rules.specs.Comparison.{bound_node, with_literal, order_node, both_node};
+ghost use Rattle.bw_cert_rules.specs.Comparison.{with_column, comparison};
 
-use crate::nodes::{TruthPair, value_node};
+use crate::nodes::{TruthNodes, constant_pair, if_both, value_node};
 use bw_cert_text::ConditionEntry;
-use bw_diagram::{ChainKind, Connective, Diagram};
+use bw_diagram::{Bound, Connective, Diagram, Order};
 use bw_model::{Op, Operand, Schema, Truth};
-
-/// A comparison of a code with a number: the code is less than (equal to) `limit`, or isn't if it
-/// is negated.
-#[derive(Clone, Copy)]
-pub struct Bound {
-    kind: ChainKind,
-    limit: i128,
-    negated: bool,
-}
-
-/// A comparison of the codes of two columns: that of `left` is less than (equal to) that of
-/// `right`, or isn't if it is negated.
-#[derive(Clone, Copy)]
-pub struct Order {
-    kind: ChainKind,
-    left: usize,
-    right: usize,
-    negated: bool,
-}
 
 /// Returns the truth pair of a comparison by its line, which is `CMP`, `CMP2` or `FIXED`, or None
 /// if the line doesn't fit.
@@ -45,7 +21,7 @@ pub fn comparison(
     x: Operand,
     y: Operand,
     entry: ConditionEntry,
-) -> Option<TruthPair>
+) -> Option<TruthNodes>
     requires left { IsTrue (is_within (length schema.now.columns.items) x) }
     requires right { IsTrue (is_within (length schema.now.columns.items) y) }
     ensures { result ≡ comparison schema.now.columns.items diagram.now op x y entry }
@@ -66,11 +42,11 @@ pub fn comparison(
 }
 
 /// Returns the truth pair of a step with the same truth on every row, by its line `FIXED`.
-pub fn fixed_pair(truth: Truth, entry: ConditionEntry) -> Option<TruthPair>
+pub fn fixed_pair(truth: Truth, entry: ConditionEntry) -> Option<TruthNodes>
     ensures { result ≡ fixed_pair truth entry }
 {
     match entry {
-        ConditionEntry::Fixed => Some(TruthPair::constant(truth)),
+        ConditionEntry::Fixed => Some(constant_pair(truth)),
         _ => None,
     }
 }
@@ -85,16 +61,16 @@ fn pair_if_known(
     negated: bool,
     yes: u64,
     no: u64,
-) -> Option<TruthPair>
+) -> Option<TruthNodes>
     ensures { result ≡ exchange_if negated (pair_if_known diagram.now m e yes no) }
 {
     let m = m?;
     let e = e?;
-    let pair = TruthPair::of_both(
+    let pair = if_both(
         diagram.product_node(Connective::And, m, e, yes),
         diagram.product_node(Connective::Diff, m, e, no),
     )?;
-    Some(if negated { pair.exchange_nodes() } else { pair })
+    Some(pair.opposite_if(negated))
 }
 
 /// Returns the truth pair of a column and a literal, by their line `CMP`.
@@ -106,7 +82,7 @@ fn with_literal(
     column: usize,
     n: i64,
     entry: ConditionEntry,
-) -> Option<TruthPair>
+) -> Option<TruthNodes>
     requires { column < length schema.now.columns.items }
     ensures { result ≡ with_literal schema.now.columns.items diagram.now op column n entry }
 {
@@ -119,7 +95,7 @@ fn with_literal(
     else {
         return None;
     };
-    let bound = literal_bound(schema, op, column, n);
+    let bound = Bound::of(op, n, lo_of(schema, column));
     let m = value_node(diagram, schema.var_null(column), value);
     let e = bound_node(schema, diagram, column, bound, chain);
     pair_if_known(diagram, m, e, bound.negated, yes, no)
@@ -131,39 +107,6 @@ fn lo_of(schema: &Schema, column: usize) -> i64
     ensures { result ≡ lo_at schema.now.columns.items column }
 {
     schema.columns[column].lo
-}
-
-/// Returns the comparison of a column's code that a comparison of the column with a literal means.
-fn literal_bound(schema: &Schema, op: Op, column: usize, n: i64) -> Bound
-    requires { column < length schema.now.columns.items }
-    ensures { result ≡ bound_of op (n -ℤ lo_at schema.now.columns.items column) }
-{
-    bound_of(op, distance(n, lo_of(schema, column)))
-}
-
-/// Returns how far a literal is above a column's minimum.
-fn distance(n: i64, lo: i64) -> i128
-    ensures distance { result ≡ n -ℤ lo }
-    ensures above { (pos 0 -ℤ pos (2 ^ 64)) <ℤ result }
-    ensures below { result <ℤ pos (2 ^ 64) }
-{
-    i128::from(n) - i128::from(lo)
-}
-
-/// Returns the comparison of a column's code that a comparison of the column means, with a literal
-/// that is `distance` above the column's minimum.
-fn bound_of(op: Op, distance: i128) -> Bound
-    requires { distance <ℤ pos (2 ^ 64) }
-    ensures { result ≡ bound_of op distance }
-{
-    match op {
-        Op::Lt => Bound::new(ChainKind::Less, distance, false),
-        Op::Ge => Bound::new(ChainKind::Less, distance, true),
-        Op::Le => Bound::new(ChainKind::Less, distance + 1, false),
-        Op::Gt => Bound::new(ChainKind::Less, distance + 1, true),
-        Op::Eq => Bound::new(ChainKind::Equal, distance, false),
-        Op::Ne => Bound::new(ChainKind::Equal, distance, true),
-    }
 }
 
 /// Returns the node that is 1 if a column's code is less than (equal to) a bound: a terminal, for
@@ -180,40 +123,12 @@ fn bound_node(
 {
     let width = schema.width(column);
     match (bound.terminal(width), chain) {
-        (Some(terminal), None) => Some(terminal),
+        (Some(terminal), None) => Some(u64::from(terminal)),
         (None, Some(number)) => {
             let limit = bound.limit.unsigned_abs() as u64;
             diagram.comparison_node(bound.kind, column as u32, 0, width, limit, number)
         }
         _ => None,
-    }
-}
-
-impl Bound {
-    /// Returns a comparison with a limit.
-    const fn new(kind: ChainKind, limit: i128, negated: bool) -> Self
-        ensures { result ≡ record { kind = kind; limit = limit; negated = negated } }
-    {
-        Bound {
-            kind,
-            limit,
-            negated,
-        }
-    }
-
-    /// Returns the terminal whose value is whether a number of `width` bits is less than (equal to)
-    /// the limit, if it is the same for all such numbers.
-    fn terminal(self, width: u32) -> Option<u64>
-        requires { width ≤ 63 }
-        ensures { result ≡ terminal_of self.kind self.limit width }
-    {
-        let numbers = 1_i128 << width;
-        match self.kind {
-            ChainKind::Less if self.limit <= 0 => Some(0),
-            ChainKind::Less if numbers <= self.limit => Some(1),
-            ChainKind::Equal if self.limit < 0 || numbers <= self.limit => Some(0),
-            _ => None,
-        }
     }
 }
 
@@ -226,7 +141,7 @@ fn with_column(
     c: usize,
     d: usize,
     entry: ConditionEntry,
-) -> Option<TruthPair>
+) -> Option<TruthNodes>
     requires left { c < length schema.now.columns.items }
     requires right { d < length schema.now.columns.items }
     ensures { result ≡ with_column schema.now.columns.items diagram.now op c d entry }
@@ -245,7 +160,7 @@ fn with_column(
     if lo_of(schema, c) != lo_of(schema, d) {
         return None;
     }
-    let order = order_of(op, c, d);
+    let order = Order::of(op, c, d);
     let m = both_node(
         diagram,
         value_node(diagram, schema.var_null(c), left),
@@ -254,27 +169,6 @@ fn with_column(
     );
     let e = order_node(schema, diagram, order, chain);
     pair_if_known(diagram, m, e, order.negated, yes, no)
-}
-
-/// Returns the comparison of their codes that a comparison of two columns of the same minimum
-/// means.
-const fn order_of(op: Op, c: usize, d: usize) -> Order
-    ensures { result ≡ order_of op c d }
-{
-    let (kind, left, right, negated) = match op {
-        Op::Lt => (ChainKind::Less, c, d, false),
-        Op::Ge => (ChainKind::Less, c, d, true),
-        Op::Gt => (ChainKind::Less, d, c, false),
-        Op::Le => (ChainKind::Less, d, c, true),
-        Op::Eq => (ChainKind::Equal, c, d, false),
-        Op::Ne => (ChainKind::Equal, c, d, true),
-    };
-    Order {
-        kind,
-        left,
-        right,
-        negated,
-    }
 }
 
 /// Returns the node that is 1 if two columns have values, which the line references by the number
@@ -307,27 +201,11 @@ fn order_node(
 {
     let len = schema.width(order.left).max(schema.width(order.right));
     match (order.terminal(), chain) {
-        (Some(terminal), None) => Some(terminal),
+        (Some(terminal), None) => Some(u64::from(terminal)),
         (None, Some(number)) => {
             let (left, right) = (order.left as u32, order.right as u32);
             diagram.two_column_node(order.kind, left, right, len, number)
         }
         _ => None,
-    }
-}
-
-impl Order {
-    /// Returns the terminal whose value is whether the comparison of a code with itself is true, if
-    /// both are of one column.
-    fn terminal(self) -> Option<u64>
-        ensures { result ≡ (if self.left == self.right then Some (first_node self.kind) else None) }
-    {
-        if self.left != self.right {
-            return None;
-        }
-        match self.kind {
-            ChainKind::Less => Some(0),
-            ChainKind::Equal => Some(1),
-        }
     }
 }

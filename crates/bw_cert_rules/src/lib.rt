@@ -35,7 +35,7 @@ pub use known_laws::{
     accepted_lines_are_valid, lines_are_checked_by_their_fields, skip_soundness,
     valid_lines_are_accepted,
 };
-pub use nodes::TruthPair;
+pub use nodes::TruthNodes;
 pub use pair_laws::{pairs_are_of_trees, pairs_tell_truths};
 pub use steps::pair;
 pub use walk::{AtEnd, known_at_end};

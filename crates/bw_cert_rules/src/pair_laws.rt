@@ -8,7 +8,7 @@ ghost use Rattle.bw_model.specs.Variable.{Assignment, row_of};
 ghost use Rattle.bw_diagram.specs.Facts.{Facts, AreTrue};
 ghost use Rattle.bw_cert_text.specs.CertificateFields.{body_fields};
 ghost use Rattle.bw_cert_text.specs.declared.lines.BodyLine.{BodyLine};
-ghost use Rattle.bw_cert_rules.specs.declared.nodes.TruthPair.{TruthPair};
+ghost use Rattle.bw_cert_rules.specs.Rows.{TruthPair};
 ghost use Rattle.bw_cert_rules.specs.Meaning.{Tells};
 ghost use Rattle.bw_cert_rules.specs.Pair.{pair_of, line_fields};
 

@@ -15,13 +15,13 @@ ghost use Rattle.bw_cert_rules.specs.Pair.{with_opposite, tested_pair, joined_pa
 ghost use Rattle.bw_cert_rules.specs.Pair.{equations, pair_of};
 
 use crate::comparison::{comparison, fixed_pair};
-use crate::nodes::{TruthPair, null_pair};
+use crate::nodes::{TruthNodes, if_both, null_pair};
 use bw_cert_text::{BodyLines, ConditionEntry, Entry};
 use bw_diagram::{Connective, Diagram};
 use bw_model::{Cond, Fault, Op, Operand, Schema, Truth, code};
 
 /// A truth pair and the lines after those that made it, or an error.
-type Read<'a> = Result<(TruthPair, BodyLines<'a>), Fault>;
+type Read<'a> = Result<(TruthNodes, BodyLines<'a>), Fault>;
 
 /// The connective of a condition's parts: AND, or OR.
 #[derive(Clone, Copy)]
@@ -130,7 +130,7 @@ fn one_more<'a>(
     diagram: &Diagram<'_>,
     x: Operand,
     item: Operand,
-    made: TruthPair,
+    made: TruthNodes,
     lines: BodyLines<'a>,
     end: u64,
 ) -> Read<'a>
@@ -239,7 +239,7 @@ fn is_null_test(
     diagram: &Diagram<'_>,
     x: Operand,
     entry: ConditionEntry,
-) -> Option<TruthPair>
+) -> Option<TruthNodes>
     requires { IsTrue (is_within (length schema.now.columns.items) x) }
     ensures { result ≡ is_null_test schema.now.columns.items diagram.now x entry }
 {
@@ -254,7 +254,7 @@ fn is_null_test(
 }
 
 /// Returns the truth pair of `IS NULL` of a column with this null variable, by this line.
-fn null_test(diagram: &Diagram<'_>, variable: u32, entry: ConditionEntry) -> Option<TruthPair>
+fn null_test(diagram: &Diagram<'_>, variable: u32, entry: ConditionEntry) -> Option<TruthNodes>
     ensures { result ≡ null_test diagram.now (Some variable) entry }
 {
     match entry {
@@ -268,8 +268,8 @@ fn null_test(diagram: &Diagram<'_>, variable: u32, entry: ConditionEntry) -> Opt
 fn join<'a>(
     diagram: &Diagram<'_>,
     junction: Junction,
-    a: TruthPair,
-    b: TruthPair,
+    a: TruthNodes,
+    b: TruthNodes,
     lines: BodyLines<'a>,
     end: u64,
 ) -> Read<'a>
@@ -289,18 +289,18 @@ fn join<'a>(
 fn joined_pair(
     diagram: &Diagram<'_>,
     junction: Junction,
-    a: TruthPair,
-    b: TruthPair,
+    a: TruthNodes,
+    b: TruthNodes,
     entry: ConditionEntry,
-) -> Option<TruthPair>
+) -> Option<TruthNodes>
     ensures { result ≡ joined_pair diagram.now junction a b entry }
 {
     match (junction, entry) {
-        (Junction::All, ConditionEntry::And(i, j)) => TruthPair::of_both(
+        (Junction::All, ConditionEntry::And(i, j)) => if_both(
             diagram.product_node(Connective::And, a.yes, b.yes, i),
             diagram.product_node(Connective::Or, a.no, b.no, j),
         ),
-        (Junction::Any, ConditionEntry::Or(i, j)) => TruthPair::of_both(
+        (Junction::Any, ConditionEntry::Or(i, j)) => if_both(
             diagram.product_node(Connective::Or, a.yes, b.yes, i),
             diagram.product_node(Connective::And, a.no, b.no, j),
         ),
@@ -311,12 +311,12 @@ fn joined_pair(
 /// Returns the truth pair of NOT, by the next line.
 #[tactic(auto, unfolding(crate::specs::Pair::by_line, crate::specs::Pair::negated_pair))]
 #[inline(never)]
-fn read_negation<'a>(pair: TruthPair, lines: BodyLines<'a>, end: u64) -> Read<'a>
+fn read_negation<'a>(pair: TruthNodes, lines: BodyLines<'a>, end: u64) -> Read<'a>
     ensures pair { Answers result (by_line end (negated_pair pair) (body_lines lines.entry)) }
     ensures code { IfErr result (λ fault. fault.code ≡ CONDITION_LINE) }
 {
     let made = match next_entry(lines) {
-        Some(ConditionEntry::Not) => Some(pair.exchange_nodes()),
+        Some(ConditionEntry::Not) => Some(pair.opposite_if(true)),
         _ => None,
     };
     expect_line(made, lines, end)
@@ -328,7 +328,7 @@ fn read_negation<'a>(pair: TruthPair, lines: BodyLines<'a>, end: u64) -> Read<'a
 fn read_truth_test<'a>(
     diagram: &Diagram<'_>,
     wanted: Truth,
-    pair: TruthPair,
+    pair: TruthNodes,
     lines: BodyLines<'a>,
     end: u64,
 ) -> Read<'a>
@@ -348,9 +348,9 @@ fn read_truth_test<'a>(
 fn tested_pair(
     diagram: &Diagram<'_>,
     wanted: Truth,
-    pair: TruthPair,
+    pair: TruthNodes,
     entry: ConditionEntry,
-) -> Option<TruthPair>
+) -> Option<TruthNodes>
     ensures { result ≡ tested_pair diagram.now wanted pair entry }
 {
     match (wanted, entry) {
@@ -358,7 +358,7 @@ fn tested_pair(
         (Truth::No, ConditionEntry::Is(i)) => with_opposite(diagram, pair.no, i),
         (Truth::Unknown, ConditionEntry::IsUnknown(i, j)) => {
             let known = diagram.product_node(Connective::Or, pair.yes, pair.no, i)?;
-            TruthPair::of_both(
+            if_both(
                 diagram.product_node(Connective::Diff, 1, known, j),
                 Some(known),
             )
@@ -368,10 +368,10 @@ fn tested_pair(
 }
 
 /// Returns a node and its complement, which the line references by the number of a product row.
-fn with_opposite(diagram: &Diagram<'_>, node: u64, number: u64) -> Option<TruthPair>
+fn with_opposite(diagram: &Diagram<'_>, node: u64, number: u64) -> Option<TruthNodes>
     ensures { result ≡ with_opposite diagram.now node number }
 {
-    TruthPair::of_both(
+    if_both(
         Some(node),
         diagram.product_node(Connective::Diff, 1, node, number),
     )
@@ -392,7 +392,7 @@ fn next_entry(lines: BodyLines<'_>) -> Option<ConditionEntry>
 
 /// Returns the truth pair that the next line makes and the lines after it, or the error of that
 /// line.
-fn expect_line<'a>(made: Option<TruthPair>, lines: BodyLines<'a>, end: u64) -> Read<'a>
+fn expect_line<'a>(made: Option<TruthNodes>, lines: BodyLines<'a>, end: u64) -> Read<'a>
     ensures pair { Answers result (expect_line end made (body_lines lines.entry)) }
     ensures code { IfErr result (λ fault. fault.code ≡ CONDITION_LINE) }
 {

@@ -4,3 +4,5 @@ pub mod Diagram
 pub mod Facts
 pub mod Node
 pub mod Product
+pub mod Comparison
+pub mod TruthPair

@@ -13,15 +13,19 @@
 #![tactic(auto)]
 
 mod chain;
+mod comparison;
 mod diagram;
 mod node;
 mod product;
 mod references;
+mod truth_pair;
 
 pub use chain::{Chain, ChainColumns, ChainKind};
+pub use comparison::{Bound, Order};
 pub use diagram::{
     Diagram, accepted_lines_are_true, later_nodes_change_no_value, whole_columns_are_spelled,
 };
 pub use node::Node;
 pub use product::{Connective, Product, Reason};
 pub use references::cited_nodes_have_stated_values;
+pub use truth_pair::TruthPair;
