@@ -3,7 +3,7 @@
 ghost use Rattle.std.specs.Prelude.{◌≡◌, ◌<◌, IsTrue, length};
 ghost use Rattle.bw_model.specs.Cond.{is_within};
 ghost use Rattle.bw_cert_rules.specs.Comparison.{lo_at, fixed_pair, pair_if_known, exchange_if};
-ghost use Rattle.bw_cert_rules.specs.Comparison.{bound_node, with_literal, order_node, both_node};
+ghost use Rattle.bw_cert_rules.specs.Comparison.{bound_node, with_literal, order_node};
 ghost use Rattle.bw_cert_rules.specs.Comparison.{with_column, comparison};
 
 use crate::nodes::{TruthNodes, constant_pair, if_both, value_node};
@@ -101,7 +101,7 @@ fn with_literal(
     pair_if_known(diagram, m, e, bound.negated, yes, no)
 }
 
-/// Returns the minimum of a column.
+/// Returns the minimum of a column, which has the code 0.
 fn lo_of(schema: &Schema, column: usize) -> i64
     requires { column < length schema.now.columns.items }
     ensures { result ≡ lo_at schema.now.columns.items column }
@@ -161,30 +161,11 @@ fn with_column(
         return None;
     }
     let order = Order::of(op, c, d);
-    let m = both_node(
-        diagram,
-        value_node(diagram, schema.var_null(c), left),
-        value_node(diagram, schema.var_null(d), right),
-        both,
-    );
+    let left = value_node(diagram, schema.var_null(c), left)?;
+    let right = value_node(diagram, schema.var_null(d), right)?;
+    let m = diagram.product_node(Connective::And, left, right, both);
     let e = order_node(schema, diagram, order, chain);
     pair_if_known(diagram, m, e, order.negated, yes, no)
-}
-
-/// Returns the node that is 1 if two columns have values, which the line references by the number
-/// of a product row.
-fn both_node(
-    diagram: &Diagram<'_>,
-    left: Option<u64>,
-    right: Option<u64>,
-    number: u64,
-) -> Option<u64>
-    ensures { result ≡ both_node diagram.now left right number }
-{
-    match (left, right) {
-        (Some(left), Some(right)) => diagram.product_node(Connective::And, left, right, number),
-        _ => None,
-    }
 }
 
 /// Returns the node that is 1 if the comparison of two codes is true: a terminal, for `-`, if they

@@ -1,16 +1,17 @@
 //! The lines of instructions, each checked by its rule.
-ghost use Rattle.std.specs.Prelude.{◌≡◌, ◌<◌, ◌≤◌, ◌&&◌, IsTrue, IfOk, IfErr, Ok, Err, length};
+ghost use Rattle.std.specs.Prelude.{ℕ, ◌≡◌, ◌<◌, ◌≤◌, ◌&&◌, IsTrue, IfOk, IfErr, Ok, Err, length};
 ghost use Rattle.std.specs.Prelude.{nat_lt};
 ghost use Rattle.bw_model.specs.FaultTable.{INSTRUCTION_LINE};
 ghost use Rattle.bw_model.specs.Code.{width_at, slices_at};
 ghost use Rattle.bw_model.specs.Fault.{at_line};
 ghost use Rattle.bw_model.specs.Variable.{first_variable, bit_variable, is_nullable};
 ghost use Rattle.bw_program.specs.Program.{named_by};
+ghost use Rattle.bw_program.specs.ProgramText.{found_on};
 ghost use Rattle.bw_text.specs.Register.{register_count};
 ghost use Rattle.bw_cert_rules.specs.Instruction.{check_instruction_line, set_register, fill};
 ghost use Rattle.bw_cert_rules.specs.Instruction.{check_skip};
 ghost use Rattle.bw_cert_rules.specs.Instruction.{plane_on, read_on, joined_on, opposite_on};
-ghost use Rattle.bw_cert_rules.specs.Instruction.{operation_on, byte_on, byte_node, past_node};
+ghost use Rattle.bw_cert_rules.specs.Instruction.{byte_on, byte_node, past_node};
 ghost use Rattle.bw_cert_rules.specs.Known.{is_known_fault};
 
 use crate::known::Known;
@@ -32,6 +33,17 @@ const fn unfit(line: u64) -> Fault
     ensures { result ≡ at_line INSTRUCTION_LINE line }
 {
     Fault::at_line(code::INSTRUCTION_LINE, line)
+}
+
+/// Returns the node that a line shows, or the error of a line that shows none.
+fn shown(line: u64, node: Option<u64>) -> Result<u64, Fault>
+    ensures node { result ≡ found_on INSTRUCTION_LINE line node }
+    ensures code { IfErr result (λ fault. IsTrue (is_known_fault fault)) }
+{
+    match node {
+        Some(node) => Ok(node),
+        None => Err(unfit(line)),
+    }
 }
 
 /// Sets a register's node, if there is one.
@@ -110,8 +122,10 @@ impl LineChecker<'_> {
         ensures code { IfErr result (λ fault. IsTrue (is_known_fault fault)) }
     {
         match instr {
-            Instr::Load(r, col, bit) => set_register(known, r, self.plane(line, col, bit, given)),
-            Instr::Nulls(r, col) => set_register(known, r, self.nulls(line, col, given)),
+            Instr::Load(r, col, bit) => {
+                set_register(known, r, shown(line, self.plane(col, bit, given)))
+            }
+            Instr::Nulls(r, col) => set_register(known, r, shown(line, self.nulls(col, given))),
             Instr::Fill(r, bit) => fill(known, line, r, bit, given),
             Instr::And(r, x, y) => {
                 let node = self.operation_node(known, line, Connective::And, x, y, given);
@@ -130,71 +144,55 @@ impl LineChecker<'_> {
                 set_register(known, r, node)
             }
             Instr::ByteLt(r, col, slice, k) => {
-                let node = self.byte(line, ChainKind::Less, col, slice, k, given);
-                set_register(known, r, node)
+                let node = self.byte(ChainKind::Less, col, slice, k, given);
+                set_register(known, r, shown(line, node))
             }
             Instr::ByteEq(r, col, slice, k) => {
-                let node = self.byte(line, ChainKind::Equal, col, slice, k, given);
-                set_register(known, r, node)
+                let node = self.byte(ChainKind::Equal, col, slice, k, given);
+                set_register(known, r, shown(line, node))
             }
             Instr::Skip(x, _) => check_skip(known, line, x, given),
         }
     }
 
-    /// Returns the node of the plane of a column's bit.
-    fn plane(
-        self,
-        line: u64,
-        col: ColumnIndex,
-        bit: BitIndex,
-        given: InstructionEntry,
-    ) -> Result<u64, Fault>
+    /// Returns the node of the plane of a column's bit, if the line shows it.
+    fn plane(self, col: ColumnIndex, bit: BitIndex, given: InstructionEntry) -> Option<u64>
         requires columns { self.diagram.now.columns ≡ self.schema.now.columns.items }
-        ensures node { result ≡ plane_on self.entry.diagram.now line
+        ensures { (line : ℕ) → plane_on self.entry.diagram.now line
             (nat_lt col (length self.entry.diagram.now.columns)
             && nat_lt bit (width_at self.entry.diagram.now.columns col))
-            (bit_variable self.entry.diagram.now.columns col bit) given }
-        ensures code { IfErr result (λ fault. IsTrue (is_known_fault fault)) }
+            (bit_variable self.entry.diagram.now.columns col bit) given
+            ≡ found_on INSTRUCTION_LINE line result }
     {
         let InstructionEntry::Load(node) = given else {
-            return Err(unfit(line));
+            return None;
         };
         let (col, bit) = (col as usize, u32::from(bit));
         if col >= self.schema.columns.len() || bit >= self.schema.width(col) {
-            return Err(unfit(line));
+            return None;
         }
-        match self
-            .diagram
+        self.diagram
             .variable_node(self.schema.var_bit(col, bit), node)
-        {
-            Some(node) => Ok(node),
-            None => Err(unfit(line)),
-        }
     }
 
-    /// Returns the node of a column's null plane.
-    fn nulls(self, line: u64, col: ColumnIndex, given: InstructionEntry) -> Result<u64, Fault>
+    /// Returns the node of a column's null plane, if the line shows it.
+    fn nulls(self, col: ColumnIndex, given: InstructionEntry) -> Option<u64>
         requires columns { self.diagram.now.columns ≡ self.schema.now.columns.items }
-        ensures node { result ≡ plane_on self.entry.diagram.now line
+        ensures { (line : ℕ) → plane_on self.entry.diagram.now line
             (nat_lt col (length self.entry.diagram.now.columns)
             && is_nullable self.entry.diagram.now.columns col)
-            (first_variable self.entry.diagram.now.columns col) given }
-        ensures code { IfErr result (λ fault. IsTrue (is_known_fault fault)) }
+            (first_variable self.entry.diagram.now.columns col) given
+            ≡ found_on INSTRUCTION_LINE line result }
     {
         let InstructionEntry::Load(node) = given else {
-            return Err(unfit(line));
+            return None;
         };
         let col = col as usize;
         if col >= self.schema.columns.len() {
-            return Err(unfit(line));
+            return None;
         }
-        let Some(variable) = self.schema.var_null(col) else {
-            return Err(unfit(line));
-        };
-        match self.diagram.variable_node(variable, node) {
-            Some(node) => Ok(node),
-            None => Err(unfit(line)),
-        }
+        let variable = self.schema.var_null(col)?;
+        self.diagram.variable_node(variable, node)
     }
 
     /// Returns the node of an operation on two registers.
@@ -216,7 +214,7 @@ impl LineChecker<'_> {
         };
         let a = read(known, line, x)?;
         let b = read(known, line, y)?;
-        self.operation(line, op, a, b, row)
+        shown(line, self.diagram.product_node(op, a, b, row))
     }
 
     /// Returns the node of a register's complement.
@@ -235,47 +233,32 @@ impl LineChecker<'_> {
             return Err(unfit(line));
         };
         let a = read(known, line, x)?;
-        self.operation(line, Connective::Diff, 1, a, row)
+        shown(line, self.diagram.product_node(Connective::Diff, 1, a, row))
     }
 
-    /// Returns the node of an operation, which its product row states.
-    fn operation(self, line: u64, op: Connective, a: u64, b: u64, row: u64) -> Result<u64, Fault>
-        ensures node { result ≡ operation_on self.entry.diagram.now line op a b row }
-        ensures code { IfErr result (λ fault. IsTrue (is_known_fault fault)) }
-    {
-        match self.diagram.product_node(op, a, b, row) {
-            Some(node) => Ok(node),
-            None => Err(unfit(line)),
-        }
-    }
-
-    /// Returns the node of a byte comparison.
+    /// Returns the node of a byte comparison, if the line shows it.
     fn byte(
         self,
-        line: u64,
         kind: ChainKind,
         col: ColumnIndex,
         slice: SliceIndex,
         k: u8,
         given: InstructionEntry,
-    ) -> Result<u64, Fault>
+    ) -> Option<u64>
         requires columns { self.diagram.now.columns ≡ self.schema.now.columns.items }
-        ensures node { result ≡ byte_on self.entry.diagram.now line kind
+        ensures { (line : ℕ) → byte_on self.entry.diagram.now line kind
             (nat_lt col (length self.entry.diagram.now.columns)
-            && nat_lt slice (slices_at self.entry.diagram.now.columns col)) col slice k given }
-        ensures code { IfErr result (λ fault. IsTrue (is_known_fault fault)) }
+            && nat_lt slice (slices_at self.entry.diagram.now.columns col)) col slice k given
+            ≡ found_on INSTRUCTION_LINE line result }
     {
         let InstructionEntry::Byte(chain) = given else {
-            return Err(unfit(line));
+            return None;
         };
         let (column, place) = (col as usize, slice as usize);
         if column >= self.schema.columns.len() || place >= self.schema.slices(column) {
-            return Err(unfit(line));
+            return None;
         }
-        match self.byte_node(kind, column, u32::from(slice), k, chain) {
-            Some(node) => Ok(node),
-            None => Err(unfit(line)),
-        }
+        self.byte_node(kind, column, u32::from(slice), k, chain)
     }
 
     /// Returns the node of a byte comparison of a slice that exists, if the line names a chain

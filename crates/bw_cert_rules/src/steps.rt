@@ -10,7 +10,7 @@ ghost use Rattle.bw_cert_rules.specs.declared.steps.Junction.TheVariants.{All, A
 ghost use Rattle.bw_cert_text.specs.BodyLines.{body_lines};
 ghost use Rattle.bw_cert_rules.specs.Comparison.{fixed_pair, comparison};
 ghost use Rattle.bw_cert_rules.specs.Pair.{Answers, next_entry, next_number, expect_line, by_line};
-ghost use Rattle.bw_cert_rules.specs.Pair.{null_test, is_null_test, joined_pair, negated_pair};
+ghost use Rattle.bw_cert_rules.specs.Pair.{is_null_test, joined_pair, negated_pair};
 ghost use Rattle.bw_cert_rules.specs.Pair.{with_opposite, tested_pair, joined_parts, one_more};
 ghost use Rattle.bw_cert_rules.specs.Pair.{equations, pair_of};
 
@@ -244,22 +244,13 @@ fn is_null_test(
     ensures { result ≡ is_null_test schema.now.columns.items diagram.now x entry }
 {
     match x {
-        Operand::Col(column) => match schema.var_null(column) {
-            Some(variable) => null_test(diagram, variable, entry),
-            None => fixed_pair(Truth::No, entry),
+        Operand::Col(column) => match (schema.var_null(column), entry) {
+            (Some(variable), ConditionEntry::NullTest(row)) => null_pair(diagram, variable, row),
+            (Some(_), _) => None,
+            (None, _) => fixed_pair(Truth::No, entry),
         },
         Operand::Lit(_) => fixed_pair(Truth::No, entry),
         Operand::Null => fixed_pair(Truth::Yes, entry),
-    }
-}
-
-/// Returns the truth pair of `IS NULL` of a column with this null variable, by this line.
-fn null_test(diagram: &Diagram<'_>, variable: u32, entry: ConditionEntry) -> Option<TruthNodes>
-    ensures { result ≡ null_test diagram.now (Some variable) entry }
-{
-    match entry {
-        ConditionEntry::NullTest(number) => null_pair(diagram, variable, number),
-        _ => None,
     }
 }
 
