@@ -1,6 +1,6 @@
 //! Comparisons of operands, as codes are compared.
 use crate::columns::column_index;
-use bw_diagram::ChainKind;
+use bw_diagram::{Bound, ChainKind, Order};
 use bw_model::{Op, Operand, Schema, Truth};
 use bw_program::ColumnIndex;
 
@@ -48,14 +48,6 @@ pub fn compare(schema: &Schema, op: Op, x: Operand, y: Operand) -> Option<Compar
     }
 }
 
-/// Returns whether a comparison asks for equal or for lesser codes.
-fn kind_of(op: Op) -> ChainKind {
-    match op {
-        Op::Eq | Op::Ne => ChainKind::Equal,
-        _ => ChainKind::Less,
-    }
-}
-
 /// Returns a column's minimum, if the schema has the column.
 fn minimum_of(schema: &Schema, column: usize) -> Option<i64> {
     let found = schema.columns.get(column)?;
@@ -65,12 +57,16 @@ fn minimum_of(schema: &Schema, column: usize) -> Option<i64> {
 /// Returns the comparison of a column with a literal.
 fn with_literal(schema: &Schema, op: Op, column: usize, n: i64) -> Option<Comparison> {
     let lo = minimum_of(schema, column)?;
-    let is_past = matches!(op, Op::Le | Op::Gt);
+    let Bound {
+        kind,
+        limit,
+        negated,
+    } = Bound::of(op, n, lo);
     Some(Comparison::Literal(LiteralComparison {
-        kind: kind_of(op),
+        kind,
         column: column_index(schema, column)?,
-        limit: i128::from(n) - i128::from(lo) + i128::from(is_past),
-        negated: matches!(op, Op::Ge | Op::Gt | Op::Ne),
+        limit,
+        negated,
     }))
 }
 
@@ -79,14 +75,12 @@ fn with_column(schema: &Schema, op: Op, c: usize, d: usize) -> Option<Comparison
     if minimum_of(schema, c)? != minimum_of(schema, d)? {
         return None;
     }
-    let (c, d) = (column_index(schema, c)?, column_index(schema, d)?);
-    let swapped = matches!(op, Op::Gt | Op::Le);
-    let (left, right) = if swapped { (d, c) } else { (c, d) };
+    let order = Order::of(op, c, d);
     Some(Comparison::Columns(ColumnComparison {
-        kind: kind_of(op),
-        left,
-        right,
-        negated: matches!(op, Op::Ge | Op::Le | Op::Ne),
-        swapped,
+        kind: order.kind,
+        left: column_index(schema, order.left)?,
+        right: column_index(schema, order.right)?,
+        negated: order.negated,
+        swapped: order.left != c,
     }))
 }

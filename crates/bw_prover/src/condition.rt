@@ -10,9 +10,8 @@ use crate::line::ProofLine;
 use crate::order::VariableOrder;
 use crate::proof::Proof;
 use crate::stop::Stop;
-use crate::truth_pair::TruthPair;
 use bw_cert_text::ConditionEntry;
-use bw_diagram::{ChainKind, Connective};
+use bw_diagram::{ChainKind, Connective, TruthPair};
 use bw_model::{Cond, Op, Operand, Truth};
 use bw_program::ColumnIndex;
 

@@ -34,14 +34,13 @@ mod registers;
 mod rows;
 mod sequence;
 mod stop;
-mod truth_pair;
 mod unproved;
 mod walk;
 
+pub use bw_diagram::TruthPair;
 pub use comparison::{ColumnComparison, Comparison, LiteralComparison, compare};
 pub use hints::Hints;
 pub use order::VariableOrder;
 pub use products::MAX_PRODUCTS;
 pub use prover::{Prover, prove};
-pub use truth_pair::TruthPair;
 pub use unproved::{Unproved, Witness};
