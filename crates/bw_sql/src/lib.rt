@@ -38,6 +38,7 @@ ghost use Rattle.bw_sql.specs.Statement.{IsFault, SpellsOrFails, Parses, Spells}
 ghost use Rattle.bw_sql.specs.Token.{Lexeme};
 
 mod condition;
+mod expected;
 mod items;
 mod lexer;
 mod literal;
@@ -51,8 +52,10 @@ use crate::lexer::{Lexed, lex};
 use crate::reader::Stop;
 use crate::statement::statement;
 use bw_model::{Fault, Query, Schema, code};
+pub use expected::{Expected, expected_tokens};
 pub use lexer::has_no_token;
 use std::alloc::Global;
+pub use token::Mark;
 
 /// The maximal length of a statement, in bytes.
 pub const MAX_LEN: usize = 65_536;
