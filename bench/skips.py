@@ -7,7 +7,7 @@ without skips is the planner's without its SKIP lines, and without the lines of 
 state skips and joins; `bw check` accepts it.
 
 With --cliffs it takes the conditions and tables of `cliffs`, of a million rows by default, leaves
-out those that go row by row, and compares the program as it is written with the one that the
+out those that the fallback runs, and compares the program as it is written with the one that the
 session chooses. It prints the conditions whose loads differ, and the one that became slowest."""
 from __future__ import annotations
 

@@ -1,6 +1,6 @@
 """Conditions over rows of whole numbers. Each statement is asked of a table file in bit planes and
 of one in byte slices, in a session over each. Both must be scanned by a planned program, at the
-same cost, and have the result of `bw direct`, row by row, and of SQLite."""
+same cost, and have the result of `bw direct`, by the fallback, and of SQLite."""
 import random
 import re
 import shlex
@@ -228,7 +228,7 @@ class Drawn(Conditions):
 
 @support.each([(f"{least} to {most} parts", least, most) for least, most in SIZES])
 class Long(Conditions):
-    """Long conditions of many columns, which may also be run row by row. Nearly all of up to eight
+    """Long conditions of many columns, which the fallback may also run. Nearly all of up to eight
     parts have programs."""
 
     def check(self, _, least, most):

@@ -1,4 +1,4 @@
-"""What bw prints below the line of an error, or after a result that was found row by row, at a
+"""What bw prints below the line of an error, or after a result of the fallback, at a
 terminal or with --explain: the place of the error and how to fix it, or why there was no program. A
 pipe gets only the error's line, unless there is --explain, before the command or after it."""
 import contextlib
@@ -207,20 +207,20 @@ CASES = [
 # the arguments of a query that has a result, and the message on how its rows were found
 ROWS = [
     (["query", "apart.bw", "SELECT a FROM t WHERE a = b"],
-     ["the query went row by row: there is no scan program for a = b",
+     ["the query used the fallback: there is no scan program for a = b",
       "scan programs can compare two columns only if their minimums are equal: a starts at 0, b "
       "at 1"]),
     (["query", "apart.bw",
       "SELECT a FROM t WHERE a < 5 AND NOT (a = 9 OR 7 BETWEEN a AND 8 OR b >= a)"],
-     ["the query went row by row: there is no scan program for b >= a",
+     ["the query used the fallback: there is no scan program for b >= a",
       "scan programs can compare two columns only if their minimums are equal: b starts at 1, a "
       "at 0"]),
     (["query", "alike.bw", "SELECT a FROM t WHERE " + " AND ".join(["a < c", "a <> c"] * 200)],
-     ["the query went row by row: there is no scan program for the AND of 400 parts",
+     ["the query used the fallback: there is no scan program for the AND of 400 parts",
       "the planner was asked only for its first parts, 4 of them, and has a program for each"]),
     (["query", "alike.bw",
       "SELECT a FROM t WHERE a > 0 OR (" + " AND ".join(["a < c", "a <> c"] * 200) + ")"],
-     ["the query went row by row: there is no scan program for the OR of 2 parts",
+     ["the query used the fallback: there is no scan program for the OR of 2 parts",
       "the planner was asked only for its first parts, 1 of them, and has a program for each"]),
     (["query", "apart.bw", "SELECT COUNT(*) FROM t WHERE a < 5"], []),
     (["query", "apart.bw", "SELECT COUNT(*) FROM t"], []),
@@ -278,7 +278,7 @@ class Errors(Told):
 
 @support.each([(" ".join(words)[-90:], words, below) for words, below in ROWS])
 class Rows(Told):
-    """After a result that was found row by row."""
+    """After a result of the fallback."""
 
     def check(self, _, words, below):
         self.assertEqual(self.compare(words, below), "")

@@ -1,5 +1,5 @@
 //! An input file that mustn't change while it is read.
-use bw_explain::Reads;
+use crate::failure::Reads;
 use std::fs::File;
 use std::io::{self, ErrorKind, Read};
 use std::os::unix::fs::MetadataExt;

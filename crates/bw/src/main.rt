@@ -10,6 +10,8 @@
 //! error. `bw_cli` has the command line.
 #![tactic(auto)]
 
+mod explain;
+mod failure;
 mod in_file;
 mod out_file;
 mod out_stream;

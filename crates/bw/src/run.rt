@@ -4,12 +4,13 @@ ghost use Rattle.bw_io.specs.ReadAhead.{read_failures};
 ghost use Rattle.bw_memory.specs.MemoryTable.{schema_of};
 ghost use Rattle.bw_query.specs.ProgramCache.{Serves};
 
+use crate::explain::{explain_failure, explain_fallback, explain_ignored};
+use crate::failure::{CommandFailure, Reads};
 use crate::in_file::InFile;
 use crate::out_file::{OutFile, is_same_file};
 use crate::out_stream::OutStream;
 use crate::session::Teller;
 use bw_cli::{CommandArgs, Invocation, USAGE, parse_invocation, process_args};
-use bw_explain::{CommandFailure, Reads, explain, explain_ignored, explain_rows};
 use bw_file::{FromRead, Layout, Source, ToWrite};
 use bw_io::ReadAhead;
 use bw_model::{Fault, MAX_SCHEMA_LEN, code};
@@ -83,12 +84,12 @@ fn print_fault(
 ) -> u8 {
     let status = report(&ended.fault, &mut ToWrite::new(rt.stderr()));
     if told {
-        explain(rt, words, ended);
+        explain_failure(rt, words, ended);
     }
     status
 }
 
-/// Runs a command, and explains the row-by-row fallback or an ignored certificate if `told`.
+/// Runs a command, and explains the fallback or an ignored certificate if `told`.
 /// Returns the exit status.
 fn run_command<'a>(
     rt: &HostRuntime,
@@ -116,7 +117,7 @@ fn run_command<'a>(
         } => {
             let served = run_query(rt, program, stats, table, sql)?;
             if told && matches!(served.by, By::Rows) {
-                explain_rows(rt, table, sql);
+                explain_fallback(rt, &words);
             }
         }
         CommandArgs::Info { table } => run_info(rt, table)?,
@@ -258,7 +259,7 @@ fn answer_input(
     match or_write_failure(done, &[], out.error())? {
         Some(fault) => Ok(quiet_status(&fault)),
         None if teller.has_lost_statistics() => {
-            Err(CommandFailure::of(Fault::new(code::WRITE_FAILED), &[]))
+            Err(CommandFailure::new(Fault::new(code::WRITE_FAILED)))
         }
         None => Ok(0),
     }
@@ -273,7 +274,7 @@ fn read_programs<'a>(
     for path in paths {
         let file = read_program(rt, path, open(rt, path)?)?;
         if files.push(file).is_err() {
-            return Err(CommandFailure::of(Fault::new(code::OUT_OF_MEMORY), &[]));
+            return Err(CommandFailure::new(Fault::new(code::OUT_OF_MEMORY)));
         }
     }
     Ok(files)
@@ -292,7 +293,7 @@ fn programs_for<'a>(
         Ok(programs) => Ok(programs),
         Err(rejected) => {
             let path = paths.get(rejected.number).copied();
-            Err(CommandFailure::of(rejected.fault, &[]).of_program(path))
+            Err(CommandFailure::of_program(rejected.fault, path))
         }
     }
 }
@@ -315,7 +316,7 @@ fn input_ahead(rt: &HostRuntime) -> Result<ReadAhead<Stdin>, CommandFailure<'sta
 {
     match ReadAhead::new(rt.alloc(), rt.stdin(), PIECE) {
         Ok(source) => Ok(source),
-        Err(fault) => Err(CommandFailure::of(fault, &[])),
+        Err(fault) => Err(CommandFailure::new(fault)),
     }
 }
 
@@ -357,7 +358,7 @@ fn read_program<'a>(
         Input::Whole(bytes) => Ok(bytes),
         Input::Over => {
             let fault = Fault::new(code::PROGRAM_FILE_TOO_LONG);
-            Err(CommandFailure::of(fault, &[]).of_program(Some(path)))
+            Err(CommandFailure::of_program(fault, Some(path)))
         }
     }
 }
@@ -447,7 +448,7 @@ fn read_schema<'a>(
 ) -> Result<Vec<u8>, CommandFailure<'a>> {
     match read_text(rt, path, file, MAX_SCHEMA_LEN as u32)? {
         Input::Whole(text) => Ok(text),
-        Input::Over => Err(CommandFailure::of(Fault::new(code::SCHEMA_TOO_LONG), &[])),
+        Input::Over => Err(CommandFailure::new(Fault::new(code::SCHEMA_TOO_LONG))),
     }
 }
 
@@ -471,7 +472,7 @@ fn or_failure<'a, T>(
 ) -> Result<T, CommandFailure<'a>> {
     match done {
         Ok(given) => Ok(given),
-        Err(fault) => Err(CommandFailure::of(fault, files)),
+        Err(fault) => Err(CommandFailure::of(fault, files, None)),
     }
 }
 
@@ -483,7 +484,7 @@ fn or_write_failure<'a, T>(
 ) -> Result<T, CommandFailure<'a>> {
     match done {
         Ok(given) => Ok(given),
-        Err(fault) => Err(CommandFailure::of(fault, files).with_write_error(error)),
+        Err(fault) => Err(CommandFailure::of(fault, files, error)),
     }
 }
 
@@ -519,6 +520,6 @@ fn read_ahead<'f>(
     };
     match ReadAhead::new(rt.alloc(), file, piece) {
         Ok(source) => Ok(source),
-        Err(fault) => Err(CommandFailure::of(fault, &[])),
+        Err(fault) => Err(CommandFailure::new(fault)),
     }
 }

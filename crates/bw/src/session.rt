@@ -1,7 +1,7 @@
 //! The prompts and reports of `bw session`, beside its results.
 ghost use Rattle.std.specs.Prelude.{None};
 
-use bw_explain::explain_statement;
+use crate::explain::explain_statement;
 use bw_file::ToWrite;
 use bw_model::{Fault, Schema};
 use bw_shell::{Listener, Served, report, stats_line};

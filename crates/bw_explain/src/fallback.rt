@@ -1,8 +1,9 @@
-//! Explains why a query went row by row.
+//! Explains why a query used the fallback.
 ghost use Rattle.std.specs.Prelude.{length, IsTrue};
 ghost use Rattle.std.specs.List.{list_all};
 ghost use Rattle.bw_model.specs.Cond.{names_within};
 
+use crate::shown::Named;
 use bw_model::{Column, Cond, Op, Operand, Schema};
 use bw_plan::propose;
 use bw_sql::parse;
@@ -17,13 +18,30 @@ const OPERANDS: usize = 48;
 
 /// Returns which part of a statement's condition has no scan program by itself, and why. The text
 /// is empty if there is no condition, or if the statement is rejected.
-pub(crate) fn of_rows(alloc: Global, schema: &Schema, sql: &[u8]) -> Result<String, AllocError> {
+pub fn explain_fallback(
+    alloc: Global,
+    schema: &Schema,
+    sql: &[u8],
+) -> Result<String, AllocError> {
     let mut text = String::new(alloc);
-    let Ok(query) = parse(alloc, schema, sql) else {
-        return Ok(text);
-    };
-    if matches!(query.cond, Cond::Always) {
-        return Ok(text);
+    if let Ok(query) = parse(alloc, schema, sql) {
+        put_fallback(alloc, &mut text, schema, &query.cond)?;
+    }
+    Ok(text)
+}
+
+/// Appends which part of a condition has no scan program, and why: its first comparison of columns
+/// with different minimums, or else its smallest part without a program.
+fn put_fallback(
+    alloc: Global,
+    text: &mut String,
+    schema: &Schema,
+    cond: &Cond,
+) -> Result<(), AllocError>
+    requires { IsTrue (names_within (length schema.now.columns.items) cond.now) }
+{
+    if matches!(cond, Cond::Always) {
+        return Ok(());
     }
     let columns = &schema.columns;
     let mut search = Search {
@@ -31,34 +49,16 @@ pub(crate) fn of_rows(alloc: Global, schema: &Schema, sql: &[u8]) -> Result<Stri
         operands: OPERANDS,
         first: None,
     };
-    let part = part_without(alloc, schema, &query.cond, &mut search);
+    let part = match first_apart(cond, columns) {
+        Some(part) => part,
+        None => smallest(alloc, schema, cond, &mut search),
+    };
     writeln!(
         text,
-        "the query went row by row: there is no scan program for {}",
+        "the query used the fallback: there is no scan program for {}",
         Spelled { part, columns }
     )?;
-    let first = search.first;
-    writeln!(
-        text,
-        "{}",
-        FallbackReason {
-            part,
-            columns,
-            first
-        }
-    )?;
-    Ok(text)
-}
-
-/// Returns the part of a condition to name: its first comparison of columns with different
-/// minimums, or else its smallest part without a program.
-fn part_without<'a>(alloc: Global, schema: &Schema, cond: &'a Cond, search: &mut Search) -> &'a Cond
-    requires { IsTrue (names_within (length schema.now.columns.items) cond.now) }
-{
-    match first_apart(cond, &schema.columns) {
-        Some(part) => part,
-        None => smallest(alloc, schema, cond, search),
-    }
+    put_reason(text, part, columns, search.first)
 }
 
 /// How much more the planner may be asked for.
@@ -178,26 +178,39 @@ fn smallest_of<'a>(
     None
 }
 
-/// Returns a condition as a statement spells it, with long lists shortened.
+/// A condition as a statement spells it, with long lists shortened.
 #[derive(Clone, Copy)]
 struct Spelled<'a> {
     part: &'a Cond,
     columns: &'a [Column],
 }
 
+impl Spelled<'_> {
+    /// Returns an operand of it.
+    fn operand(&self, operand: &Operand) -> SpelledOperand<'_> {
+        SpelledOperand {
+            operand: *operand,
+            columns: self.columns,
+        }
+    }
+}
+
 impl fmt::Display for Spelled<'_> {
     fn fmt<W: fmt::Write>(&self, f: &mut fmt::Formatter<W>) -> fmt::Result {
-        let columns = self.columns;
-        let named = |operand: &Operand| Named {
-            operand: *operand,
-            columns,
-        };
         match self.part {
-            Cond::Cmp(op, x, y) => write!(f, "{} {} {}", named(x), sign(*op), named(y)),
-            Cond::Between(x, y, z) => {
-                write!(f, "{} BETWEEN {} AND {}", named(x), named(y), named(z))
+            Cond::Cmp(op, x, y) => {
+                write!(f, "{} {} {}", self.operand(x), sign(*op), self.operand(y))
             }
-            Cond::Among(x, items) => write!(f, "{} IN a list of {}", named(x), items.len()),
+            Cond::Between(x, y, z) => write!(
+                f,
+                "{} BETWEEN {} AND {}",
+                self.operand(x),
+                self.operand(y),
+                self.operand(z)
+            ),
+            Cond::Among(x, items) => {
+                write!(f, "{} IN a list of {}", self.operand(x), items.len())
+            }
             Cond::And(parts) => write!(f, "the AND of {} parts", parts.len()),
             Cond::Or(parts) => write!(f, "the OR of {} parts", parts.len()),
             _ => f.write_str("the condition"),
@@ -217,18 +230,18 @@ fn sign(op: Op) -> &'static str {
     }
 }
 
-/// Returns an operand as a statement spells it.
+/// An operand as a statement spells it.
 #[derive(Clone, Copy)]
-struct Named<'a> {
+struct SpelledOperand<'a> {
     operand: Operand,
     columns: &'a [Column],
 }
 
-impl fmt::Display for Named<'_> {
+impl fmt::Display for SpelledOperand<'_> {
     fn fmt<W: fmt::Write>(&self, f: &mut fmt::Formatter<W>) -> fmt::Result {
         match self.operand {
             Operand::Col(number) => match self.columns.get(number) {
-                Some(column) => f.write_str(text_of(column)),
+                Some(column) => write!(f, "{}", name_of(column)),
                 None => Ok(()),
             },
             Operand::Lit(n) => write!(f, "{n}"),
@@ -238,53 +251,44 @@ impl fmt::Display for Named<'_> {
 }
 
 /// Returns a column's name.
-fn text_of(column: &Column) -> &str {
-    std::str::from_utf8(column.name.as_bytes()).unwrap_or("")
+fn name_of(column: &Column) -> Named<'_> {
+    Named(column.name.as_bytes())
 }
 
-/// Why a condition without smaller parts that lack a program has none itself.
-#[derive(Clone, Copy)]
-struct FallbackReason<'a> {
-    part: &'a Cond,
-    columns: &'a [Column],
-    /// How many of its parts the planner was asked for, if not for all.
+/// Appends why a condition without smaller parts that lack a program has none itself, given how
+/// many of its parts the planner was asked for, if not for all.
+fn put_reason(
+    text: &mut String,
+    part: &Cond,
+    columns: &[Column],
     first: Option<usize>,
-}
-
-impl fmt::Display for FallbackReason<'_> {
-    fn fmt<W: fmt::Write>(&self, f: &mut fmt::Formatter<W>) -> fmt::Result {
-        if let Some((one, other)) = apart(self.part, self.columns) {
-            return write!(
-                f,
-                "scan programs can compare two columns only if their minimums are equal: {} starts at {}, {} at {}",
-                text_of(one),
-                one.lo,
-                text_of(other),
-                other.lo
+) -> Result<(), AllocError> {
+    if let Some((one, other)) = apart(part, columns) {
+        return writeln!(
+            text,
+            "scan programs can compare two columns only if their minimums are equal: {} starts at {}, {} at {}",
+            name_of(one),
+            one.lo,
+            name_of(other),
+            other.lo
+        );
+    }
+    text.push_str(match (part, first) {
+        (Cond::And(_) | Cond::Or(_), Some(0)) => "its parts are too long to be planned one by one\n",
+        (Cond::And(_) | Cond::Or(_), Some(first)) => {
+            return writeln!(
+                text,
+                "the planner was asked only for its first parts, {first} of them, and has a program for each"
             );
         }
-        match (self.part, self.first) {
-            (Cond::And(_) | Cond::Or(_), Some(0)) => {
-                return f.write_str("its parts are too long to be planned one by one");
-            }
-            (Cond::And(_) | Cond::Or(_), Some(first)) => {
-                return write!(
-                    f,
-                    "the planner was asked only for its first parts, {} of them, and has a program for each",
-                    first
-                );
-            }
-            _ => {}
+        (Cond::And(_) | Cond::Or(_), None) => {
+            "each part has a program, but together they take more instructions, registers or nodes than allowed\n"
         }
-        f.write_str(match self.part {
-            Cond::Among(..) =>
-                "so long a list is searched faster, or takes more than 4096 instructions",
-            Cond::And(_) | Cond::Or(_) => {
-                "each part has a program, but together they take more instructions, registers or nodes than allowed"
-            }
-            _ => "it takes more instructions, registers or nodes than allowed",
-        })
-    }
+        (Cond::Among(..), _) => {
+            "so long a list is searched faster, or takes more than 4096 instructions\n"
+        }
+        _ => "it takes more instructions, registers or nodes than allowed\n",
+    })
 }
 
 /// Returns two compared columns with different minimums.

@@ -1,10 +1,9 @@
 //! Explains why a program has no certificate.
-ghost use Rattle.std.specs.Prelude.{length, IsTrue};
-ghost use Rattle.bw_model.specs.Cond.{names_within};
+ghost use Rattle.std.specs.Prelude.{IsTrue};
 ghost use Rattle.bw_program.specs.Program.{fits};
 
-use crate::lines::of_program;
-use crate::shown_row::ShownRow;
+use crate::program_file::of_program;
+use crate::shown::ShownRow;
 use crate::trial::put_wrong_row;
 use bw_cert::split_file;
 use bw_model::{Cond, Fault, Schema};
@@ -15,81 +14,39 @@ use std::alloc::{AllocError, Global};
 use std::fmt::Write;
 
 /// Returns the line of a program file at which no certificate was found, and why. The text ends
-/// after the line if the schema, the statement or the program is rejected, or if there is one.
+/// after the line if the statement or the program is rejected, or if there is a certificate.
 pub(crate) fn of_uncertified(
     alloc: Global,
-    schema: &[u8],
+    schema: &Schema,
     sql: &[u8],
     file: &[u8],
     fault: &Fault,
 ) -> Result<String, AllocError> {
     let mut text = of_program(alloc, file, fault)?;
-    put_why(alloc, &mut text, schema, sql, file)?;
+    if let Ok(query) = parse(alloc, schema, sql) {
+        put_why(alloc, &mut text, schema, &query.cond, file)?;
+    }
     Ok(text)
 }
 
-/// Appends why a program has no certificate for a statement under the schema of a schema text.
+/// Appends why the program of a file has no certificate for a condition.
 fn put_why(
     alloc: Global,
     text: &mut String,
-    schema: &[u8],
-    sql: &[u8],
-    file: &[u8],
-) -> Result<(), AllocError> {
-    match Schema::parse(alloc, schema) {
-        Ok(schema) => put_why_for_statement(alloc, text, &schema, sql, file),
-        Err(_) => Ok(()),
-    }
-}
-
-/// Appends why a program has no certificate for a statement.
-fn put_why_for_statement(
-    alloc: Global,
-    text: &mut String,
-    schema: &Schema,
-    sql: &[u8],
-    file: &[u8],
-) -> Result<(), AllocError> {
-    match parse(alloc, schema, sql) {
-        Ok(query) => put_why_for_condition(alloc, text, schema, &query.cond, file),
-        Err(_) => Ok(()),
-    }
-}
-
-/// Appends why a program has no certificate for a condition.
-fn put_why_for_condition(
-    alloc: Global,
-    text: &mut String,
     schema: &Schema,
     cond: &Cond,
     file: &[u8],
-) -> Result<(), AllocError>
-    requires { IsTrue (names_within (length schema.now.columns.items) cond.now) }
-{
-    match Program::parse(alloc, schema, split_file(file).program) {
-        Ok(program) => put_why_for_program(alloc, text, schema, cond, &program),
-        Err(_) => Ok(()),
-    }
-}
-
-/// Appends why no certificate is found.
-fn put_why_for_program(
-    alloc: Global,
-    text: &mut String,
-    schema: &Schema,
-    cond: &Cond,
-    program: &Program,
-) -> Result<(), AllocError>
-    requires names { IsTrue (names_within (length schema.now.columns.items) cond.now) }
-    requires fits { IsTrue (fits schema.now.columns.items program.now) }
-{
+) -> Result<(), AllocError> {
+    let Ok(program) = Program::parse(alloc, schema, split_file(file).program) else {
+        return Ok(());
+    };
     let hints = Hints {
         rows: MAX_PRODUCTS,
         orders: &[],
     };
-    match prove(alloc, schema, cond, program, &hints) {
+    match prove(alloc, schema, cond, &program, &hints) {
         Ok(_) => Ok(()),
-        Err(unproved) => put_reason(alloc, text, schema, cond, program, &unproved),
+        Err(unproved) => put_reason(alloc, text, schema, cond, &program, &unproved),
     }
 }
 
@@ -102,8 +59,7 @@ fn put_reason(
     program: &Program,
     unproved: &Unproved,
 ) -> Result<(), AllocError>
-    requires names { IsTrue (names_within (length schema.now.columns.items) cond.now) }
-    requires fits { IsTrue (fits schema.now.columns.items program.now) }
+    requires { IsTrue (fits schema.now.columns.items program.now) }
 {
     let said = match unproved {
         Unproved::Differs { row } => {
@@ -152,8 +108,7 @@ fn put_witness(
     program: &Program,
     witness: Option<&Witness>,
 ) -> Result<(), AllocError>
-    requires names { IsTrue (names_within (length schema.now.columns.items) cond.now) }
-    requires fits { IsTrue (fits schema.now.columns.items program.now) }
+    requires { IsTrue (fits schema.now.columns.items program.now) }
 {
     let Some(Witness { taken, through }) = witness else {
         return writeln!(text, "only a proof is missing: no row shows a difference");
@@ -164,16 +119,18 @@ fn put_witness(
         return Ok(());
     }
     let columns = &schema.columns;
-    let row = taken;
-    write!(
-        text,
-        "only a proof is missing: on the row {}, ",
-        ShownRow { columns, row }
-    )?;
-    let row = through;
+    let (taken, through) = (
+        ShownRow {
+            columns,
+            row: taken,
+        },
+        ShownRow {
+            columns,
+            row: through,
+        },
+    );
     writeln!(
         text,
-        "alone and beside {}, the program is right",
-        ShownRow { columns, row }
+        "only a proof is missing: on the row {taken}, alone and beside {through}, the program is right"
     )
 }

@@ -1,11 +1,11 @@
-//! Shows bytes of a file so that each is visible.
+//! Shows names, rows, and bytes of a file so that each is visible.
+use bw_model::{Column, Row};
 use std::fmt;
 
 /// At most so many bytes of a field are shown.
 const MOST: usize = 40;
 
-/// Returns bytes in quotation marks, cut after the first 40. Anything but a visible character is
-/// escaped.
+/// Bytes in quotation marks, cut after the first 40. Anything but a visible character is escaped.
 #[derive(Clone, Copy)]
 pub(crate) struct Shown<'a>(pub(crate) &'a [u8]);
 
@@ -47,7 +47,7 @@ fn show_text<W: fmt::Write>(text: &str, f: &mut fmt::Formatter<W>) -> fmt::Resul
             '"' => f.write_str("\\\"")?,
             '\\' => f.write_str("\\\\")?,
             _ if character.is_control() => write!(f, "\\u{{{:x}}}", character as u32)?,
-            _ => write!(f, "{character}")?,
+            _ => f.write_char(character)?,
         }
     }
     Ok(())
@@ -56,10 +56,45 @@ fn show_text<W: fmt::Write>(text: &str, f: &mut fmt::Formatter<W>) -> fmt::Resul
 fn show_bytes<W: fmt::Write>(bytes: &[u8], f: &mut fmt::Formatter<W>) -> fmt::Result {
     for byte in bytes {
         if (b' '..=b'~').contains(byte) {
-            write!(f, "{}", *byte as char)?;
+            f.write_char(*byte as char)?;
         } else {
             write!(f, "\\x{:02x}", *byte)?;
         }
     }
     Ok(())
+}
+
+/// A name, as it is spelled.
+#[derive(Clone, Copy)]
+pub(crate) struct Named<'a>(pub(crate) &'a [u8]);
+
+impl fmt::Display for Named<'_> {
+    fn fmt<W: fmt::Write>(&self, f: &mut fmt::Formatter<W>) -> fmt::Result {
+        match std::str::from_utf8(self.0) {
+            Ok(name) => f.write_str(name),
+            Err(_) => write!(f, "{}", Shown(self.0)),
+        }
+    }
+}
+
+/// A row, as equations of its columns.
+#[derive(Clone, Copy)]
+pub(crate) struct ShownRow<'a> {
+    pub(crate) columns: &'a [Column],
+    pub(crate) row: &'a Row,
+}
+
+impl fmt::Display for ShownRow<'_> {
+    fn fmt<W: fmt::Write>(&self, f: &mut fmt::Formatter<W>) -> fmt::Result {
+        let mut before = "";
+        for (column, value) in self.columns.iter().zip(&self.row.values) {
+            write!(f, "{before}{} = ", Named(column.name.as_bytes()))?;
+            match value {
+                Some(n) => write!(f, "{n}")?,
+                None => f.write_str("NULL")?,
+            }
+            before = ", ";
+        }
+        Ok(())
+    }
 }
