@@ -4,6 +4,7 @@ pipe gets only the error's line, unless there is --explain, before the command o
 import contextlib
 import os
 import pty
+import re
 import subprocess
 
 from tests import pages, support
@@ -217,14 +218,41 @@ ROWS = [
       "at 0"]),
     (["query", "alike.bw", "SELECT a FROM t WHERE " + " AND ".join(["a < c", "a <> c"] * 200)],
      ["the query used the fallback: there is no scan program for the AND of 400 parts",
-      "the planner was asked only for its first parts, 4 of them, and has a program for each"]),
+      "the planner was asked only for 4 of its parts, and has a program for each"]),
     (["query", "alike.bw",
       "SELECT a FROM t WHERE a > 0 OR (" + " AND ".join(["a < c", "a <> c"] * 200) + ")"],
      ["the query used the fallback: there is no scan program for the OR of 2 parts",
-      "the planner was asked only for its first parts, 1 of them, and has a program for each"]),
+      "the planner was asked only for 4 of its parts, and has a program for each"]),
     (["query", "apart.bw", "SELECT COUNT(*) FROM t WHERE a < 5"], []),
     (["query", "apart.bw", "SELECT COUNT(*) FROM t"], []),
 ]
+
+# what may be expected, each with a text of it
+EXPECTED = {"SELECT": "SELECT", "*": "*", "COUNT, SUM, MIN, MAX": "COUNT", "FROM": "FROM",
+            "WHERE": "WHERE", "a comparison": "<", "BETWEEN": "BETWEEN", "IN": "IN", "IS": "IS",
+            "AND": "AND", "OR": "OR", "NOT": "NOT", "NULL": "NULL", "TRUE, FALSE, UNKNOWN": "TRUE",
+            "a name": "a", "a number": "0", "(": "(", ")": ")", ",": ",", ";": ";", "the end": ""}
+# beginnings of statements, one after each token of the grammar
+BEGINNINGS = ["", "SELECT", "SELECT *", "SELECT a", "SELECT a,", "SELECT COUNT", "SELECT COUNT(",
+              "SELECT COUNT(*", "SELECT COUNT(*)", "SELECT COUNT(*),", "SELECT MAX(",
+              "SELECT MIN(a), SUM(", "SELECT a FROM", "SELECT a FROM t", "SELECT a FROM t;",
+              *(f"SELECT a FROM t WHERE {text}" for text in (
+                  "", "a", "-1", "+", "a <", "a < -", "a < 1", "NULL IS", "a IS NOT", "a IS NULL",
+                  "a NOT", "1 BETWEEN", "a BETWEEN a", "a BETWEEN 1 AND", "a IN", "a IN (",
+                  "a IN (1", "a NOT IN (1,", "a IN (1)", "NOT", "(", "NOT (a = 1", "((a = 1)",
+                  "(a = 1) IS", "(a = 1) IS NOT", "(a = 1) IS NOT TRUE", "a = 1 AND",
+                  "a = 1 AND b = 2", "a = 1 OR b = 2 AND NOT", "(a = 1 OR b = 2) AND (a = 1",
+                  "a = 1;"))]
+
+
+def is_accepted(beginning, text):
+    """Returns whether bw goes on with a token after the beginning of a statement, or only has no
+    table of this name."""
+    error = support.bw("plan", SCHEMA, f"{beginning} {text}", cwd=support.ROOT).err
+    found = re.match(r"bw: (\d+) .* at byte (\d+)", error)
+    if found is None or not text:
+        return found is None
+    return int(found[2]) > len(beginning) + 1 or found[1] == "403"
 
 
 def at_terminal(words, folder):
@@ -282,3 +310,18 @@ class Rows(Told):
 
     def check(self, _, words, below):
         self.assertEqual(self.compare(words, below), "")
+
+
+@support.each([(beginning[-30:], beginning) for beginning in BEGINNINGS])
+class Expected(support.TestCase):
+    """What is expected at a syntax error is just what bw accepts there."""
+
+    def check(self, _, beginning):
+        wrong = "SELECT" if beginning else "FROM"
+        line = support.bw("--explain", "plan", SCHEMA, f"{beginning} {wrong}",
+                          cwd=support.ROOT).err.splitlines()[-1]
+        names = "|".join(map(re.escape, sorted(EXPECTED, key=len, reverse=True)))
+        self.assertRegex(line, rf"\A    expected (({names})(, | or |\Z))+\Z")
+        found = re.findall(rf"({names})(?:, | or |\Z)", line.removeprefix("    expected "))
+        accepted = [name for name, text in EXPECTED.items() if is_accepted(beginning, text)]
+        self.assertEqual(sorted(found), sorted(accepted))

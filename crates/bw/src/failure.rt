@@ -72,3 +72,27 @@ impl<'a> CommandFailure<'a> {
         self.fault.code == code::WRITE_FAILED && is_pipe
     }
 }
+
+/// Returns the result of a call, or the failure of the command: the call's error, and the files
+/// that it read, each with whether its reads failed.
+pub fn or_failure<'a, T>(
+    done: Result<T, Fault>,
+    files: &[(&'a str, Reads)],
+) -> Result<T, CommandFailure<'a>> {
+    match done {
+        Ok(given) => Ok(given),
+        Err(fault) => Err(CommandFailure::of(fault, files, None)),
+    }
+}
+
+/// Returns the same for a call that writes, with the reason of a failed write.
+pub fn or_write_failure<'a, T>(
+    done: Result<T, Fault>,
+    files: &[(&'a str, Reads)],
+    error: Option<io::Error>,
+) -> Result<T, CommandFailure<'a>> {
+    match done {
+        Ok(given) => Ok(given),
+        Err(fault) => Err(CommandFailure::of(fault, files, error)),
+    }
+}

@@ -1,11 +1,114 @@
-//! The prompts and reports of `bw session`, beside its results.
-ghost use Rattle.std.specs.Prelude.{None};
+//! `bw session`, and its prompts and reports beside its results.
+ghost use Rattle.std.specs.Prelude.{IfOk, None};
+ghost use Rattle.bw_memory.specs.MemoryTable.{schema_of};
+ghost use Rattle.bw_query.specs.ProgramCache.{Serves};
 
 use crate::explain::explain_statement;
+use crate::failure::{CommandFailure, or_failure, or_write_failure};
+use crate::in_file::InFile;
+use crate::opened::{input_ahead, open, read_ahead, read_program};
+use crate::out_stream::OutStream;
+use crate::run::quiet_status;
 use bw_file::ToWrite;
-use bw_model::{Fault, Schema};
-use bw_shell::{Listener, Served, report, stats_line};
+use bw_model::{Fault, Schema, code};
+use bw_shell::{
+    Listener, MemoryTable, ProgramCache, Served, answer_statements, report, stats_line,
+};
 use std::io::IsTerminal;
+
+/// Runs `bw session`: opens the table file, reads the program files and then the table file, and
+/// runs the statements of standard input. Returns the status of the first statement that was
+/// rejected.
+pub fn run_session<'a>(
+    rt: &HostRuntime,
+    paths: &[&'a str],
+    stats: bool,
+    table_path: &'a str,
+    told: bool,
+) -> Result<u8, CommandFailure<'a>> {
+    let file = open(rt, table_path)?;
+    let files = read_programs(rt, paths)?;
+    let table = table_of(rt, table_path, file)?;
+    let mut programs = programs_for(rt, &table, paths, files)?;
+    answer_input(rt, &table, &mut programs, stats, told)
+}
+
+/// Runs the statements of standard input over a table in memory. Returns the status of the first
+/// one that was rejected, or of one for which memory was refused. If none was, but a line of scan
+/// statistics couldn't be written, the session fails (702).
+fn answer_input(
+    rt: &HostRuntime,
+    table: &MemoryTable,
+    programs: &mut ProgramCache,
+    stats: bool,
+    told: bool,
+) -> Result<u8, CommandFailure<'static>>
+    requires { Serves (schema_of table.now).columns.items programs.old }
+{
+    let mut teller = Teller::new(rt, table.schema(), stats, told);
+    let mut statements = input_ahead(rt)?;
+    let mut out = OutStream::new(rt.stdout());
+    let done = answer_statements(
+        rt.alloc(),
+        table,
+        programs,
+        &mut statements,
+        &mut ToWrite::new(&mut out),
+        &mut teller,
+    );
+    match or_write_failure(done, &[], out.error())? {
+        Some(fault) => Ok(quiet_status(&fault)),
+        None if teller.has_lost_statistics() => {
+            Err(CommandFailure::new(Fault::new(code::WRITE_FAILED)))
+        }
+        None => Ok(0),
+    }
+}
+
+/// Returns the bytes of each program file of a session.
+fn read_programs<'a>(
+    rt: &HostRuntime,
+    paths: &[&'a str],
+) -> Result<Vec<Vec<u8>>, CommandFailure<'a>> {
+    let mut files = Vec::new(rt.alloc());
+    for path in paths {
+        let file = read_program(rt, path, open(rt, path)?)?;
+        if files.push(file).is_err() {
+            return Err(CommandFailure::new(Fault::new(code::OUT_OF_MEMORY)));
+        }
+    }
+    Ok(files)
+}
+
+/// Returns the programs of these files, for a table's columns.
+fn programs_for<'a>(
+    rt: &HostRuntime,
+    table: &MemoryTable,
+    paths: &[&'a str],
+    files: Vec<Vec<u8>>,
+) -> Result<ProgramCache, CommandFailure<'a>>
+    ensures { IfOk result (λ programs. Serves (schema_of table.now).columns.items programs) }
+{
+    match ProgramCache::new(rt.alloc(), table.schema(), files) {
+        Ok(programs) => Ok(programs),
+        Err(rejected) => {
+            let path = paths.get(rejected.number).copied();
+            Err(CommandFailure::of_program(rejected.fault, path))
+        }
+    }
+}
+
+/// Returns the table of a file, read into memory.
+fn table_of<'a>(
+    rt: &HostRuntime,
+    path: &'a str,
+    mut file: InFile,
+) -> Result<MemoryTable, CommandFailure<'a>> {
+    let mut source = read_ahead(rt, &mut file)?;
+    let done = MemoryTable::read(rt.alloc(), &mut source);
+    drop(source);
+    or_failure(done, &[(path, file.reads())])
+}
 
 /// The prompt at a terminal, while a statement is awaited.
 const PROMPT: &str = "bw> ";

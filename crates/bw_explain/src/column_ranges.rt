@@ -10,11 +10,7 @@ use std::fmt::Write;
 /// Appends which columns aren't of whole numbers, each with its first field that isn't one, or have
 /// numbers too far apart; which record is the first with another number of fields; and how columns
 /// can be made to fit.
-pub(crate) fn of_columns(
-    alloc: Global,
-    text: &mut String,
-    csv: &[u8],
-) -> Result<(), AllocError> {
+pub(crate) fn of_columns(alloc: Global, text: &mut String, csv: &[u8]) -> Result<(), AllocError> {
     match Found::of(alloc, csv, 0) {
         Some(heading) => put_columns(alloc, text, csv, &heading.record),
         None => Ok(()),

@@ -50,7 +50,9 @@ pub fn explain_name(alloc: Global, name: &[u8]) -> Result<String, AllocError> {
     let mut text = String::new(alloc);
     write!(text, "{}: ", Shown(name))?;
     put_name_reason(&mut text, name)?;
-    text.push_str("a name is a letter or _, then letters, digits and _, and not a reserved word\n")?;
+    text.push_str(
+        "a name is a letter or _, then letters, digits and _, and not a reserved word\n",
+    )?;
     Ok(text)
 }
 
@@ -60,7 +62,10 @@ pub fn explain_ignored(alloc: Global, file: &[u8]) -> Result<String, AllocError>
     let parts = split_file(file);
     if parts.program.len() < file.len() {
         let line = parts.first_line - 1;
-        writeln!(text, "line {line}: this certificate is ignored, another is found")?;
+        writeln!(
+            text,
+            "line {line}: this certificate is ignored, another is found"
+        )?;
     }
     Ok(text)
 }

@@ -18,11 +18,7 @@ const OPERANDS: usize = 48;
 
 /// Returns which part of a statement's condition has no scan program by itself, and why. The text
 /// is empty if there is no condition, or if the statement is rejected.
-pub fn explain_fallback(
-    alloc: Global,
-    schema: &Schema,
-    sql: &[u8],
-) -> Result<String, AllocError> {
+pub fn explain_fallback(alloc: Global, schema: &Schema, sql: &[u8]) -> Result<String, AllocError> {
     let mut text = String::new(alloc);
     if let Ok(query) = parse(alloc, schema, sql) {
         put_fallback(alloc, &mut text, schema, &query.cond)?;
@@ -30,8 +26,8 @@ pub fn explain_fallback(
     Ok(text)
 }
 
-/// Appends which part of a condition has no scan program, and why: its first comparison of columns
-/// with different minimums, or else its smallest part without a program.
+/// Appends which part of a condition has no scan program, and why: its smallest part without one,
+/// or the whole if none of its parts that the planner was asked for is without one.
 fn put_fallback(
     alloc: Global,
     text: &mut String,
@@ -47,18 +43,18 @@ fn put_fallback(
     let mut search = Search {
         parts: PARTS,
         operands: OPERANDS,
-        first: None,
+        is_cut: false,
     };
-    let part = match first_apart(cond, columns) {
-        Some(part) => part,
-        None => smallest(alloc, schema, cond, &mut search),
+    let part = match apart(cond, columns) {
+        Some(_) => cond,
+        None => smallest_inside(alloc, schema, cond, &mut search).unwrap_or(cond),
     };
     writeln!(
         text,
         "the query used the fallback: there is no scan program for {}",
         Spelled { part, columns }
     )?;
-    put_reason(text, part, columns, search.first)
+    put_reason(text, part, columns, &search)
 }
 
 /// How much more the planner may be asked for.
@@ -66,8 +62,8 @@ fn put_fallback(
 struct Search {
     parts: usize,
     operands: usize,
-    /// How many parts of the last condition the planner was asked for, if not for all.
-    first: Option<usize>,
+    /// Whether there was a part that the planner wasn't asked for.
+    is_cut: bool,
 }
 
 impl Search {
@@ -75,6 +71,7 @@ impl Search {
     fn takes(&mut self, part: &Cond) -> bool {
         let operands = operands_in(part);
         if self.parts == 0 || operands > self.operands {
+            self.is_cut = true;
             return false;
         }
         self.parts -= 1;
@@ -108,53 +105,49 @@ fn operands_of(parts: &[Cond]) -> usize {
     count
 }
 
-/// Returns the first comparison in a condition of two columns with different minimums.
-#[cycle(first_apart)]
-fn first_apart<'a>(cond: &'a Cond, columns: &[Column]) -> Option<&'a Cond> {
-    match cond {
-        Cond::And(parts) => first_apart_of(parts, columns),
-        Cond::Or(parts) => first_apart_of(parts, columns),
-        Cond::Not(part) => first_apart(part, columns),
-        Cond::Test(part, _) => first_apart(part, columns),
-        _ => apart(cond, columns).map(|_| cond),
-    }
-}
-
-/// Returns the first such comparison in some conditions.
-#[cycle(first_apart)]
-fn first_apart_of<'a>(parts: &'a [Cond], columns: &[Column]) -> Option<&'a Cond> {
-    for part in parts {
-        if let Some(found) = first_apart(part, columns) {
-            return Some(found);
-        }
-    }
-    None
-}
-
-/// Returns whether the planner has a program for a condition.
-fn has_program(alloc: Global, schema: &Schema, cond: &Cond) -> bool
+/// Returns the smallest part without a program of its own in a condition, which may be the
+/// condition; none if the planner has a program for it, or wasn't asked.
+#[cycle(smallest)]
+fn smallest<'a>(
+    alloc: Global,
+    schema: &Schema,
+    cond: &'a Cond,
+    search: &mut Search,
+) -> Option<&'a Cond>
     requires { IsTrue (names_within (length schema.now.columns.items) cond.now) }
 {
-    propose(alloc, schema, cond).is_ok()
+    if apart(cond, &schema.columns).is_some() {
+        return Some(cond);
+    }
+    let is_asked = search.takes(cond);
+    if is_asked && propose(alloc, schema, cond).is_ok() {
+        return None;
+    }
+    let inner = smallest_inside(alloc, schema, cond, search);
+    inner.or(is_asked.then_some(cond))
 }
 
-/// Returns the smallest part of a condition without a program of its own: it is inside the first
-/// such part, or is the condition itself if no part that the planner was asked for is one.
+/// Returns the smallest such part in the parts of a condition.
 #[tactic(auto, using(bw_model::proofs::CondLemmas::names))]
 #[cycle(smallest)]
-fn smallest<'a>(alloc: Global, schema: &Schema, cond: &'a Cond, search: &mut Search) -> &'a Cond
+fn smallest_inside<'a>(
+    alloc: Global,
+    schema: &Schema,
+    cond: &'a Cond,
+    search: &mut Search,
+) -> Option<&'a Cond>
     requires { IsTrue (names_within (length schema.now.columns.items) cond.now) }
 {
     match cond {
-        Cond::And(parts) => smallest_of(alloc, schema, parts, search).unwrap_or(cond),
-        Cond::Or(parts) => smallest_of(alloc, schema, parts, search).unwrap_or(cond),
+        Cond::And(parts) => smallest_of(alloc, schema, parts, search),
+        Cond::Or(parts) => smallest_of(alloc, schema, parts, search),
         Cond::Not(part) => smallest(alloc, schema, part, search),
         Cond::Test(part, _) => smallest(alloc, schema, part, search),
-        _ => cond,
+        _ => None,
     }
 }
 
-/// Returns the smallest such part in the first of some parts without a program.
+/// Returns the smallest such part in the first of some parts that has one.
 #[cycle(smallest)]
 fn smallest_of<'a>(
     alloc: Global,
@@ -164,16 +157,11 @@ fn smallest_of<'a>(
 ) -> Option<&'a Cond>
     requires { IsTrue (list_all (names_within (length schema.now.columns.items)) parts.now) }
 {
-    let mut asked: usize = 0;
     for part in parts {
-        if !search.takes(part) {
-            search.first = Some(asked);
-            return None;
+        let found = smallest(alloc, schema, part, search);
+        if found.is_some() {
+            return found;
         }
-        if !has_program(alloc, schema, part) {
-            return Some(smallest(alloc, schema, part, search));
-        }
-        asked = asked.saturating_add(1);
     }
     None
 }
@@ -255,13 +243,13 @@ fn name_of(column: &Column) -> Named<'_> {
     Named(column.name.as_bytes())
 }
 
-/// Appends why a condition without smaller parts that lack a program has none itself, given how
-/// many of its parts the planner was asked for, if not for all.
+/// Appends why a condition without smaller parts that lack a program has none itself, after a
+/// search for them.
 fn put_reason(
     text: &mut String,
     part: &Cond,
     columns: &[Column],
-    first: Option<usize>,
+    search: &Search,
 ) -> Result<(), AllocError> {
     if let Some((one, other)) = apart(part, columns) {
         return writeln!(
@@ -273,20 +261,22 @@ fn put_reason(
             other.lo
         );
     }
-    text.push_str(match (part, first) {
-        (Cond::And(_) | Cond::Or(_), Some(0)) => "its parts are too long to be planned one by one\n",
-        (Cond::And(_) | Cond::Or(_), Some(first)) => {
+    let asked = PARTS.saturating_sub(search.parts);
+    text.push_str(match part {
+        Cond::And(_) | Cond::Or(_) if search.is_cut && asked > 0 => {
             return writeln!(
                 text,
-                "the planner was asked only for its first parts, {first} of them, and has a program for each"
+                "the planner was asked only for {asked} of its parts, and has a program for each"
             );
         }
-        (Cond::And(_) | Cond::Or(_), None) => {
+        Cond::And(_) | Cond::Or(_) if search.is_cut => {
+            "its parts are too long to be planned one by one\n"
+        }
+        Cond::And(_) | Cond::Or(_) => {
             "each part has a program, but together they take more instructions, registers or nodes than allowed\n"
         }
-        (Cond::Among(..), _) => {
-            "so long a list is searched faster, or takes more than 4096 instructions\n"
-        }
+        Cond::Among(..) =>
+            "so long a list is searched faster, or takes more than 4096 instructions\n",
         _ => "it takes more instructions, registers or nodes than allowed\n",
     })
 }

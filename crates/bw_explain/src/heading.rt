@@ -124,9 +124,7 @@ fn put_twice(text: &mut String, heading: &ByteRecord) -> Result<(), AllocError> 
 fn other_kind(csv: &[u8]) -> Option<&'static str> {
     match csv {
         [0x1f, 0x8b, ..] => Some("compressed by gzip: gunzip it"),
-        [b'P', b'K', 3, 4, ..] => Some(
-            "a zip archive, or a workbook: unzip it, or save it as CSV",
-        ),
+        [b'P', b'K', 3, 4, ..] => Some("a zip archive, or a workbook: unzip it, or save it as CSV"),
         [0xff, 0xfe, ..] | [0xfe, 0xff, ..] | [_, 0, _, 0, ..] | [0, _, 0, _, ..] => Some(
             "UTF-16: bw-import loads it",
         ),
@@ -140,11 +138,7 @@ fn other_separator(heading: &ByteRecord) -> Option<&'static str> {
     if heading.len() != 1 {
         return None;
     }
-    [
-        (b';', "a semicolon"),
-        (b'\t', "a tab"),
-        (b'|', "a bar"),
-    ]
-    .into_iter()
-    .find_map(|(byte, name)| field.contains(&byte).then_some(name))
+    [(b';', "a semicolon"), (b'\t', "a tab"), (b'|', "a bar")]
+        .into_iter()
+        .find_map(|(byte, name)| field.contains(&byte).then_some(name))
 }

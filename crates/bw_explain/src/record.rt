@@ -56,10 +56,7 @@ fn put_field(
 ) -> Result<(), AllocError> {
     for (column, field) in columns.iter().zip(record.iter()) {
         if value_of(column, field, 0).is_err_and(|fault| fault.code == code) {
-            let (name, shown) = (
-                Named(column.name.as_bytes()),
-                Shown(without_blanks(field)),
-            );
+            let (name, shown) = (Named(column.name.as_bytes()), Shown(without_blanks(field)));
             write!(text, "line {line}, column {name}: {shown} is ")?;
             return match code {
                 code::OUT_OF_RANGE => writeln!(text, "not from {} to {}", column.lo, column.hi),

@@ -15,7 +15,11 @@ impl fmt::Display for Shown<'_> {
         f.write_str("\"")?;
         match std::str::from_utf8(part) {
             Ok(text) => show_text(text, f)?,
-            Err(_) => show_bytes(part, f)?,
+            Err(_) => {
+                for byte in part.escape_ascii() {
+                    f.write_char(byte as char)?;
+                }
+            }
         }
         f.write_str(if part.len() < self.0.len() {
             "...\""
@@ -48,17 +52,6 @@ fn show_text<W: fmt::Write>(text: &str, f: &mut fmt::Formatter<W>) -> fmt::Resul
             '\\' => f.write_str("\\\\")?,
             _ if character.is_control() => write!(f, "\\u{{{:x}}}", character as u32)?,
             _ => f.write_char(character)?,
-        }
-    }
-    Ok(())
-}
-
-fn show_bytes<W: fmt::Write>(bytes: &[u8], f: &mut fmt::Formatter<W>) -> fmt::Result {
-    for byte in bytes {
-        if (b' '..=b'~').contains(byte) {
-            f.write_char(*byte as char)?;
-        } else {
-            write!(f, "\\x{:02x}", *byte)?;
         }
     }
     Ok(())

@@ -1,0 +1,73 @@
+//! The commands over a table file that is read once: `bw query`, `bw info` and `bw dump`.
+use crate::failure::{CommandFailure, or_failure, or_write_failure};
+use crate::in_file::InFile;
+use crate::opened::{open, read_ahead, read_program};
+use crate::out_stream::OutStream;
+use bw_file::ToWrite;
+use bw_shell::{Served, answer, dump, info, stats_line};
+
+/// Runs `bw query`. The files are opened before any is read, and the program file is read first.
+/// Writes the scan statistics, if `stats`.
+pub fn run_query<'a>(
+    rt: &HostRuntime,
+    program: Option<&'a str>,
+    stats: bool,
+    table_path: &'a str,
+    sql: &str,
+) -> Result<Served, CommandFailure<'a>> {
+    let table = open(rt, table_path)?;
+    let program = program_given(rt, program)?;
+    let served = answer_from(rt, table_path, table, sql, program.as_deref())?;
+    if stats {
+        or_failure(stats_line(&served, &mut ToWrite::new(rt.stderr())), &[])?;
+    }
+    Ok(served)
+}
+
+/// Returns the bytes of the program file that the command line names, if it names one.
+fn program_given<'a>(
+    rt: &HostRuntime,
+    program: Option<&'a str>,
+) -> Result<Option<Vec<u8>>, CommandFailure<'a>> {
+    match program {
+        Some(path) => Ok(Some(read_program(rt, path, open(rt, path)?)?)),
+        None => Ok(None),
+    }
+}
+
+/// Runs a statement over a table file, and writes the result to standard output.
+fn answer_from<'a>(
+    rt: &HostRuntime,
+    path: &'a str,
+    mut table: InFile,
+    sql: &str,
+    program: Option<&[u8]>,
+) -> Result<Served, CommandFailure<'a>> {
+    let mut source = read_ahead(rt, &mut table)?;
+    let mut out = OutStream::new(rt.stdout());
+    let mut sink = ToWrite::new(&mut out);
+    let done = answer(rt.alloc(), &mut source, sql.as_bytes(), program, &mut sink);
+    drop(sink);
+    drop(source);
+    or_write_failure(done, &[(path, table.reads())], out.error())
+}
+
+/// Runs `bw info`.
+pub fn run_info<'a>(rt: &HostRuntime, table_path: &'a str) -> Result<(), CommandFailure<'a>> {
+    let mut table = open(rt, table_path)?;
+    let mut source = read_ahead(rt, &mut table)?;
+    let mut out = OutStream::new(rt.stdout());
+    let done = info(rt.alloc(), &mut source, &mut ToWrite::new(&mut out));
+    drop(source);
+    or_write_failure(done, &[(table_path, table.reads())], out.error())
+}
+
+/// Runs `bw dump`.
+pub fn run_dump<'a>(rt: &HostRuntime, table_path: &'a str) -> Result<(), CommandFailure<'a>> {
+    let mut table = open(rt, table_path)?;
+    let mut source = read_ahead(rt, &mut table)?;
+    let mut out = OutStream::new(rt.stdout());
+    let done = dump(rt.alloc(), &mut source, &mut ToWrite::new(&mut out));
+    drop(source);
+    or_write_failure(done, &[(table_path, table.reads())], out.error())
+}
