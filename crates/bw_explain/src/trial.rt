@@ -1,5 +1,5 @@
 //! Runs a program on a segment of two kinds of rows, and shows the row that it gets wrong.
-ghost use Rattle.std.specs.Prelude.{IsTrue};
+ghost use Rattle.std.specs.Prelude.{◌<◌, IsTrue};
 ghost use Rattle.bw_program.specs.Program.{fits};
 
 use crate::shown::ShownRow;
@@ -12,6 +12,25 @@ use bw_run::run_segment;
 use bw_segment::is_group;
 use std::alloc::{AllocError, Global};
 use std::fmt::Write;
+
+/// A program that is to select the rows on which a condition is TRUE.
+#[derive(Clone, Copy)]
+pub(crate) struct Claim<'a> {
+    pub(crate) schema: &'a Schema,
+    pub(crate) cond: &'a Cond,
+    pub(crate) program: &'a Program,
+    pub ghost fits: { IsTrue (fits schema.now.columns.items program.now) },
+}
+
+impl<'a> Claim<'a> {
+    /// Returns a row, to be shown.
+    pub(crate) fn shown(&self, row: &'a Row) -> ShownRow<'a> {
+        ShownRow {
+            columns: &self.schema.columns,
+            row,
+        }
+    }
+}
 
 /// What a program selects of a segment, and the rows on which its condition is TRUE, and FALSE.
 #[derive(Clone, Copy)]
@@ -26,64 +45,65 @@ struct Trial {
 pub(crate) fn put_wrong_row(
     alloc: Global,
     text: &mut String,
-    schema: &Schema,
-    cond: &Cond,
-    program: &Program,
+    claim: &Claim<'_>,
     first: &Row,
     last: &Row,
-) -> Result<bool, AllocError>
-    requires { IsTrue (fits schema.now.columns.items program.now) }
-{
-    let Some(trial) = trial_of(alloc, schema, cond, program, first, last) else {
+) -> Result<bool, AllocError> {
+    let Some(trial) = trial_of(alloc, claim, first, last) else {
         return Ok(false);
     };
-    let columns = &schema.columns;
-    for (at, row, beside) in [(0, first, last), (LANES - 1, last, first)] {
-        let is_selected = lane(&trial.selected, at);
-        if is_selected == lane(&trial.matching, at) {
-            continue;
-        }
-        let does = if is_selected { "selects" } else { "omits" };
-        write!(
-            text,
-            "{}: the program {does} this row",
-            ShownRow { columns, row }
-        )?;
-        if row.values != beside.values {
-            let row = beside;
-            write!(text, " beside {}", ShownRow { columns, row })?;
-        }
-        let says = match (is_selected, lane(&trial.failing, at)) {
-            (false, _) => "TRUE",
-            (true, true) => "FALSE",
-            (true, false) => "UNKNOWN",
-        };
-        writeln!(text, "; the condition is {says}")?;
-        return Ok(true);
+    Ok(
+        put_if_wrong(text, claim, &trial, 0, first, last)?
+            || put_if_wrong(text, claim, &trial, 511, last, first)?,
+    )
+}
+
+/// Appends the row of a lane, and what the program does with it beside another, if that is wrong.
+/// Returns whether it is.
+fn put_if_wrong(
+    text: &mut String,
+    claim: &Claim<'_>,
+    trial: &Trial,
+    at: usize,
+    row: &Row,
+    beside: &Row,
+) -> Result<bool, AllocError>
+    requires { at < 512 }
+{
+    let is_selected = lane(&trial.selected, at);
+    if is_selected == lane(&trial.matching, at) {
+        return Ok(false);
     }
-    Ok(false)
+    let does = if is_selected { "selects" } else { "omits" };
+    let says = match (is_selected, lane(&trial.failing, at)) {
+        (false, _) => "TRUE",
+        (true, true) => "FALSE",
+        (true, false) => "UNKNOWN",
+    };
+    write!(text, "{}: the program {does} this row", claim.shown(row))?;
+    if row.values != beside.values {
+        write!(text, " beside {}", claim.shown(beside))?;
+    }
+    writeln!(text, "; the condition is {says}")?;
+    Ok(true)
 }
 
 /// Returns the trial of a program on a segment of 511 equal rows and one more; none if the schema
 /// doesn't admit them, or memory is refused.
-fn trial_of(
-    alloc: Global,
-    schema: &Schema,
-    cond: &Cond,
-    program: &Program,
-    first: &Row,
-    last: &Row,
-) -> Option<Trial>
-    requires { IsTrue (fits schema.now.columns.items program.now) }
-{
-    let segment = segment_of(alloc, schema, first, last)?;
-    let (selected, _) = run_segment(program, &segment);
-    let failing = Cond::Not(Box::new(alloc, cond.copy(alloc).ok()?).ok()?);
+fn trial_of(alloc: Global, claim: &Claim<'_>, first: &Row, last: &Row) -> Option<Trial> {
+    let segment = segment_of(alloc, claim.schema, first, last)?;
+    let (selected, _) = run_segment(claim.program, &segment);
     Some(Trial {
         selected,
-        matching: matching_lanes(alloc, cond, &segment)?,
-        failing: matching_lanes(alloc, &failing, &segment)?,
+        matching: matching_lanes(alloc, claim.cond, &segment)?,
+        failing: matching_lanes(alloc, &negation(alloc, claim.cond)?, &segment)?,
     })
+}
+
+/// Returns the negation of a condition.
+fn negation(alloc: Global, cond: &Cond) -> Option<Cond> {
+    let copy = cond.copy(alloc).ok()?;
+    Some(Cond::Not(Box::new(alloc, copy).ok()?))
 }
 
 /// Returns a segment of 511 equal rows and one more, if the schema admits them.

@@ -1,10 +1,6 @@
 //! Explains why a program has no certificate.
-ghost use Rattle.std.specs.Prelude.{IsTrue};
-ghost use Rattle.bw_program.specs.Program.{fits};
-
 use crate::program_file::of_program;
-use crate::shown::ShownRow;
-use crate::trial::put_wrong_row;
+use crate::trial::{Claim, put_wrong_row};
 use bw_cert::split_file;
 use bw_model::{Cond, Fault, Schema};
 use bw_program::Program;
@@ -46,7 +42,14 @@ fn put_why(
     };
     match prove(alloc, schema, cond, &program, &hints) {
         Ok(_) => Ok(()),
-        Err(unproved) => put_reason(alloc, text, schema, cond, &program, &unproved),
+        Err(unproved) => {
+            let claim = Claim {
+                schema,
+                cond,
+                program: &program,
+            };
+            put_reason(alloc, text, &claim, &unproved)
+        }
     }
 }
 
@@ -54,16 +57,12 @@ fn put_why(
 fn put_reason(
     alloc: Global,
     text: &mut String,
-    schema: &Schema,
-    cond: &Cond,
-    program: &Program,
+    claim: &Claim<'_>,
     unproved: &Unproved,
-) -> Result<(), AllocError>
-    requires { IsTrue (fits schema.now.columns.items program.now) }
-{
+) -> Result<(), AllocError> {
     let said = match unproved {
         Unproved::Differs { row } => {
-            put_wrong_row(alloc, text, schema, cond, program, row, row)?;
+            put_wrong_row(alloc, text, claim, row, row)?;
             return Ok(());
         }
         Unproved::Unwritten { register, .. } => {
@@ -83,7 +82,7 @@ fn put_reason(
                 text,
                 "r{register} may have two values at instruction {join}: by the skip of instruction {skip}, and without it"
             )?;
-            return put_witness(alloc, text, schema, cond, program, witness.as_ref());
+            return put_witness(alloc, text, claim, witness.as_ref());
         }
         Unproved::OnlyUnadmitted => {
             "the program is right on every row of the schema, but not on all bits that a column can store: the certificate speaks of all"
@@ -103,32 +102,18 @@ fn put_reason(
 fn put_witness(
     alloc: Global,
     text: &mut String,
-    schema: &Schema,
-    cond: &Cond,
-    program: &Program,
+    claim: &Claim<'_>,
     witness: Option<&Witness>,
-) -> Result<(), AllocError>
-    requires { IsTrue (fits schema.now.columns.items program.now) }
-{
+) -> Result<(), AllocError> {
     let Some(Witness { taken, through }) = witness else {
         return writeln!(text, "only a proof is missing: no row shows a difference");
     };
-    if put_wrong_row(alloc, text, schema, cond, program, taken, taken)?
-        || put_wrong_row(alloc, text, schema, cond, program, taken, through)?
+    if put_wrong_row(alloc, text, claim, taken, taken)?
+        || put_wrong_row(alloc, text, claim, taken, through)?
     {
         return Ok(());
     }
-    let columns = &schema.columns;
-    let (taken, through) = (
-        ShownRow {
-            columns,
-            row: taken,
-        },
-        ShownRow {
-            columns,
-            row: through,
-        },
-    );
+    let (taken, through) = (claim.shown(taken), claim.shown(through));
     writeln!(
         text,
         "only a proof is missing: on the row {taken}, alone and beside {through}, the program is right"
