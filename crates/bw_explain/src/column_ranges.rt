@@ -1,6 +1,7 @@
 //! Explains which columns of a CSV text `bw infer` rejects.
 use crate::csv_text::{Found, line_of, put_open_quote, reader_of};
-use crate::shown::{Named, Shown};
+use crate::record::put_said;
+use crate::shown::Named;
 use bw_csv::{bare_value_of, without_blanks};
 use bw_model::{Fault, MAX_ROWS, code};
 use csv::ByteRecord;
@@ -102,14 +103,18 @@ fn put_ranges(text: &mut String, heading: &ByteRecord, seen: &[Seen]) -> Result<
         if let Some((least, most)) = seen.range
             && most.checked_sub(least).is_none()
         {
-            let name = Named(without_blanks(name));
-            writeln!(
-                text,
-                "column {name}: from {least} to {most} is 2^63 or more"
-            )?;
+            put_range(text, name, least, most)?;
         }
     }
     Ok(())
+}
+
+fn put_range(text: &mut String, name: &[u8], least: i64, most: i64) -> Result<(), AllocError> {
+    let name = Named(without_blanks(name));
+    writeln!(
+        text,
+        "column {name}: from {least} to {most} is 2^63 or more"
+    )
 }
 
 /// Reports that a field isn't what a column accepts.
@@ -120,11 +125,10 @@ fn put_unfit(
     field: &[u8],
     fault: &Fault,
 ) -> Result<(), AllocError> {
-    let (name, shown) = (Named(without_blanks(name)), Shown(without_blanks(field)));
     let says = if fault.code == code::OUT_OF_RANGE {
-        "doesn't fit 64 bits"
+        "doesn't fit 64 bits\n"
     } else {
-        "is not a whole number"
+        "is not a whole number\n"
     };
-    writeln!(text, "line {line}, column {name}: {shown} {says}")
+    put_said(text, line, without_blanks(name), field, says)
 }

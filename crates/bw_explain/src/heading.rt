@@ -60,8 +60,8 @@ fn put_heading(
 fn put_other(text: &mut String, heading: &ByteRecord, schema: &Schema) -> Result<(), AllocError> {
     for (at, (field, column)) in heading.iter().zip(schema.columns.iter()).enumerate() {
         if !column.name.is(without_blanks(field)) {
-            let (shown, name) = (Shown(without_blanks(field)), Named(column.name.as_bytes()));
-            return writeln!(text, "heading {} is {shown}: expected {name}", at + 1);
+            put_which(text, at, field)?;
+            return writeln!(text, ": expected {}", Named(column.name.as_bytes()));
         }
     }
     writeln!(
@@ -72,12 +72,19 @@ fn put_other(text: &mut String, heading: &ByteRecord, schema: &Schema) -> Result
     )
 }
 
+/// Appends a heading after so many others.
+fn put_which(text: &mut String, others: usize, heading: &[u8]) -> Result<(), AllocError> {
+    let (number, shown) = (others.saturating_add(1), Shown(without_blanks(heading)));
+    write!(text, "heading {number} is {shown}")
+}
+
 /// Appends which heading is not a valid name, and why.
 fn put_no_name(text: &mut String, heading: &ByteRecord) -> Result<(), AllocError> {
     for (at, field) in heading.iter().enumerate() {
         let name = without_blanks(field);
         if !is_name(name) {
-            write!(text, "heading {} is {}: ", at + 1, Shown(name))?;
+            put_which(text, at, name)?;
+            text.push_str(": ")?;
             return put_name_reason(text, name);
         }
     }
@@ -108,13 +115,8 @@ fn put_twice(text: &mut String, heading: &ByteRecord) -> Result<(), AllocError> 
             .take(at)
             .position(|other| without_blanks(other).eq_ignore_ascii_case(name));
         if let Some(before) = earlier {
-            let shown = Shown(name);
-            return writeln!(
-                text,
-                "heading {} is {shown}, as heading {} is",
-                at + 1,
-                before + 1
-            );
+            put_which(text, at, name)?;
+            return writeln!(text, ", as heading {} is", before + 1);
         }
     }
     writeln!(text, "a duplicate name")

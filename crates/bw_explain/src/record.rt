@@ -56,14 +56,40 @@ fn put_field(
 ) -> Result<(), AllocError> {
     for (column, field) in columns.iter().zip(record.iter()) {
         if value_of(column, field, 0).is_err_and(|fault| fault.code == code) {
-            let (name, shown) = (Named(column.name.as_bytes()), Shown(without_blanks(field)));
-            write!(text, "line {line}, column {name}: {shown} is ")?;
-            return match code {
-                code::OUT_OF_RANGE => writeln!(text, "not from {} to {}", column.lo, column.hi),
-                code::NULL_NOT_ALLOWED => writeln!(text, "null, but the column is NOT NULL"),
-                _ => writeln!(text, "not a whole number"),
-            };
+            return put_wrong(text, line, column, field, code);
         }
     }
     Ok(())
+}
+
+/// Appends what was expected of a field.
+fn put_wrong(
+    text: &mut String,
+    line: u64,
+    column: &Column,
+    field: &[u8],
+    code: u16,
+) -> Result<(), AllocError> {
+    let says = match code {
+        code::OUT_OF_RANGE => "is not from",
+        code::NULL_NOT_ALLOWED => "is null, but the column is NOT NULL",
+        _ => "is not a whole number",
+    };
+    put_said(text, line, column.name.as_bytes(), field, says)?;
+    if code == code::OUT_OF_RANGE {
+        write!(text, " {} to {}", column.lo, column.hi)?;
+    }
+    text.push('\n')
+}
+
+/// Appends what is said of a field of a column.
+pub(crate) fn put_said(
+    text: &mut String,
+    line: u64,
+    column: &[u8],
+    field: &[u8],
+    says: &str,
+) -> Result<(), AllocError> {
+    let (name, shown) = (Named(column), Shown(without_blanks(field)));
+    write!(text, "line {line}, column {name}: {shown} {says}")
 }

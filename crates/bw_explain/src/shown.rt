@@ -79,14 +79,17 @@ pub(crate) struct ShownRow<'a> {
 
 impl fmt::Display for ShownRow<'_> {
     fn fmt<W: fmt::Write>(&self, f: &mut fmt::Formatter<W>) -> fmt::Result {
-        let mut before = "";
+        let mut is_first = true;
         for (column, value) in self.columns.iter().zip(&self.row.values) {
-            write!(f, "{before}{} = ", Named(column.name.as_bytes()))?;
+            if !is_first {
+                f.write_str(", ")?;
+            }
+            is_first = false;
+            write!(f, "{} = ", Named(column.name.as_bytes()))?;
             match value {
                 Some(n) => write!(f, "{n}")?,
                 None => f.write_str("NULL")?,
             }
-            before = ", ";
         }
         Ok(())
     }

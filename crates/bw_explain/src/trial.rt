@@ -91,12 +91,27 @@ fn put_if_wrong(
 /// Returns the trial of a program on a segment of 511 equal rows and one more; none if the schema
 /// doesn't admit them, or memory is refused.
 fn trial_of(alloc: Global, claim: &Claim<'_>, first: &Row, last: &Row) -> Option<Trial> {
-    let segment = segment_of(alloc, claim.schema, first, last)?;
+    let mut rows = Vec::new(alloc);
+    for _ in 1..LANES {
+        rows.push(first.copy(alloc).ok()?).ok()?;
+    }
+    rows.push(last.copy(alloc).ok()?).ok()?;
+    let negation = negation(alloc, claim.cond)?;
+    trial_on(alloc, claim, &negation, &rows)
+}
+
+/// Returns the trial of a program on a group of rows, given the negation of its condition; none if
+/// the rows are no group of the schema, or memory is refused.
+fn trial_on(alloc: Global, claim: &Claim<'_>, negation: &Cond, rows: &[Row]) -> Option<Trial> {
+    if !is_group(claim.schema, rows) {
+        return None;
+    }
+    let segment = PlaneSegment::build(alloc, claim.schema, rows).ok()?;
     let (selected, _) = run_segment(claim.program, &segment);
     Some(Trial {
         selected,
         matching: matching_lanes(alloc, claim.cond, &segment)?,
-        failing: matching_lanes(alloc, &negation(alloc, claim.cond)?, &segment)?,
+        failing: matching_lanes(alloc, negation, &segment)?,
     })
 }
 
@@ -104,19 +119,6 @@ fn trial_of(alloc: Global, claim: &Claim<'_>, first: &Row, last: &Row) -> Option
 fn negation(alloc: Global, cond: &Cond) -> Option<Cond> {
     let copy = cond.copy(alloc).ok()?;
     Some(Cond::Not(Box::new(alloc, copy).ok()?))
-}
-
-/// Returns a segment of 511 equal rows and one more, if the schema admits them.
-fn segment_of(alloc: Global, schema: &Schema, first: &Row, last: &Row) -> Option<PlaneSegment> {
-    let mut rows = Vec::new(alloc);
-    for _ in 1..LANES {
-        rows.push(first.copy(alloc).ok()?).ok()?;
-    }
-    rows.push(last.copy(alloc).ok()?).ok()?;
-    if !is_group(schema, &rows) {
-        return None;
-    }
-    PlaneSegment::build(alloc, schema, &rows).ok()
 }
 
 /// Returns the rows of a segment on which a condition is TRUE.
