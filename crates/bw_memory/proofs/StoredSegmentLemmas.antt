@@ -5,7 +5,7 @@ use Rattle.std.proofs.Common.{add-one, length-append, arith}
 use Rattle.std.specs.Prelude.{OnOk}
 use Rattle.std.specs.List.{range_with_len}
 use Rattle.std.proofs.lemmas.Bool.{cases_lt}
-use Rattle.std.proofs.lemmas.List.FromFn.{length-map-range_with_len, map-range_with_len_more}
+use Rattle.std.proofs.lemmas.List.FromFn.{map-range_with_len_more}
 use Rattle.bw_io.specs.Shared.{bytes_in}
 use Rattle.bw_model.specs.declared.column.Column.{Column}
 use Rattle.bw_model.specs.Groups.{group_size, together}
@@ -109,23 +109,12 @@ pub groups_more : (layout : Layout) (columns : List Column) (rows number : ℕ) 
 unfolding stored_groups
 groups_more layout columns rows number kept = map-range_with_len_more (stored_group layout columns rows kept) 0 number number (omega arith)
 
-pub length-groups : (layout : Layout) (columns : List Column) (rows number : ℕ) (kept : List ColumnBlocks) → length (stored_groups layout columns rows number kept) ≡ number
-unfolding stored_groups
-length-groups layout columns rows number kept = length-map-range_with_len (stored_group layout columns rows kept) 0 number
-
 -- there is room for the rows of a segment after those of the segments before it
 pub room_for : (layout : Layout) (columns : List Column) (rows number taken : ℕ) (kept : List ColumnBlocks) → group_size * number < rows → taken ≤ group_size * number
     → taken + length (stored_group layout columns rows kept number) ≤ rows
 unfolding group_size
 room_for layout columns rows number taken kept some so_far =
     omega (arith, some, so_far, length-rows_spelled (form_of layout) columns (rows_numbered rows number) (segment_numbered kept number))
-
--- and no more than 512 for each segment
-pub rows_before : (layout : Layout) (columns : List Column) (rows number taken : ℕ) (kept : List ColumnBlocks) → taken ≤ group_size * number
-    → taken + length (stored_group layout columns rows kept number) ≤ group_size * (number + 1)
-unfolding group_size
-rows_before layout columns rows number taken kept so_far =
-    omega (arith, so_far, length-rows_spelled (form_of layout) columns (rows_numbered rows number) (segment_numbered kept number))
 
 -- how many rows the first segments have
 pub length-rows : (layout : Layout) (columns : List Column) (rows count : ℕ) (kept : List ColumnBlocks) → length (together (stored_groups layout columns rows count kept)) ≡ min rows (group_size * count)
