@@ -88,7 +88,7 @@ class Shipped(Trees):
 
     def check(self, status, line, *words, kit):
         """Tests the status, and a line or the beginning of one."""
-        came, lines = self.run_in("scripts/shipped", *words, kit=kit)
+        came, lines = self.run_in("scripts/ship", "--check", *words, kit=kit)
         self.assertEqual(came, status, lines)
         self.assertTrue(any(each.startswith(line) for each in lines), lines)
 

@@ -2,14 +2,12 @@
 both are read."""
 from __future__ import annotations
 
-import sys
 import tempfile
 import unittest
 from pathlib import Path
 
-sys.path.insert(0, str(Path(__file__).resolve().parent.parent / "scripts"))
-import public_surface  # noqa: E402
-from rattle_items import Crate  # noqa: E402
+from tests import public_surface
+from tests.rattle_items import Crate
 
 ROOT_FILE = """\
 //! A crate.

@@ -4,12 +4,16 @@ from __future__ import annotations
 
 import difflib
 import re
+import sys
 from dataclasses import dataclass
 from pathlib import Path
 from typing import Iterator
 
-from crates import ROOT, libraries
-from rattle_items import Crate, Source
+from tests.rattle_items import Crate, Source
+
+ROOT = Path(__file__).resolve().parent.parent
+sys.path.insert(0, str(ROOT / "scripts"))
+from crates import libraries  # noqa: E402
 
 LISTED, PLANNED = "docs/surface.txt", "docs/planned_surface.txt"
 TESTS = re.compile(r"bw_conformance_\w+|bw_surface")
