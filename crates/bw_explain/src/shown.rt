@@ -72,12 +72,12 @@ impl fmt::Display for Named<'_> {
 
 /// A row, as equations of its columns.
 #[derive(Clone, Copy)]
-pub(crate) struct ShownRow<'a> {
+pub(crate) struct ShownRow<'a, 'b> {
     pub(crate) columns: &'a [Column],
-    pub(crate) row: &'a Row,
+    pub(crate) row: &'b Row,
 }
 
-impl fmt::Display for ShownRow<'_> {
+impl fmt::Display for ShownRow<'_, '_> {
     fn fmt<W: fmt::Write>(&self, f: &mut fmt::Formatter<W>) -> fmt::Result {
         let mut is_first = true;
         for (column, value) in self.columns.iter().zip(&self.row.values) {

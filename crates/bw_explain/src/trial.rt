@@ -24,7 +24,7 @@ pub(crate) struct Claim<'a> {
 
 impl<'a> Claim<'a> {
     /// Returns a row, to be shown.
-    pub(crate) fn shown(&self, row: &'a Row) -> ShownRow<'a> {
+    pub(crate) fn shown<'b>(&self, row: &'b Row) -> ShownRow<'a, 'b> {
         ShownRow {
             columns: &self.schema.columns,
             row,
