@@ -70,21 +70,10 @@ fn explanation(
         Some(path) => bytes_again(rt, path, fault)?,
         None => Vec::new(rt.alloc()),
     };
-    explain_bytes(rt, words, schema.as_ref(), &bytes, fault)
-}
-
-/// Returns the explanation of an error, given the input's bytes.
-fn explain_bytes(
-    rt: &HostRuntime,
-    words: &CommandArgs<'_>,
-    schema: Option<&Schema>,
-    file: &[u8],
-    fault: &Fault,
-) -> Option<String> {
     let inputs = Inputs {
-        schema,
+        schema: schema.as_ref(),
         sql: words.sql().map(|sql| sql.as_bytes()),
-        file,
+        file: &bytes,
         usage: words.usage(),
     };
     bw_explain::explain(rt.alloc(), fault, &inputs).ok()
