@@ -50,13 +50,15 @@ pub(crate) const MAX_CONDITION_ROWS_OF_MANY: u32 = 24_000;
 /// The bits of seven columns of 63 bits, which may be compared with one another in a row.
 pub(crate) const MANY_BITS: u32 = 441;
 
-/// From so many product rows on, an AND or OR has no program if its parts would pass the limit by
-/// as many rows each as those so far. Without it, the conditions of `test_conditions` that have no
-/// program take up to twice as long, 10 to 20 ms more each; it costs no condition its program.
-pub(crate) const ROWS_BEFORE_FORECAST: u32 = 3000;
-
-/// The most product rows of a certificate. The largest of the same conditions takes 97,446.
+/// The most product rows of a certificate. Seven columns of 63 bits that are each
+/// less than the next take 76,602.
 pub(crate) const MAX_ROWS: u32 = 100_000;
+
+/// The most product rows of a certificate with skips from part to part; with more, the program has
+/// none of these. Three conditions of `bench.py cliffs` and `test_conditions` take more, 40,758,
+/// 76,002 and 97,446; the largest, of 3.2 KB, then took 26 MB and 140 ms to plan. To repeat it: count
+/// the lines ROW of `bw plan`.
+pub(crate) const MAX_ROWS_OF_SKIPPED_PARTS: u32 = 40_000;
 
 /// A condition whose own lines take as many product rows has no skips from part to part: to prove
 /// them takes several times as many. With them, eight more conditions of `test_conditions` have

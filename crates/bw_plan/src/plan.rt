@@ -1,6 +1,8 @@
 //! With which skips a condition is compiled.
 use crate::formula::Names;
-use crate::limits::{MAX_ROWS_TO_SKIP, MAX_ROWS_TO_SKIP_PARTS, MAX_SQUARES};
+use crate::limits::{
+    MAX_ROWS, MAX_ROWS_OF_SKIPPED_PARTS, MAX_ROWS_TO_SKIP, MAX_ROWS_TO_SKIP_PARTS, MAX_SQUARES,
+};
 use crate::unplanned::Unplanned;
 
 /// With which skips a condition is compiled.
@@ -33,16 +35,36 @@ impl Plan {
         }
     }
 
+    /// Returns the most product rows of a certificate.
+    pub(crate) fn max_rows(self) -> u32 {
+        if self.between_parts {
+            MAX_ROWS_OF_SKIPPED_PARTS
+        } else {
+            MAX_ROWS
+        }
+    }
+
     /// Returns the plan without a skip by which a value isn't known, if that is known, or else
     /// without any between parts.
     pub(crate) fn without(self, skip: Option<usize>) -> Result<Self, Unplanned> {
-        if !self.between_parts {
-            return self.without_skips();
+        match skip {
+            Some(_) if self.between_parts && self.omitted.is_none() => Ok(Plan {
+                omitted: skip,
+                ..self
+            }),
+            _ if self.between_parts => self.without_parts(),
+            _ => self.without_skips(),
         }
-        let omitted = if self.omitted.is_none() { skip } else { None };
+    }
+
+    /// Returns the plan without skips between parts. Refuses if this is it.
+    pub(crate) fn without_parts(self) -> Result<Self, Unplanned> {
+        if !self.between_parts {
+            return Err(Unplanned::NoProgram);
+        }
         Ok(Plan {
-            between_parts: omitted.is_some(),
-            omitted,
+            between_parts: false,
+            omitted: None,
             ..self
         })
     }

@@ -8,9 +8,7 @@ ghost use Rattle.bw_plan.specs.Refusal.{IsRefusal};
 
 use crate::code::Code;
 use crate::formula::{Formula, Names, Reader};
-use crate::limits::{
-    MANY_BITS, MAX_CONDITION_ROWS, MAX_CONDITION_ROWS_OF_MANY, MAX_ROWS, ROWS_BEFORE_FORECAST,
-};
+use crate::limits::{MANY_BITS, MAX_CONDITION_ROWS, MAX_CONDITION_ROWS_OF_MANY};
 use crate::plan::Plan;
 use crate::unplanned::Unplanned;
 use bw_cert_text::Certificate;
@@ -68,14 +66,13 @@ pub fn propose_in_order<'a>(
     } else {
         MAX_CONDITION_ROWS
     };
-    let mut prover = Prover::new(alloc, schema, cond, rows, ROWS_BEFORE_FORECAST).map_err(
-        Unplanned::from,
-    )?;
+    let mut prover = Prover::new(alloc, schema, cond, rows).map_err(Unplanned::from)?;
     let mut plan = Plan::new(names, prover.rows());
     for _ in 0..4 {
         plan = match proposal_by(alloc, schema, &mut prover, &part, plan) {
             Ok(proposal) => return Ok(proposal),
             Err(Unplanned::Unknown(skip)) => plan.without(skip)?,
+            Err(Unplanned::ManyRows) => plan.without_parts()?,
             Err(Unplanned::TooLong) => plan.without_skips()?,
             Err(refusal) => return Err(Fault::from(refusal)),
         };
@@ -100,7 +97,7 @@ fn proposal_by<'a>(
     let answer = code.whole(part)?;
     let program = program_of(alloc, schema, &code.instrs, answer)?;
     let hints = Hints {
-        rows: MAX_ROWS,
+        rows: plan.max_rows(),
         orders: &code.orders,
     };
     let certificate = prover.certify(alloc, schema, &program, &hints)?;

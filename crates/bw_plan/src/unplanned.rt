@@ -15,6 +15,8 @@ pub(crate) enum Unplanned {
     /// A value can't be proved to be the same by each way, for the skip of this number if that is
     /// known.
     Unknown(Option<usize>),
+    /// The certificate has too many rows.
+    ManyRows,
     /// Memory was refused.
     NoMemory,
 }
@@ -35,6 +37,7 @@ impl From<Unproved> for Unplanned {
     fn from(unproved: Unproved) -> Self {
         match unproved {
             Unproved::Memory => Unplanned::NoMemory,
+            Unproved::Limit => Unplanned::ManyRows,
             Unproved::Unknown { skip, .. } => Unplanned::Unknown(Some(skip)),
             Unproved::Unordered => Unplanned::Unknown(None),
             _ => Unplanned::NoProgram,

@@ -2,27 +2,23 @@
 //! where it is FALSE.
 ghost use Rattle.std.specs.Prelude.{◌≤◌};
 
-use crate::chains::Link;
+use crate::chain::Link;
 use crate::columns::{column_index, width_of};
 use crate::comparison::{ColumnComparison, Comparison, LiteralComparison, compare};
 use crate::facts::Cited;
-use crate::line::ProofLine;
 use crate::order::VariableOrder;
-use crate::proof::Proof;
-use crate::stop::Stop;
+use crate::prover::Prover;
 use crate::truth_pair::TruthPair;
-use bw_cert_text::ConditionEntry;
+use crate::unproved::Stop;
+use bw_cert_text::{BodyLine, ConditionEntry, Entry};
 use bw_diagram::{ChainKind, Connective};
 use bw_model::{Cond, Op, Operand, Truth};
 use bw_program::ColumnIndex;
 
 /// The node that is 1 where a condition is TRUE, and the node that is 1 where it is FALSE.
-pub(crate) type TruthNodes = TruthPair<u32>;
+type TruthNodes = TruthPair<u32>;
 
-/// The order of variables of a condition's rows.
-const ORDER: VariableOrder = VariableOrder::Whole;
-
-impl Proof<'_> {
+impl Prover<'_> {
     /// Returns the nodes of a condition, and appends the lines of its steps, operands first.
     #[cycle(steps)]
     pub(crate) fn steps(&mut self, cond: &Cond) -> Result<TruthNodes, Stop> {
@@ -40,7 +36,7 @@ impl Proof<'_> {
             Cond::Or(parts) => self.put_parts(true, parts),
             Cond::Not(part) => {
                 let made = self.steps(part)?;
-                self.put_step(ConditionEntry::Not, made.no, made.yes)
+                self.put(ConditionEntry::Not, made.no, made.yes)
             }
             Cond::Test(part, truth) => {
                 let made = self.steps(part)?;
@@ -54,27 +50,11 @@ impl Proof<'_> {
     fn put_parts(&mut self, any: bool, parts: &[Cond]) -> Result<TruthNodes, Stop> {
         let (first, others) = parts.split_first().ok_or(Stop::NoRule)?;
         let mut made = self.steps(first)?;
-        let before = self.facts.products.len();
-        for (joined, part) in others.iter().enumerate() {
-            self.forecast(before, joined, others.len())?;
+        for part in others {
             let next = self.steps(part)?;
             made = self.put_connective(any, made, next)?;
         }
         Ok(made)
-    }
-
-    /// Refuses if the limit of product rows would be passed, if each of so many parts took as many
-    /// rows as those that are joined so far did on average. What a part is joined with grows, so
-    /// most take more.
-    fn forecast(&self, before: u32, joined: usize, parts: usize) -> Result<(), Stop> {
-        let products = &self.facts.products;
-        let taken = i128::from(products.len()) - i128::from(before);
-        let left = i128::from(products.limit()) - i128::from(before);
-        let each = taken / (joined as i128).max(1);
-        if products.len() >= self.forecast_from && each > left / (parts as i128).max(1) {
-            return Err(Stop::Limit);
-        }
-        Ok(())
     }
 
     /// Returns the nodes of the OR of the equations of a list with one operand.
@@ -89,16 +69,16 @@ impl Proof<'_> {
     }
 
     /// Appends the line of a step, and returns its nodes.
-    fn put_step(&mut self, entry: ConditionEntry, yes: u32, no: u32) -> Result<TruthNodes, Stop> {
-        self.lines.push(ProofLine::Condition(entry))?;
-        Ok(TruthNodes::of(yes, no))
+    fn put(&mut self, entry: ConditionEntry, yes: u32, no: u32) -> Result<TruthNodes, Stop> {
+        let entry = Entry::Condition(entry);
+        self.condition.push(&BodyLine { line: 0, entry })?;
+        Ok(TruthPair::of(yes, no))
     }
 
     /// Returns the nodes of a step with one truth on every row.
     fn put_fixed(&mut self, truth: Truth) -> Result<TruthNodes, Stop> {
-        let yes = u32::from(truth == Truth::Yes);
-        let no = u32::from(truth == Truth::No);
-        self.put_step(ConditionEntry::Fixed, yes, no)
+        let (yes, no) = (truth == Truth::Yes, truth == Truth::No);
+        self.put(ConditionEntry::Fixed, u32::from(yes), u32::from(no))
     }
 
     /// Returns the nodes of two parts, combined by OR, or else by AND.
@@ -113,15 +93,15 @@ impl Proof<'_> {
         } else {
             (Connective::And, Connective::Or)
         };
-        let yes = self.facts.row(ORDER, yes, a.yes, b.yes)?;
-        let no = self.facts.row(ORDER, no, a.no, b.no)?;
+        let yes = self.facts.row(yes, a.yes, b.yes)?;
+        let no = self.facts.row(no, a.no, b.no)?;
         let (i, j) = (yes.reference(), no.reference());
         let entry = if any {
             ConditionEntry::Or(i, j)
         } else {
             ConditionEntry::And(i, j)
         };
-        self.put_step(entry, yes.node, no.node)
+        self.put(entry, yes.node, no.node)
     }
 
     /// Returns the nodes of `IS TRUE`, `IS FALSE` or `IS UNKNOWN`.
@@ -130,19 +110,19 @@ impl Proof<'_> {
             Truth::Yes => made.yes,
             Truth::No => made.no,
             Truth::Unknown => {
-                let known = self.facts.row(ORDER, Connective::Or, made.yes, made.no)?;
+                let known = self.facts.row(Connective::Or, made.yes, made.no)?;
                 let other = self.opposite(known.node)?;
                 let entry = ConditionEntry::IsUnknown(known.reference(), other.reference());
-                return self.put_step(entry, other.node, known.node);
+                return self.put(entry, other.node, known.node);
             }
         };
         let no = self.opposite(yes)?;
-        self.put_step(ConditionEntry::Is(no.reference()), yes, no.node)
+        self.put(ConditionEntry::Is(no.reference()), yes, no.node)
     }
 
     /// Returns the row of a node's complement.
     fn opposite(&mut self, node: u32) -> Result<Cited, Stop> {
-        self.facts.row(ORDER, Connective::Diff, 1, node)
+        self.facts.row(Connective::Diff, 1, node)
     }
 
     /// Returns the nodes of `IS NULL`.
@@ -155,7 +135,7 @@ impl Proof<'_> {
             return self.put_fixed(Truth::No);
         };
         let no = self.opposite(yes)?;
-        self.put_step(ConditionEntry::NullTest(no.reference()), yes, no.node)
+        self.put(ConditionEntry::NullTest(no.reference()), yes, no.node)
     }
 
     /// Returns the nodes of a comparison.
@@ -177,16 +157,11 @@ impl Proof<'_> {
         Ok((Some(values.reference()), values.node))
     }
 
-    /// Returns the number of a comparison's chain and its node: none, and a terminal, if that is
-    /// its outcome for all codes.
-    fn outcome(&mut self, terminal: Option<u32>, link: Link) -> Result<(Option<u64>, u32), Stop>
-        requires { link.len ≤ 63 }
-    {
-        if let Some(terminal) = terminal {
-            return Ok((None, terminal));
-        }
-        let chain = self.facts.chain(link)?;
-        Ok((Some(chain.reference()), chain.node))
+    /// Returns the rows of where node `m` is 1 and node `e` is 1, or is 0.
+    fn sides(&mut self, m: u32, e: u32) -> Result<TruthPair<Cited>, Stop> {
+        let yes = self.facts.row(Connective::And, m, e)?;
+        let no = self.facts.row(Connective::Diff, m, e)?;
+        Ok(TruthPair::of(yes, no))
     }
 
     /// Returns the nodes of a comparison of a column with a number.
@@ -195,23 +170,26 @@ impl Proof<'_> {
             kind,
             column,
             limit,
-            ..
+            negated,
         } = compared;
         let width = width_of(self.facts.schema, column).ok_or(Stop::NoRule)?;
-        let bound = u64::try_from(limit).unwrap_or(0);
-        let link = Link::of(kind, column, 0, width, bound);
         let (value, m) = self.values(column)?;
-        let (chain, e) = self.outcome(terminal_of(kind, limit, width), link)?;
-        let yes = self.facts.row(ORDER, Connective::And, m, e)?;
-        let no = self.facts.row(ORDER, Connective::Diff, m, e)?;
+        let (chain, e) = match terminal_of(kind, limit, width) {
+            Some(terminal) => (None, terminal),
+            None => {
+                let bound = u64::try_from(limit).unwrap_or(0);
+                let chain = self.facts.chain(Link::of(kind, column, 0, width, bound))?;
+                (Some(chain.reference()), chain.node)
+            }
+        };
+        let TruthPair { yes, no } = self.sides(m, e)?;
         let entry = ConditionEntry::Compare {
             chain,
             value,
             yes: yes.reference(),
             no: no.reference(),
         };
-        let made = self.put_step(entry, yes.node, no.node)?;
-        Ok(made.opposite_if(compared.negated))
+        Ok(self.put(entry, yes.node, no.node)?.opposite_if(negated))
     }
 
     /// Returns the nodes of a comparison of two columns, the shorter one with zeros above its top
@@ -221,27 +199,20 @@ impl Proof<'_> {
             kind,
             left,
             right,
-            ..
+            negated,
+            swapped,
         } = compared;
-        let order = VariableOrder::Places(right);
-        let width = width_of(self.facts.schema, left).ok_or(Stop::NoRule)?;
-        let len = width.max(width_of(self.facts.schema, right).ok_or(Stop::NoRule)?);
-        let link = Link {
-            right: Some(right),
-            ..Link::of(kind, left, 0, len, 0)
-        };
-        let terminal = (left == right).then_some(u32::from(kind == ChainKind::Equal));
-        let [first, second] = if compared.swapped {
+        let [first, second] = if swapped {
             [right, left]
         } else {
             [left, right]
         };
         let (first, m) = self.values(first)?;
         let (second, n) = self.values(second)?;
-        let both = self.facts.row(order, Connective::And, m, n)?;
-        let (chain, e) = self.outcome(terminal, link)?;
-        let yes = self.facts.row(order, Connective::And, both.node, e)?;
-        let no = self.facts.row(order, Connective::Diff, both.node, e)?;
+        self.facts.order.choose(VariableOrder::Places(right));
+        let both = self.facts.row(Connective::And, m, n)?;
+        let (chain, e) = self.order_of(kind, left, right)?;
+        let TruthPair { yes, no } = self.sides(both.node, e)?;
         let entry = ConditionEntry::CompareColumns {
             chain,
             left: first,
@@ -250,8 +221,29 @@ impl Proof<'_> {
             yes: yes.reference(),
             no: no.reference(),
         };
-        let made = self.put_step(entry, yes.node, no.node)?;
-        Ok(made.opposite_if(compared.negated))
+        self.facts.order.choose(VariableOrder::Whole);
+        Ok(self.put(entry, yes.node, no.node)?.opposite_if(negated))
+    }
+
+    /// Returns the number of the chain over two columns, and its node: none, and a terminal, if
+    /// they are one column.
+    fn order_of(
+        &mut self,
+        kind: ChainKind,
+        left: ColumnIndex,
+        right: ColumnIndex,
+    ) -> Result<(Option<u64>, u32), Stop> {
+        if left == right {
+            return Ok((None, u32::from(kind == ChainKind::Equal)));
+        }
+        let width = width_of(self.facts.schema, left).ok_or(Stop::NoRule)?;
+        let len = width.max(width_of(self.facts.schema, right).ok_or(Stop::NoRule)?);
+        let link = Link {
+            right: Some(right),
+            ..Link::of(kind, left, 0, len, 0)
+        };
+        let chain = self.facts.chain(link)?;
+        Ok((Some(chain.reference()), chain.node))
     }
 }
 

@@ -4,14 +4,13 @@ ghost use Rattle.bw_cert_text.specs.CertificateFields.{certificate_fields};
 ghost use Rattle.bw_cert_text.specs.Columns.{has_columns, is_column};
 ghost use Rattle.bw_prover.specs.ChainNames.{is_chain_named, are_chains_named};
 
-use crate::chains::Link;
+use crate::chain::Link;
+use crate::facts::Facts;
 use crate::ledger::Ledger;
-use crate::nodes::Nodes;
-use crate::products::Products;
-use crate::proof::Proof;
-use crate::stop::Stop;
+use crate::product::ProductRow;
+use crate::unproved::Stop;
 use bw_cert_text::{Body, BodyLine, Certificate, ChainLine, EndLine, NodeLine, ProductLine};
-use bw_diagram::ChainColumns;
+use bw_diagram::{ChainColumns, Node};
 use bw_model::Schema;
 use bw_program::ColumnIndex;
 use std::alloc::Global;
@@ -23,12 +22,13 @@ fn take(next: &mut u64) -> Result<u64, Stop> {
     Ok(line)
 }
 
-/// Returns the certificate of a proof, numbered as in a program file: its lines come after those of
-/// a program of this many instructions, and `row` ends it.
+/// Returns the certificate of facts and the lines that reference them, numbered as in a program
+/// file: they come after those of a program of this many instructions, and `row` ends it.
 pub(crate) fn certificate<'a>(
     alloc: Global,
     schema: &'a Schema,
-    proof: &Proof<'_>,
+    facts: &Facts<'_>,
+    bodies: [&Body; 2],
     instructions: usize,
     row: u64,
 ) -> Result<Certificate<'a>, Stop>
@@ -36,23 +36,22 @@ pub(crate) fn certificate<'a>(
         IsTrue (has_columns schema.now.columns.items (certificate_fields certificate))) }
 {
     let mut next = (instructions as u64).checked_add(3).ok_or(Stop::Limit)?;
-    let nodes = node_lines(alloc, &proof.facts.nodes, &mut next)?;
-    let chains = chain_lines(alloc, schema, &proof.facts.chains, &mut next)?;
-    let rows = product_lines(alloc, &proof.facts.products, &mut next)?;
-    let body = body_lines(alloc, proof, &mut next)?;
+    let nodes = node_lines(alloc, &facts.nodes, &mut next)?;
+    let chains = chain_lines(alloc, schema, &facts.chains, &mut next)?;
+    let rows = product_lines(alloc, &facts.products, &mut next)?;
+    let body = body_lines(alloc, bodies, &mut next)?;
     let line = take(&mut next)?;
     Ok(Certificate::new(nodes, chains, rows, body, EndLine { line, row }))
 }
 
 /// Returns the lines of nodes.
-fn node_lines(alloc: Global, nodes: &Nodes, next: &mut u64) -> Result<Vec<NodeLine>, Stop> {
+fn node_lines(alloc: Global, nodes: &Ledger<Node>, next: &mut u64) -> Result<Vec<NodeLine>, Stop> {
     let mut lines = Vec::with_capacity(alloc, nodes.len() as usize)?;
     for place in 0..nodes.len() {
-        let number = place.checked_add(2).ok_or(Stop::Limit)?;
-        let node = nodes.node(number).ok_or(Stop::Limit)?;
+        let node = nodes.get(place).ok_or(Stop::Limit)?;
         lines.push(NodeLine {
             line: take(next)?,
-            n: u64::from(number),
+            n: u64::from(place) + 2,
             v: u64::from(node.v),
             low: u64::from(node.low),
             high: u64::from(node.high),
@@ -83,12 +82,12 @@ fn chain_lines<'a>(
 /// Returns the lines of product rows.
 fn product_lines(
     alloc: Global,
-    products: &Products,
+    rows: &Ledger<ProductRow>,
     next: &mut u64,
 ) -> Result<Vec<ProductLine>, Stop> {
-    let mut lines = Vec::with_capacity(alloc, products.len() as usize)?;
-    for number in 0..products.len() {
-        let row = products.get(number).ok_or(Stop::Limit)?;
+    let mut lines = Vec::with_capacity(alloc, rows.len() as usize)?;
+    for number in 0..rows.len() {
+        let row = rows.get(number).ok_or(Stop::Limit)?;
         lines.push(ProductLine {
             line: take(next)?,
             n: u64::from(number),
@@ -103,12 +102,16 @@ fn product_lines(
 }
 
 /// Returns the lines of the condition, the instructions and the joins.
-fn body_lines(alloc: Global, proof: &Proof<'_>, next: &mut u64) -> Result<Body, Stop> {
+fn body_lines(alloc: Global, bodies: [&Body; 2], next: &mut u64) -> Result<Body, Stop> {
     let mut lines = Body::new(alloc);
-    for entry in &proof.lines {
-        let line = take(next)?;
-        let entry = entry.entry(&proof.pairs);
-        lines.push(&BodyLine { line, entry })?;
+    for body in bodies {
+        let mut rest = body.lines();
+        for _ in 0..body.len() {
+            let (BodyLine { entry, .. }, after) = rest.next().ok_or(Stop::Limit)?;
+            let line = take(next)?;
+            lines.push(&BodyLine { line, entry })?;
+            rest = after;
+        }
     }
     Ok(lines)
 }

@@ -6,12 +6,9 @@ ghost use Rattle.bw_cert_text.specs.Columns.{has_columns};
 use crate::emit;
 use crate::facts::Facts;
 use crate::hints::Hints;
-use crate::proof::Proof;
-use crate::rows::row_of;
-use crate::stop::{Loss, Read, Stop};
-use crate::unproved::{Unproved, Witness};
-use crate::walk::known_at_end;
-use bw_cert_text::Certificate;
+use crate::product::MAX_PRODUCTS;
+use crate::unproved::{Stop, Unproved};
+use bw_cert_text::{Body, Certificate};
 use bw_diagram::Connective;
 use bw_model::{Cond, Schema};
 use bw_program::Program;
@@ -34,68 +31,53 @@ pub fn prove<'a>(
     ensures { IfOk result (λ certificate.
         IsTrue (has_columns schema.now.columns.items (certificate_fields certificate))) }
 {
-    let mut prover = Prover::new(alloc, schema, cond, hints.rows, hints.rows)?;
+    let mut prover = Prover::new(alloc, schema, cond, hints.rows)?;
     prover.certify(alloc, schema, program, hints)
 }
 
 /// The proofs of a condition's programs: its lines are written once.
 #[derive(Drop)]
 pub struct Prover<'a> {
-    proof: Proof<'a>,
+    pub(crate) facts: Facts<'a>,
+    /// The lines of the condition.
+    pub(crate) condition: Body,
     /// The node that is 1 where the condition is TRUE.
     wanted: u32,
-    /// How many lines the condition has.
-    lines: usize,
+    /// How many nodes, chains and product rows the condition has.
+    counts: [u32; 3],
 }
 
 impl<'a> Prover<'a> {
-    /// Writes the lines of a condition of this schema, by at most so many product rows. From
-    /// `forecast_from` rows on, an AND or OR ends as if the limit were passed if it would be passed
-    /// by as many rows for each of its parts as for those before.
+    /// Writes the lines of a condition of this schema, by at most so many product rows.
     pub fn new(
         alloc: Global,
         schema: &'a Schema,
         cond: &Cond,
         rows: u32,
-        forecast_from: u32,
     ) -> Result<Self, Unproved> {
-        match Prover::begin(alloc, schema, cond, rows, forecast_from) {
-            Ok(prover) => Ok(prover),
-            Err(stop) => Err(without_rows(stop)),
+        let mut prover = Prover {
+            facts: Facts::new(alloc, schema, cond, rows)?,
+            condition: Body::new(alloc),
+            wanted: 0,
+            counts: [0; 3],
+        };
+        match prover.steps(cond) {
+            Ok(made) => {
+                prover.wanted = made.yes;
+                prover.counts = prover.facts.counts();
+                Ok(prover)
+            }
+            Err(stop) => Err(prover.facts.explain(alloc, stop)),
         }
     }
 
-    /// Writes the lines of a condition.
-    fn begin(
-        alloc: Global,
-        schema: &'a Schema,
-        cond: &Cond,
-        rows: u32,
-        forecast_from: u32,
-    ) -> Result<Self, Stop> {
-        let facts = Facts::new(alloc, schema, cond, rows)?;
-        let mut proof = Proof {
-            facts,
-            lines: Vec::new(alloc),
-            pairs: Vec::new(alloc),
-            forecast_from,
-        };
-        let wanted = proof.steps(cond)?.yes;
-        let lines = proof.lines.len();
-        Ok(Prover {
-            proof,
-            wanted,
-            lines,
-        })
-    }
-
-    /// Returns how many product rows there are.
+    /// Returns how many product rows the condition has.
     pub fn rows(&self) -> u32 {
-        self.proof.facts.products.len()
+        let [.., rows] = self.counts;
+        rows
     }
 
-    /// Finds a certificate of a program of the same schema, as [`prove`] does. It may also state
-    /// what an earlier program needed.
+    /// Finds a certificate of a program of the same schema, as [`prove`] does.
     pub fn certify(
         &mut self,
         alloc: Global,
@@ -106,116 +88,39 @@ impl<'a> Prover<'a> {
         ensures { IfOk result (λ certificate.
             IsTrue (has_columns schema.now.columns.items (certificate_fields certificate))) }
     {
-        self.proof.lines.truncate(self.lines);
-        self.proof.pairs.clear();
-        self.proof.facts.products.allow(hints.rows);
-        match certificate_of(alloc, schema, &mut self.proof, self.wanted, program, hints) {
+        self.facts.products.limit = hints.rows.min(MAX_PRODUCTS);
+        match self.certificate_of(alloc, schema, program, hints) {
             Ok(certificate) => Ok(certificate),
-            Err(stop) => Err(explain(alloc, &mut self.proof.facts, stop)),
+            Err(stop) => Err(self.facts.explain(alloc, stop)),
         }
     }
-}
 
-/// Returns the certificate of a program.
-fn certificate_of<'a>(
-    alloc: Global,
-    schema: &'a Schema,
-    proof: &mut Proof<'_>,
-    wanted: u32,
-    program: &Program,
-    hints: &Hints<'_>,
-) -> Result<Certificate<'a>, Stop>
-    ensures { IfOk result (λ certificate.
-        IsTrue (has_columns schema.now.columns.items (certificate_fields certificate))) }
-{
-    let row = last_row(alloc, proof, wanted, program, hints)?;
-    emit::certificate(alloc, schema, proof, program.len(), row)
-}
-
-/// Appends the lines of a program, and returns the number of the row by which its result is the
-/// condition's node.
-fn last_row(
-    alloc: Global,
-    proof: &mut Proof<'_>,
-    wanted: u32,
-    program: &Program,
-    hints: &Hints<'_>,
-) -> Result<u64, Stop> {
-    let registers = known_at_end(alloc, proof, program, hints)?;
-    let end = program.len();
-    let made = registers.read(end, program.result())?;
-    let order = hints.order_at(end);
-    let row = proof.facts.row(order, Connective::Xor, made, wanted)?;
-    if row.node != 0 {
-        return Err(Stop::Differs(row.node));
-    }
-    Ok(row.reference())
-}
-
-/// Returns why there is no certificate.
-fn explain(alloc: Global, facts: &mut Facts<'_>, stop: Stop) -> Unproved {
-    match stop {
-        Stop::Differs(node) if facts.products.ranks.is_total() => differs(alloc, facts, node),
-        Stop::Lost(read, loss) => unknown(alloc, facts, read, loss),
-        _ => without_rows(stop),
-    }
-}
-
-/// Returns why there is no certificate, where no row shows it.
-fn without_rows(stop: Stop) -> Unproved {
-    match stop {
-        Stop::Limit => Unproved::Limit,
-        Stop::NoRule => Unproved::NoRule,
-        Stop::Memory => Unproved::Memory,
-        Stop::Unwritten(read) => Unproved::Unwritten {
-            instruction: read.instruction,
-            register: read.register,
-        },
-        Stop::Lost(read, loss) => Unproved::Unknown {
-            instruction: read.instruction,
-            register: read.register,
-            join: loss.join,
-            skip: loss.skip,
-            witness: None,
-        },
-        Stop::Differs(_) => Unproved::Unordered,
-    }
-}
-
-/// Returns the row on which a program's result differs from the condition, where this node is 1.
-fn differs(alloc: Global, facts: &mut Facts<'_>, node: u32) -> Unproved {
-    match row_of(alloc, facts, node) {
-        Ok(Some(row)) => Unproved::Differs { row },
-        Ok(None) => Unproved::OnlyUnadmitted,
-        Err(stop) => without_rows(stop),
-    }
-}
-
-/// Returns which register isn't known, with a witness if there is one.
-fn unknown(alloc: Global, facts: &mut Facts<'_>, read: Read, loss: Loss) -> Unproved {
-    Unproved::Unknown {
-        instruction: read.instruction,
-        register: read.register,
-        join: loss.join,
-        skip: loss.skip,
-        witness: witness(alloc, facts, loss).unwrap_or(None),
-    }
-}
-
-/// Returns a row on which a register differs by a skip, and one on which the skip isn't taken, if
-/// the schema admits both.
-fn witness(alloc: Global, facts: &mut Facts<'_>, loss: Loss) -> Result<Option<Witness>, Stop> {
-    let Some(node) = loss.differs else {
-        return Ok(None);
-    };
-    if !facts.products.ranks.is_total() {
-        return Ok(None);
-    }
-    let Some(through) = row_of(alloc, facts, loss.tested)? else {
-        return Ok(None);
-    };
-    match row_of(alloc, facts, node)? {
-        Some(taken) => Ok(Some(Witness { taken, through })),
-        None => Ok(None),
+    /// Returns the certificate of a program.
+    fn certificate_of(
+        &mut self,
+        alloc: Global,
+        schema: &'a Schema,
+        program: &Program,
+        hints: &Hints<'_>,
+    ) -> Result<Certificate<'a>, Stop>
+        ensures { IfOk result (λ certificate.
+            IsTrue (has_columns schema.now.columns.items (certificate_fields certificate))) }
+    {
+        self.facts.truncate(self.counts)?;
+        let walk = self.facts.walk(alloc, program, hints)?;
+        let made = walk.read(program.len(), program.result())?;
+        let row = self.facts.row(Connective::Xor, made, self.wanted)?;
+        if row.node != 0 {
+            return Err(Stop::Differs(row.node));
+        }
+        let bodies = [&self.condition, &walk.lines];
+        emit::certificate(
+            alloc,
+            schema,
+            &self.facts,
+            bodies,
+            program.len(),
+            row.reference(),
+        )
     }
 }

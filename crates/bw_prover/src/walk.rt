@@ -1,153 +1,182 @@
 //! One walk over a program's instructions, which gives each register its node.
-ghost use Rattle.std.specs.Prelude.{◌≤◌, IfSome};
-ghost use Rattle.bw_program.specs.Program.{named_by};
-ghost use Rattle.bw_text.specs.Register.{register_count};
-
-use crate::chains::Link;
+use crate::chain::Link;
 use crate::columns::width_of;
-use crate::edges::{Edge, Edges};
+use crate::facts::Facts;
 use crate::hints::Hints;
-use crate::line::ProofLine;
-use crate::order::VariableOrder;
-use crate::proof::Proof;
-use crate::registers::{RegisterSet, Registers, read_later, written_by};
-use crate::stop::Stop;
-use bw_cert_text::InstructionEntry;
+use crate::reads::read_later;
+use crate::unproved::{Loss, Stop};
+use bw_cert_text::{Body, BodyLine, Entry, InstructionEntry};
 use bw_diagram::{ChainKind, Connective};
-use bw_program::{ColumnIndex, Instr, Program, SliceIndex};
+use bw_program::{ColumnIndex, Instr, Program, Register, SliceIndex};
 use std::alloc::Global;
 
-/// The line of an instruction, and the node of the register that it writes, or, of a skip, that it
-/// reads.
-type Effect = (InstructionEntry, u32);
-
-/// Appends the lines of a program's instructions and joins, and returns what is known at its end.
-pub(crate) fn known_at_end(
-    alloc: Global,
-    proof: &mut Proof<'_>,
-    program: &Program,
-    hints: &Hints<'_>,
-) -> Result<Registers, Stop> {
-    let reads = read_later(alloc, program)?;
-    with_reads(alloc, proof, program, hints, &reads)
+/// What is known of a register at a place: nothing, as before it is written, or if it isn't read
+/// later; the node whose value it has in every lane; or how that was lost at a join.
+#[derive(Clone, Copy)]
+pub(crate) enum Held {
+    Nothing,
+    Node(u32),
+    Lost(Loss),
 }
 
-/// Does so with the registers that are read later, by place.
-fn with_reads(
-    alloc: Global,
-    proof: &mut Proof<'_>,
-    program: &Program,
-    hints: &Hints<'_>,
-    reads: &[RegisterSet],
-) -> Result<Registers, Stop> {
-    let mut edges = Edges::new(alloc, program.len())?;
-    let mut registers = Registers::new();
-    for number in 0..program.len() {
-        let instr = program.instr(number);
-        let order = hints.order_at(number);
-        proof.follow(&mut registers, &mut edges, number, instr, order)?;
-        let place = number + 1;
-        let read = reads.get(place).copied().unwrap_or(0);
-        proof.meet(&mut registers, edges.into_place(place), place, read, order)?;
-    }
-    Ok(registers)
+/// A skip to a place that the walk hasn't reached: its number and target, the node of its register,
+/// and what is known of all registers there.
+#[derive(Clone, Copy)]
+pub(crate) struct Edge {
+    pub(crate) skip: usize,
+    pub(crate) target: usize,
+    pub(crate) tested: u32,
+    pub(crate) registers: [Held; 64],
 }
 
-impl Proof<'_> {
-    /// Appends the line of an instruction, and records its effect.
-    fn follow(
-        &mut self,
-        registers: &mut Registers,
-        edges: &mut Edges,
-        number: usize,
-        instr: Instr,
-        order: VariableOrder,
-    ) -> Result<(), Stop>
-        requires { named_by instr ≤ register_count }
-    {
-        let (entry, node) = self.effect(registers, number, instr, order)?;
-        self.lines.push(ProofLine::Instruction(entry))?;
-        if let Instr::Skip(_, target) = instr {
-            let edge = Edge {
-                skip: number,
-                tested: node,
-                known: registers.known,
-            };
-            edges.add(target, edge)?;
-        } else if let Some(register) = written_by(instr) {
-            registers.set(register, node);
+/// A walk that has reached a place: the lines so far, what is known there, and the skips to places
+/// beyond.
+#[derive(Drop)]
+pub(crate) struct Walk {
+    pub(crate) lines: Body,
+    pub(crate) registers: [Held; 64],
+    pub(crate) edges: Vec<Edge>,
+}
+
+impl Walk {
+    /// Returns the node of a register that an instruction reads.
+    pub(crate) fn read(&self, instruction: usize, register: Register) -> Result<u32, Stop> {
+        match self.registers.get(usize::from(register)) {
+            Some(Held::Node(node)) => Ok(*node),
+            Some(Held::Lost(loss)) => Err(Stop::Lost(instruction, register, *loss)),
+            _ => Err(Stop::Unwritten(instruction, register)),
         }
+    }
+
+    /// Records the node of a register.
+    fn write(&mut self, register: Register, node: u32) {
+        if let Some(held) = self.registers.get_mut(usize::from(register)) {
+            *held = Held::Node(node);
+        }
+    }
+
+    /// Appends a line.
+    pub(crate) fn put(&mut self, entry: Entry<'_>) -> Result<(), Stop> {
+        self.lines.push(&BodyLine { line: 0, entry })?;
         Ok(())
     }
 
-    /// Returns the effect of an instruction.
-    fn effect(
+    /// Appends the line of an instruction.
+    fn put_instruction(&mut self, entry: InstructionEntry) -> Result<(), Stop> {
+        self.put(Entry::Instruction(entry))
+    }
+}
+
+impl Facts<'_> {
+    /// Returns the walk over a program's instructions and joins.
+    pub(crate) fn walk(
         &mut self,
-        registers: &Registers,
-        number: usize,
-        instr: Instr,
-        order: VariableOrder,
-    ) -> Result<Effect, Stop>
-        requires { named_by instr ≤ register_count }
-    {
-        let (op, x, y) = match instr {
-            Instr::And(_, x, y) => (Connective::And, x, y),
-            Instr::Or(_, x, y) => (Connective::Or, x, y),
-            Instr::Xor(_, x, y) => (Connective::Xor, x, y),
-            Instr::Not(_, x) => {
-                return self.operation(order, Connective::Diff, 1, registers.read(number, x)?);
-            }
-            Instr::Skip(x, _) => return Ok((InstructionEntry::Skip, registers.read(number, x)?)),
-            _ => return self.constant(instr),
+        alloc: Global,
+        program: &Program,
+        hints: &Hints<'_>,
+    ) -> Result<Walk, Stop> {
+        let reads = read_later(alloc, program)?;
+        let mut walk = Walk {
+            lines: Body::new(alloc),
+            registers: [Held::Nothing; 64],
+            edges: Vec::new(alloc),
         };
-        let a = registers.read(number, x)?;
-        let b = registers.read(number, y)?;
-        self.operation(order, op, a, b)
+        for number in 0..program.len() {
+            self.order.choose(hints.order_at(number));
+            self.follow(&mut walk, number, program.instr(number))?;
+            let place = number + 1;
+            self.meet(
+                alloc,
+                &mut walk,
+                place,
+                reads.get(place).copied().unwrap_or(0),
+            )?;
+        }
+        self.order.choose(hints.order_at(program.len()));
+        Ok(walk)
     }
 
-    /// Returns the effect of a connective of two nodes.
+    /// Appends the line of an instruction, and records its effect.
+    fn follow(&mut self, walk: &mut Walk, number: usize, instr: Instr) -> Result<(), Stop> {
+        let (register, op, x, y) = match instr {
+            Instr::And(r, x, y) => (r, Connective::And, x, y),
+            Instr::Or(r, x, y) => (r, Connective::Or, x, y),
+            Instr::Xor(r, x, y) => (r, Connective::Xor, x, y),
+            Instr::Not(r, x) => {
+                let node = walk.read(number, x)?;
+                return self.operation(walk, r, Connective::Diff, 1, node);
+            }
+            Instr::Skip(x, target) => {
+                let edge = Edge {
+                    skip: number,
+                    target,
+                    tested: walk.read(number, x)?,
+                    registers: walk.registers,
+                };
+                walk.edges.push(edge)?;
+                return walk.put_instruction(InstructionEntry::Skip);
+            }
+            _ => return self.constant(walk, instr),
+        };
+        let (a, b) = (walk.read(number, x)?, walk.read(number, y)?);
+        self.operation(walk, register, op, a, b)
+    }
+
+    /// Records a connective of two nodes.
     fn operation(
         &mut self,
-        order: VariableOrder,
+        walk: &mut Walk,
+        register: Register,
         op: Connective,
         a: u32,
         b: u32,
-    ) -> Result<Effect, Stop> {
-        let row = self.facts.row(order, op, a, b)?;
-        Ok((InstructionEntry::Op(row.reference()), row.node))
+    ) -> Result<(), Stop> {
+        let row = self.row(op, a, b)?;
+        walk.write(register, row.node);
+        walk.put_instruction(InstructionEntry::Op(row.reference()))
     }
 
-    /// Returns the effect of an instruction that reads no register.
-    fn constant(&mut self, instr: Instr) -> Result<Effect, Stop> {
-        let node = match instr {
-            Instr::Load(_, col, bit) => self.facts.bit(col, u32::from(bit))?,
-            Instr::Nulls(_, col) => self.facts.nulls(col)?.ok_or(Stop::NoRule)?,
-            Instr::Fill(_, bit) => return Ok((InstructionEntry::Fill, u32::from(bit))),
-            Instr::ByteLt(_, col, slice, k) => return self.byte(ChainKind::Less, col, slice, k),
-            Instr::ByteEq(_, col, slice, k) => return self.byte(ChainKind::Equal, col, slice, k),
+    /// Records the effect of an instruction that reads no register.
+    fn constant(&mut self, walk: &mut Walk, instr: Instr) -> Result<(), Stop> {
+        let (register, node) = match instr {
+            Instr::Load(r, col, bit) => (r, self.bit(col, u32::from(bit))?),
+            Instr::Nulls(r, col) => (r, self.nulls(col)?.ok_or(Stop::NoRule)?),
+            Instr::Fill(r, bit) => {
+                walk.write(r, u32::from(bit));
+                return walk.put_instruction(InstructionEntry::Fill);
+            }
+            Instr::ByteLt(r, col, slice, k) => {
+                let (chain, node) = self.byte(ChainKind::Less, col, slice, k)?;
+                walk.write(r, node);
+                return walk.put_instruction(InstructionEntry::Byte(chain));
+            }
+            Instr::ByteEq(r, col, slice, k) => {
+                let (chain, node) = self.byte(ChainKind::Equal, col, slice, k)?;
+                walk.write(r, node);
+                return walk.put_instruction(InstructionEntry::Byte(chain));
+            }
             _ => return Err(Stop::NoRule),
         };
-        Ok((InstructionEntry::Load(u64::from(node)), node))
+        walk.write(register, node);
+        walk.put_instruction(InstructionEntry::Load(u64::from(node)))
     }
 
-    /// Returns the effect of a byte comparison. One with a number that is greater than each byte
-    /// has no chain.
+    /// Returns the number of a byte comparison's chain and its node. One with a number that is
+    /// greater than each byte has no chain.
     fn byte(
         &mut self,
         kind: ChainKind,
         column: ColumnIndex,
         slice: SliceIndex,
         byte: u8,
-    ) -> Result<Effect, Stop> {
-        let width = width_of(self.facts.schema, column).ok_or(Stop::NoRule)?;
+    ) -> Result<(Option<u64>, u32), Stop> {
+        let width = width_of(self.schema, column).ok_or(Stop::NoRule)?;
         let above = width.checked_sub(8 * u32::from(slice));
         let len = above.ok_or(Stop::NoRule)?.min(8);
         if u32::from(byte) >= 1 << len {
-            let node = u32::from(kind == ChainKind::Less);
-            return Ok((InstructionEntry::Byte(None), node));
+            return Ok((None, u32::from(kind == ChainKind::Less)));
         }
-        let link = Link::of(kind, column, slice, len, u64::from(byte));
-        let chain = self.facts.chain(link)?;
-        Ok((InstructionEntry::Byte(Some(chain.reference())), chain.node))
+        let chain = self.chain(Link::of(kind, column, slice, len, u64::from(byte)))?;
+        Ok((Some(chain.reference()), chain.node))
     }
 }
