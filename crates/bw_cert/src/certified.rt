@@ -108,8 +108,9 @@ impl Certified {
         (*selection, counts)
     }
 
-    /// Does the same in registers of the caller, whose content doesn't matter, and lends the one
-    /// with the result. A scan runs in the same ones on all segments.
+    /// Runs the program, as [`Certified::run_segment`] does, in registers of the caller, whose
+    /// content doesn't matter, and lends the one with the result. A scan runs in the same ones on
+    /// all segments.
     #[inline(always)]
     pub fn run_in<'a, S: Segment>(
         &self,

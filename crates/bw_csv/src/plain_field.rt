@@ -49,7 +49,7 @@ pub(crate) fn value_at(column: &Column, text: &[u8], number: u32) -> Option<Foun
     }
 }
 
-/// Returns the same for a field of a few digits, maybe after a minus sign.
+/// Returns the value of a field of a few digits, maybe after a minus sign.
 #[inline(always)]
 fn number_at(column: &Column, text: &[u8]) -> Option<Found>
     ensures plain { IfSome result (λ found. IsPlainField text.now found.len) }
@@ -69,7 +69,7 @@ fn number_at(column: &Column, text: &[u8]) -> Option<Found>
     }
 }
 
-/// Returns the same for a field of any other form. Such fields are rare, so this stays out of the
+/// Returns the value of a field of any other form. Such fields are rare, so this stays out of the
 /// loop over fields.
 #[inline(never)]
 fn other_at(column: &Column, text: &[u8], number: u32) -> Option<Found>

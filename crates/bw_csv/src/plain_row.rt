@@ -44,7 +44,7 @@ fn after_line_ends(text: &[u8]) -> &[u8]
     rest
 }
 
-/// Returns the same for a text that begins with a record.
+/// Reads the plain record that a text begins with. Returns the text after it.
 #[inline(always)]
 fn row_at<'a>(columns: &[Column], text: &'a [u8], number: u32, row: &mut Row) -> Option<&'a [u8]>
     requires within_limit { number ≤ most_rows }

@@ -26,7 +26,7 @@ pub enum AnySegment {
     Slices(SliceSegment),
 }
 
-/// The same expression on the segment in either layout.
+/// Calls a method of the segment, whichever its layout is.
 macro_rules! either {
     ($any:expr, $segment:ident => $value:expr) => {
         match $any {

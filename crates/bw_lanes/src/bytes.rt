@@ -86,7 +86,8 @@ pub fn bytes_any(slices: &[u8], count: usize, rows: &Plane) -> bool
     any
 }
 
-/// Returns the same for 64 rows, from `first` on; `rows` is their word of the plane.
+/// Returns whether one of 64 rows, from `first` on, is selected and has such a byte; `rows` is their
+/// word of the plane.
 #[inline(always)]
 fn any_of_word(slices: &[u8], count: usize, first: usize, rows: u64) -> bool
     requires slices { 512 * count ≤ length slices.now }

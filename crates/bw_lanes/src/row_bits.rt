@@ -24,7 +24,7 @@ pub fn push_bit(bytes: &mut [u8; LANES], plane: &Plane)
     }
 }
 
-/// Returns the same for the bytes of 64 rows and their word.
+/// Returns the bytes of 64 rows, each with a bit of their word shifted in.
 #[tactic(auto, using(crate::proofs::SelectedLemmas::shifted_computed))]
 fn with_bits(bytes: u8x64, word: u64) -> u8x64
     ensures { result ≡ zip2 with_bit bytes (bits_from_least 64 word) }

@@ -33,7 +33,7 @@ pub(crate) fn at_least(width: u32, bytes: &[u8], low: u32, count: u32, c: u64) -
     }
 }
 
-/// Returns the same for at most 8 bits and a byte, which has no more bits than a whole byte of the
+/// Compares at most 8 bits with a byte, which has no more bits than a whole byte of the
 /// code. If it is a multiple of 8, the three lowest of these bits change nothing.
 #[inline(always)]
 pub(crate) fn byte_at_least(width: u32, bytes: &[u8], low: u32, count: u32, c: u8) -> Plane
@@ -52,7 +52,7 @@ pub(crate) fn byte_at_least(width: u32, bytes: &[u8], low: u32, count: u32, c: u
     }
 }
 
-/// Returns the same, with a constant that has no higher bit. It is compiled into its callers, so
+/// Compares with a constant that has no higher bit. It is compiled into its callers, so
 /// that the loop over the planes of a whole byte, the usual case, is unrolled.
 #[tactic(auto, using(crate::proofs::CompareLemmas::comparison))]
 #[inline(always)]

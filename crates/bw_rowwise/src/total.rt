@@ -75,7 +75,7 @@ fn plus(sum: i128, n: i64) -> i128
     sum + i128::from(n)
 }
 
-/// Returns the same number.
+/// Returns a value as a total.
 fn widen(n: i64) -> i128
     ensures same { result ≡ n }
     ensures fits { FitsSigned w64 n }

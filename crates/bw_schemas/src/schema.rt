@@ -40,7 +40,7 @@ pub(crate) fn infer_schema(alloc: Global, table: &[u8], text: &[u8]) -> Result<S
     schema_of(alloc, table, without_more_fields(text, MAX_COLUMNS))
 }
 
-/// Returns the same for a text whose heading is read completely.
+/// Returns the schema of a text whose heading is read completely.
 #[tactic(auto, unfolding(crate::specs::InferredSchema::inferred_after))]
 fn schema_of(alloc: Global, table: &[u8], text: &[u8]) -> Result<Schema, Fault>
     requires { IsTrue (is_name table.now) }

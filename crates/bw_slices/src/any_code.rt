@@ -42,7 +42,7 @@ pub(crate) fn is_any_nonzero(bytes: &[u8], slices: usize, lanes: &Plane) -> bool
     }
 }
 
-/// Returns the same, for any number of slices.
+/// Does this for any number of slices.
 #[inline(always)]
 fn any_nonzero(bytes: &[u8], slices: usize, lanes: &Plane) -> bool
     requires { 512 * slices ≤ length bytes.now }

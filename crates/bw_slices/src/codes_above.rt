@@ -61,7 +61,7 @@ fn set_above(bytes: &[u8], slices: usize, first: usize, most: u64) -> u8x64
     set
 }
 
-/// Returns the same with one byte more: `bytes` of the rows, and `c` of the number.
+/// Returns these bytes after one more is compared: `bytes` of the rows, and `c` of the number.
 #[inline(always)]
 fn next_above(set: u8x64, bytes: u8x64, c: u8) -> u8x64
     ensures { map (λ byte. not (byte == 0)) result

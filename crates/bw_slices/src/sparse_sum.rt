@@ -62,7 +62,7 @@ pub(crate) fn none_near(bytes: &[u8; LANES], lanes: &Selection, top: u64, greate
     true
 }
 
-/// Returns the same for the 64 lanes of a word; `rows` has their bits.
+/// Returns this for the 64 lanes of a word; `rows` has their bits.
 #[inline(always)]
 fn none_near_in_word(bytes: &[u8; LANES], word: usize, rows: u64, top: u64, greatest: bool) -> bool
     requires { word < 8 }

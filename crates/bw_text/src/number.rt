@@ -33,7 +33,7 @@ pub fn number_in(is_negative: bool, text: &[u8]) -> Option<Option<i64>>
     }
 }
 
-/// Returns the same for a text so short that every number on the way fits 64 bits.
+/// Reads a text so short that every number on the way fits 64 bits.
 fn short_number(is_negative: bool, text: &[u8]) -> Option<Option<i64>>
     requires { length text.now ≤ 18 }
     ensures { result ≡ if are_digits text.now then Some (number_of is_negative text.now) else None }
@@ -44,7 +44,7 @@ fn short_number(is_negative: bool, text: &[u8]) -> Option<Option<i64>>
     }
 }
 
-/// Returns the same for a text of any length.
+/// Reads a text of any length.
 fn long_number(is_negative: bool, text: &[u8]) -> Option<Option<i64>>
     ensures { result ≡ if are_digits text.now then Some (number_of is_negative text.now) else None }
 {
