@@ -1,8 +1,10 @@
 """Tests of the calls on pages: each call is a test, which runs it and compares what it prints.
 
-A page is Markdown. In its blocks, indented by four spaces, sh runs a line that begins with `$ `,
-which lines that begin with `> ` continue; the other lines are its output. An empty line ends a
-block. `cases/README.md` describes tables too."""
+A page is Markdown. Its calls are in fences marked `sh`, which are run whole, and end at the first
+line that fails; a fence marked `text` right below has the output, in which `...` stands for any
+lines. In the denser form of cases, blocks are indented by four spaces: sh runs a line that begins
+with `$ `, which lines that begin with `> ` continue; the other lines are its output. Calls and
+outputs without a paragraph between them are a block. `cases/README.md` describes tables too."""
 from __future__ import annotations
 
 import difflib
@@ -74,12 +76,35 @@ class Reader:
     def __init__(self, page: pathlib.Path) -> None:
         self.calls: list[Call] = []
         self.section, self.block, self.is_within = "", 0, False
+        # the mark of the fence that the line is in, and whether a block of fences goes on
+        self.fence, self.goes_on = "", False
         self.table: tuple[list[str], list[str]] | None = None
         for number, line in enumerate(page.read_text(encoding="utf-8").splitlines(), 1):
+            if self.fence or line.startswith("```"):
+                self.read_fence(number, line)
+                continue
+            self.goes_on = self.goes_on and not line
             if line.startswith("##"):
                 self.section = line.lstrip("# ")
             self.read_block(number, line)
             self.read_table(number, line)
+
+    def read_fence(self, number: int, line: str) -> None:
+        """Reads a line of a fence, or one that begins or ends it."""
+        if not self.fence:
+            self.fence = line
+            if line == "```sh":
+                self.block += not self.goes_on
+                self.goes_on = True
+                self.calls.append(Call(self.section, self.block, number, "set -e", []))
+            elif line != "```text":
+                self.goes_on = False
+        elif line == "```":
+            self.fence = ""
+        elif self.fence == "```sh":
+            self.calls[-1] = self.calls[-1]._replace(command=f"{self.calls[-1].command}\n{line}")
+        elif self.fence == "```text" and self.goes_on:
+            self.calls[-1].prints.append(line)
 
     def read_block(self, number: int, line: str) -> None:
         """Reads a line that may be one of a block."""
@@ -130,14 +155,22 @@ def printed_by(done: Done) -> list[str]:
     return printed + ([] if done.status == status_of(printed) else [f"(status {done.status})"])
 
 
+def is_as_wanted(wanted: list[str], printed: list[str]) -> bool:
+    """Returns whether these lines were printed, where `...` stands for any lines."""
+    pattern = "".join(r"(.*\n)*" if line == "..." else re.escape(line) + "\n" for line in wanted)
+    return re.fullmatch(pattern, "".join(f"{line}\n" for line in printed)) is not None
+
+
 def on_wrong_stream(done: Done) -> list[str]:
     """Returns the lines that are on the wrong stream. Results and the version belong on standard
-    output; errors, `--stats` lines and messages on wrong arguments on standard error."""
+    output; errors with what explains them, `--stats` lines and messages on wrong arguments on
+    standard error."""
     def is_for_errors(line: str) -> bool:
         return done.status == 2 or bool(re.match(r"bw: \d{3} |served ", line))
 
     return [line for line in done.out.splitlines() if is_for_errors(line)] + \
-        [line for line in done.err.splitlines() if not is_for_errors(line)]
+        [line for line in done.err.splitlines() if not line.startswith("    ")
+         and not is_for_errors(line)]
 
 
 def with_pandas() -> str | None:
@@ -291,7 +324,7 @@ class Page(support.TestCase):
         if self.by_blocks and re.search(r"bw [^|]*\|[^|]", call.command):
             # the status is that of the last command of the line
             printed = done.out.splitlines() + done.err.splitlines()
-        if printed != call.prints:
+        if not is_as_wanted(call.prints, printed):
             self.fail(at + "\n".join(difflib.unified_diff(call.prints, printed, "wanted", "came",
                                                           lineterm="")))
         if not self.by_blocks and "2>" not in call.command:

@@ -2,6 +2,10 @@
 from tests import pages
 
 
+class CertificatesPage(pages.Page, page="docs/CERTIFICATES.md"):
+    """The commands of the page."""
+
+
 class Certificates(pages.Page, page="cases/certificates.md"):
     """Whole certificates."""
 
