@@ -126,19 +126,6 @@ impl<'a> Answer<'a> {
         self.only_counts
     }
 
-    /// Consumes `count` rows, whatever their values. The query must only count rows, and have space
-    /// for them.
-    pub fn take_count(&mut self, count: u32)
-        requires counts { CountsRows (query_in self.old) }
-        requires capacity { self.old.rows + count ≤ most_rows }
-        ensures covers { (start : Answer) (before rows : List (List Value)) → length rows ≡ count
-            → GoesOver start before self.old → GoesOver start (before ++ rows) self.new }
-        ensures width { self.new.width ≡ self.old.width }
-        ensures rows { self.new.rows ≡ self.old.rows + count }
-    {
-        self.take_matches(count, count);
-    }
-
     /// Consumes `count` rows, of which `matches` match, whatever their values. The query must only
     /// count rows, and have space for them.
     pub fn take_matches(&mut self, count: u32, matches: u32)

@@ -4,7 +4,6 @@ use Rattle.std.proofs.Common.{sym}
 use Rattle.bw_model.specs.declared.column.Column.{Column}
 use Rattle.bw_model.specs.Groups.{together}
 use Rattle.bw_model.specs.Row.{Value}
-use Rattle.bw_answer.specs.declared.answer.Answer.{Answer}
 use Rattle.bw_file.specs.AnySegment.{any_meaning}
 use Rattle.bw_file.specs.Reading.{State}
 use Rattle.bw_file.specs.TableReader.{ReturnsSegment}
@@ -14,24 +13,17 @@ use Rattle.bw_file.proofs.MemoryAnswers.{same_table, together_more}
 use Rattle.bw_memory.specs.MemoryTable.{meaning_numbered, schema_of}
 use Rattle.bw_memory.specs.declared.table.MemoryTable.{MemoryTable}
 use Rattle.bw_memory.proofs.StoredSegmentLemmas.{groups_more}
-use Rattle.bw_run.specs.declared.run.Counts.{Counts}
-use Rattle.bw_query.specs.Segments.{HasGiven, TakesGroup, groups_before}
-use Rattle.bw_query.specs.declared.scan.Scan.{Scan}
+use Rattle.bw_query.specs.Segments.{Consumes, HasGiven, TakesGroup, groups_before}
 
--- what is taken of these rows is taken of the group that came
-pub takes_as : (columns other : List Column) → columns ≡ other → (scan : Scan) (old new : Answer) (rows : List (List Value)) (counts : Counts) (Comes : List (List Value) → Type 0)
-    → TakesGroup columns scan old new (λ group. group ≡ rows) counts → Comes rows → TakesGroup other scan old new Comes counts
-takes_as columns other same scan old new rows counts Comes taken comes = subst (λ (those : List Column). TakesGroup those scan old new Comes counts) same (record {
-  group = taken.group;
-  comes = subst Comes (sym taken.comes) comes;
-  some = taken.some;
-  covers = taken.covers;
-  width = taken.width;
-  rows = taken.rows;
-  loads = taken.loads;
-  skips = taken.skips;
-  bounded = taken.bounded;
-})
+-- a group of a segment, of the columns of its table, came and was consumed
+pub taken_as : {C : Type 0} (columns other : List Column) → columns ≡ other → (group : List (List Value)) (Comes : List (List Value) → Type 0) (Fits : C → List Column → Type 0) (rows : C → ℕ)
+    (Over : C → List Column → List (List (List Value)) → C → Type 0) (old new : C)
+    → Comes group → Consumes columns group Fits rows Over old new → TakesGroup other Comes Fits rows Over old new
+taken_as columns other same group Comes Fits rows Over old new comes consumed = record {
+  group = group;
+  comes = comes;
+  consumed = subst (λ (those : List Column). Consumes those group Fits rows Over old new) same consumed;
+}
 
 pub given_more : (old : State) (reader : TableReader) (groups : List (List (List Value))) (now later : State) (next after : TableReader) (segment : AnySegment)
     → HasGiven old reader groups now next → ReturnsSegment now later next after segment → HasGiven old reader (groups ++ (any_meaning segment).rows ∷ []) later after

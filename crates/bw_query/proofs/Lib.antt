@@ -5,3 +5,4 @@ pub mod MemoryExits
 pub mod ScanLemmas
 pub mod TableExits
 pub mod TableLemmas
+mod ScannedLemmas

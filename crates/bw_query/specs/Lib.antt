@@ -7,5 +7,6 @@ pub mod Scan
 pub mod Served
 pub mod TableAnswer
 pub mod Segments
+pub mod Consumers
 pub mod SegmentLemmas
 pub mod Trial

@@ -1,15 +1,14 @@
--- The rows of a table's segments, taken by an answer.
-use Rattle.std.specs.Prelude.{◌≡◌, ◌≤◌, ◌+◌, ◌-◌, ◌^◌, ◌<◌, None, ℕ, List, [], length}
+-- The segments of a table, in order, and what consumes them.
+use Rattle.std.specs.Prelude.{◌≡◌, ◌≤◌, ◌+◌, ◌-◌, ◌^◌, ◌<◌, ◌++◌, ◌∷◌, None, ℕ, List, [], length}
 use Rattle.std.specs.List.{sum_by}
 use Rattle.bw_model.specs.declared.column.Column.{Column}
 use Rattle.bw_model.specs.declared.fault.Fault.{Fault}
 use Rattle.bw_model.specs.declared.query.Query.{Query}
 use Rattle.bw_model.specs.Column.{names_of}
 use Rattle.bw_model.specs.Groups.{groups_of, together}
+use Rattle.bw_model.specs.Limits.{most_rows}
 use Rattle.bw_model.specs.Row.{Value}
 use Rattle.bw_answer.specs.Answer.{csv_text, meaning}
-use Rattle.bw_answer.specs.Progress.{GoesOver}
-use Rattle.bw_answer.specs.declared.answer.Answer.{Answer}
 use Rattle.bw_file.specs.Reading.{State}
 use Rattle.bw_file.specs.TableReader.{AnswersFault, ReadProgress, ReadWhole, SameTable}
 use Rattle.bw_file.specs.TableReader.{found_so_far, final_result}
@@ -17,24 +16,38 @@ use Rattle.bw_file.specs.declared.table_reader.TableReader.{TableReader}
 use Rattle.bw_memory.specs.MemoryTable.{schema_of}
 use Rattle.bw_memory.specs.StoredSegments.{stored_groups}
 use Rattle.bw_memory.specs.declared.table.MemoryTable.{MemoryTable}
-use Rattle.bw_run.specs.declared.run.Counts.{Counts}
 use Rattle.bw_query.specs.declared.scan.Scan.{Scan}
 use Rattle.bw_query.specs.declared.served.Scanned.{Scanned}
 use Rattle.bw_query.specs.Scan.{loads_in, skips_in}
 
--- An answer has taken a group of rows, with these counts of the scan's run over it, and the group
--- came.
-pub record TakesGroup (columns : List Column) (scan : Scan) (old new : Answer)
-    (Comes : List (List Value) → Type 0) (counts : Counts) : Type 0 where
+-- A consumer has consumed a group of rows of these columns, one or more: it fits further ones, and
+-- has consumed so many rows more, and this group after those before it.
+pub record Consumes {C : Type 0} (columns : List Column) (group : List (List Value))
+    (Fits : C → List Column → Type 0) (Rows : C → ℕ)
+    (Over : C → List Column → List (List (List Value)) → C → Type 0) (old new : C) : Type 0 where
+  pub some : 1 ≤ length group
+  pub fits : Fits new columns
+  pub rows : Rows new ≡ Rows old + length group
+  pub over : (start : C) (groups : List (List (List Value))) → Over start columns groups old
+      → Over start columns (groups ++ group ∷ []) new
+
+-- a group of rows came and was consumed
+pub record TakesGroup {C : Type 0} (columns : List Column) (Comes : List (List Value) → Type 0)
+    (Fits : C → List Column → Type 0) (Rows : C → ℕ)
+    (Over : C → List Column → List (List (List Value)) → C → Type 0) (old new : C) : Type 0 where
   pub group : List (List Value)
   pub comes : Comes group
-  pub some : 1 ≤ length group
-  pub covers : GoesOver old group new
-  pub width : new.width ≡ old.width
-  pub rows : new.rows ≡ old.rows + length group
-  pub loads : counts.loads ≡ loads_in columns scan group
-  pub skips : counts.skips ≡ skips_in columns scan group
-  pub bounded : counts.loads + counts.skips ≤ 4096
+  pub consumed : Consumes columns group Fits Rows Over old new
+
+-- all groups of a table were consumed
+pub record TakesAll {C : Type 0} (columns : List Column)
+    (All : List (List (List Value)) → Type 0) (Fits : C → List Column → Type 0) (Rows : C → ℕ)
+    (Over : C → List Column → List (List (List Value)) → C → Type 0) (old new : C) : Type 0 where
+  pub groups : List (List (List Value))
+  pub all : All groups
+  pub fits : Fits new columns
+  pub within_limit : Rows new ≤ most_rows
+  pub over : Over old columns groups new
 
 -- this many segments, of these groups of rows, were scanned, with the sums of the scan's loads and
 -- skips
@@ -43,14 +56,6 @@ pub record IsScanOf (columns : List Column) (scan : Scan) (groups : List (List (
   pub segments : scanned.segments ≡ length groups
   pub loads : scanned.loads ≡ sum_by (loads_in columns scan) groups
   pub skips : scanned.skips ≡ sum_by (skips_in columns scan) groups
-
--- an answer has taken all groups of a table
-pub record TakesAll (columns : List Column) (scan : Scan) (old new : Answer)
-    (All : List (List (List Value)) → Type 0) (scanned : Scanned) : Type 0 where
-  pub groups : List (List (List Value))
-  pub all : All groups
-  pub covers : GoesOver old (together groups) new
-  pub counts : IsScanOf columns scan groups scanned
 
 -- the text is that of the query's meaning over all groups of a table, which were scanned
 pub record IsTextOf (columns : List Column) (query : Query) (scan : Scan)

@@ -1,23 +1,19 @@
 //! The segments of a table file, from its reader.
-ghost use Rattle.std.specs.Prelude.{◌≡◌, ◌+◌, ◌-◌, ◌≤◌, IfErr, IfOk, length};
+ghost use Rattle.std.specs.Prelude.{◌≡◌, ◌+◌, ◌-◌, ◌≤◌, IfErr, OnOk, length};
 ghost use Rattle.bw_model.specs.Fault.{no_memory};
 ghost use Rattle.bw_model.specs.Limits.{most_rows};
-ghost use Rattle.bw_answer.specs.Progress.{query_in};
 ghost use Rattle.bw_file.specs.AnySegment.{any_meaning};
 ghost use Rattle.bw_file.specs.Reading.{state_at};
 ghost use Rattle.bw_file.specs.TableReader.{bytes_taken, rows_given, rows_stated, schema_in};
 ghost use Rattle.bw_query.specs.SegmentLemmas.{file_fails_after, file_fails_among};
-ghost use Rattle.bw_query.specs.Scan.{IsFor};
-ghost use Rattle.bw_query.specs.Segments.{HasFailed, HasGiven, HasGivenAll, TakesGroup};
+ghost use Rattle.bw_query.specs.Segments.{Consumes, HasFailed, HasGiven, HasGivenAll};
 
-use crate::scan::Scan;
+use crate::consumer::SegmentConsumer;
 use crate::segments::Segments;
-use crate::table_text::take_segment;
-use bw_answer::Answer;
 use bw_file::{AnySegment, TableReader};
 use bw_io::Source;
 use bw_model::{Fault, Schema};
-use bw_run::{Counts, Registers};
+use bw_run::Registers;
 
 impl<S: Source> Segments<S> for TableReader {
     ghost table = { schema_in };
@@ -46,20 +42,21 @@ impl<S: Source> Segments<S> for TableReader {
         TableReader::rows(self)
     }
 
-    fn take_next(
+    #[inline(always)]
+    fn take_next<C: SegmentConsumer>(
         &mut self,
         source: &mut S,
-        scan: &Scan,
         registers: &mut Registers,
-        answer: &mut Answer<'_>,
-    ) -> Result<Option<Counts>, Fault> {
+        consumer: &mut C,
+    ) -> Result<bool, Fault> {
         match self.next_segment(source)? {
             Some(segment) => {
-                let taken = take_either(&segment, scan, registers, answer);
+                let taken = take_either(&segment, registers, consumer);
                 drop(segment);
-                Ok(Some(taken?))
+                taken?;
+                Ok(true)
             }
-            None => Ok(None),
+            None => Ok(false),
         }
     }
 
@@ -68,23 +65,22 @@ impl<S: Source> Segments<S> for TableReader {
     ghost fails_after = { λ reader from groups next source. file_fails_after _ reader groups _ };
 }
 
-/// Consumes the rows of a segment in either layout, which is looked up once a segment.
+/// Hands a segment in either layout to a consumer. The layout is looked up once a segment.
 #[tactic(auto, unfolding(bw_file::specs::AnySegment::any_meaning))]
-fn take_either(
+#[inline(always)]
+fn take_either<C: SegmentConsumer>(
     segment: &AnySegment,
-    scan: &Scan,
     registers: &mut Registers,
-    answer: &mut Answer<'_>,
-) -> Result<Counts, Fault>
-    requires scan { IsFor (any_meaning segment.now).columns (query_in answer.old).cond scan.now }
-    requires width { answer.old.width ≡ length (any_meaning segment.now).columns }
-    requires capacity { answer.old.rows + length (any_meaning segment.now).rows ≤ most_rows }
-    ensures taken { IfOk result (TakesGroup (any_meaning segment.now).columns scan.now answer.old
-        answer.new (λ group. group ≡ (any_meaning segment.now).rows)) }
+    consumer: &mut C,
+) -> Result<(), Fault>
+    requires fits { C.fits consumer.old (any_meaning segment.now).columns }
+    requires capacity { C.rows consumer.old + length (any_meaning segment.now).rows ≤ most_rows }
+    ensures consumes { OnOk result (Consumes (any_meaning segment.now).columns
+        (any_meaning segment.now).rows C.fits C.rows C.over consumer.old consumer.new) }
     ensures only_oom { IfErr result (λ fault. fault ≡ no_memory) }
 {
     match segment {
-        AnySegment::Planes(segment) => take_segment(segment, scan, registers, answer),
-        AnySegment::Slices(segment) => take_segment(segment, scan, registers, answer),
+        AnySegment::Planes(segment) => consumer.take(segment, registers),
+        AnySegment::Slices(segment) => consumer.take(segment, registers),
     }
 }

@@ -9,9 +9,12 @@
 //! `specs/MemoryAnswer.antt`.
 #![tactic(auto)]
 
+mod answer_consumer;
 mod certify_call;
+mod consumer;
 mod file_segments;
 mod file_text;
+mod match_counter;
 mod memory_calls;
 mod memory_segments;
 mod plan_call;

@@ -13,15 +13,15 @@ ghost use Rattle.bw_query.specs.Scan.{IsFor};
 ghost use Rattle.bw_query.specs.SegmentLemmas.{memory_fails};
 ghost use Rattle.bw_query.specs.Segments.{IsTextOf, groups_before};
 
+use crate::consumer::SegmentConsumer;
 use crate::scan::Scan;
 use crate::segments::Segments;
-use crate::table_text::{TableText, table_text, take_segment};
-use bw_answer::Answer;
+use crate::table_text::{TableText, table_text};
 use bw_file::Layout;
 use bw_memory::MemoryTable;
 use bw_model::{Fault, Query, Schema};
 use bw_planes::Planes;
-use bw_run::{Counts, Registers};
+use bw_run::Registers;
 use bw_segment::{CodeLayout, NumberedBlocks, PackedSegment, Segment};
 use bw_slices::Slices;
 use std::alloc::Global;
@@ -41,6 +41,7 @@ struct MemorySegments<'a, L: CodeLayout> {
 
 impl<'a, L: CodeLayout> MemorySegments<'a, L> {
     /// Returns the next segment. Errors: 801 if memory is refused.
+    #[inline(always)]
     fn next_segment(&mut self) -> Result<PackedSegment<L, NumberedBlocks<'a>>, Fault>
         requires { self.old.next < segments_in self.old.table.now }
         ensures means { IfOk result (λ segment.
@@ -85,20 +86,20 @@ impl<'a, L: CodeLayout> Segments<()> for MemorySegments<'a, L> {
         self.table.rows()
     }
 
-    fn take_next(
+    #[inline(always)]
+    fn take_next<C: SegmentConsumer>(
         &mut self,
         _input: &mut (),
-        scan: &Scan,
         registers: &mut Registers,
-        answer: &mut Answer<'_>,
-    ) -> Result<Option<Counts>, Fault> {
+        consumer: &mut C,
+    ) -> Result<bool, Fault> {
         if self.next == self.table.segments() {
-            return Ok(None);
+            return Ok(false);
         }
         let segment = self.next_segment()?;
-        let counts = take_segment(&segment, scan, registers, answer)?;
+        consumer.take(&segment, registers)?;
         self.last = Some(segment);
-        Ok(Some(counts))
+        Ok(true)
     }
 
     ghost fails_among = { λ start from groups segments input gave. memory_fails };

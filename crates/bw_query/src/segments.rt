@@ -1,20 +1,17 @@
 //! The segments of a table, in order, from a file or in memory.
-ghost use Rattle.std.specs.Prelude.{◌≡◌, ◌+◌, ◌<◌, ◌≤◌, ◌++◌, ◌∷◌, [], ℕ, List, false, length};
-ghost use Rattle.std.specs.Prelude.{IfErr, IfNone, IfOk, IfSome, OnOk};
+ghost use Rattle.std.specs.Prelude.{◌≡◌, ◌+◌, ◌<◌, ◌≤◌, ◌++◌, ◌∷◌, [], ℕ, List, IsTrue, false, length};
+ghost use Rattle.std.specs.Prelude.{IfErr, IfOk};
 ghost use Rattle.bw_model.specs.declared.fault.Fault.{Fault};
 ghost use Rattle.bw_model.specs.declared.schema.Schema.{Schema};
 ghost use Rattle.bw_model.specs.Fault.{no_memory};
 ghost use Rattle.bw_model.specs.Limits.{most_rows};
 ghost use Rattle.bw_model.specs.Row.{Value};
-ghost use Rattle.bw_answer.specs.Progress.{query_in};
 ghost use Rattle.bw_io.specs.Sink.{is_write_fault};
-ghost use Rattle.bw_query.specs.Scan.{IsFor};
 ghost use Rattle.bw_query.specs.Segments.{TakesGroup};
 
-use crate::scan::Scan;
-use bw_answer::Answer;
+use crate::consumer::SegmentConsumer;
 use bw_model::{Fault, Schema};
-use bw_run::{Counts, Registers};
+use bw_run::Registers;
 
 /// The segments of a table, in order. They come from an input: the source of a table file, or
 /// nothing more than the table, if it is in memory.
@@ -45,33 +42,31 @@ pub(crate) trait Segments<I> {
     /// Returns how many rows the table has, or states.
     fn rows(&self) -> u32;
 
-    /// Lets an answer take the rows of the next segment, by a scan, and returns the counts of its
-    /// run; None after the last segment. The answer must have taken the rows that came so far.
-    fn take_next(
+    /// Hands the next segment to a consumer, which must have consumed the rows that came so far.
+    /// Returns whether there was one: after the last segment the consumer stays as it was.
+    fn take_next<C: SegmentConsumer>(
         &mut self,
         input: &mut I,
-        scan: &Scan,
         registers: &mut Registers,
-        answer: &mut Answer<'_>,
-    ) -> Result<Option<Counts>, Fault>
+        consumer: &mut C,
+    ) -> Result<bool, Fault>
         requires began { (start : Self) × (from : I) × (groups : List (List (List Value)))
             × gave start from groups self.old input.old }
-        requires scan { IsFor (table self.old).columns.items (query_in answer.old).cond scan.now }
-        requires width { answer.old.width ≡ length (table self.old).columns.items }
-        requires rows { answer.old.rows ≡ given self.old }
-        ensures taken { IfOk result (λ next. IfSome next (TakesGroup
-            (table self.old).columns.items scan.now answer.old answer.new
+        requires fits { C.fits consumer.old (table self.old).columns.items }
+        requires rows { C.rows consumer.old ≡ given self.old }
+        ensures taken { IfOk result (λ came. IsTrue came → TakesGroup (table self.old).columns.items
             (λ group. (given self.new ≡ given self.old + length group)
             × ((start : Self) (from : I) (groups : List (List (List Value)))
             → gave start from groups self.old input.old
-            → gave start from (groups ++ group ∷ []) self.new input.new)))) }
-        ensures left { IfOk result (λ next. IfSome next (λ _. left self.new < left self.old)) }
-        ensures capacity { IfOk result (λ next. IfSome next (λ _. given self.new ≤ most_rows)) }
-        ensures table { IfOk result (λ next. IfSome next (λ _. table self.new ≡ table self.old)) }
-        ensures ended { IfOk result (λ next. IfNone next ((start : Self) (from : I)
+            → gave start from (groups ++ group ∷ []) self.new input.new))
+            C.fits C.rows C.over consumer.old consumer.new) }
+        ensures left { IfOk result (λ came. IsTrue came → left self.new < left self.old) }
+        ensures capacity { IfOk result (λ came. IsTrue came → given self.new ≤ most_rows) }
+        ensures table { IfOk result (λ came. IsTrue came → table self.new ≡ table self.old) }
+        ensures ended { IfOk result (λ came. came ≡ false → (start : Self) (from : I)
             (groups : List (List (List Value))) → gave start from groups self.old input.old
-            → ended start from groups self.new input.new)) }
-        ensures untouched { IfOk result (λ next. IfNone next (answer.new ≡ answer.old)) }
+            → ended start from groups self.new input.new) }
+        ensures untouched { IfOk result (λ came. came ≡ false → consumer.new ≡ consumer.old) }
         ensures refused { IfErr result (λ fault. (start : Self) (from : I)
             (groups : List (List (List Value))) → gave start from groups self.old input.old
             → failed start from self.new input.new fault) }

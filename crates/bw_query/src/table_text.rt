@@ -1,24 +1,24 @@
 //! The text of a result over a table's segments, one after another.
-ghost use Rattle.std.specs.Prelude.{◌≡◌, ◌+◌, ◌≤◌, [], false, IsTrue, IfOk, IfErr, length, vec_len};
+ghost use Rattle.std.specs.Prelude.{◌≡◌, ◌≤◌, [], false, IsTrue, IfOk, IfErr, OnOk, length, vec_len};
 ghost use Rattle.std.specs.List.{list_all};
-ghost use Rattle.bw_model.specs.Fault.{no_memory};
-ghost use Rattle.bw_model.specs.Limits.{most_rows};
 ghost use Rattle.bw_model.specs.Total.{item_within};
 ghost use Rattle.bw_sql.specs.Items.{AreOfOneKind};
+ghost use Rattle.bw_answer.specs.Answer.{is_count_all};
 ghost use Rattle.bw_answer.specs.Progress.{query_in};
 ghost use Rattle.bw_io.specs.Sink.{is_write_fault};
+ghost use Rattle.bw_query.specs.Consumers.{AnswersAll, IsCounted};
 ghost use Rattle.bw_query.specs.Scan.{IsFor};
-ghost use Rattle.bw_query.specs.Segments.{IsTextOf, TakesAll, TakesGroup};
-ghost use Rattle.bw_query.specs.declared.scan.Scan.TheVariants.{Program, Rows};
+ghost use Rattle.bw_query.specs.Segments.{IsTextOf, TakesAll};
 
+use crate::answer_consumer::AnswerConsumer;
+use crate::consumer::SegmentConsumer;
+use crate::match_counter::MatchCounter;
 use crate::scan::Scan;
 use crate::segments::Segments;
 use crate::served::{NOTHING_SCANNED, Scanned};
 use bw_answer::Answer;
-use bw_cert::Certified;
 use bw_model::{Fault, Query};
-use bw_run::{Counts, Registers, registers};
-use bw_segment::Segment;
+use bw_run::registers;
 use std::alloc::Global;
 
 /// The text of a result, and what was scanned for it.
@@ -30,6 +30,7 @@ pub(crate) struct TableText {
 
 /// Returns the text of the result of a query over a table, of which no segment came so far. It is
 /// complete once the last segment came and nothing follows.
+#[inline(always)]
 pub(crate) fn table_text<I, T: Segments<I>>(
     alloc: Global,
     segments: &mut T,
@@ -52,99 +53,140 @@ pub(crate) fn table_text<I, T: Segments<I>>(
 {
     let mut answer = Answer::new(alloc, segments.schema(), query)?;
     answer.reserve(segments.rows())?;
-    let scanned = take_rows(segments, input, scan, &mut answer)?;
+    let (answer, scanned) = take_rows(segments, input, scan, answer)?;
     Ok(TableText {
         text: answer.into_text()?,
         scanned,
     })
 }
 
-/// Consumes the rows of all segments, and returns what was scanned.
-fn take_rows<I, T: Segments<I>>(
+/// Has an answer consume the rows of all segments, or only their number if it needs nothing else.
+/// Returns it, and what was scanned.
+#[inline(always)]
+fn take_rows<'q, I, T: Segments<I>>(
     segments: &mut T,
     input: &mut I,
     scan: &Scan,
-    answer: &mut Answer<'_>,
-) -> Result<Scanned, Fault>
+    answer: Answer<'q>,
+) -> Result<(Answer<'q>, Scanned), Fault>
     requires fresh { T.gave segments.old input.old [] segments.old input.old }
     requires none { T.given segments.old ≡ 0 }
-    requires rows { answer.old.rows ≡ 0 }
-    requires width { answer.old.width ≡ length (T.table segments.old).columns.items }
-    requires scan { IsFor (T.table segments.old).columns.items (query_in answer.old).cond scan.now }
-    ensures taken { IfOk result (TakesAll (T.table segments.old).columns.items scan.now answer.old
-        answer.new (λ groups. T.ended segments.old input.old groups segments.new input.new)) }
+    requires rows { answer.rows ≡ 0 }
+    requires width { answer.width ≡ length (T.table segments.old).columns.items }
+    requires scan { IsFor (T.table segments.old).columns.items (query_in answer).cond scan.now }
+    ensures taken { IfOk result (λ done. AnswersAll (T.table segments.old).columns.items scan.now
+        answer.entry (λ groups. T.ended segments.old input.old groups segments.new input.new) done.0
+        done.1) }
+    ensures refused { IfErr result (T.failed segments.old input.old segments.new input.new) }
+    ensures fault { IfErr result (λ fault. is_write_fault fault ≡ false) }
+{
+    if counts_alone(scan, &answer) {
+        count_rows(segments, input, scan, answer)
+    } else {
+        answer_rows(segments, input, scan, answer)
+    }
+}
+
+/// Returns whether a query needs nothing but how many rows match, which the scan finds without an
+/// answer.
+fn counts_alone(scan: &Scan, answer: &Answer<'_>) -> bool
+    ensures counted { IsTrue result → IsCounted scan.now (query_in answer.now) }
+    ensures alone { IsTrue result
+        → IsTrue (list_all is_count_all (query_in answer.now).items.items) }
+{
+    match scan {
+        Scan::Program(_) => answer.only_counts(),
+        Scan::Rows => answer.counts_rows(),
+    }
+}
+
+/// Has an answer consume the rows of all segments. Returns it, and what was scanned.
+#[inline(always)]
+fn answer_rows<'q, I, T: Segments<I>>(
+    segments: &mut T,
+    input: &mut I,
+    scan: &Scan,
+    answer: Answer<'q>,
+) -> Result<(Answer<'q>, Scanned), Fault>
+    requires fresh { T.gave segments.old input.old [] segments.old input.old }
+    requires none { T.given segments.old ≡ 0 }
+    requires rows { answer.rows ≡ 0 }
+    requires width { answer.width ≡ length (T.table segments.old).columns.items }
+    requires scan { IsFor (T.table segments.old).columns.items (query_in answer).cond scan.now }
+    ensures taken { IfOk result (λ done. AnswersAll (T.table segments.old).columns.items scan.now
+        answer.entry (λ groups. T.ended segments.old input.old groups segments.new input.new) done.0
+        done.1) }
+    ensures refused { IfErr result (T.failed segments.old input.old segments.new input.new) }
+    ensures fault { IfErr result (λ fault. is_write_fault fault ≡ false) }
+{
+    let mut consumer = AnswerConsumer {
+        scan,
+        answer,
+        scanned: NOTHING_SCANNED,
+    };
+    take_all(segments, input, &mut consumer)?;
+    let AnswerConsumer {
+        scan: _,
+        answer,
+        scanned,
+    } = consumer;
+    Ok((answer, scanned))
+}
+
+/// Has an answer consume the rows of all segments, which it only counts: it gets their number once.
+/// Returns it, and what was scanned.
+#[inline(always)]
+fn count_rows<'q, I, T: Segments<I>>(
+    segments: &mut T,
+    input: &mut I,
+    scan: &Scan,
+    answer: Answer<'q>,
+) -> Result<(Answer<'q>, Scanned), Fault>
+    requires fresh { T.gave segments.old input.old [] segments.old input.old }
+    requires none { T.given segments.old ≡ 0 }
+    requires rows { answer.rows ≡ 0 }
+    requires counted { IsCounted scan.now (query_in answer) }
+    requires alone { IsTrue (list_all is_count_all (query_in answer).items.items) }
+    requires scan { IsFor (T.table segments.old).columns.items (query_in answer).cond scan.now }
+    ensures taken { IfOk result (λ done. AnswersAll (T.table segments.old).columns.items scan.now
+        answer.entry (λ groups. T.ended segments.old input.old groups segments.new input.new) done.0
+        done.1) }
+    ensures refused { IfErr result (T.failed segments.old input.old segments.new input.new) }
+    ensures fault { IfErr result (λ fault. is_write_fault fault ≡ false) }
+{
+    let mut counter = MatchCounter {
+        scan,
+        query: answer.query(),
+        rows: 0,
+        matches: 0,
+        scanned: NOTHING_SCANNED,
+    };
+    take_all(segments, input, &mut counter)?;
+    let (rows, matches, scanned) = (counter.rows, counter.matches, counter.scanned);
+    let mut answer = answer;
+    answer.take_matches(rows, matches);
+    Ok((answer, scanned))
+}
+
+/// Hands all segments to a consumer.
+#[inline(always)]
+fn take_all<I, T: Segments<I>, C: SegmentConsumer>(
+    segments: &mut T,
+    input: &mut I,
+    consumer: &mut C,
+) -> Result<(), Fault>
+    requires fresh { T.gave segments.old input.old [] segments.old input.old }
+    requires none { T.given segments.old ≡ 0 }
+    requires rows { C.rows consumer.old ≡ 0 }
+    requires fits { C.fits consumer.old (T.table segments.old).columns.items }
+    requires over { C.over consumer.old (T.table segments.old).columns.items [] consumer.old }
+    ensures taken { OnOk result (TakesAll (T.table segments.old).columns.items
+        (λ groups. T.ended segments.old input.old groups segments.new input.new) C.fits C.rows
+        C.over consumer.old consumer.new) }
     ensures refused { IfErr result (T.failed segments.old input.old segments.new input.new) }
     ensures fault { IfErr result (λ fault. is_write_fault fault ≡ false) }
 {
     let mut registers = registers();
-    let mut scanned = NOTHING_SCANNED;
-    while let Some(more) = segments.take_next(input, scan, &mut registers, answer)? {
-        scanned = scanned.plus(more);
-    }
-    Ok(scanned)
-}
-
-/// Consumes the rows of a segment: those that a program selects, or that the fallback does.
-/// Returns the counts of the program's run.
-pub(crate) fn take_segment<S: Segment>(
-    segment: &S,
-    scan: &Scan,
-    registers: &mut Registers,
-    answer: &mut Answer<'_>,
-) -> Result<Counts, Fault>
-    requires scan { IsFor (S.meaning segment.now).columns (query_in answer.old).cond scan.now }
-    requires width { answer.old.width ≡ length (S.meaning segment.now).columns }
-    requires capacity { answer.old.rows + length (S.meaning segment.now).rows ≤ most_rows }
-    ensures taken { IfOk result (TakesGroup (S.meaning segment.now).columns scan.now answer.old
-        answer.new (λ group. group ≡ (S.meaning segment.now).rows)) }
-    ensures only_oom { IfErr result (λ fault. fault ≡ no_memory) }
-{
-    match scan {
-        Scan::Program(certified) => take_by_program(segment, certified, registers, answer),
-        Scan::Rows => take_by_fallback(segment, answer),
-    }
-}
-
-/// Consumes the rows of a segment that a program selects, or only their number if nothing else is
-/// needed.
-fn take_by_program<S: Segment>(
-    segment: &S,
-    certified: &Certified,
-    registers: &mut Registers,
-    answer: &mut Answer<'_>,
-) -> Result<Counts, Fault>
-    requires scan { IsFor (S.meaning segment.now).columns (query_in answer.old).cond
-        (Program certified.now) }
-    requires width { answer.old.width ≡ length (S.meaning segment.now).columns }
-    requires capacity { answer.old.rows + length (S.meaning segment.now).rows ≤ most_rows }
-    ensures taken { IfOk result (TakesGroup (S.meaning segment.now).columns (Program certified.now)
-        answer.old answer.new (λ group. group ≡ (S.meaning segment.now).rows)) }
-    ensures only_oom { IfErr result (λ fault. fault ≡ no_memory) }
-{
-    certified.condition().same_meaning(&answer.query().cond);
-    if answer.only_counts() {
-        let (matches, counts) = certified.count_matches(segment, registers);
-        answer.take_matches(segment.rows_in(), matches);
-        return Ok(counts);
-    }
-    let (selection, counts) = certified.run_in(segment, registers);
-    answer.take_selected(segment, selection)?;
-    Ok(counts)
-}
-
-/// Consumes the rows of a segment that the fallback selects, or only their number if every row
-/// matches and nothing else is needed.
-fn take_by_fallback<S: Segment>(segment: &S, answer: &mut Answer<'_>) -> Result<Counts, Fault>
-    requires width { answer.old.width ≡ length (S.meaning segment.now).columns }
-    requires capacity { answer.old.rows + length (S.meaning segment.now).rows ≤ most_rows }
-    ensures taken { IfOk result (TakesGroup (S.meaning segment.now).columns Rows answer.old
-        answer.new (λ group. group ≡ (S.meaning segment.now).rows)) }
-    ensures only_oom { IfErr result (λ fault. fault ≡ no_memory) }
-{
-    if answer.counts_rows() {
-        answer.take_count(segment.rows_in());
-    } else {
-        answer.take_segment(segment)?;
-    }
-    Ok(Counts { loads: 0, skips: 0 })
+    while segments.take_next(input, &mut registers, consumer)? {}
+    Ok(())
 }

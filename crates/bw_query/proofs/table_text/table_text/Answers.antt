@@ -29,14 +29,14 @@ returns-in_err-reserve-clause-refused g c =
 
 pub returns-in_err-into_text-clause-refused : goal.returns-in_err-into_text-clause-refused
 returns-in_err-into_text-clause-refused g c =
-    let all = c.in_ok-scanned.ensures.taken in
+    let all = c.in_ok-answer-2.ensures.taken in
     let failed = g.met.T.Segments.fails_after c.args.segments.now c.args.input.now all.groups c.take_rows.new.segments c.take_rows.new.input all.all in
     rw (err_passed_on _ c.from_residual-in_err-into_text.ensures.1)
     (subst (λ (fault : Fault). g.T.Segments.failed c.args.segments.now c.args.input.now c.take_rows.new.segments c.take_rows.new.input fault) (sym c.in_err-into_text.ensures.only_oom) failed)
 
 pub returns-clause-text : goal.returns-clause-text
 returns-clause-text g c =
-    let all = c.in_ok-scanned.ensures.taken in
+    let all = c.in_ok-answer-2.ensures.taken in
     let names = names_of (g.T.Segments.table c.args.segments.now).columns.items in
     let query = c.args.query.now in
     let over = c.in_ok-reserve.ensures.covers names query [] (rw c.schema.ensures at c.in_ok-answer.ensures.covers) in

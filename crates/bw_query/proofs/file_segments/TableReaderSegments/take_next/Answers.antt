@@ -1,18 +1,16 @@
 -- The reader's next segment, its end or its error, after the groups so far.
-use Rattle.std.proofs.Common.{◌∙◌, List, ap, arith, length, subst, sym}
+use Rattle.std.proofs.Common.{List, arith, subst, sym}
 use Rattle.bw_model.proofs.ErrLemmas.{err_passed_on}
 use Rattle.bw_model.specs.declared.column.Column.{Column}
 use Rattle.bw_model.specs.declared.fault.Fault.{Fault}
-use Rattle.bw_answer.specs.Progress.{query_in}
 use Rattle.bw_file.specs.AnySegment.{any_is_group, any_meaning}
 use Rattle.bw_file.specs.Reading.{state_at}
 use Rattle.bw_file.specs.TableReader.{bytes_taken}
 use Rattle.bw_file.proofs.MemoryAnswers.{later_answers}
 use Rattle.bw_file.proofs.NextLemmas.{end_of, refusal_of, segment_of}
-use Rattle.bw_query.specs.Scan.{IsFor}
 use Rattle.bw_query.specs.SegmentLemmas.{file_fails_among}
 use Rattle.bw_query.specs.Segments.{HasFailed}
-use Rattle.bw_query.proofs.GroupLemmas.{given_more, takes_as}
+use Rattle.bw_query.proofs.GroupLemmas.{given_more, taken_as}
 use Rattle.bw_query.proofs.TableExits.{table_writes_nothing}
 use Rattle.bw_query.proofs.file_segments.TableReaderSegments.take_next.Goals as goal
 
@@ -25,15 +23,10 @@ pub returns-in_err-segment-clause-fault : goal.returns-in_err-segment-clause-fau
 returns-in_err-segment-clause-fault g c =
     rw (err_passed_on _ c.from_residual.ensures.1) (table_writes_nothing c.in_err-segment.field-0.0 (refusal_of c.in_err-segment.ensures c.requires.began.3.reading).own)
 
-pub take_either-taken-requires-clause-scan : goal.take_either-taken-requires-clause-scan
-take_either-taken-requires-clause-scan g c =
+pub take_either-taken-requires-clause-fits : goal.take_either-taken-requires-clause-fits
+take_either-taken-requires-clause-fits g c =
     let gave = segment_of (rw c.in-Some.is at c.in_ok-segment.ensures) in
-    subst (λ (columns : List Column). IsFor columns (query_in c.args.answer.now).cond c.args.scan.now) (sym gave.of_table.columns) c.requires.scan
-
-pub take_either-taken-requires-clause-width : goal.take_either-taken-requires-clause-width
-take_either-taken-requires-clause-width g c =
-    let gave = segment_of (rw c.in-Some.is at c.in_ok-segment.ensures) in
-    c.requires.width ∙ ap (λ (columns : List Column). length columns) (sym gave.of_table.columns)
+    subst (λ (columns : List Column). g.C.SegmentConsumer.fits c.args.consumer.now columns) (sym gave.of_table.columns) c.requires.fits
 
 pub take_either-taken-requires-clause-capacity : goal.take_either-taken-requires-clause-capacity
 take_either-taken-requires-clause-capacity g c =
@@ -50,21 +43,21 @@ returns-in_err-taken-in-Some-clause-refused g c =
     (sym c.in_err-taken-in-Some.ensures.only_oom) (file_fails_among _ start _ _ _ more))
 
 pub returns-in_ok-taken-in-Some-clause-taken : goal.returns-in_ok-taken-in-Some-clause-taken
-returns-in_ok-taken-in-Some-clause-taken g c =
+returns-in_ok-taken-in-Some-clause-taken g c = λ came.
     let gave = segment_of (rw c.in-Some.is at c.in_ok-segment.ensures) in
-    takes_as _ _ gave.of_table.columns c.args.scan.now _ _ (any_meaning c.in-Some.segment).rows _ _ c.in_ok-taken-in-Some.ensures.taken
-    (gave.row_count, λ start from groups given. given_more _ start groups _ _ _ _ c.in-Some.segment given gave)
+    taken_as _ _ gave.of_table.columns (any_meaning c.in-Some.segment).rows _ _ _ _ _ _
+    (gave.row_count, λ start from groups given. given_more _ start groups _ _ _ _ c.in-Some.segment given gave) c.in_ok-taken-in-Some.ensures.consumes
 
 pub returns-in_ok-taken-in-Some-clause-left : goal.returns-in_ok-taken-in-Some-clause-left
-returns-in_ok-taken-in-Some-clause-left g c =
+returns-in_ok-taken-in-Some-clause-left g c = λ came.
     let gave = segment_of (rw c.in-Some.is at c.in_ok-segment.ensures) in
     omega (arith, gave.of_table.count, gave.row_count, (any_is_group c.in-Some.segment).nonempty, gave.same.rows)
 
 pub returns-in_ok-taken-in-Some-clause-table : goal.returns-in_ok-taken-in-Some-clause-table
-returns-in_ok-taken-in-Some-clause-table g c = (segment_of (rw c.in-Some.is at c.in_ok-segment.ensures)).same.schema
+returns-in_ok-taken-in-Some-clause-table g c = λ came. (segment_of (rw c.in-Some.is at c.in_ok-segment.ensures)).same.schema
 
 pub returns-in-None-clause-ended : goal.returns-in-None-clause-ended
-returns-in-None-clause-ended g c = λ start from groups given.
+returns-in-None-clause-ended g c = λ none start from groups given.
     let ended = end_of (rw c.in-None.is at c.in_ok-segment.ensures) given.reading in
     record {
       read = λ begin read. rw (given.same.layout, given.same.schema) at (ended.whole begin groups (given.read begin read));

@@ -1,48 +1,53 @@
 -- The table's next segment, after those before it.
-use Rattle.std.proofs.Common.{◌≡◌, ◌∙◌, ◌*◌, ◌<◌, ◌≤◌, ℕ, ap, arith, length, refl, subst}
+use Rattle.std.proofs.Common.{◌∙◌, ◌*◌, ◌<◌, ◌≤◌, ℕ, ap, arith, length, refl, subst, sym}
 use Rattle.bw_model.specs.Groups.{group_size}
 use Rattle.bw_memory.specs.MemoryTable.{meaning_numbered, schema_of, segments_in}
 use Rattle.bw_memory.proofs.StoredSegmentLemmas.{length-rows, room_for}
 use Rattle.bw_segment.specs.Meaning.{Meaning}
-use Rattle.bw_query.specs.Segments.{TakesGroup, groups_before}
-use Rattle.bw_query.proofs.GroupLemmas.{before_more, rows_more, takes_as}
+use Rattle.bw_query.specs.Segments.{Consumes, groups_before}
+use Rattle.bw_query.proofs.GroupLemmas.{before_more, rows_more, taken_as}
 use Rattle.bw_query.proofs.memory_segments.MemorySegmentsSegmentsUnit.take_next.Goals as goal
 
 pub returns-then-self-segments-clause-ended : goal.returns-then-self-segments-clause-ended
-returns-then-self-segments-clause-ended g c = λ start from groups gave.
+returns-then-self-segments-clause-ended g c = λ none start from groups gave.
     gave.1 ∙ ap (λ (number : ℕ). groups_before start.table.now number) (c.if-self-segments.true ∙ c.segments.ensures ∙ ap segments_in gave.0)
 
-pub take_segment-requires-clause-capacity : goal.take_segment-requires-clause-capacity
-take_segment-requires-clause-capacity g c =
+pub take-requires-clause-fits : goal.take-requires-clause-fits
+take-requires-clause-fits g c =
+    subst (λ (m : Meaning). g.C.SegmentConsumer.fits c.args.consumer.now m.columns) (sym c.in_ok-segment.ensures.means) c.requires.fits
+
+pub take-requires-clause-capacity : goal.take-requires-clause-capacity
+take-requires-clause-capacity g c =
     let self = c.args.self.now in
     let table = self.table.now in
     let columns = (schema_of table).columns.items in
     let there : self.next < table.segments = omega (arith, self.within, c.if-self-segments.false, c.segments.ensures) in
-    let few : c.args.answer.now.rows ≤ group_size * self.next = omega (arith, c.requires.rows, length-rows table.layout columns table.rows self.next table.columns.items) in
+    let before = g.C.SegmentConsumer.rows c.args.consumer.now in
+    let few : before ≤ group_size * self.next = omega (arith, c.requires.rows, length-rows table.layout columns table.rows self.next table.columns.items) in
     let rows = ap (λ (means : Meaning). length means.rows) c.in_ok-segment.ensures.means in
-    omega (arith, rows, table.within_limit, room_for table.layout columns table.rows self.next c.args.answer.now.rows table.columns.items (table.kept.nonempty self.next there) few)
+    omega (arith, rows, table.within_limit, room_for table.layout columns table.rows self.next before table.columns.items (table.kept.nonempty self.next there) few)
 
 pub returns-clause-taken : goal.returns-clause-taken
-returns-clause-taken g c =
+returns-clause-taken g c = λ came.
     let self = c.args.self.now in
     let table = self.table.now in
     let same = c.next_segment.ensures.table in
     let next = c.in_ok-segment.ensures.next in
-    let taken = subst (λ (m : Meaning). TakesGroup m.columns c.args.scan.now c.args.answer.now c.take_segment.new.answer (λ group. group ≡ m.rows) c.in_ok-counts.counts)
-    c.in_ok-segment.ensures.means c.in_ok-counts.ensures.taken in
-    takes_as _ _ refl c.args.scan.now _ _ (meaning_numbered table self.next).rows _ _ taken
-    (rows_more table _ self.next _ same next, λ start from groups gave. before_more start.table.now table _ groups self.next _ gave.0 same next gave.1)
+    let consumed = subst (λ (m : Meaning). Consumes m.columns m.rows g.C.SegmentConsumer.fits g.C.SegmentConsumer.rows g.C.SegmentConsumer.over c.args.consumer.now c.take.new.self)
+    c.in_ok-segment.ensures.means c.in_ok-take.ensures.consumes in
+    taken_as _ _ refl (meaning_numbered table self.next).rows _ _ _ _ _ _
+    (rows_more table _ self.next _ same next, λ start from groups gave. before_more start.table.now table _ groups self.next _ gave.0 same next gave.1) consumed
 
 pub returns-clause-left : goal.returns-clause-left
-returns-clause-left g c =
+returns-clause-left g c = λ came.
     let self = c.args.self.now in
     omega (arith, self.within, c.if-self-segments.false, c.segments.ensures, ap segments_in c.next_segment.ensures.table, c.in_ok-segment.ensures.next)
 
 pub returns-clause-capacity : goal.returns-clause-capacity
-returns-clause-capacity g c =
+returns-clause-capacity g c = λ came.
     let self = c.next_segment.new.self in
     let table = self.table.now in
     omega (arith, table.within_limit, length-rows table.layout (schema_of table).columns.items table.rows self.next table.columns.items)
 
 pub returns-clause-table : goal.returns-clause-table
-returns-clause-table g c = ap schema_of c.next_segment.ensures.table
+returns-clause-table g c = λ came. ap schema_of c.next_segment.ensures.table

@@ -1,0 +1,82 @@
+-- What a result, or a count, has consumed of a table's segments.
+use Rattle.std.specs.Prelude.{◌≡◌, ◌≤◌, ◌+◌, ◌*◌, ℕ, List, length}
+use Rattle.bw_model.specs.declared.column.Column.{Column}
+use Rattle.bw_model.specs.declared.query.Query.{Query}
+use Rattle.bw_model.specs.Groups.{together}
+use Rattle.bw_model.specs.Row.{Value}
+use Rattle.bw_model.specs.Selection.{matching_rows}
+use Rattle.bw_answer.specs.Progress.{GoesOver, query_in}
+use Rattle.bw_answer.specs.TextAndTotals.{CountsRows}
+use Rattle.bw_answer.specs.declared.answer.Answer.{Answer}
+use Rattle.bw_run.specs.declared.run.Counts.{Counts}
+use Rattle.bw_query.specs.declared.answer_consumer.AnswerConsumer.{AnswerConsumer}
+use Rattle.bw_query.specs.declared.match_counter.MatchCounter.{MatchCounter}
+use Rattle.bw_query.specs.declared.scan.Scan.{Scan}
+use Rattle.bw_query.specs.declared.scan.Scan.TheVariants.{Program, Rows}
+use Rattle.bw_query.specs.declared.served.Scanned.{Scanned}
+use Rattle.bw_query.specs.Scan.{IsFor, loads_in, skips_in}
+use Rattle.bw_query.specs.Segments.{IsScanOf}
+
+-- the counts of a scan's run over a group of rows
+pub record IsRunOver (columns : List Column) (scan : Scan) (group : List (List Value))
+    (counts : Counts) : Type 0 where
+  pub loads : counts.loads ≡ loads_in columns scan group
+  pub skips : counts.skips ≡ skips_in columns scan group
+  pub bounded : counts.loads + counts.skips ≤ 4096
+
+-- An answer has consumed a group of rows, of which a scan found those that match, with these counts
+-- of its run.
+pub record AnswersGroup (columns : List Column) (scan : Scan) (old new : Answer)
+    (group : List (List Value)) (counts : Counts) : Type 0 where
+  pub covers : GoesOver old group new
+  pub width : new.width ≡ old.width
+  pub rows : new.rows ≡ old.rows + length group
+  pub run : IsRunOver columns scan group counts
+
+-- an answer has consumed all groups of a table, which were scanned
+pub record AnswersAll (columns : List Column) (scan : Scan) (old : Answer)
+    (All : List (List (List Value)) → Type 0) (new : Answer) (scanned : Scanned) : Type 0 where
+  pub groups : List (List (List Value))
+  pub all : All groups
+  pub covers : GoesOver old (together groups) new
+  pub counts : IsScanOf columns scan groups scanned
+
+-- At most one segment a row was scanned, with at most 4,096 loads and skips each. So the sums fit.
+pub record AreFew (rows : ℕ) (scanned : Scanned) : Type 0 where
+  pub segments : scanned.segments ≤ rows
+  pub loads : scanned.loads ≤ 4096 * scanned.segments
+  pub skips : scanned.skips ≤ 4096 * scanned.segments
+
+-- an answer can consume what a scan finds in segments of these columns
+pub record AnswersColumns (consumer : AnswerConsumer) (columns : List Column) : Type 0 where
+  pub scan : IsFor columns (query_in consumer.answer).cond consumer.scan.now
+  pub width : consumer.answer.width ≡ length columns
+  pub few : AreFew consumer.answer.rows consumer.scanned
+
+-- from the first state to the second an answer has consumed what a scan found in these groups
+pub record HasAnswered (start : AnswerConsumer) (columns : List Column)
+    (groups : List (List (List Value))) (now : AnswerConsumer) : Type 0 where
+  pub scan : now.scan.now ≡ start.scan.now
+  pub covers : GoesOver start.answer (together groups) now.answer
+  pub counts : IsScanOf columns start.scan.now groups now.scanned
+
+-- the fallback may be used to count rows only if every row matches
+abbrev pub IsCounted : Scan → Query → Type 0
+IsCounted (Program certified) query = Unit {0}
+IsCounted Rows query = CountsRows query
+
+-- the matching rows can be counted in segments of these columns
+pub record CountsColumns (counter : MatchCounter) (columns : List Column) : Type 0 where
+  pub scan : IsFor columns counter.query.now.cond counter.scan.now
+  pub counted : IsCounted counter.scan.now counter.query.now
+  pub matches : counter.matches ≤ counter.rows
+  pub few : AreFew counter.rows counter.scanned
+
+-- from the first state to the second the matching rows of these groups were counted
+pub record HasCounted (start : MatchCounter) (columns : List Column)
+    (groups : List (List (List Value))) (now : MatchCounter) : Type 0 where
+  pub scan : now.scan.now ≡ start.scan.now
+  pub query : now.query.now ≡ start.query.now
+  pub rows : length (together groups) ≡ now.rows
+  pub matches : length (matching_rows start.query.now.cond (together groups)) ≡ now.matches
+  pub counts : IsScanOf columns start.scan.now groups now.scanned

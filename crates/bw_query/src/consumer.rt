@@ -1,0 +1,32 @@
+//! What consumes the segments of a table.
+ghost use Rattle.std.specs.Prelude.{◌≡◌, ◌≤◌, ◌+◌, ℕ, List, OnOk, IfErr, length};
+ghost use Rattle.bw_model.specs.declared.column.Column.{Column};
+ghost use Rattle.bw_model.specs.Fault.{no_memory};
+ghost use Rattle.bw_model.specs.Limits.{most_rows};
+ghost use Rattle.bw_model.specs.Row.{Value};
+ghost use Rattle.bw_query.specs.Segments.{Consumes};
+
+use bw_model::Fault;
+use bw_run::Registers;
+use bw_segment::Segment;
+
+/// What consumes the segments of a table, one after another.
+pub(crate) trait SegmentConsumer {
+    /// It can consume segments of these columns.
+    ghost fits: { Self → List Column → Type 0 };
+
+    /// How many rows it has consumed.
+    ghost rows: { Self → ℕ };
+
+    /// From the first state to the second it has consumed these groups of rows of these columns.
+    ghost over: { Self → List Column → List (List (List Value)) → Self → Type 0 };
+
+    /// Consumes the rows of a segment. Programs run in the registers, whose content doesn't matter.
+    /// Errors: 801 if memory is refused.
+    fn take<S: Segment>(&mut self, segment: &S, registers: &mut Registers) -> Result<(), Fault>
+        requires fits { fits self.old (S.meaning segment.now).columns }
+        requires capacity { rows self.old + length (S.meaning segment.now).rows ≤ most_rows }
+        ensures consumes { OnOk result (Consumes (S.meaning segment.now).columns
+            (S.meaning segment.now).rows fits rows over self.old self.new) }
+        ensures only_oom { IfErr result (λ fault. fault ≡ no_memory) };
+}
