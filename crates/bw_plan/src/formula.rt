@@ -1,7 +1,7 @@
 //! The parts of a condition as instructions compute them: all comparisons of one column with
 //! literals that an AND or OR combines are one set of codes.
 use crate::columns::{is_nullable, width_of};
-use crate::limits::MAX_LIST;
+use crate::limits::{MANY_BITS, MAX_CONDITION_ROWS, MAX_CONDITION_ROWS_OF_MANY, MAX_LIST};
 use crate::sets::{Set, top_slice};
 use crate::unplanned::Unplanned;
 use bw_model::{Cond, Op, Operand, Schema, Truth};
@@ -31,18 +31,37 @@ pub(crate) enum Formula {
 /// A part, unless it has no program or memory was refused.
 pub(crate) type FormulaResult = Result<Formula, Unplanned>;
 
-/// Reads conditions under a schema.
+/// Reads a condition under a schema.
 #[derive(Clone, Copy)]
 pub(crate) struct Reader<'a> {
     pub(crate) alloc: Global,
     pub(crate) schema: &'a Schema,
+    /// How many comparisons of two columns it has read.
+    pub(crate) relations: usize,
+    /// The columns that it has read in comparisons, one in each bit.
+    pub(crate) columns: u64,
 }
 
 impl Reader<'_> {
+    /// Returns the most product rows of what it has read.
+    pub(crate) fn max_rows(&self) -> u32 {
+        let mut bits = 0u32;
+        for column in 0..64u8 {
+            if self.columns >> column & 1 == 1 {
+                bits = bits.saturating_add(width_of(self.schema, column));
+            }
+        }
+        if bits > MANY_BITS {
+            MAX_CONDITION_ROWS_OF_MANY
+        } else {
+            MAX_CONDITION_ROWS
+        }
+    }
+
     /// Returns a condition as instructions compute it, or its opposite if it is negated. Refuses
     /// what [`Reader::comparison`] does, and long lists.
     #[cycle(part)]
-    pub(crate) fn part_of(self, cond: &Cond, negated: bool) -> FormulaResult {
+    pub(crate) fn part_of(&mut self, cond: &Cond, negated: bool) -> FormulaResult {
         match cond {
             Cond::Always => Ok(Formula::Fixed(Truth::of(!negated))),
             Cond::Cmp(op, x, y) => self.comparison(*op, *x, *y, negated),
@@ -62,7 +81,7 @@ impl Reader<'_> {
     /// Returns the OR of some conditions, or else their AND, or its opposite if it is negated. A
     /// comparison is left out if it is the same as the one before.
     #[cycle(part)]
-    fn all_of(self, any: bool, conds: &[Cond], negated: bool) -> FormulaResult {
+    fn all_of(&mut self, any: bool, conds: &[Cond], negated: bool) -> FormulaResult {
         let mut parts = Vec::new(self.alloc);
         let mut before = None;
         for cond in conds {
@@ -75,7 +94,7 @@ impl Reader<'_> {
     }
 
     /// Returns `BETWEEN`, or its opposite if it is negated.
-    fn range(self, x: Operand, y: Operand, z: Operand, negated: bool) -> FormulaResult {
+    fn range(&mut self, x: Operand, y: Operand, z: Operand, negated: bool) -> FormulaResult {
         let mut parts = Vec::new(self.alloc);
         parts.push(self.comparison(Op::Ge, x, y, negated)?)?;
         parts.push(self.comparison(Op::Le, x, z, negated)?)?;
@@ -84,7 +103,7 @@ impl Reader<'_> {
 
     /// Returns `IN`, or its opposite if it is negated: first the set of the literals, however long
     /// it is, and then the other items.
-    fn list(self, x: Operand, items: &[Operand], negated: bool) -> FormulaResult {
+    fn list(&mut self, x: Operand, items: &[Operand], negated: bool) -> FormulaResult {
         if items.len() > MAX_LIST {
             return Err(Unplanned::NoProgram);
         }
@@ -100,7 +119,7 @@ impl Reader<'_> {
     }
 
     /// Returns `IS NULL`, or its opposite if it is negated.
-    fn null_test(self, x: Operand, negated: bool) -> FormulaResult {
+    fn null_test(&self, x: Operand, negated: bool) -> FormulaResult {
         if let Operand::Col(column) = x {
             let index = u8::try_from(column).ok().ok_or(Unplanned::NoProgram)?;
             if is_nullable(self.schema, index) {
@@ -113,7 +132,7 @@ impl Reader<'_> {
     /// Returns the OR of some parts, or else their AND. All sets of one column become one where the
     /// first of them was. If `only_short`, that isn't done if the set is long: it takes more product
     /// rows than the sets one after another.
-    fn combine(self, any: bool, mut parts: Vec<Formula>, only_short: bool) -> FormulaResult {
+    fn combine(&self, any: bool, mut parts: Vec<Formula>, only_short: bool) -> FormulaResult {
         for column in 0..64 {
             let mut set = self.combined_set(any, &parts, column, only_short)?;
             let has_set = set.is_some();
@@ -133,7 +152,7 @@ impl Reader<'_> {
     /// Returns what all sets of a column are together, if there are several, and if the set isn't
     /// long or may be.
     fn combined_set(
-        self,
+        &self,
         any: bool,
         parts: &[Formula],
         column: ColumnIndex,
@@ -161,53 +180,7 @@ fn is_same_comparison(before: Option<&Cond>, cond: &Cond) -> bool {
         if op == other && x == z && y == w)
 }
 
-/// What the comparisons of a condition name: the columns, one in each bit, and how many comparisons
-/// are of two columns.
-#[derive(Clone, Copy, Default)]
-pub(crate) struct Names {
-    columns: u64,
-    pub(crate) relations: usize,
-}
-
-impl Names {
-    /// Adds a column.
-    fn add(&mut self, column: ColumnIndex) {
-        self.columns |= 1 << (column % 64);
-    }
-
-    /// Returns how many bits the codes of the columns have.
-    pub(crate) fn bits(self, schema: &Schema) -> u32 {
-        let mut bits = 0u32;
-        for column in 0..64u8 {
-            if self.columns >> column & 1 == 1 {
-                bits = bits.saturating_add(width_of(schema, column));
-            }
-        }
-        bits
-    }
-}
-
 impl Formula {
-    /// Adds what its comparisons name.
-    #[cycle(names)]
-    pub(crate) fn add_names(&self, names: &mut Names) {
-        match self {
-            Formula::Codes(set) => names.add(set.column),
-            Formula::Columns(compared) => {
-                names.add(compared.left);
-                names.add(compared.right);
-                names.relations = names.relations.saturating_add(1);
-            }
-            Formula::All(_, parts) => {
-                for part in parts {
-                    part.add_names(names);
-                }
-            }
-            Formula::Test(part, ..) => part.add_names(names),
-            Formula::Null(..) | Formula::Fixed(_) | Formula::Done => {}
-        }
-    }
-
     /// Returns how many levels of parts it has.
     #[cycle(depth)]
     fn depth(&self) -> u32 {

@@ -34,4 +34,5 @@ mod skips;
 mod truths;
 mod unplanned;
 
-pub use planner::{Proposal, propose, propose_in_order};
+pub use planner::{Proposal, propose, propose_in_order, why_unplanned};
+pub use unplanned::Reason;

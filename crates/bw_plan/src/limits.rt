@@ -45,18 +45,26 @@ pub(crate) const MAX_CONDITION_ROWS: u32 = 70_000;
 
 /// The same if the condition's columns have more than `MANY_BITS` bits: the drawn conditions of
 /// `bench.py cliffs` over as many bits have no program, and 24,000 rows show that in 2 to 10 ms.
+/// Without it, the conditions that have none take an eighth longer in sum.
 pub(crate) const MAX_CONDITION_ROWS_OF_MANY: u32 = 24_000;
 
 /// The bits of seven columns of 63 bits, which may be compared with one another in a row.
 pub(crate) const MANY_BITS: u32 = 441;
 
 /// From so many product rows on, an AND or OR has no program if its parts would pass the limit by
-/// as many rows each as those so far. Without it, the conditions of `test_conditions` that have no
-/// program take up to twice as long, 10 to 20 ms more each; it costs no condition its program.
+/// as many rows each as those so far. Without it, the conditions of `test_conditions` and of
+/// `bench.py cliffs` that have no program take twice as long in sum, and four more have one that
+/// takes as long to plan as the largest.
 pub(crate) const ROWS_BEFORE_FORECAST: u32 = 3000;
 
-/// The most product rows of a certificate. The largest of the same conditions takes 97,446.
-pub(crate) const MAX_ROWS: u32 = 100_000;
+/// The most product rows of a certificate: as many take 20 MB to plan. Seven columns of 63 bits that
+/// are each less than the next take 76,602. To repeat it: count the lines ROW of `bw plan`.
+pub(crate) const MAX_ROWS: u32 = 80_000;
+
+/// The number of top bytes of a number after which a comparison with it may end early. Of 512 rows
+/// hardly one has three bytes by chance; with a skip after each of eight bytes, an OR of 120 `x = n`
+/// takes 97,446 product rows, and not 55,262.
+pub(crate) const SKIPPED_BYTES: u8 = 3;
 
 /// A condition whose own lines take as many product rows has no skips from part to part: to prove
 /// them takes several times as many. With them, eight more conditions of `test_conditions` have

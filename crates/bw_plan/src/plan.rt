@@ -1,7 +1,5 @@
 //! With which skips a condition is compiled.
-use crate::formula::Names;
 use crate::limits::{MAX_ROWS_TO_SKIP, MAX_ROWS_TO_SKIP_PARTS, MAX_SQUARES};
-use crate::unplanned::Unplanned;
 
 /// With which skips a condition is compiled.
 #[derive(Clone, Copy)]
@@ -10,54 +8,36 @@ pub(crate) struct Plan {
     pub(crate) skips: bool,
     /// Whether there are skips from part to part of the condition.
     pub(crate) between_parts: bool,
-    /// The number of the instruction at which a skip is left out.
-    pub(crate) omitted: Option<usize>,
-    /// How many top bits of two columns are compared from the top down, with skips.
-    pub(crate) top_bits: u32,
+    /// How many top bits of two columns are compared from the top down, if there are skips.
+    top_bits: u32,
     /// How many product rows the condition's own lines take.
     pub(crate) rows: u32,
 }
 
 impl Plan {
-    /// Returns all skips, those alone that aren't between parts, or none, for a condition of so many
-    /// product rows.
-    pub(crate) fn new(names: Names, rows: u32) -> Self {
-        let each = MAX_SQUARES / names.relations.max(1);
-        let skips = rows < MAX_ROWS_TO_SKIP;
+    /// Returns the plan with the most skips, for a condition of so many product rows that compares
+    /// two columns so many times.
+    pub(crate) fn new(relations: usize, rows: u32) -> Self {
+        let each = MAX_SQUARES / relations.max(1);
         Plan {
-            skips,
+            skips: rows < MAX_ROWS_TO_SKIP,
             between_parts: rows < MAX_ROWS_TO_SKIP_PARTS,
-            omitted: None,
-            top_bits: each.isqrt().min(63) as u32 * u32::from(skips),
+            top_bits: each.isqrt().min(63) as u32,
             rows,
         }
     }
 
-    /// Returns the plan without a skip by which a value isn't known, if that is known, or else
-    /// without any between parts.
-    pub(crate) fn without(self, skip: Option<usize>) -> Result<Self, Unplanned> {
-        if !self.between_parts {
-            return self.without_skips();
-        }
-        let omitted = if self.omitted.is_none() { skip } else { None };
-        Ok(Plan {
-            between_parts: omitted.is_some(),
-            omitted,
+    /// Returns the plan with skips within parts alone, or else without any.
+    pub(crate) fn with_fewer_skips(self) -> Self {
+        Plan {
+            skips: self.between_parts,
+            between_parts: false,
             ..self
-        })
+        }
     }
 
-    /// Returns the plan without skips. Refuses if this is it.
-    pub(crate) fn without_skips(self) -> Result<Self, Unplanned> {
-        if !self.skips {
-            return Err(Unplanned::NoProgram);
-        }
-        Ok(Plan {
-            skips: false,
-            between_parts: false,
-            omitted: None,
-            top_bits: 0,
-            ..self
-        })
+    /// Returns how many top bits of two columns are compared from the top down.
+    pub(crate) fn top_bits(self) -> u32 {
+        self.top_bits * u32::from(self.skips)
     }
 }

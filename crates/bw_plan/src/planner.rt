@@ -7,12 +7,10 @@ ghost use Rattle.bw_cert_text.specs.Columns.{has_columns};
 ghost use Rattle.bw_plan.specs.Refusal.{IsRefusal};
 
 use crate::code::Code;
-use crate::formula::{Formula, Names, Reader};
-use crate::limits::{
-    MANY_BITS, MAX_CONDITION_ROWS, MAX_CONDITION_ROWS_OF_MANY, MAX_ROWS, ROWS_BEFORE_FORECAST,
-};
+use crate::formula::{Formula, Reader};
+use crate::limits::{MAX_ROWS, ROWS_BEFORE_FORECAST};
 use crate::plan::Plan;
-use crate::unplanned::Unplanned;
+use crate::unplanned::{Reason, Unplanned};
 use bw_cert_text::Certificate;
 use bw_model::{Cond, Fault, Schema};
 use bw_program::{Instr, Program, Register};
@@ -60,34 +58,70 @@ pub fn propose_in_order<'a>(
         IsTrue (has_columns schema.now.columns.items (certificate_fields proposal.certificate))) }
     ensures fault { IfErr result IsRefusal }
 {
-    let part = Reader { alloc, schema }.part_of(order, false)?;
-    let mut names = Names::default();
-    part.add_names(&mut names);
-    let rows = if names.bits(schema) > MANY_BITS {
-        MAX_CONDITION_ROWS_OF_MANY
-    } else {
-        MAX_CONDITION_ROWS
-    };
-    let mut prover = Prover::new(alloc, schema, cond, rows, ROWS_BEFORE_FORECAST).map_err(
-        Unplanned::from,
-    )?;
-    let mut plan = Plan::new(names, prover.rows());
-    for _ in 0..4 {
-        plan = match proposal_by(alloc, schema, &mut prover, &part, plan) {
-            Ok(proposal) => return Ok(proposal),
-            Err(Unplanned::Unknown(skip)) => plan.without(skip)?,
-            Err(Unplanned::TooLong) => plan.without_skips()?,
-            Err(refusal) => return Err(Fault::from(refusal)),
-        };
+    match planned(alloc, schema, cond, order) {
+        Ok(proposal) => Ok(proposal),
+        Err(refusal) => Err(Fault::from(refusal)),
     }
-    Err(Fault::from(Unplanned::NoProgram))
+}
+
+/// Returns why [`propose`] proposes no program for a condition, unless it proposes one.
+pub fn why_unplanned(alloc: Global, schema: &Schema, cond: &Cond) -> Option<Reason> {
+    match planned(alloc, schema, cond, cond) {
+        Ok(_) => None,
+        Err(refusal) => Some(Reason::from(refusal)),
+    }
+}
+
+/// Returns what `propose_in_order` does, or why it doesn't.
+fn planned<'a>(
+    alloc: Global,
+    schema: &'a Schema,
+    cond: &Cond,
+    order: &Cond,
+) -> Result<Proposal<'a>, Unplanned>
+    ensures program { IfOk result (λ proposal.
+        IsTrue (fits schema.now.columns.items proposal.program)) }
+    ensures certificate { IfOk result (λ proposal.
+        IsTrue (has_columns schema.now.columns.items (certificate_fields proposal.certificate))) }
+{
+    let mut reader = Reader {
+        alloc,
+        schema,
+        relations: 0,
+        columns: 0,
+    };
+    let part = reader.part_of(order, false)?;
+    let rows = reader.max_rows();
+    let mut prover = prover_of(alloc, schema, cond, rows)?;
+    let mut plan = Plan::new(reader.relations, prover.rows());
+    for _ in 0..2 {
+        match proposal_by(alloc, schema, prover, &part, plan) {
+            Ok(proposal) => return Ok(proposal),
+            Err(Unplanned::TooLong | Unplanned::Unproved) if plan.skips => {
+                plan = plan.with_fewer_skips();
+            }
+            Err(refusal) => return Err(refusal),
+        }
+        prover = prover_of(alloc, schema, cond, rows)?;
+    }
+    proposal_by(alloc, schema, prover, &part, plan)
+}
+
+/// Returns the proof of a program, begun with its condition, which takes at most so many rows.
+fn prover_of<'a>(
+    alloc: Global,
+    schema: &'a Schema,
+    cond: &Cond,
+    rows: u32,
+) -> Result<Prover<'a>, Unplanned> {
+    Ok(Prover::new(alloc, schema, cond, rows, ROWS_BEFORE_FORECAST)?)
 }
 
 /// Returns a program of a condition by one plan.
 fn proposal_by<'a>(
     alloc: Global,
     schema: &'a Schema,
-    prover: &mut Prover<'a>,
+    prover: Prover<'a>,
     part: &Formula,
     plan: Plan,
 ) -> Result<Proposal<'a>, Unplanned>

@@ -18,7 +18,7 @@ impl Code<'_> {
     pub(crate) fn relation(&mut self, relation: ColumnComparison) -> Made {
         let left = width_of(self.schema, relation.left);
         let bits = left.max(width_of(self.schema, relation.right));
-        let low = bits.saturating_sub(self.plan.top_bits);
+        let low = bits.saturating_sub(self.plan.top_bits());
         if low == bits {
             return self.lows(relation, low);
         }

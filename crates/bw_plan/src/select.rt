@@ -1,6 +1,6 @@
 //! Instructions that compare a column's codes with numbers, from the most significant byte down.
 use crate::code::{Code, Connective, Made};
-use crate::limits::MAX_LIST_ROWS;
+use crate::limits::{MAX_LIST_ROWS, SKIPPED_BYTES};
 use crate::registers::Value;
 use crate::sets::{Set, bounds_below, byte_of, top_slice};
 use crate::unplanned::Unplanned;
@@ -48,7 +48,9 @@ impl Code<'_> {
         let first = self.open_skips();
         let same = self.value(Value::Equal(column, top, byte_of(code, top)))?;
         for slice in (0..top).rev() {
-            self.skip(same)?;
+            if top - slice <= SKIPPED_BYTES {
+                self.skip(same)?;
+            }
             let next = self.value(Value::Equal(column, slice, byte_of(code, slice)))?;
             self.join_into(Connective::And, same, next)?;
         }

@@ -41,10 +41,6 @@ impl Code<'_> {
         }
         self.meet();
         let number = self.instrs.len();
-        if self.plan.omitted == Some(number) {
-            self.plan.omitted = None;
-            return Ok(());
-        }
         let registers = self.registers;
         self.put(Instr::Skip(register, 0))?;
         self.skips.count = self.skips.count.saturating_add(1);

@@ -6,10 +6,10 @@ use crate::limits::{MANY_LEVELS, SKIPPED_PARTS};
 use crate::registers::Value;
 use crate::sets::Set;
 use crate::unplanned::Unplanned;
-use bw_diagram::ChainKind;
+use bw_diagram::{ChainKind, TruthPair};
 use bw_model::Truth;
 use bw_program::{ColumnIndex, Register};
-use bw_prover::{ColumnComparison, TruthPair, VariableOrder};
+use bw_prover::{ColumnComparison, VariableOrder};
 
 /// Whether the register of where a condition is TRUE is needed, and that of where it is FALSE.
 type WantedTruths = TruthPair<bool>;

@@ -8,15 +8,39 @@ use std::alloc::{AllocError, AllocFailed};
 /// Why there is no proposal, or none by a plan.
 #[derive(Clone, Copy)]
 pub(crate) enum Unplanned {
-    /// A limit would be passed by each plan, or a form has no rule.
+    /// The certificate would pass a limit, a form has no rule, or the fallback is faster.
     NoProgram,
-    /// The program has too many instructions, or takes too many registers.
+    /// By this plan, the program takes too many instructions or registers.
     TooLong,
-    /// A value can't be proved to be the same by each way, for the skip of this number if that is
-    /// known.
-    Unknown(Option<usize>),
+    /// By this plan, a value can't be proved to be the same by each way.
+    Unproved,
     /// Memory was refused.
     NoMemory,
+}
+
+/// Why the planner proposes no program for a condition.
+#[derive(Clone, Copy, PartialEq, Eq)]
+pub enum Reason {
+    /// A certificate would pass a limit of nodes, chains or product rows, there is no rule for it,
+    /// or the fallback searches a list faster.
+    Limit,
+    /// A program would have too many instructions, or take too many registers.
+    Length,
+    /// No certificate was found for a program.
+    Uncertified,
+    /// Memory was refused.
+    Memory,
+}
+
+impl From<Unplanned> for Reason {
+    fn from(refusal: Unplanned) -> Self {
+        match refusal {
+            Unplanned::NoProgram => Reason::Limit,
+            Unplanned::TooLong => Reason::Length,
+            Unplanned::Unproved => Reason::Uncertified,
+            Unplanned::NoMemory => Reason::Memory,
+        }
+    }
 }
 
 impl From<AllocError> for Unplanned {
@@ -35,8 +59,7 @@ impl From<Unproved> for Unplanned {
     fn from(unproved: Unproved) -> Self {
         match unproved {
             Unproved::Memory => Unplanned::NoMemory,
-            Unproved::Unknown { skip, .. } => Unplanned::Unknown(Some(skip)),
-            Unproved::Unordered => Unplanned::Unknown(None),
+            Unproved::Unknown { .. } | Unproved::Unordered => Unplanned::Unproved,
             _ => Unplanned::NoProgram,
         }
     }

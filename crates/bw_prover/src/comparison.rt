@@ -9,18 +9,10 @@ use bw_program::ColumnIndex;
 pub enum Comparison {
     /// The same truth on every row.
     Fixed(Truth),
-    Literal(LiteralComparison),
+    /// A comparison of a column's code with a number.
+    Literal(ColumnIndex, Bound),
+    /// A comparison of the codes of two columns.
     Columns(ColumnComparison),
-}
-
-/// A comparison of a column with a number: its code is less than (equal to) the limit, or isn't if
-/// `negated`.
-#[derive(Clone, Copy)]
-pub struct LiteralComparison {
-    pub kind: ChainKind,
-    pub column: ColumnIndex,
-    pub limit: i128,
-    pub negated: bool,
 }
 
 /// A comparison of two columns of the same minimum: the left one's code is less than (equal to) the
@@ -48,31 +40,16 @@ pub fn compare(schema: &Schema, op: Op, x: Operand, y: Operand) -> Option<Compar
     }
 }
 
-/// Returns a column's minimum, if the schema has the column.
-fn minimum_of(schema: &Schema, column: usize) -> Option<i64> {
-    let found = schema.columns.get(column)?;
-    Some(found.lo)
-}
-
 /// Returns the comparison of a column with a literal.
 fn with_literal(schema: &Schema, op: Op, column: usize, n: i64) -> Option<Comparison> {
-    let lo = minimum_of(schema, column)?;
-    let Bound {
-        kind,
-        limit,
-        negated,
-    } = Bound::of(op, n, lo);
-    Some(Comparison::Literal(LiteralComparison {
-        kind,
-        column: column_index(schema, column)?,
-        limit,
-        negated,
-    }))
+    let index = column_index(schema, column)?;
+    let bound = Bound::of(op, n, schema.columns.get(column)?.lo);
+    Some(Comparison::Literal(index, bound))
 }
 
 /// Returns the comparison of two columns of the same minimum.
 fn with_column(schema: &Schema, op: Op, c: usize, d: usize) -> Option<Comparison> {
-    if minimum_of(schema, c)? != minimum_of(schema, d)? {
+    if schema.columns.get(c)?.lo != schema.columns.get(d)?.lo {
         return None;
     }
     let order = Order::of(op, c, d);

@@ -2,26 +2,22 @@
 //! where it is FALSE.
 ghost use Rattle.std.specs.Prelude.{◌≤◌};
 
-use crate::chains::Link;
+use crate::chain::Link;
 use crate::columns::{column_index, width_of};
-use crate::comparison::{ColumnComparison, Comparison, LiteralComparison, compare};
+use crate::comparison::{ColumnComparison, Comparison, compare};
 use crate::facts::Cited;
-use crate::line::ProofLine;
 use crate::order::VariableOrder;
-use crate::proof::Proof;
-use crate::stop::Stop;
-use bw_cert_text::ConditionEntry;
-use bw_diagram::{ChainKind, Connective, TruthPair};
+use crate::prover::Prover;
+use crate::unproved::Stop;
+use bw_cert_text::{ConditionEntry, Entry};
+use bw_diagram::{Bound, ChainKind, Connective, TruthPair};
 use bw_model::{Cond, Op, Operand, Truth};
 use bw_program::ColumnIndex;
 
 /// The node that is 1 where a condition is TRUE, and the node that is 1 where it is FALSE.
-pub(crate) type TruthNodes = TruthPair<u32>;
+type TruthNodes = TruthPair<u32>;
 
-/// The order of variables of a condition's rows.
-const ORDER: VariableOrder = VariableOrder::Whole;
-
-impl Proof<'_> {
+impl Prover<'_> {
     /// Returns the nodes of a condition, and appends the lines of its steps, operands first.
     #[cycle(steps)]
     pub(crate) fn steps(&mut self, cond: &Cond) -> Result<TruthNodes, Stop> {
@@ -68,7 +64,7 @@ impl Proof<'_> {
     fn forecast(&self, before: u32, joined: usize, parts: usize) -> Result<(), Stop> {
         let products = &self.facts.products;
         let taken = i128::from(products.len()) - i128::from(before);
-        let left = i128::from(products.limit()) - i128::from(before);
+        let left = i128::from(products.limit) - i128::from(before);
         let each = taken / (joined as i128).max(1);
         if products.len() >= self.forecast_from && each > left / (parts as i128).max(1) {
             return Err(Stop::Limit);
@@ -89,15 +85,14 @@ impl Proof<'_> {
 
     /// Appends the line of a step, and returns its nodes.
     fn put_step(&mut self, entry: ConditionEntry, yes: u32, no: u32) -> Result<TruthNodes, Stop> {
-        self.lines.push(ProofLine::Condition(entry))?;
-        Ok(TruthNodes::of(yes, no))
+        self.put(Entry::Condition(entry))?;
+        Ok(TruthPair::of(yes, no))
     }
 
     /// Returns the nodes of a step with one truth on every row.
     fn put_fixed(&mut self, truth: Truth) -> Result<TruthNodes, Stop> {
-        let yes = u32::from(truth == Truth::Yes);
-        let no = u32::from(truth == Truth::No);
-        self.put_step(ConditionEntry::Fixed, yes, no)
+        let (yes, no) = (truth == Truth::Yes, truth == Truth::No);
+        self.put_step(ConditionEntry::Fixed, u32::from(yes), u32::from(no))
     }
 
     /// Returns the nodes of two parts, combined by OR, or else by AND.
@@ -107,13 +102,9 @@ impl Proof<'_> {
         a: TruthNodes,
         b: TruthNodes,
     ) -> Result<TruthNodes, Stop> {
-        let (yes, no) = if any {
-            (Connective::Or, Connective::And)
-        } else {
-            (Connective::And, Connective::Or)
-        };
-        let yes = self.facts.row(ORDER, yes, a.yes, b.yes)?;
-        let no = self.facts.row(ORDER, no, a.no, b.no)?;
+        let ops = TruthPair::of(Connective::And, Connective::Or).opposite_if(any);
+        let yes = self.facts.row(ops.yes, a.yes, b.yes)?;
+        let no = self.facts.row(ops.no, a.no, b.no)?;
         let (i, j) = (yes.reference(), no.reference());
         let entry = if any {
             ConditionEntry::Or(i, j)
@@ -129,7 +120,7 @@ impl Proof<'_> {
             Truth::Yes => made.yes,
             Truth::No => made.no,
             Truth::Unknown => {
-                let known = self.facts.row(ORDER, Connective::Or, made.yes, made.no)?;
+                let known = self.facts.row(Connective::Or, made.yes, made.no)?;
                 let other = self.opposite(known.node)?;
                 let entry = ConditionEntry::IsUnknown(known.reference(), other.reference());
                 return self.put_step(entry, other.node, known.node);
@@ -141,7 +132,7 @@ impl Proof<'_> {
 
     /// Returns the row of a node's complement.
     fn opposite(&mut self, node: u32) -> Result<Cited, Stop> {
-        self.facts.row(ORDER, Connective::Diff, 1, node)
+        self.facts.row(Connective::Diff, 1, node)
     }
 
     /// Returns the nodes of `IS NULL`.
@@ -161,7 +152,7 @@ impl Proof<'_> {
     fn put_comparison(&mut self, op: Op, x: Operand, y: Operand) -> Result<TruthNodes, Stop> {
         match compare(self.facts.schema, op, x, y).ok_or(Stop::NoRule)? {
             Comparison::Fixed(truth) => self.put_fixed(truth),
-            Comparison::Literal(compared) => self.put_literal_comparison(compared),
+            Comparison::Literal(column, bound) => self.put_literal_comparison(column, bound),
             Comparison::Columns(compared) => self.put_columns(compared),
         }
     }
@@ -176,33 +167,31 @@ impl Proof<'_> {
         Ok((Some(values.reference()), values.node))
     }
 
-    /// Returns the number of a comparison's chain and its node: none, and a terminal, if that is
-    /// its outcome for all codes.
-    fn outcome(&mut self, terminal: Option<u32>, link: Link) -> Result<(Option<u64>, u32), Stop>
-        requires { link.len ≤ 63 }
-    {
-        if let Some(terminal) = terminal {
-            return Ok((None, terminal));
-        }
-        let chain = self.facts.chain(link)?;
-        Ok((Some(chain.reference()), chain.node))
+    /// Returns the rows of where node `m` is 1 and node `e` is 1, or is 0.
+    fn sides(&mut self, m: u32, e: u32) -> Result<TruthPair<Cited>, Stop> {
+        let yes = self.facts.row(Connective::And, m, e)?;
+        let no = self.facts.row(Connective::Diff, m, e)?;
+        Ok(TruthPair::of(yes, no))
     }
 
     /// Returns the nodes of a comparison of a column with a number.
-    fn put_literal_comparison(&mut self, compared: LiteralComparison) -> Result<TruthNodes, Stop> {
-        let LiteralComparison {
-            kind,
-            column,
-            limit,
-            ..
-        } = compared;
+    fn put_literal_comparison(
+        &mut self,
+        column: ColumnIndex,
+        bound: Bound,
+    ) -> Result<TruthNodes, Stop> {
         let width = width_of(self.facts.schema, column).ok_or(Stop::NoRule)?;
-        let bound = u64::try_from(limit).unwrap_or(0);
-        let link = Link::of(kind, column, 0, width, bound);
         let (value, m) = self.values(column)?;
-        let (chain, e) = self.outcome(terminal_of(kind, limit, width), link)?;
-        let yes = self.facts.row(ORDER, Connective::And, m, e)?;
-        let no = self.facts.row(ORDER, Connective::Diff, m, e)?;
+        let (chain, e) = match bound.terminal(width) {
+            Some(terminal) => (None, terminal),
+            None => {
+                let limit = bound.limit as u64;
+                let link = Link::of(bound.kind, column, 0, width, limit);
+                let chain = self.facts.chain(link)?;
+                (Some(chain.reference()), chain.node)
+            }
+        };
+        let TruthPair { yes, no } = self.sides(m, e)?;
         let entry = ConditionEntry::Compare {
             chain,
             value,
@@ -210,7 +199,7 @@ impl Proof<'_> {
             no: no.reference(),
         };
         let made = self.put_step(entry, yes.node, no.node)?;
-        Ok(made.opposite_if(compared.negated))
+        Ok(made.opposite_if(bound.negated))
     }
 
     /// Returns the nodes of a comparison of two columns, the shorter one with zeros above its top
@@ -220,27 +209,20 @@ impl Proof<'_> {
             kind,
             left,
             right,
-            ..
+            negated,
+            swapped,
         } = compared;
-        let order = VariableOrder::Places(right);
-        let width = width_of(self.facts.schema, left).ok_or(Stop::NoRule)?;
-        let len = width.max(width_of(self.facts.schema, right).ok_or(Stop::NoRule)?);
-        let link = Link {
-            right: Some(right),
-            ..Link::of(kind, left, 0, len, 0)
-        };
-        let terminal = (left == right).then_some(u32::from(kind == ChainKind::Equal));
-        let [first, second] = if compared.swapped {
+        let [first, second] = if swapped {
             [right, left]
         } else {
             [left, right]
         };
         let (first, m) = self.values(first)?;
         let (second, n) = self.values(second)?;
-        let both = self.facts.row(order, Connective::And, m, n)?;
-        let (chain, e) = self.outcome(terminal, link)?;
-        let yes = self.facts.row(order, Connective::And, both.node, e)?;
-        let no = self.facts.row(order, Connective::Diff, both.node, e)?;
+        self.facts.order.choose(VariableOrder::Places(right));
+        let both = self.facts.row(Connective::And, m, n)?;
+        let (chain, e) = self.order_of(kind, left, right)?;
+        let TruthPair { yes, no } = self.sides(both.node, e)?;
         let entry = ConditionEntry::CompareColumns {
             chain,
             left: first,
@@ -249,21 +231,29 @@ impl Proof<'_> {
             yes: yes.reference(),
             no: no.reference(),
         };
+        self.facts.order.choose(VariableOrder::Whole);
         let made = self.put_step(entry, yes.node, no.node)?;
-        Ok(made.opposite_if(compared.negated))
+        Ok(made.opposite_if(negated))
     }
-}
 
-/// Returns the terminal that says whether a number of this many bits is less than (equal to) the
-/// limit, if none or every such number is.
-fn terminal_of(kind: ChainKind, limit: i128, width: u32) -> Option<u32>
-    requires { width ≤ 63 }
-{
-    let past = limit >= 1 << width;
-    match kind {
-        ChainKind::Less if limit <= 0 => Some(0),
-        ChainKind::Less if past => Some(1),
-        ChainKind::Equal if limit < 0 || past => Some(0),
-        _ => None,
+    /// Returns the number of the chain over two columns, and its node: none, and a terminal, if
+    /// they are one column.
+    fn order_of(
+        &mut self,
+        kind: ChainKind,
+        left: ColumnIndex,
+        right: ColumnIndex,
+    ) -> Result<(Option<u64>, u32), Stop> {
+        if left == right {
+            return Ok((None, u32::from(kind == ChainKind::Equal)));
+        }
+        let width = width_of(self.facts.schema, left).ok_or(Stop::NoRule)?;
+        let len = width.max(width_of(self.facts.schema, right).ok_or(Stop::NoRule)?);
+        let link = Link {
+            right: Some(right),
+            ..Link::of(kind, left, 0, len, 0)
+        };
+        let chain = self.facts.chain(link)?;
+        Ok((Some(chain.reference()), chain.node))
     }
 }

@@ -1,58 +1,49 @@
-//! Certificates, from facts and lines.
+//! Certificates, from facts and the lines that reference them.
 ghost use Rattle.std.specs.Prelude.{IsTrue, IfOk};
 ghost use Rattle.bw_cert_text.specs.CertificateFields.{certificate_fields};
 ghost use Rattle.bw_cert_text.specs.Columns.{has_columns, is_column};
 ghost use Rattle.bw_prover.specs.ChainNames.{is_chain_named, are_chains_named};
 
-use crate::chains::Link;
+use crate::chain::Link;
+use crate::facts::Facts;
 use crate::ledger::Ledger;
-use crate::nodes::Nodes;
-use crate::products::Products;
-use crate::proof::Proof;
-use crate::stop::Stop;
-use bw_cert_text::{Body, BodyLine, Certificate, ChainLine, EndLine, NodeLine, ProductLine};
-use bw_diagram::ChainColumns;
+use crate::product::ProductRow;
+use crate::unproved::Stop;
+use bw_cert_text::{Body, Certificate, ChainLine, EndLine, NodeLine, ProductLine};
+use bw_diagram::{ChainColumns, Node};
 use bw_model::Schema;
 use bw_program::ColumnIndex;
 use std::alloc::Global;
 
-/// Returns the number of the next line, after which the next one is another.
-fn take(next: &mut u64) -> Result<u64, Stop> {
-    let line = *next;
-    *next = line.checked_add(1).ok_or(Stop::Limit)?;
-    Ok(line)
-}
+/// The number of every line: a certificate that isn't read from a file has no lines there.
+pub(crate) const NO_LINE: u64 = 0;
 
-/// Returns the certificate of a proof, numbered as in a program file: its lines come after those of
-/// a program of this many instructions, and `row` ends it.
+/// Returns the certificate of facts and the lines that reference them, which `row` ends.
 pub(crate) fn certificate<'a>(
     alloc: Global,
     schema: &'a Schema,
-    proof: &Proof<'_>,
-    instructions: usize,
+    facts: &Facts<'_>,
+    body: Body,
     row: u64,
 ) -> Result<Certificate<'a>, Stop>
     ensures { IfOk result (λ certificate.
         IsTrue (has_columns schema.now.columns.items (certificate_fields certificate))) }
 {
-    let mut next = (instructions as u64).checked_add(3).ok_or(Stop::Limit)?;
-    let nodes = node_lines(alloc, &proof.facts.nodes, &mut next)?;
-    let chains = chain_lines(alloc, schema, &proof.facts.chains, &mut next)?;
-    let rows = product_lines(alloc, &proof.facts.products, &mut next)?;
-    let body = body_lines(alloc, proof, &mut next)?;
-    let line = take(&mut next)?;
+    let line = NO_LINE;
+    let nodes = node_lines(alloc, &facts.nodes)?;
+    let chains = chain_lines(alloc, schema, &facts.chains)?;
+    let rows = product_lines(alloc, &facts.products)?;
     Ok(Certificate::new(nodes, chains, rows, body, EndLine { line, row }))
 }
 
 /// Returns the lines of nodes.
-fn node_lines(alloc: Global, nodes: &Nodes, next: &mut u64) -> Result<Vec<NodeLine>, Stop> {
+fn node_lines(alloc: Global, nodes: &Ledger<Node>) -> Result<Vec<NodeLine>, Stop> {
     let mut lines = Vec::with_capacity(alloc, nodes.len() as usize)?;
     for place in 0..nodes.len() {
-        let number = place.checked_add(2).ok_or(Stop::Limit)?;
-        let node = nodes.node(number).ok_or(Stop::Limit)?;
+        let node = nodes.get(place).ok_or(Stop::Limit)?;
         lines.push(NodeLine {
-            line: take(next)?,
-            n: u64::from(number),
+            line: NO_LINE,
+            n: u64::from(place) + 2,
             v: u64::from(node.v),
             low: u64::from(node.low),
             high: u64::from(node.high),
@@ -66,7 +57,6 @@ fn chain_lines<'a>(
     alloc: Global,
     schema: &'a Schema,
     chains: &Ledger<Link>,
-    next: &mut u64,
 ) -> Result<Vec<ChainLine<'a>>, Stop>
     ensures { IfOk result (λ lines. IsTrue
         (are_chains_named schema.now.columns.items lines.items)) }
@@ -74,23 +64,18 @@ fn chain_lines<'a>(
     let mut lines = Vec::with_capacity(alloc, chains.len() as usize)?;
     for number in 0..chains.len() {
         let link = chains.get(number).ok_or(Stop::Limit)?;
-        let line = take(next)?;
-        lines.push(chain_line(schema, line, u64::from(number), link)?)?;
+        lines.push(chain_line(schema, u64::from(number), link)?)?;
     }
     Ok(lines)
 }
 
 /// Returns the lines of product rows.
-fn product_lines(
-    alloc: Global,
-    products: &Products,
-    next: &mut u64,
-) -> Result<Vec<ProductLine>, Stop> {
-    let mut lines = Vec::with_capacity(alloc, products.len() as usize)?;
-    for number in 0..products.len() {
-        let row = products.get(number).ok_or(Stop::Limit)?;
+fn product_lines(alloc: Global, rows: &Ledger<ProductRow>) -> Result<Vec<ProductLine>, Stop> {
+    let mut lines = Vec::with_capacity(alloc, rows.len() as usize)?;
+    for number in 0..rows.len() {
+        let row = rows.get(number).ok_or(Stop::Limit)?;
         lines.push(ProductLine {
-            line: take(next)?,
+            line: NO_LINE,
             n: u64::from(number),
             op: row.question.op,
             a: u64::from(row.question.a),
@@ -102,19 +87,8 @@ fn product_lines(
     Ok(lines)
 }
 
-/// Returns the lines of the condition, the instructions and the joins.
-fn body_lines(alloc: Global, proof: &Proof<'_>, next: &mut u64) -> Result<Body, Stop> {
-    let mut lines = Body::new(alloc);
-    for entry in &proof.lines {
-        let line = take(next)?;
-        let entry = entry.entry(&proof.pairs);
-        lines.push(&BodyLine { line, entry })?;
-    }
-    Ok(lines)
-}
-
 /// Returns the line of a chain.
-fn chain_line(schema: &Schema, line: u64, number: u64, link: Link) -> Result<ChainLine<'_>, Stop>
+fn chain_line(schema: &Schema, n: u64, link: Link) -> Result<ChainLine<'_>, Stop>
     ensures { IfOk result (λ line. IsTrue (is_chain_named schema.now.columns.items line)) }
 {
     let (kind, len) = (link.kind, u64::from(link.len));
@@ -139,11 +113,8 @@ fn chain_line(schema: &Schema, line: u64, number: u64, link: Link) -> Result<Cha
             prev,
         },
     };
-    Ok(ChainLine {
-        line,
-        n: number,
-        columns,
-    })
+    let line = NO_LINE;
+    Ok(ChainLine { line, n, columns })
 }
 
 /// Returns the name of a column, by which the schema finds it.

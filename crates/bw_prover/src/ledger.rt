@@ -1,5 +1,5 @@
 //! Facts in the order in which they were added, each of which occurs once and can be found.
-use crate::stop::Stop;
+use crate::unproved::Stop;
 use std::alloc::Global;
 
 /// What distinguishes an entry from others.
@@ -27,7 +27,8 @@ pub(crate) struct Ledger<T: Keyed> {
     /// For each hash the number of the last entry that has it, plus 1, or 0.
     last: Vec<u32>,
     count: u32,
-    limit: u32,
+    /// How many entries it may have.
+    pub(crate) limit: u32,
 }
 
 /// How many hashes there are at first.
@@ -44,16 +45,6 @@ impl<T: Keyed> Ledger<T> {
         }
     }
 
-    /// Changes the limit of their number.
-    pub(crate) fn allow(&mut self, limit: u32) {
-        self.limit = limit;
-    }
-
-    /// Returns the limit of their number.
-    pub(crate) fn limit(&self) -> u32 {
-        self.limit
-    }
-
     /// Returns how many there are.
     pub(crate) fn len(&self) -> u32 {
         self.count
@@ -61,8 +52,7 @@ impl<T: Keyed> Ledger<T> {
 
     /// Returns the entry of a number.
     pub(crate) fn get(&self, number: u32) -> Option<T> {
-        let slot = self.slots.get(number as usize)?;
-        Some(slot.entry)
+        Some(self.slots.get(number as usize)?.entry)
     }
 
     /// Returns the entry with a key, and its number.

@@ -1,9 +1,8 @@
 //! The orders in which diagrams test variables.
-use crate::sequence::Pairs;
-use crate::stop::Stop;
-use bw_model::{Cond, Schema};
+use crate::columns::{column_index, width_of};
+use bw_model::{Cond, Op, Operand, Schema};
 use bw_program::ColumnIndex;
-use std::alloc::Global;
+use std::alloc::{AllocError, Global};
 
 /// An order of the variables of a schema, in which the nodes of a product row test them.
 #[derive(Clone, Copy, PartialEq, Eq)]
@@ -17,87 +16,80 @@ pub enum VariableOrder {
     Places(ColumnIndex),
 }
 
-/// The place of a variable in its column, 0 for the null variable and 64 for the lowest bit, and
-/// its rank among all variables.
-#[derive(Clone, Copy)]
+/// Where a variable is in the whole order: by its column's group, its place in the column, which is
+/// 0 for the null variable and 64 for the lowest bit, and the column's level in the group.
+#[derive(Clone, Copy, PartialEq, Eq, PartialOrd, Ord)]
 struct Position {
-    column: usize,
-    place: u32,
-    rank: u32,
+    group: u8,
+    place: u8,
+    level: u8,
+    column: ColumnIndex,
 }
 
-/// The places of a schema's variables in its orders.
+/// The orders of a schema's variables under a condition.
 #[derive(Drop)]
-pub(crate) struct Ranks {
+pub(crate) struct Order {
     positions: Vec<Position>,
-    is_total: bool,
+    /// Whether the nodes of every comparison of the condition test variables in the whole order.
+    /// Equal functions are then equal nodes.
+    pub(crate) is_total: bool,
+    /// In which order rows are worked out.
+    pub(crate) current: VariableOrder,
 }
 
-impl Ranks {
-    /// Returns the ranks under a condition.
-    pub(crate) fn new(alloc: Global, schema: &Schema, cond: &Cond) -> Result<Self, Stop> {
+impl Order {
+    /// Returns the orders under a condition.
+    pub(crate) fn new(alloc: Global, schema: &Schema, cond: &Cond) -> Result<Self, AllocError> {
         let (groups, is_total) = groups_of(alloc, schema, cond)?;
         let mut positions = Vec::new(alloc);
-        for (column, each) in schema.columns.iter().enumerate() {
-            let group = groups[column % 64];
-            let width = schema.width(column);
-            for place in 0..=64 {
-                if place > 64 - width || place == 0 && each.nullable {
-                    let rank = group.rank(place, column);
+        for (number, column) in schema.columns.iter().enumerate() {
+            let Group { first, level } = groups[number % 64];
+            let width = schema.width(number);
+            for place in 0..=64u8 {
+                if u32::from(place) > 64 - width || place == 0 && column.nullable {
                     positions.push(Position {
-                        column,
+                        group: first,
                         place,
-                        rank,
+                        level,
+                        column: (number % 64) as u8,
                     })?;
                 }
             }
         }
-        Ok(Ranks {
+        Ok(Order {
             positions,
             is_total,
+            current: VariableOrder::Whole,
         })
     }
 
-    /// Returns whether the nodes of every comparison of the condition test variables in the whole
-    /// order. Equal functions are then equal nodes.
-    pub(crate) fn is_total(&self) -> bool {
-        self.is_total
-    }
-
-    /// Returns the order to use where this one is asked for: the whole one if that serves all.
-    pub(crate) fn resolve(&self, order: VariableOrder) -> VariableOrder {
-        if self.is_total {
+    /// Has rows worked out in an order from now on: in the whole one if that serves all.
+    pub(crate) fn choose(&mut self, order: VariableOrder) {
+        self.current = if self.is_total {
             VariableOrder::Whole
         } else {
             order
-        }
+        };
     }
 
     /// Returns which of two variables is tested first.
     pub(crate) fn first(&self, order: VariableOrder, a: u32, b: u32) -> u32 {
-        if self.rank(order, b) < self.rank(order, a) {
-            b
-        } else {
-            a
-        }
-    }
-
-    /// Returns how early a variable is tested.
-    fn rank(&self, order: VariableOrder, variable: u32) -> u32 {
-        let Some(position) = self.positions.get(variable as usize) else {
-            return u32::MAX;
+        let (x, y) = (
+            self.positions.get(a as usize),
+            self.positions.get(b as usize),
+        );
+        let (Some(x), Some(y)) = (x, y) else {
+            return a;
         };
-        match order {
-            VariableOrder::Whole => position.rank,
+        let is_later = match order {
+            VariableOrder::Whole => y < x,
             VariableOrder::Places(right) => {
-                position.place << 1 | u32::from(position.column == usize::from(right))
+                (y.place, y.column == right) < (x.place, x.column == right)
             }
-        }
+        };
+        if is_later { b } else { a }
     }
 }
-
-/// The place of a column that the condition lacks.
-const NO_PLACE: u8 = 64;
 
 /// A column's group, by the place of its first column in the sequence, and how far to the right the
 /// column is in it.
@@ -107,61 +99,153 @@ struct Group {
     level: u8,
 }
 
-impl Group {
-    /// Returns the rank of a variable of a column in this group.
-    fn rank(self, place: u32, column: usize) -> u32 {
-        let (first, level) = (u32::from(self.first), u32::from(self.level));
-        ((first * 65 + place % 65) * 64 + level) * 64 + (column % 64) as u32
-    }
-}
-
 /// Returns for each column the group of those that a condition compares it with, directly or
 /// through others, and whether in each group every pair of compared columns is left with right.
-fn groups_of(alloc: Global, schema: &Schema, cond: &Cond) -> Result<([Group; 64], bool), Stop> {
-    let mut compared = Pairs {
+fn groups_of(
+    alloc: Global,
+    schema: &Schema,
+    cond: &Cond,
+) -> Result<([Group; 64], bool), AllocError> {
+    let mut compared = Compared {
         schema,
         pairs: Vec::new(alloc),
     };
-    let sequence = compared.sequence_of(cond)?;
-    let mut groups = [Group {
-        first: NO_PLACE,
-        level: 0,
-    }; 64];
+    let mut sequence = compared.sequence_of(cond)?;
+    for column in 0..schema.columns.len() {
+        sequence.push((column % 64) as u8);
+    }
+    let mut groups = [Group { first: 0, level: 0 }; 64];
     for (place, column) in sequence.columns().iter().enumerate() {
         groups[usize::from(*column % 64)].first = (place % 64) as u8;
     }
     for _ in 0..64 {
-        if !spread_groups(&mut groups, &compared.pairs) {
-            break;
+        if are_settled(&mut groups, &compared.pairs) {
+            return Ok((groups, true));
         }
     }
-    Ok((groups, are_in_order(&groups, &compared.pairs)))
+    Ok((groups, false))
 }
 
 /// Gives both columns of each pair one group, and the right one a higher level than the left one.
-/// Returns whether that changed anything.
-fn spread_groups(groups: &mut [Group; 64], pairs: &[(ColumnIndex, ColumnIndex)]) -> bool {
-    let mut changed = false;
+/// Returns whether they were so.
+fn are_settled(groups: &mut [Group; 64], pairs: &[(ColumnIndex, ColumnIndex)]) -> bool {
+    let mut settled = true;
     for (left, right) in pairs {
         let (left, right) = (usize::from(*left % 64), usize::from(*right % 64));
         let (x, y) = (groups[left], groups[right]);
         let first = x.first.min(y.first);
         let above = if x.level < 63 { x.level + 1 } else { 63 };
         let level = above.max(y.level);
+        settled &= x.first == y.first && x.level < y.level;
         groups[left].first = first;
         groups[right] = Group { first, level };
-        changed |= x.first != y.first || y.level != level;
     }
-    changed
+    settled
 }
 
-/// Returns whether the left column of each pair has a lower level than the right one.
-fn are_in_order(groups: &[Group; 64], pairs: &[(ColumnIndex, ColumnIndex)]) -> bool {
-    for (left, right) in pairs {
-        let (left, right) = (usize::from(*left % 64), usize::from(*right % 64));
-        if groups[left].level >= groups[right].level {
-            return false;
+/// Some columns, the one that is tested first at the front, and how many bits are compared with
+/// them.
+#[derive(Clone, Copy)]
+struct Sequence {
+    columns: [ColumnIndex; 64],
+    count: usize,
+    weight: u64,
+}
+
+impl Sequence {
+    /// Returns the columns.
+    fn columns(&self) -> &[ColumnIndex] {
+        self.columns.get(..self.count).unwrap_or(&self.columns)
+    }
+
+    /// Appends a column, if it is missing.
+    fn push(&mut self, column: ColumnIndex) {
+        let is_new = !self.columns().contains(&column);
+        if let (true, Some(slot)) = (is_new, self.columns.get_mut(self.count)) {
+            *slot = column;
+            self.count += 1;
         }
     }
-    true
+
+    /// Returns these columns and others, the smaller ones first: the nodes of the larger ones are
+    /// then unchanged below them. Without this, long conditions of `test_conditions` take a fifth
+    /// more product rows.
+    fn join(self, others: Self) -> Self {
+        let (mut made, last) = if others.weight <= self.weight {
+            (others, self)
+        } else {
+            (self, others)
+        };
+        for column in last.columns() {
+            made.push(*column);
+        }
+        made.weight = made.weight.saturating_add(last.weight);
+        made
+    }
+}
+
+/// The pairs of different columns that a condition compares with one another: a chain over the two
+/// tests the left one's bit first.
+#[derive(Drop)]
+struct Compared<'a> {
+    schema: &'a Schema,
+    pairs: Vec<(ColumnIndex, ColumnIndex)>,
+}
+
+impl Compared<'_> {
+    /// Returns the columns of a condition, and adds its pairs.
+    #[cycle(sequence)]
+    fn sequence_of(&mut self, cond: &Cond) -> Result<Sequence, AllocError> {
+        let mut made = Sequence {
+            columns: [0; 64],
+            count: 0,
+            weight: 0,
+        };
+        match cond {
+            Cond::Always => {}
+            Cond::Cmp(op, x, y) => self.add(&mut made, *op, *x, *y)?,
+            Cond::Between(x, y, z) => {
+                self.add(&mut made, Op::Ge, *x, *y)?;
+                self.add(&mut made, Op::Le, *x, *z)?;
+            }
+            Cond::Among(x, items) => {
+                for item in items {
+                    self.add(&mut made, Op::Eq, *x, *item)?;
+                }
+            }
+            Cond::IsNull(x) => self.add(&mut made, Op::Eq, *x, Operand::Null)?,
+            Cond::And(parts) | Cond::Or(parts) => {
+                for part in parts {
+                    made = made.join(self.sequence_of(part)?);
+                }
+            }
+            Cond::Not(part) | Cond::Test(part, _) => return self.sequence_of(part),
+        }
+        Ok(made)
+    }
+
+    /// Appends the columns of a comparison, and adds their pair.
+    fn add(&mut self, to: &mut Sequence, op: Op, x: Operand, y: Operand) -> Result<(), AllocError> {
+        if let (Some(x), Some(y)) = (self.append(to, x), self.append(to, y)) {
+            if x != y {
+                let is_swapped = matches!(op, Op::Gt | Op::Le);
+                self.pairs.push(if is_swapped { (y, x) } else { (x, y) })?;
+            }
+        }
+        Ok(())
+    }
+
+    /// Appends the column of an operand, whose bits are compared once more, and returns it, if the
+    /// operand is a column of the schema.
+    fn append(&self, to: &mut Sequence, operand: Operand) -> Option<ColumnIndex> {
+        let Operand::Col(column) = operand else {
+            return None;
+        };
+        let column = column_index(self.schema, column)?;
+        to.weight = to
+            .weight
+            .saturating_add(u64::from(width_of(self.schema, column)?));
+        to.push(column);
+        Some(column)
+    }
 }

@@ -3,19 +3,27 @@ ghost use Rattle.std.specs.Prelude.{IsTrue, IfOk};
 ghost use Rattle.bw_cert_text.specs.CertificateFields.{certificate_fields};
 ghost use Rattle.bw_cert_text.specs.Columns.{has_columns};
 
-use crate::emit;
+use crate::emit::{NO_LINE, certificate};
 use crate::facts::Facts;
-use crate::hints::Hints;
-use crate::proof::Proof;
-use crate::rows::row_of;
-use crate::stop::{Loss, Read, Stop};
-use crate::unproved::{Unproved, Witness};
-use crate::walk::known_at_end;
-use bw_cert_text::Certificate;
+use crate::order::VariableOrder;
+use crate::product::MAX_PRODUCTS;
+use crate::unproved::{Stop, Unproved};
+use bw_cert_text::{Body, BodyLine, Certificate, Entry};
 use bw_diagram::Connective;
 use bw_model::{Cond, Schema};
 use bw_program::Program;
 use std::alloc::Global;
+
+/// How a certificate is to be found.
+#[derive(Clone, Copy)]
+pub struct Hints<'a> {
+    /// The most product rows: at most `MAX_PRODUCTS` count.
+    pub rows: u32,
+    /// In which order of variables the rows of each instruction are worked out, those of the join
+    /// after it, and, after all instructions, those of the end. They count only if no one order
+    /// fits all comparisons of columns; the whole order stands for those that are missing.
+    pub orders: &'a [VariableOrder],
+}
 
 /// Finds a certificate of a program for a condition, both of this schema, by which the checker
 /// accepts it. Returns the certificate, or why none is found. What it returns depends on nothing
@@ -34,24 +42,26 @@ pub fn prove<'a>(
     ensures { IfOk result (λ certificate.
         IsTrue (has_columns schema.now.columns.items (certificate_fields certificate))) }
 {
-    let mut prover = Prover::new(alloc, schema, cond, hints.rows, hints.rows)?;
+    let prover = Prover::new(alloc, schema, cond, hints.rows, u32::MAX)?;
     prover.certify(alloc, schema, program, hints)
 }
 
-/// The proofs of a condition's programs: its lines are written once.
+/// The proof of a program, begun with its condition.
 #[derive(Drop)]
 pub struct Prover<'a> {
-    proof: Proof<'a>,
+    pub(crate) facts: Facts<'a>,
+    /// The lines of the condition, the instructions and the joins.
+    lines: Body,
     /// The node that is 1 where the condition is TRUE.
     wanted: u32,
-    /// How many lines the condition has.
-    lines: usize,
+    /// From how many product rows on AND and OR end if their parts would pass the limit.
+    pub(crate) forecast_from: u32,
 }
 
 impl<'a> Prover<'a> {
     /// Writes the lines of a condition of this schema, by at most so many product rows. From
-    /// `forecast_from` rows on, an AND or OR ends as if the limit were passed if it would be passed
-    /// by as many rows for each of its parts as for those before.
+    /// `forecast_from` rows on, an AND or OR ends at the limit if its parts would pass it by as many
+    /// rows each as those so far.
     pub fn new(
         alloc: Global,
         schema: &'a Schema,
@@ -59,45 +69,29 @@ impl<'a> Prover<'a> {
         rows: u32,
         forecast_from: u32,
     ) -> Result<Self, Unproved> {
-        match Prover::begin(alloc, schema, cond, rows, forecast_from) {
-            Ok(prover) => Ok(prover),
-            Err(stop) => Err(without_rows(stop)),
+        let mut prover = Prover {
+            facts: Facts::new(alloc, schema, cond, rows)?,
+            lines: Body::new(alloc),
+            wanted: 0,
+            forecast_from,
+        };
+        match prover.steps(cond) {
+            Ok(made) => {
+                prover.wanted = made.yes;
+                Ok(prover)
+            }
+            Err(stop) => Err(prover.facts.explain(alloc, stop)),
         }
     }
 
-    /// Writes the lines of a condition.
-    fn begin(
-        alloc: Global,
-        schema: &'a Schema,
-        cond: &Cond,
-        rows: u32,
-        forecast_from: u32,
-    ) -> Result<Self, Stop> {
-        let facts = Facts::new(alloc, schema, cond, rows)?;
-        let mut proof = Proof {
-            facts,
-            lines: Vec::new(alloc),
-            pairs: Vec::new(alloc),
-            forecast_from,
-        };
-        let wanted = proof.steps(cond)?.yes;
-        let lines = proof.lines.len();
-        Ok(Prover {
-            proof,
-            wanted,
-            lines,
-        })
-    }
-
-    /// Returns how many product rows there are.
+    /// Returns how many product rows the condition has.
     pub fn rows(&self) -> u32 {
-        self.proof.facts.products.len()
+        self.facts.products.len()
     }
 
-    /// Finds a certificate of a program of the same schema, as [`prove`] does. It may also state
-    /// what an earlier program needed.
+    /// Finds a certificate of a program of the same schema, as [`prove`] does.
     pub fn certify(
-        &mut self,
+        mut self,
         alloc: Global,
         schema: &'a Schema,
         program: &Program,
@@ -106,116 +100,37 @@ impl<'a> Prover<'a> {
         ensures { IfOk result (λ certificate.
             IsTrue (has_columns schema.now.columns.items (certificate_fields certificate))) }
     {
-        self.proof.lines.truncate(self.lines);
-        self.proof.pairs.clear();
-        self.proof.facts.products.allow(hints.rows);
-        match certificate_of(alloc, schema, &mut self.proof, self.wanted, program, hints) {
+        match self.certificate_of(alloc, schema, program, hints) {
             Ok(certificate) => Ok(certificate),
-            Err(stop) => Err(explain(alloc, &mut self.proof.facts, stop)),
+            Err(stop) => Err(self.facts.explain(alloc, stop)),
         }
     }
-}
 
-/// Returns the certificate of a program.
-fn certificate_of<'a>(
-    alloc: Global,
-    schema: &'a Schema,
-    proof: &mut Proof<'_>,
-    wanted: u32,
-    program: &Program,
-    hints: &Hints<'_>,
-) -> Result<Certificate<'a>, Stop>
-    ensures { IfOk result (λ certificate.
-        IsTrue (has_columns schema.now.columns.items (certificate_fields certificate))) }
-{
-    let row = last_row(alloc, proof, wanted, program, hints)?;
-    emit::certificate(alloc, schema, proof, program.len(), row)
-}
-
-/// Appends the lines of a program, and returns the number of the row by which its result is the
-/// condition's node.
-fn last_row(
-    alloc: Global,
-    proof: &mut Proof<'_>,
-    wanted: u32,
-    program: &Program,
-    hints: &Hints<'_>,
-) -> Result<u64, Stop> {
-    let registers = known_at_end(alloc, proof, program, hints)?;
-    let end = program.len();
-    let made = registers.read(end, program.result())?;
-    let order = hints.order_at(end);
-    let row = proof.facts.row(order, Connective::Xor, made, wanted)?;
-    if row.node != 0 {
-        return Err(Stop::Differs(row.node));
+    /// Returns the certificate of a program.
+    fn certificate_of(
+        &mut self,
+        alloc: Global,
+        schema: &'a Schema,
+        program: &Program,
+        hints: &Hints<'_>,
+    ) -> Result<Certificate<'a>, Stop>
+        ensures { IfOk result (λ certificate.
+            IsTrue (has_columns schema.now.columns.items (certificate_fields certificate))) }
+    {
+        self.facts.products.limit = hints.rows.min(MAX_PRODUCTS);
+        let made = self.walk(alloc, program, hints)?;
+        let row = self.facts.row(Connective::Xor, made, self.wanted)?;
+        if row.node != 0 {
+            return Err(Stop::Differs(row.node));
+        }
+        let lines = std::mem::replace(&mut self.lines, Body::new(alloc));
+        certificate(alloc, schema, &self.facts, lines, row.reference())
     }
-    Ok(row.reference())
-}
 
-/// Returns why there is no certificate.
-fn explain(alloc: Global, facts: &mut Facts<'_>, stop: Stop) -> Unproved {
-    match stop {
-        Stop::Differs(node) if facts.products.ranks.is_total() => differs(alloc, facts, node),
-        Stop::Lost(read, loss) => unknown(alloc, facts, read, loss),
-        _ => without_rows(stop),
-    }
-}
-
-/// Returns why there is no certificate, where no row shows it.
-fn without_rows(stop: Stop) -> Unproved {
-    match stop {
-        Stop::Limit => Unproved::Limit,
-        Stop::NoRule => Unproved::NoRule,
-        Stop::Memory => Unproved::Memory,
-        Stop::Unwritten(read) => Unproved::Unwritten {
-            instruction: read.instruction,
-            register: read.register,
-        },
-        Stop::Lost(read, loss) => Unproved::Unknown {
-            instruction: read.instruction,
-            register: read.register,
-            join: loss.join,
-            skip: loss.skip,
-            witness: None,
-        },
-        Stop::Differs(_) => Unproved::Unordered,
-    }
-}
-
-/// Returns the row on which a program's result differs from the condition, where this node is 1.
-fn differs(alloc: Global, facts: &mut Facts<'_>, node: u32) -> Unproved {
-    match row_of(alloc, facts, node) {
-        Ok(Some(row)) => Unproved::Differs { row },
-        Ok(None) => Unproved::OnlyUnadmitted,
-        Err(stop) => without_rows(stop),
-    }
-}
-
-/// Returns which register isn't known, with a witness if there is one.
-fn unknown(alloc: Global, facts: &mut Facts<'_>, read: Read, loss: Loss) -> Unproved {
-    Unproved::Unknown {
-        instruction: read.instruction,
-        register: read.register,
-        join: loss.join,
-        skip: loss.skip,
-        witness: witness(alloc, facts, loss).unwrap_or(None),
-    }
-}
-
-/// Returns a row on which a register differs by a skip, and one on which the skip isn't taken, if
-/// the schema admits both.
-fn witness(alloc: Global, facts: &mut Facts<'_>, loss: Loss) -> Result<Option<Witness>, Stop> {
-    let Some(node) = loss.differs else {
-        return Ok(None);
-    };
-    if !facts.products.ranks.is_total() {
-        return Ok(None);
-    }
-    let Some(through) = row_of(alloc, facts, loss.tested)? else {
-        return Ok(None);
-    };
-    match row_of(alloc, facts, node)? {
-        Some(taken) => Ok(Some(Witness { taken, through })),
-        None => Ok(None),
+    /// Appends a line.
+    pub(crate) fn put(&mut self, entry: Entry<'_>) -> Result<(), Stop> {
+        let line = NO_LINE;
+        self.lines.push(&BodyLine { line, entry })?;
+        Ok(())
     }
 }

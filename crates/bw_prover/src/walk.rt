@@ -1,119 +1,119 @@
 //! One walk over a program's instructions, which gives each register its node.
-ghost use Rattle.std.specs.Prelude.{◌≤◌, IfSome};
-ghost use Rattle.bw_program.specs.Program.{named_by};
-ghost use Rattle.bw_text.specs.Register.{register_count};
-
-use crate::chains::Link;
+use crate::chain::Link;
 use crate::columns::width_of;
-use crate::edges::{Edge, Edges};
-use crate::hints::Hints;
-use crate::line::ProofLine;
 use crate::order::VariableOrder;
-use crate::proof::Proof;
-use crate::registers::{RegisterSet, Registers, read_later, written_by};
-use crate::stop::Stop;
-use bw_cert_text::InstructionEntry;
+use crate::prover::{Hints, Prover};
+use crate::reads::{read_later, uses};
+use crate::unproved::{Loss, Stop};
+use bw_cert_text::{Entry, InstructionEntry};
 use bw_diagram::{ChainKind, Connective};
-use bw_program::{ColumnIndex, Instr, Program, SliceIndex};
+use bw_program::{ColumnIndex, Instr, Program, Register, SliceIndex};
 use std::alloc::Global;
+
+/// What is known of a register at a place: nothing, as before it is written, or if it isn't read
+/// later; the node whose value it has in every lane; or how that was lost at a join.
+#[derive(Clone, Copy)]
+pub(crate) enum Held {
+    Nothing,
+    Node(u32),
+    Lost(Loss),
+}
+
+/// A skip to a place that the walk hasn't reached: its number and target, the node of its register,
+/// and what is known of all registers there.
+#[derive(Clone, Copy)]
+pub(crate) struct Edge {
+    pub(crate) skip: usize,
+    pub(crate) target: usize,
+    pub(crate) tested: u32,
+    pub(crate) registers: [Held; 64],
+}
+
+/// A walk that has reached a place: what is known there, and the skips to places beyond.
+#[derive(Drop)]
+pub(crate) struct Walk {
+    pub(crate) registers: [Held; 64],
+    pub(crate) edges: Vec<Edge>,
+}
 
 /// The line of an instruction, and the node of the register that it writes, or, of a skip, that it
 /// reads.
 type Effect = (InstructionEntry, u32);
 
-/// Appends the lines of a program's instructions and joins, and returns what is known at its end.
-pub(crate) fn known_at_end(
-    alloc: Global,
-    proof: &mut Proof<'_>,
-    program: &Program,
-    hints: &Hints<'_>,
-) -> Result<Registers, Stop> {
-    let reads = read_later(alloc, program)?;
-    with_reads(alloc, proof, program, hints, &reads)
-}
-
-/// Does so with the registers that are read later, by place.
-fn with_reads(
-    alloc: Global,
-    proof: &mut Proof<'_>,
-    program: &Program,
-    hints: &Hints<'_>,
-    reads: &[RegisterSet],
-) -> Result<Registers, Stop> {
-    let mut edges = Edges::new(alloc, program.len())?;
-    let mut registers = Registers::new();
-    for number in 0..program.len() {
-        let instr = program.instr(number);
-        let order = hints.order_at(number);
-        proof.follow(&mut registers, &mut edges, number, instr, order)?;
-        let place = number + 1;
-        let read = reads.get(place).copied().unwrap_or(0);
-        proof.meet(&mut registers, edges.into_place(place), place, read, order)?;
+impl Walk {
+    /// Returns the node of a register that an instruction reads.
+    fn read(&self, instruction: usize, register: Register) -> Result<u32, Stop> {
+        match self.registers.get(usize::from(register)) {
+            Some(Held::Node(node)) => Ok(*node),
+            Some(Held::Lost(loss)) => Err(Stop::Lost(instruction, register, *loss)),
+            _ => Err(Stop::Unwritten(instruction, register)),
+        }
     }
-    Ok(registers)
 }
 
-impl Proof<'_> {
-    /// Appends the line of an instruction, and records its effect.
-    fn follow(
+impl Prover<'_> {
+    /// Appends the lines of a program's instructions and joins, and returns the result's node.
+    pub(crate) fn walk(
         &mut self,
-        registers: &mut Registers,
-        edges: &mut Edges,
-        number: usize,
-        instr: Instr,
-        order: VariableOrder,
-    ) -> Result<(), Stop>
-        requires { named_by instr ≤ register_count }
-    {
-        let (entry, node) = self.effect(registers, number, instr, order)?;
-        self.lines.push(ProofLine::Instruction(entry))?;
+        alloc: Global,
+        program: &Program,
+        hints: &Hints<'_>,
+    ) -> Result<u32, Stop> {
+        let reads = read_later(alloc, program)?;
+        let mut walk = Walk {
+            registers: [Held::Nothing; 64],
+            edges: Vec::new(alloc),
+        };
+        let end = program.len();
+        for (number, read) in reads.iter().enumerate() {
+            let order = hints.orders.get(number).copied();
+            self.meet(alloc, &mut walk, number, *read)?;
+            self.facts
+                .order
+                .choose(order.unwrap_or(VariableOrder::Whole));
+            if number < end {
+                self.follow(&mut walk, number, program.instr(number))?;
+            }
+        }
+        walk.read(end, program.result())
+    }
+
+    /// Appends the line of an instruction, and records its effect.
+    fn follow(&mut self, walk: &mut Walk, number: usize, instr: Instr) -> Result<(), Stop> {
+        let (entry, node) = self.effect(walk, number, instr)?;
+        self.put(Entry::Instruction(entry))?;
         if let Instr::Skip(_, target) = instr {
-            let edge = Edge {
+            walk.edges.push(Edge {
                 skip: number,
+                target,
                 tested: node,
-                known: registers.known,
-            };
-            edges.add(target, edge)?;
-        } else if let Some(register) = written_by(instr) {
-            registers.set(register, node);
+                registers: walk.registers,
+            })?;
+        } else if let Some(register) = uses(instr).1 {
+            walk.registers[usize::from(register % 64)] = Held::Node(node);
         }
         Ok(())
     }
 
     /// Returns the effect of an instruction.
-    fn effect(
-        &mut self,
-        registers: &Registers,
-        number: usize,
-        instr: Instr,
-        order: VariableOrder,
-    ) -> Result<Effect, Stop>
-        requires { named_by instr ≤ register_count }
-    {
+    fn effect(&mut self, walk: &Walk, number: usize, instr: Instr) -> Result<Effect, Stop> {
         let (op, x, y) = match instr {
             Instr::And(_, x, y) => (Connective::And, x, y),
             Instr::Or(_, x, y) => (Connective::Or, x, y),
             Instr::Xor(_, x, y) => (Connective::Xor, x, y),
             Instr::Not(_, x) => {
-                return self.operation(order, Connective::Diff, 1, registers.read(number, x)?);
+                return self.operation(Connective::Diff, 1, walk.read(number, x)?);
             }
-            Instr::Skip(x, _) => return Ok((InstructionEntry::Skip, registers.read(number, x)?)),
+            Instr::Skip(x, _) => return Ok((InstructionEntry::Skip, walk.read(number, x)?)),
             _ => return self.constant(instr),
         };
-        let a = registers.read(number, x)?;
-        let b = registers.read(number, y)?;
-        self.operation(order, op, a, b)
+        let (a, b) = (walk.read(number, x)?, walk.read(number, y)?);
+        self.operation(op, a, b)
     }
 
     /// Returns the effect of a connective of two nodes.
-    fn operation(
-        &mut self,
-        order: VariableOrder,
-        op: Connective,
-        a: u32,
-        b: u32,
-    ) -> Result<Effect, Stop> {
-        let row = self.facts.row(order, op, a, b)?;
+    fn operation(&mut self, op: Connective, a: u32, b: u32) -> Result<Effect, Stop> {
+        let row = self.facts.row(op, a, b)?;
         Ok((InstructionEntry::Op(row.reference()), row.node))
     }
 

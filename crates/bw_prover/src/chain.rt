@@ -4,7 +4,7 @@ ghost use Rattle.std.specs.Prelude.{◌≡◌, ◌≤◌};
 use crate::columns::bit_variable;
 use crate::facts::{Cited, Facts};
 use crate::ledger::{Key, Keyed};
-use crate::stop::Stop;
+use crate::unproved::Stop;
 use bw_diagram::ChainKind;
 use bw_program::{ColumnIndex, SliceIndex};
 
@@ -115,7 +115,7 @@ impl Facts<'_> {
             return Ok(low);
         };
         let high = self.node_if(link, true, place, lower)?;
-        self.nodes.choice(variable, low, high)
+        self.choice(variable, low, high)
     }
 
     /// Returns that node if the left column's top bit, at this place, is `x`.
@@ -127,9 +127,7 @@ impl Facts<'_> {
         };
         let low = link.outcome(x, false, lower);
         match bit_variable(self.schema, right, place) {
-            Some(variable) => self
-                .nodes
-                .choice(variable, low, link.outcome(x, true, lower)),
+            Some(variable) => self.choice(variable, low, link.outcome(x, true, lower)),
             None => Ok(low),
         }
     }
