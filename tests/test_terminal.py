@@ -6,6 +6,7 @@ import os
 import pty
 import re
 import subprocess
+import termios
 
 from tests import pages, support
 from tests.support import BW
@@ -33,6 +34,7 @@ def missing(name, instead):
 # the arguments of a call; the lines below the error's own line. The call's folder has these files
 FILES = {
     "bad.schema": b"TABLE t\nCOLUMN a 0 255 NOTNULL\n",
+    "near.schema": b"TABLE t\nCOLUMN price1 0 9\nCOLUMN price2 0 9\n",
     "many.schema": b"TABLE t\n" + b"".join(b"COLUMN column_%d 0 9\n" % number
                                            for number in range(12)),
     "many.csv": b"".join(b"%scolumn_%d" % (b"," if number else b"", number) for number in range(12))
@@ -70,6 +72,9 @@ FILES = {
     "alike.csv": b"a,c\n1,1\n2,NULL\n3,4\n",
 }
 CASES = [
+    # of two names that are as near, the first
+    (["plan", "near.schema", "SELECT price3 FROM t"],
+     ["SELECT price3 FROM t", "       ^", "the nearest name is price1"]),
     (["direct", SCHEMA, CSV, "SELECT zz FROM t"],
      ["SELECT zz FROM t", "       ^", "the columns are a, b"]),
     (["direct", SCHEMA, CSV, "SELECT a\nFROM\tt\tWHERE x = 1\nOR a = 2"],
@@ -217,12 +222,12 @@ ROWS = [
       "scan programs can compare two columns only if their minimums are equal: b starts at 1, a "
       "at 0"]),
     (["query", "alike.bw", "SELECT a FROM t WHERE " + " AND ".join(["a < c", "a <> c"] * 200)],
-     ["the query used the fallback: there is no scan program for the AND of 400 parts",
-      "the planner was asked only for 4 of its parts, and has a program for each"]),
+     ["the query used the fallback: there is no scan program for the condition",
+      "it takes more instructions or registers than a program may have"]),
     (["query", "alike.bw",
       "SELECT a FROM t WHERE a > 0 OR (" + " AND ".join(["a < c", "a <> c"] * 200) + ")"],
-     ["the query used the fallback: there is no scan program for the OR of 2 parts",
-      "the planner was asked only for 4 of its parts, and has a program for each"]),
+     ["the query used the fallback: there is no scan program for the condition",
+      "it takes more instructions or registers than a program may have"]),
     (["query", "apart.bw", "SELECT COUNT(*) FROM t WHERE a < 5"], []),
     (["query", "apart.bw", "SELECT COUNT(*) FROM t"], []),
 ]
@@ -310,6 +315,36 @@ class Rows(Told):
 
     def check(self, _, words, below):
         self.assertEqual(self.compare(words, below), "")
+
+
+@support.each([("input and errors", True, True, "bw> bw> "), ("input", True, False, ""),
+               ("errors", False, True, "")])
+class Prompts(support.TestCase):
+    """A session prompts before the first statement and after each if its input and its standard
+    error are a terminal."""
+
+    def check(self, _, by_input, by_errors, wanted):
+        folder = self.new_folder()
+        support.bw("load", SCHEMA, CSV, folder / "t.bw", cwd=support.ROOT)
+        given, errors = b"SELECT COUNT(*) FROM t;", b""
+        ours, theirs = pty.openpty()
+        with subprocess.Popen([BW, "session", folder / "t.bw"], stdout=subprocess.PIPE,
+                              stdin=theirs if by_input else subprocess.PIPE,
+                              stderr=theirs if by_errors else subprocess.PIPE) as process:
+            if by_input:
+                # the terminal doesn't repeat what is typed; twice the end of input ends it
+                mode = termios.tcgetattr(theirs)
+                mode[3] &= ~termios.ECHO
+                termios.tcsetattr(theirs, termios.TCSANOW, mode)
+                os.write(ours, given + b"\x04\x04")
+            out, told = process.communicate(None if by_input else given, support.LONGEST)
+        os.set_blocking(ours, False)
+        with contextlib.suppress(BlockingIOError):
+            errors = os.read(ours, 4096)
+        os.close(theirs)
+        os.close(ours)
+        self.assertEqual((out, errors.decode() + (told or b"").decode()),
+                         (b"COUNT(*)\n5\n\n", wanted))
 
 
 @support.each([(beginning[-30:], beginning) for beginning in BEGINNINGS])

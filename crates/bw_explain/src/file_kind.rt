@@ -1,9 +1,9 @@
 //! What a file seems to be, by its first bytes.
 use crate::explanation::Inputs;
+use crate::program_file::first_word;
+use crate::text::{Text, put};
 use bw_model::{Fault, Place};
-use bw_text::Opcode;
-use std::alloc::AllocError;
-use std::fmt::Write;
+use bw_text::{Lines, Opcode, is_same_text};
 
 /// So many first bytes show what a file seems to be.
 const BEGINNING: usize = 4096;
@@ -18,28 +18,21 @@ const CSV: &str = "a CSV file";
 
 /// Appends what the file with an error seems to be, if that isn't what the call expects. Returns
 /// whether it isn't.
-pub(crate) fn put_kind(
-    text: &mut String,
-    fault: &Fault,
-    inputs: &Inputs<'_>,
-) -> Result<bool, AllocError> {
+pub(crate) fn put_kind(text: &mut Text, fault: &Fault, inputs: &Inputs<'_>) -> bool {
     let wanted = match (fault.code, fault.place) {
-        (100..200, Place::Rec(_)) => return Ok(false),
+        (100..200, Place::Rec(_)) => return false,
         (100..200, _) => SCHEMA,
         (200..300, _) => CSV,
         (300..310, _) => TABLE,
         (500..600, _) => PROGRAM,
-        _ => return Ok(false),
+        _ => return false,
     };
-    let Some(kind) = kind_of(inputs.file.get(..BEGINNING).unwrap_or(inputs.file)) else {
-        return Ok(false);
-    };
+    let kind = kind_of(inputs.file.get(..BEGINNING).unwrap_or(inputs.file)).unwrap_or(wanted);
     if kind == wanted {
-        return Ok(false);
+        return false;
     }
-    let usage = inputs.usage;
-    writeln!(text, "seems to be {kind}: expected {wanted}: {usage}")?;
-    Ok(true)
+    put!(text; "seems to be ", kind, ": expected ", wanted, ": ", inputs.usage, "\n");
+    true
 }
 
 /// Returns what a file seems to be by its first bytes, if they show it: by the first line that
@@ -48,23 +41,22 @@ fn kind_of(bytes: &[u8]) -> Option<&'static str> {
     if bytes.starts_with(b"BWCOLUMN") {
         return Some(TABLE);
     }
-    let line = bytes.split(|byte| *byte == b'\n').find(|line| line
-        .iter()
-        .any(|byte| !byte.is_ascii_whitespace())
-        && !line.starts_with(b"#"))?;
-    let word = line
-        .split(|byte| byte.is_ascii_whitespace())
-        .find(|word| !word.is_empty())?;
-    if word.eq_ignore_ascii_case(b"TABLE") || word.eq_ignore_ascii_case(b"COLUMN") {
-        Some(SCHEMA)
-    } else if Opcode::of(word).is_some() {
-        Some(PROGRAM)
-    } else if line
-        .iter()
-        .any(|byte| matches!(byte, b',' | b';' | b'\t' | b'|'))
-    {
-        Some(CSV)
-    } else {
-        None
+    let mut lines = Lines::new(bytes);
+    for _ in 0..bytes.len() {
+        let line = lines.cut_line()?;
+        let word = first_word(line);
+        if is_same_text(word, b"TABLE") || is_same_text(word, b"COLUMN") {
+            return Some(SCHEMA);
+        } else if Opcode::of(word).is_some() {
+            return Some(PROGRAM);
+        } else if !word.is_empty() && !line.starts_with(b"#") {
+            return has_separator(line).then_some(CSV);
+        }
     }
+    None
+}
+
+/// Returns whether a line has a comma, or what other files have in its place.
+fn has_separator(line: &[u8]) -> bool {
+    line.contains(&b',') || line.contains(&b';') || line.contains(&b'\t') || line.contains(&b'|')
 }

@@ -6,27 +6,22 @@
 //! ended by a line feed; it is empty if there is nothing to add. Nothing depends on these lines:
 //! only that the calls return is proved.
 //!
-//! Read `explanation.rt` first, which chooses by the error's number. `csv_text.rt` explains errors
-//! of CSV texts, with `heading.rt` for the heading, `record.rt` for a record and
-//! `column_ranges.rt` for the columns that `bw infer` rejects; `statement.rt` explains errors of
-//! statements, with `foreign.rt` for other dialects; `program_file.rt` explains errors of program
-//! files, and `uncertified.rt` why there is no certificate, with the rows that `trial.rt` shows.
+//! Read `explanation.rt` first, which chooses by the error's number, and `text.rt`, to which all
+//! append. `csv_text.rt` explains errors of CSV texts, with `heading.rt` for the heading;
+//! `statement.rt` explains errors of statements, with `foreign.rt` for other dialects;
+//! `program_file.rt` explains errors of program files, and `uncertified.rt` why there is no
+//! certificate.
 #![tactic(auto)]
 
-mod column_ranges;
 mod csv_text;
-mod excerpt;
 mod explanation;
 mod fallback;
 mod file_kind;
 mod foreign;
 mod heading;
-mod names;
 mod program_file;
-mod record;
-mod shown;
 mod statement;
-mod trial;
+mod text;
 mod uncertified;
 
 pub use explanation::{Inputs, explain, explain_ignored, explain_name};

@@ -1,63 +1,68 @@
 //! Explains a line of a program file.
-use crate::shown::Shown;
+use crate::text::{Shown, Text, put};
+use bw_cert::split_file;
 use bw_model::{Fault, Place, code};
-use std::alloc::{AllocError, Global};
-use std::fmt::Write;
+use bw_text::{LineKind, Lines, Opcode};
 
-/// Returns the line of a program file's error. If it is an instruction's line of the certificate,
-/// also returns the instruction.
-pub(crate) fn of_program(alloc: Global, file: &[u8], fault: &Fault) -> Result<String, AllocError> {
-    let mut text = String::new(alloc);
+/// Appends the line of a program file's error. If it is an instruction's line of the certificate,
+/// also appends the instruction.
+pub(crate) fn put_program(text: &mut Text, file: &[u8], fault: &Fault) {
     let Place::Line(number) = fault.place else {
-        return Ok(text);
+        return;
     };
-    let before = usize::try_from(number)
-        .unwrap_or(usize::MAX)
-        .saturating_sub(1);
-    match file.split(|byte| *byte == b'\n').nth(before) {
-        Some(line) => writeln!(text, "line {number}: {}", Shown(line))?,
-        None => writeln!(text, "line {number} is past the last one")?,
+    match line_at(file, number) {
+        Some(line) => put!(text; "line ", number, ": ", Shown(line), "\n"),
+        None => put!(text; "line ", number, " is past the last one\n"),
     }
     if matches!(fault.code, code::INSTRUCTION_LINE | code::REGISTER_UNKNOWN) {
-        put_instruction(&mut text, file, before)?;
-    }
-    Ok(text)
-}
-
-/// Appends the instruction of which the line after so many should be.
-fn put_instruction(text: &mut String, file: &[u8], before: usize) -> Result<(), AllocError> {
-    let instruction = file
-        .split(|byte| *byte == b'\n')
-        .take(before)
-        .skip_while(|line| !begins_with(line, &["CERTIFICATE"]))
-        .filter(|line| begins_with(line, &["LOAD", "FILL", "OP", "BYTE", "SKIP"]))
-        .count();
-    let line = file
-        .split(|byte| *byte == b'\n')
-        .take_while(|line| !begins_with(line, &["RESULT"]))
-        .filter(|line| !first_word(line).is_empty() && !first_word(line).starts_with(b"#"))
-        .nth(instruction);
-    match line {
-        Some(line) => writeln!(
-            text,
-            "expected for instruction {instruction}: {}",
-            Shown(line)
-        ),
-        None => Ok(()),
+        put_instruction(text, file, number);
     }
 }
 
-/// Returns whether the first word of a line is one of these, ignoring case.
-fn begins_with(line: &[u8], words: &[&str]) -> bool {
-    let first = first_word(line);
-    words
-        .iter()
-        .any(|word| first.eq_ignore_ascii_case(word.as_bytes()))
+/// Returns the line of a text with this number, from 1.
+fn line_at(text: &[u8], number: u64) -> Option<&[u8]> {
+    let mut lines = Lines::new(text);
+    for _ in 1..number {
+        lines.cut_line()?;
+    }
+    lines.cut_line()
 }
 
-/// Returns the first word of a line, between spaces or tabs; the empty one, if it has none.
-fn first_word(line: &[u8]) -> &[u8] {
-    line.split(|byte| matches!(byte, b' ' | b'\t' | b'\r'))
-        .find(|word| !word.is_empty())
-        .unwrap_or(b"")
+/// Appends the instruction of which the line with this number should be.
+fn put_instruction(text: &mut Text, file: &[u8], number: u64) {
+    let parts = split_file(file);
+    let mut lines = Lines::from_line(parts.first_line, parts.certificate);
+    let mut instruction = 0u64;
+    for _ in parts.first_line..number {
+        let word = first_word(lines.cut_line().unwrap_or(b""));
+        if matches!(LineKind::of(word), Some(LineKind::Instruction(_))) {
+            instruction = instruction.saturating_add(1);
+        }
+    }
+    if let Some(line) = instruction_line(parts.program, instruction) {
+        put!(text; "expected for instruction ", instruction, ": ", Shown(line), "\n");
+    }
+}
+
+/// Returns the line of a program text after so many instructions, if it is one.
+fn instruction_line(program: &[u8], before: u64) -> Option<&[u8]> {
+    let mut lines = Lines::new(program);
+    let mut instruction = 0u64;
+    for _ in 0..program.len() {
+        let line = lines.cut_line()?;
+        if !matches!(Opcode::of(first_word(line)), None | Some(Opcode::Result)) {
+            if instruction == before {
+                return Some(line);
+            }
+            instruction = instruction.saturating_add(1);
+        }
+    }
+    None
+}
+
+/// Returns the first word of a line; the empty one, if it has none.
+pub(crate) fn first_word(line: &[u8]) -> &[u8] {
+    let line = line.trim_ascii_start();
+    let end = line.iter().position(|byte| byte.is_ascii_whitespace());
+    line.get(..end.unwrap_or(line.len())).unwrap_or(line)
 }
