@@ -2,6 +2,8 @@
 directories in which crates are proved side by side. `rt` locks a crate and all libraries below it
 while it works there. A working directory has hard links to the crate's files and to its libraries
 as they were built, so that no process waits for another."""
+from __future__ import annotations
+
 import os
 import pathlib
 import shutil
@@ -10,7 +12,7 @@ ROOT = pathlib.Path(__file__).resolve().parent.parent
 PARTS = ("src", "specs", "proofs")
 
 
-def libraries():
+def libraries() -> dict[str, list[str]]:
     """Returns the libraries of the repository that each crate names."""
     lines = (line.split("#")[0]
              for line in (ROOT / "crates.txt").read_text(encoding="utf-8").splitlines())
@@ -19,7 +21,7 @@ def libraries():
     return {name: [each for each in below if each in named] for name, below in named.items()}
 
 
-def below(name, named):
+def below(name: str, named: dict[str, list[str]]) -> set[str]:
     """Returns a crate and all libraries that it uses, directly or not."""
     found = {name}
     for each in named[name]:
@@ -27,13 +29,13 @@ def below(name, named):
     return found
 
 
-def cost(name):
+def cost(name: str) -> int:
     """Returns the rough cost of checking a crate: its number of lines."""
     files = (path for part in PARTS for path in (ROOT / "crates" / name / part).rglob("*.*"))
     return sum(path.read_bytes().count(b"\n") for path in files)
 
 
-def link(source, target):
+def link(source: str | pathlib.Path, target: str | pathlib.Path) -> None:
     """Gives a file a second name, or copies it if that is impossible."""
     try:
         os.link(source, target)
@@ -41,7 +43,7 @@ def link(source, target):
         shutil.copy2(source, target)
 
 
-def furnish(room, name, named):
+def furnish(room: pathlib.Path, name: str, named: dict[str, list[str]]) -> None:
     """Fills a folder with what is needed to prove a crate there."""
     crates = sorted(below(name, named))
     listed = dict(line.split(":", 1)

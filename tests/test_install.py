@@ -48,8 +48,9 @@ class Installed(support.TestCase):
         self.folder = self.new_folder()
 
     def install(self, *words, top=ROOT, **names):
-        """Runs ./install. The tar has its own program."""
-        return run([top / "install", *words], **({"BW": str(BW)} if top == ROOT else {}), **names)
+        """Runs ./install of a tree. The packed tar has its own program."""
+        given = {} if (top / "bw").is_file() and top != ROOT else {"BW": str(BW)}
+        return run([top / "install", *words], **given, **names)
 
     def assert_works(self, place, **names):
         """Tests that the tools of a folder work."""
@@ -82,6 +83,17 @@ class Installed(support.TestCase):
         self.assertEqual((gone.status, content(prefix)), (0, {}), gone)
 
 
+def copy_tree(folder):
+    """Copies what ./install needs, with one module, so that it compiles no more."""
+    for path in [ROOT / "install", ROOT / "LICENSE", *(ROOT / "docs").glob("bw*.1"),
+                 PYTHON / "bwtools" / "__init__.py",
+                 *(PYTHON / "bin").glob("bw-*"), *(PYTHON / "completions").iterdir()]:
+        target = folder / path.relative_to(ROOT)
+        target.parent.mkdir(parents=True, exist_ok=True)
+        shutil.copy2(path, target)
+    return folder
+
+
 class Install(Installed):
     """What is installed, replaced and removed."""
 
@@ -103,49 +115,53 @@ class Install(Installed):
         self.check_installs(top)
 
     def test_foreign_files_are_not_overwritten(self):
+        tree = copy_tree(self.folder / "tree")
         prefix = self.folder / "p"
         (prefix / "bin").mkdir(parents=True)
         (prefix / "bin" / "bw-ask").write_text("mine")
         before = content(prefix)
-        done = self.install(prefix)
+        done = self.install(prefix, top=tree)
         self.assertEqual(done.status, 3)
         self.assertIn(str(prefix / "bin" / "bw-ask"), done.err)
-        self.assertEqual(self.install("--uninstall", prefix).status, 3)
+        self.assertEqual(self.install("--uninstall", prefix, top=tree).status, 3)
         self.assertEqual(content(prefix), before)
 
     def test_changed_files_are_kept(self):
+        tree = copy_tree(self.folder / "tree")
         prefix = self.folder / "p"
         (prefix / "bin").mkdir(parents=True)
         (prefix / "bin" / "other").write_text("mine")
-        self.install(prefix)
+        self.install(prefix, top=tree)
         (prefix / "share/bw/python/bin/bw-ask").write_text("changed")
-        done = self.install(prefix)
+        done = self.install(prefix, top=tree)
         self.assertEqual(done.status, 3)
         self.assertIn("bw-ask", done.err)
-        done = self.install("--uninstall", prefix)
+        done = self.install("--uninstall", prefix, top=tree)
         self.assertEqual(done.status, 0)
         self.assertIn("bw-ask", done.out)
         left = {name for name, each in content(prefix).items() if each is not True}
         self.assertEqual(left, {"bin/other", "share/bw/python/bin/bw-ask"})
 
     def test_what_is_no_place_or_program(self):
+        tree = copy_tree(self.folder / "tree")
         for name, target in (("a symlink", "other"), ("a broken symlink", "nowhere")):
             with self.subTest(name):
                 place = self.folder / name
                 (place / "bin").mkdir(parents=True)
                 (place / "bin" / "bw").symlink_to(target)
-                self.assertEqual(self.install(place).status, 3)
+                self.assertEqual(self.install(place, top=tree).status, 3)
                 self.assertEqual(os.readlink(place / "bin" / "bw"), target)
-        done = run([ROOT / "install", self.folder / "q"], BW=str(self.folder / "none"))
+        done = run([tree / "install", self.folder / "q"], BW=str(self.folder / "none"))
         self.assertEqual(done.status, 3)
         self.assertIn("is not a program", done.err)
         self.assertFalse((self.folder / "q").exists())
         (self.folder / "file").write_text("mine")
-        self.assertEqual(self.install(self.folder / "file").status, 5)
+        self.assertEqual(self.install(self.folder / "file", top=tree).status, 5)
         self.assertEqual((self.folder / "file").read_text(), "mine")
 
     def test_the_default(self):
-        self.assertEqual(self.install(HOME=str(self.folder / "home")).status, 0)
+        tree = copy_tree(self.folder / "tree")
+        self.assertEqual(self.install(top=tree, HOME=str(self.folder / "home")).status, 0)
         self.assertTrue((self.folder / "home/.local/bin/bw-import").exists())
 
     def test_an_older_install_is_replaced(self):

@@ -4,6 +4,7 @@ shell by shellcheck, each if it is installed; and lemmas and definitions that no
 import ast
 import collections
 import functools
+import hashlib
 import os
 import re
 import shutil
@@ -58,9 +59,23 @@ class Sources(support.TestCase):
             self.say_nothing(["ruff", "check", "--quiet", "--no-cache", "--output-format",
                               "concise", *RULES, *sources()["Python"]])
         elif shutil.which("flake8"):
-            self.say_nothing(["flake8", *sources()["Python"]])
+            self.check_by_flake8(shutil.which("flake8"))
         else:
             self.skipTest("Python: install ruff or flake8")
+
+    def check_by_flake8(self, program):
+        """Checks the files that it hasn't found faultless before: it is slow."""
+        kept = ROOT / "out" / "flake8"
+        rules = f"{program} {os.stat(program).st_mtime_ns}".encode() + \
+            (ROOT / ".flake8").read_bytes()
+        sums = {name: hashlib.sha256(rules + (ROOT / name).read_bytes()).hexdigest()
+                for name in sources()["Python"]}
+        known = set(kept.read_text("ascii").split()) if kept.exists() else set()
+        left = [name for name, each in sums.items() if each not in known]
+        if left:
+            self.say_nothing([program, *left])
+        if left and os.access(kept.parent, os.W_OK):
+            kept.write_text("\n".join(sums.values()), "ascii")
 
     def test_python_is_that_of_3_9(self):
         self.assertGreater(len(sources()["Python"]), 100)

@@ -4,7 +4,6 @@ load fails the whole query. A load that fails or is interrupted leaves the folde
 are queried by sessions, and by Dask's distributed scheduler if a Python here has it: then a
 worker's process is also ended while it queries a shard."""
 import concurrent.futures
-import contextlib
 import csv
 import functools
 import io
@@ -15,6 +14,7 @@ import signal
 import subprocess
 import sys
 import time
+import unittest
 from unittest import mock
 
 from bwtools import splitting
@@ -40,7 +40,7 @@ import logging, sys, tempfile
 from distributed import LocalCluster
 if __name__ == "__main__":
     with tempfile.TemporaryDirectory() as folder, LocalCluster(
-            n_workers=int(sys.argv[1]), threads_per_worker=1, host="127.0.0.1", scheduler_port=0,
+            n_workers=2, threads_per_worker=1, host="127.0.0.1", scheduler_port=0,
             dashboard_address=None, local_directory=folder,
             silence_logs=logging.CRITICAL) as cluster:
         print(cluster.scheduler_address, flush=True)
@@ -414,20 +414,26 @@ class Workers(Loaded):
     def setUpClass(cls):
         super().setUpClass()
         cls.python = python_with_dask()
+        if not cls.python:
+            raise unittest.SkipTest("bw-shards by Dask: install python3-distributed")
+        cls.address = cls.enter_cluster()
 
-    def setUp(self):
-        if not self.python:
-            self.skipTest("bw-shards by Dask: install python3-distributed")
+    @classmethod
+    def enter_cluster(cls):
+        """Runs a cluster of two workers until the end of the tests. Returns the address of its
+        scheduler."""
+        (cls.folder / "cluster").write_text(CLUSTER)
+        # workers are forks of a process that has imported what they need
+        cluster = subprocess.Popen(
+            [cls.python, "cluster"], stdin=subprocess.PIPE, stdout=subprocess.PIPE,
+            stderr=subprocess.DEVNULL, text=True, cwd=cls.folder,
+            env={**os.environ, "DASK_DISTRIBUTED__WORKER__MULTIPROCESSING_METHOD": "forkserver"})
 
-    @contextlib.contextmanager
-    def cluster(self, workers):
-        """Runs a cluster of so many workers, and yields the address of its scheduler."""
-        (self.folder / "cluster").write_text(CLUSTER)
-        with subprocess.Popen([self.python, "cluster", str(workers)], stdin=subprocess.PIPE,
-                              stdout=subprocess.PIPE, stderr=subprocess.DEVNULL, text=True,
-                              cwd=self.folder) as cluster:
-            yield cluster.stdout.readline().strip()
-            cluster.stdin.close()
+        def end():
+            cluster.communicate(timeout=LONGEST)
+
+        cls.addClassCleanup(end)
+        return cluster.stdout.readline().strip()
 
     def by_workers(self, address, name, *words, given="", **names):
         return support.run([self.python, PYTHON / "bin" / "bw-shards", "ask", name, *words,
@@ -438,8 +444,8 @@ class Workers(Loaded):
         slow = self.folder / "slow"
         slow.write_text(HELD.format(self.folder, BW))
         slow.chmod(0o755)
-        with concurrent.futures.ThreadPoolExecutor() as pool, self.cluster(2) as address:
-            running = pool.submit(self.by_workers, address, "s", given=statements(GOOD),
+        with concurrent.futures.ThreadPoolExecutor() as pool:
+            running = pool.submit(self.by_workers, self.address, "s", given=statements(GOOD),
                                   BW=str(slow))
             told = self.folder / "held" / "worker"
             while not told.exists() and not running.done():
@@ -459,16 +465,15 @@ class Workers(Loaded):
         (self.folder / "missing" / "shard-003.bw").unlink()
         damaged = self.folder / "damaged" / "shard-001.bw"
         damaged.write_bytes(damaged.read_bytes()[:-1] + b"\1")
-        with self.cluster(1) as address:
-            done = self.by_workers(address, "s", f"SELECT {ALL}")
-            self.assertEqual(done[:2], self.of_table(f"SELECT {ALL}")[:2])
-            for name, shard, told in (("missing", 3, "No such file or directory"),
-                                      ("damaged", 1, "isn't the table that")):
-                with self.subTest(name):
-                    done = self.by_workers(address, name, "SELECT COUNT(*) FROM t")
-                    self.assertIn(done.status, (3, 5))
-                    self.assertEqual(done.out, "")
-                    self.assertIn(f"{name}/shard-00{shard}.bw: {told}", done.err)
+        done = self.by_workers(self.address, "s", f"SELECT {ALL}")
+        self.assertEqual(done[:2], self.of_table(f"SELECT {ALL}")[:2])
+        for name, shard, told in (("missing", 3, "No such file or directory"),
+                                  ("damaged", 1, "isn't the table that")):
+            with self.subTest(name):
+                done = self.by_workers(self.address, name, "SELECT COUNT(*) FROM t")
+                self.assertIn(done.status, (3, 5))
+                self.assertEqual(done.out, "")
+                self.assertIn(f"{name}/shard-00{shard}.bw: {told}", done.err)
 
     def test_no_address(self):
         done = self.by_workers("nothing", "s", f"SELECT {ALL}")
