@@ -81,25 +81,9 @@ impl MemoryTable {
         Ok(self.placed_segment(self.placement.clone()?, number))
     }
 
-    /// Returns the segment of this number in place of another one of this table. It takes less time
-    /// than [`Self::segment`], which counts one more reference to what all segments share.
-    pub fn other_segment<'a, L: CodeLayout>(
-        &'a self,
-        segment: PackedSegment<L, NumberedBlocks<'a>>,
-        number: u32,
-    ) -> PackedSegment<L, NumberedBlocks<'a>>
-        requires layout { form_of (layout_of self.now) ≡ L.packing }
-        requires placed { segment.placement.value ≡ placement_of self.now }
-        requires number { number < segments_in self.now }
-        ensures means { ⟦<PackedSegment<L, NumberedBlocks<'a>> as Segment>⟧.meaning result
-            ≡ meaning_numbered self.now number }
-        ensures placed { result.placement.value ≡ placement_of self.now }
-    {
-        self.placed_segment(segment.placement, number)
-    }
-
-    /// Returns the segment of this number, by the table's placement.
-    fn placed_segment<'a, L: CodeLayout>(
+    /// Returns the segment of this number, by the placement of another one of this table. It takes
+    /// less time than [`Self::segment`], which counts one more reference to what all segments share.
+    pub fn placed_segment<'a, L: CodeLayout>(
         &'a self,
         placement: Rc<Placement>,
         number: u32,

@@ -22,9 +22,11 @@ use bw_memory::MemoryTable;
 use bw_model::{Fault, Query, Schema};
 use bw_planes::Planes;
 use bw_run::Registers;
-use bw_segment::{CodeLayout, NumberedBlocks, PackedSegment, Segment};
+use bw_segment::{CodeLayout, NumberedBlocks, PackedSegment, Placement, Segment};
 use bw_slices::Slices;
 use std::alloc::Global;
+use std::marker::PhantomData;
+use std::rc::Rc;
 
 /// The segments of a table in memory, in its layout.
 #[derive(Drop)]
@@ -32,10 +34,11 @@ struct MemorySegments<'a, L: CodeLayout> {
     table: &'a MemoryTable,
     /// The number of the next segment.
     next: u32,
-    /// The segment before it, whose place the next one takes.
-    last: Option<PackedSegment<L, NumberedBlocks<'a>>>,
-    ghost layout: { form_of (layout_of table.now) ≡ L.packing },
-    ghost placed: { IfSome last (λ segment. segment.placement.value ≡ placement_of table.now) } by { Prim.hlevel props },
+    /// The placement of the segment before it, which the next one takes over.
+    placement: Option<Rc<Placement>>,
+    layout: PhantomData<L>,
+    ghost packing: { form_of (layout_of table.now) ≡ L.packing },
+    ghost placed: { IfSome placement (λ shared. shared.value ≡ placement_of table.now) } by { Prim.hlevel props },
     ghost within: { next ≤ segments_in table.now },
 }
 
@@ -55,8 +58,8 @@ impl<'a, L: CodeLayout> MemorySegments<'a, L> {
     {
         let table = self.table;
         let number = self.next;
-        let segment = match self.last.take() {
-            Some(last) => table.other_segment(last, number),
+        let segment = match self.placement.take() {
+            Some(placement) => table.placed_segment(placement, number),
             None => table.segment(number)?,
         };
         self.next += 1;
@@ -98,7 +101,7 @@ impl<'a, L: CodeLayout> Segments<()> for MemorySegments<'a, L> {
         }
         let segment = self.next_segment()?;
         consumer.take(&segment, registers)?;
-        self.last = Some(segment);
+        self.placement = Some(segment.placement);
         Ok(true)
     }
 
@@ -151,7 +154,8 @@ fn text_in<L: CodeLayout>(
     let mut segments = MemorySegments::<L> {
         table,
         next: 0,
-        last: None,
+        placement: None,
+        layout: PhantomData,
     };
     table_text(alloc, &mut segments, &mut (), query, scan)
 }
