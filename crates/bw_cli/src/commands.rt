@@ -10,7 +10,7 @@ use std::alloc::{AllocError, Global};
 
 /// The version of this program and, below it, the sum of the logic that proved it, as `rt version`
 /// prints it.
-const VERSION: &str = "0.3.0-dev\nRattle logic dac8208d650f15bf";
+const VERSION: &str = "0.3.0\nRattle logic dac8208d650f15bf";
 
 /// An argument or an option of a command.
 #[derive(Clone, Copy)]
