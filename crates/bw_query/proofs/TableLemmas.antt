@@ -1,16 +1,11 @@
 -- Groups of rows that an answer takes.
 use Rattle.std.proofs.Common.{◌≡◌, ◌∙◌, ℕ, ◌+◌, List, [], ◌∷◌, ◌++◌, refl, sym, ap, subst}
-use Rattle.std.proofs.Common.{append_assoc, arith, filter, length}
+use Rattle.std.proofs.Common.{append_assoc, arith}
 use Rattle.std.specs.List.{sum_by}
 use Rattle.std.proofs.lemmas.List.{append-nil}
 use Rattle.std.proofs.lemmas.List.Sums.{sum_by-append}
-use Rattle.bw_model.specs.declared.cond.Cond.{Cond}
-use Rattle.bw_model.specs.declared.cond.Truth.TheVariants.{Yes}
-use Rattle.bw_model.specs.Cond.{truth_of}
-use Rattle.bw_model.specs.Truth.{is_truth}
 use Rattle.bw_model.specs.Groups.{together}
 use Rattle.bw_model.specs.Row.{Value}
-use Rattle.bw_model.specs.Selection.{matching_rows}
 use Rattle.bw_answer.specs.Progress.{GoesOver, IsOver}
 use Rattle.bw_answer.specs.declared.answer.Answer.{Answer}
 use Rattle.bw_file.proofs.MemoryAnswers.{together_more}
@@ -38,7 +33,3 @@ pub one_more : (count : List (List Value) → ℕ) (groups : List (List (List Va
 one_more count groups rows so_far next is more =
     let all = sum_by-append count groups (rows ∷ []) in
     omega (arith, is, more, all)
-
--- conditions of the same truth on every row match as many
-pub matches_alike : (a b : Cond) (rows : List (List Value)) → ((row : List Value) → truth_of row a ≡ truth_of row b) → length (matching_rows a rows) ≡ length (matching_rows b rows)
-matches_alike a b rows same = λ i. length (filter (λ (row : List Value). is_truth (same row i) Yes) rows)
