@@ -56,6 +56,38 @@ class Statements(Imported):
         self.assertEqual(self.one.only.column("code").looks_like, "numbers")
 
 
+class Conditions(Statements):
+    def test_texts_and_dates_are_no_conditions(self):
+        for written in ("city", "NOT city", "(city)", "day", "id = 1 AND city", "city OR id = 1",
+                        "NOT (t.code) AND id = 1", "id BETWEEN 1 AND 2 AND city"):
+            self.refused(f"SELECT COUNT(*) FROM trips t WHERE {written}", "is no condition")
+        for written in ("CASE WHEN city THEN 1 END", "CASE WHEN id = 1 THEN 2 WHEN day THEN 1 END",
+                        "COUNT(*) FILTER (WHERE clock)"):
+            self.refused(f"SELECT {written} FROM trips", "is no condition")
+
+    def test_what_only_looks_like_one(self):
+        for written in ("flag", "NOT flag", "id", "price", "city BETWEEN 'A' AND city",
+                        "city IS NOT code", "city IN (code)", "CASE city WHEN code THEN 1 END",
+                        "length(city)", "city NOT NULL", "(city, id) = ('a', 1)"):
+            with self.subTest(written):
+                self.sql(f"SELECT COUNT(*) FROM trips WHERE {written}")
+
+    def test_patterns_see_what_is_printed(self):
+        for written in ("day LIKE '%/2024'", "day NOT LIKE '01/%'", "day GLOB '*2024'",
+                        "substr(day, 7) = '2024'", "instr(t.day, '2024') > 0"):
+            self.refused(f"SELECT COUNT(*) FROM trips t WHERE {written}",
+                         "is printed as '01/05/2024'")
+        for written in ("\"when\" LIKE '%02%'", "clock LIKE '08%'", "date(day) LIKE '%05'",
+                        "day LIKE '2024-%'", "strftime('%Y', day) = '2024'", "city LIKE 'B%'"):
+            with self.subTest(written):
+                self.sql(f"SELECT COUNT(*) FROM trips WHERE {written}")
+
+    def test_a_word_is_reserved_only_if_it_is(self):
+        from bwtools.sql.reading import missing_column
+        statement = Statement("SELECT price_ FROM trips", self.both, ())
+        self.assertNotIn("reserved", missing_column(statement, "price_"))
+
+
 class Literals(Statements):
     def test_literal_of_another_kind_is_refused(self):
         for condition in ("day > 2024", "city = 12", "id = '5'", "12 <> city",

@@ -1,6 +1,7 @@
 """What is refused before a statement runs, since SQLite's answer would be wrong for a reader: a
 literal compared with a column of another kind, sums of dates and texts, the order of texts that
-look like numbers, and names that SQLite would read as something else."""
+look like numbers, texts and dates as conditions, patterns for dates that aren't spelled as SQLite
+has them, and names that SQLite would read as something else."""
 from __future__ import annotations
 
 from typing import Callable
@@ -14,12 +15,19 @@ from .operands import EQUAL, Comparison, Operand, Operands
 from .scopes import Scope
 from .structure import Structure
 from .tokens import NUMBER, QUOTED, TEXT, Token, quoted_name, text_literal
-from .values import MOMENTS
+from .values import MOMENTS, affinity, plain_of
+from .values import TEXT as AS_TEXT
 
 ROWIDS = ("rowid", "oid", "_rowid_")
 ARITHMETIC = ("+", "-", "*", "/", "%")
 ORDER_END = ("LIMIT", "ROWS", "RANGE", "GROUPS")
 AFTER_TERM = ("ASC", "DESC", "NULLS", "FIRST", "LAST")
+# what may follow a condition, beside a bracket and the end
+AFTER_CONDITION = ("AND", "OR", "THEN", "GROUP", "HAVING", "ORDER", "LIMIT", "WINDOW", "UNION",
+                   "EXCEPT", "INTERSECT", "JOIN", "LEFT", "INNER", "CROSS", "NATURAL")
+# functions of the text that SQLite has of a date
+OF_TEXT = ("SUBSTR", "SUBSTRING", "INSTR", "REPLACE", "UPPER", "LOWER", "TRIM", "LTRIM",
+           "RTRIM", "LIKE", "GLOB")
 
 
 class Checks:
@@ -44,6 +52,10 @@ class Checks:
             if scope and self.line.is_mark(at, *ARITHMETIC):
                 for operand in operands.beside(at, scope):
                     self.arithmetic(at, operand)
+            if scope and self.begins_condition(at):
+                self.condition(operands.after(at + 1, scope))
+            if scope:
+                self.patterns(at, scope, operands)
         for at, table in self.structure.tables.items():
             self.replace(at, QUOTED, quoted_name(table.name))
         return self.replaced
@@ -143,6 +155,71 @@ class Checks:
             raise Refused(f"{self.text(operand)} has {column.kind.plural}, which have no "
                           f"{sign.text} (at character {sign.start} of the statement): use "
                           f"julianday({column.name}) for days, or date({column.name}, '+1 day')")
+
+    def begins_condition(self, at: int) -> bool:
+        """Returns whether a condition begins after a token: a keyword, or a bracket after one."""
+        key = self.line.key(at)
+        if key == "AND":
+            # not that of BETWEEN
+            before = next((self.line.key(each) for each in range(at - 1, -1, -1)
+                           if self.line.key(each) in ("BETWEEN", "AND", "OR", "WHERE", "ON")), "")
+            return before != "BETWEEN"
+        if key == "WHEN":
+            return self.line.key(at - 1) in ("CASE", "WHEN") or self.is_searched(at)
+        if key == "NOT":
+            return self.line.key(at - 1) != "IS"
+        return key in ("WHERE", "ON", "HAVING", "OR") or self.line.is_mark(at, "(") and \
+            at not in self.structure.nested and at > 0 and self.begins_condition(at - 1)
+
+    def is_searched(self, at: int) -> bool:
+        """Returns whether the CASE of a WHEN has no operand, so that conditions follow WHEN."""
+        depth = 0
+        for each in range(at - 1, -1, -1):
+            depth += self.line.key(each) == "END"
+            if self.line.key(each) == "CASE":
+                if not depth:
+                    return self.line.key(each + 1) == "WHEN"
+                depth -= 1
+        return False
+
+    def condition(self, operand: Operand) -> None:
+        """Rejects a column of texts, dates or times as a condition: to SQLite a text is true if it
+        begins with a number other than 0, so each date is true, and most texts are false."""
+        column, after = operand.column, operand.end
+        if column and affinity(column.kind) == AS_TEXT and (
+                after >= self.line.end or self.line.is_mark(after, ")")
+                or self.line.key(after) in AFTER_CONDITION):
+            raise Refused(f"{self.text(operand)} is no condition "
+                          f"({where(self.line.tokens[operand.first])}): {refusals.held(column)}; "
+                          f"write {column.name} = {column.kind.example}, or {column.name} IS NOT "
+                          "NULL")
+
+    def patterns(self, at: int, scope: Scope, operands: Operands) -> None:
+        """Rejects LIKE, GLOB and functions of texts on dates and times that are printed in another
+        form than SQLite has, unless a pattern is clearly for SQLite's."""
+        token = self.line.tokens[at]
+        if token.key in ("LIKE", "GLOB") and not self.line.is_mark(at + 1, "("):
+            wanted = self.line.tokens[at + 1]
+            pattern = wanted.value if wanted.kind == TEXT else ""
+            operand = operands.before(at - (self.line.key(at - 1) == "NOT"), scope)
+            if operand.column and not (pattern[:4].isdecimal() or pattern[:4] in ("____", "????")):
+                self.refuse_form(token, operand.column)
+        elif token.name.upper() in OF_TEXT and self.line.is_mark(at + 1, "("):
+            for first, end in self.line.split(at + 2, self.line.closing[at + 1]):
+                column = operands.within(first, end, scope).column if end > first else None
+                if column:
+                    self.refuse_form(token, column)
+
+    def refuse_form(self, token: Token, column: Column) -> None:
+        """Rejects one of these if the column isn't printed as SQLite has it."""
+        if column.kind.name not in MOMENTS:
+            return
+        plain, name, word = plain_of(column.kind), column.name, token.text.upper()
+        printed, had = column.kind.text(0)[:10], plain.text(0)[:10]
+        if printed[:len(had)] != had[:len(printed)]:
+            raise Refused(f"{word} on {name} ({where(token)}): {name} is printed as "
+                          f"{column.kind.example}, but {word} would see {plain.example}: compare "
+                          f"{name} itself, or use strftime('%Y-%m-%d', {name})")
 
     def text(self, operand: Operand) -> str:
         return self.text_of(operand.first, operand.end)

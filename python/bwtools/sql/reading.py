@@ -4,6 +4,7 @@ from __future__ import annotations
 import sqlite3
 from typing import Any, Iterable, Iterator, Sequence
 
+from ..naming import RESERVED
 from ..telling import Refused
 from .catalog import Catalog, missing
 from .statement import Statement
@@ -136,7 +137,7 @@ def missing_column(statement: Statement, name: str) -> str:
         scope = statement.structure.scopes[at]
         if scope and token.name == last and not statement.structure.resolve(at, scope):
             reserved = [each for each in scope.names() if each.lower() == f"{last.lower()}_"]
-            if reserved:
+            if reserved and last.upper() in RESERVED:
                 return f"there is no column {last} at character {token.start} of the statement: " \
                        f"the word is reserved: use {reserved[0]} or \"{last}\""
             refusal = str(missing("column", last, scope.names()))
@@ -153,7 +154,7 @@ def at_name(statement: Statement, name: str) -> str:
 
 def place_of_error(database: sqlite3.Connection, guard: Guard, statement: Statement) -> int:
     """Returns the character of the token at which SQLite finds an error of syntax: the last one of
-    the shortest part of the statement, from its begin, that has it."""
+    the shortest part of the statement, from its beginning, that has it."""
     low, high = 0, len(statement.tokens) - 1
     while low < high:
         middle = (low + high) // 2
