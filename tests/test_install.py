@@ -112,7 +112,9 @@ class Install(Installed):
         run(["tar", "-C", self.folder, "-xf", self.folder / "bw.tar.xz"])
         top, = [each for each in self.folder.iterdir() if each.is_dir()]
         self.assert_works(top / "python" / "bin")
-        self.check_installs(top)
+        prefix = self.folder / "from the tar"
+        self.assertEqual(self.install(prefix, top=top).status, 0)
+        self.assertEqual(run([prefix / "bin" / "bw", "--version"]), run([BW, "--version"]))
 
     def test_foreign_files_are_not_overwritten(self):
         tree = copy_tree(self.folder / "tree")

@@ -185,7 +185,7 @@ class Conditions(OverTable):
             "n + 1 = 2", "n = 1 + 1", "n = 1 = 1", "n < 2 < 3", "abs(n) = 1", "(n) = 1",
             "n IN ()", "n IN (1 + 1)", "5 IN (n, 5)", "(n, n) = (1, 2)", "n IS 5", "n IS NOT 5",
             "city || 'x' = 'y'", "city = 'x' COLLATE NOCASE", "n LIKE 5", "city LIKE city",
-            "city LIKE 'a' || 'b'", "n LIKE '1%'", "city REGEXP 'x'", "city", "day", "'x'", "NULL",
+            "city LIKE 'a' || 'b'", "n LIKE '1%'", "city REGEXP 'x'", "'x'", "NULL",
             "n BETWEEN 1 AND 2 IS NULL", "city LIKE 'x' IS NULL", "n IN (1) IS NULL", "-n = 1",
             "CASE WHEN n THEN 1 END", "CAST(n AS TEXT) = '5'", "n = 1e999999",
             "n = (SELECT 1)", "EXISTS (SELECT 1)", "n IN (SELECT 1)", "NOT " * 40 + "n = 1",
