@@ -321,7 +321,7 @@ class Faults(Tools):
             for number, status in ((signal.SIGINT, 130), (signal.SIGTERM, 143),
                                    (signal.SIGHUP, 129)):
                 with self.subTest(number.name, has_before=has_before):
-                    done = self.end(self.begin("exec sleep 30"), number)
+                    done = self.end(self.begin("exec sleep 5"), number)
                     self.assertEqual(done, (status, b""))
                     self.assertEqual(content(self.folder), before)
                     self.assertEqual(len(list(self.folder.iterdir())), len(before))

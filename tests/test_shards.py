@@ -323,7 +323,7 @@ class Loads(Shards):
             for each in (signal.SIGINT, signal.SIGHUP):
                 signal.signal(each, signal.SIG_DFL)
 
-        program = self.program('[ $n != 2 ] || { : > "$0.begun"; exec sleep 30; }')
+        program = self.program('[ $n != 2 ] || { : > "$0.begun"; exec sleep 5; }')
         begun = self.slow.with_name("slow.begun")
         words = [sys.executable, "-S", PYTHON / "bin" / "bw-shards", "load", "t.csv", "s",
                  "--rows", "500"]
