@@ -62,12 +62,15 @@ class Conditions(Statements):
                         "NOT (t.code) AND id = 1", "id BETWEEN 1 AND 2 AND city"):
             self.refused(f"SELECT COUNT(*) FROM trips t WHERE {written}", "is no condition")
         for written in ("CASE WHEN city THEN 1 END", "CASE WHEN id = 1 THEN 2 WHEN day THEN 1 END",
+                        "CASE WHEN id = 1 THEN CASE id WHEN 2 THEN 3 END WHEN day THEN 1 END",
+                        "CASE id WHEN 1 THEN CASE WHEN id = 2 THEN 3 WHEN city THEN 4 END END",
                         "COUNT(*) FILTER (WHERE clock)"):
             self.refused(f"SELECT {written} FROM trips", "is no condition")
 
     def test_what_only_looks_like_one(self):
         for written in ("flag", "NOT flag", "id", "price", "city BETWEEN 'A' AND city",
                         "city IS NOT code", "city IN (code)", "CASE city WHEN code THEN 1 END",
+                        "CASE city WHEN CASE WHEN id = 1 THEN 'a' END THEN 1 WHEN code THEN 2 END",
                         "length(city)", "city NOT NULL", "(city, id) = ('a', 1)"):
             with self.subTest(written):
                 self.sql(f"SELECT COUNT(*) FROM trips WHERE {written}")

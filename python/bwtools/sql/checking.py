@@ -11,6 +11,7 @@ from ..kind import Literal
 from ..kinds import Styled
 from ..telling import Refused
 from . import refusals
+from .bracketed import Bracketed
 from .operands import EQUAL, Comparison, Operand, Operands
 from .scopes import Scope
 from .structure import Structure
@@ -30,12 +31,28 @@ OF_TEXT = ("SUBSTR", "SUBSTRING", "INSTR", "REPLACE", "UPPER", "LOWER", "TRIM", 
            "RTRIM", "LIKE", "GLOB")
 
 
+def searched_whens(line: Bracketed) -> set[int]:
+    """Returns the places of the WHENs that conditions follow: those of a CASE without an operand.
+    """
+    found, opened = set[int](), list[int]()
+    for at in range(line.end):
+        key = line.key(at)
+        if key == "CASE":
+            opened.append(at)
+        elif key == "END" and opened:
+            opened.pop()
+        elif key == "WHEN" and opened and line.key(opened[-1] + 1) == "WHEN":
+            found.add(at)
+    return found
+
+
 class Checks:
     """The checks of a statement, and the tokens that it gets instead of those that were written."""
 
     def __init__(self, structure: Structure, text: Callable[[int, int], str]) -> None:
         self.structure, self.line, self.text_of = structure, structure.line, text
         self.replaced = dict[int, Token]()
+        self.searched = searched_whens(structure.line)
 
     def run(self) -> dict[int, Token]:
         """Raises Refused for what is refused. Returns the tokens to replace, by their places."""
@@ -165,22 +182,11 @@ class Checks:
                            if self.line.key(each) in ("BETWEEN", "AND", "OR", "WHERE", "ON")), "")
             return before != "BETWEEN"
         if key == "WHEN":
-            return self.line.key(at - 1) in ("CASE", "WHEN") or self.is_searched(at)
+            return at in self.searched
         if key == "NOT":
             return self.line.key(at - 1) != "IS"
         return key in ("WHERE", "ON", "HAVING", "OR") or self.line.is_mark(at, "(") and \
             at not in self.structure.nested and at > 0 and self.begins_condition(at - 1)
-
-    def is_searched(self, at: int) -> bool:
-        """Returns whether the CASE of a WHEN has no operand, so that conditions follow WHEN."""
-        depth = 0
-        for each in range(at - 1, -1, -1):
-            depth += self.line.key(each) == "END"
-            if self.line.key(each) == "CASE":
-                if not depth:
-                    return self.line.key(each + 1) == "WHEN"
-                depth -= 1
-        return False
 
     def condition(self, operand: Operand) -> None:
         """Rejects a column of texts, dates or times as a condition: to SQLite a text is true if it
