@@ -1,13 +1,11 @@
 -- The text and the totals of a result over the rows that were consumed.
-use Rattle.std.specs.Prelude.{◌≡◌, ℕ, false, List, [], ◌++◌, map, IsTrue, if◌then◌else◌}
-use Rattle.std.specs.List.{list_all}
+use Rattle.std.specs.Prelude.{◌≡◌, ℕ, false, List, [], ◌++◌, map, if◌then◌else◌}
 use Rattle.bw_model.specs.declared.query.Query.{Query}
-use Rattle.bw_model.specs.Cond.{is_match}
 use Rattle.bw_model.specs.Row.{Value}
 use Rattle.bw_model.specs.Selection.{matching_rows}
 use Rattle.bw_rowwise.specs.Accumulator.{Tally, tally_of}
 use Rattle.bw_answer.specs.Aggregates.{aggregates_of}
-use Rattle.bw_answer.specs.Answer.{csv_text, heading_of, is_count_all, row_records, lists_rows}
+use Rattle.bw_answer.specs.Answer.{csv_text, heading_of, row_records, lists_rows}
 use Rattle.bw_answer.specs.Answer.{record_text}
 
 -- the heading record of a query over columns of these names, followed by the records of the
@@ -26,8 +24,3 @@ pub record AreOver (names : List (List ℕ)) (query : Query) (rows : List (List 
   pub totalled : lists_rows query.items.items ≡ false
       → totals ≡ map (λ item. tally_of item (matching_rows query.cond rows))
       (aggregates_of query.items.items)
-
--- every row matches the query, and it only counts rows
-pub record CountsRows (query : Query) : Type 0 where
-  pub every : (row : List Value) → IsTrue (is_match query.cond row)
-  pub alone : IsTrue (list_all is_count_all query.items.items)

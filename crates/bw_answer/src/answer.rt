@@ -1,5 +1,5 @@
 //! The result of a query over the rows of segments, as CSV text.
-ghost use Rattle.std.specs.Prelude.{◌≡◌, ◌==◌, ◌<◌, ◌≤◌, ◌+◌, ◌-◌, ◌++◌, ◌∷◌, List, [], ℕ, true};
+ghost use Rattle.std.specs.Prelude.{◌≡◌, ◌==◌, ◌<◌, ◌≤◌, ◌+◌, ◌-◌, ◌++◌, ◌∷◌, List, [], ℕ};
 ghost use Rattle.std.specs.Prelude.{false, All, IsTrue, IfOk, IfErr, OnOk, length, replicate};
 ghost use Rattle.std.specs.Prelude.{map, vec_len};
 ghost use Rattle.std.specs.List.{list_all};
@@ -16,7 +16,6 @@ ghost use Rattle.bw_rowwise.specs.Columns.{HaveRows};
 ghost use Rattle.bw_rowwise.specs.Filter.{IsPreparedFrom};
 ghost use Rattle.bw_sql.specs.Items.{AreOfOneKind};
 ghost use Rattle.bw_answer.specs.Answer.{csv_text, is_count_all, meaning};
-ghost use Rattle.bw_answer.specs.TextAndTotals.{CountsRows};
 ghost use Rattle.bw_answer.specs.Gathered.{AreGathered, AreSummed};
 ghost use Rattle.bw_answer.specs.Output.{HaveListed, IsOutputOf, output_is_prop, totals_in};
 ghost use Rattle.bw_aggregate.specs.Selected.{IsWithin};
@@ -109,13 +108,6 @@ impl<'a> Answer<'a> {
             self.output.reserve(&mut self.text, count)?;
         }
         Ok(())
-    }
-
-    /// Returns whether every row matches and the query only counts them. No row need be read then.
-    pub fn counts_rows(&self) -> bool
-        ensures { result ≡ true → CountsRows (query_in self.now) }
-    {
-        matches_all(&self.query.cond) && self.only_counts()
     }
 
     /// Returns whether the query only counts the matching rows. No value need be read then, if their

@@ -1,19 +1,21 @@
 -- What a result, or a count, has consumed of a table's segments.
-use Rattle.std.specs.Prelude.{◌≡◌, ◌≤◌, ◌+◌, ◌*◌, ℕ, List, length}
+use Rattle.std.specs.Prelude.{◌≡◌, ◌≤◌, ◌+◌, ◌*◌, ℕ, List, [], IsTrue, length}
+use Rattle.std.specs.List.{list_all}
 use Rattle.bw_model.specs.declared.column.Column.{Column}
 use Rattle.bw_model.specs.declared.query.Query.{Query}
 use Rattle.bw_model.specs.Groups.{together}
 use Rattle.bw_model.specs.Row.{Value}
 use Rattle.bw_model.specs.Selection.{matching_rows}
-use Rattle.bw_answer.specs.Progress.{GoesOver, query_in}
-use Rattle.bw_answer.specs.TextAndTotals.{CountsRows}
+use Rattle.bw_answer.specs.Answer.{csv_text, is_count_all, meaning}
+use Rattle.bw_answer.specs.Progress.{GoesOver, IsOver, query_in}
 use Rattle.bw_answer.specs.declared.answer.Answer.{Answer}
 use Rattle.bw_run.specs.declared.run.Counts.{Counts}
 use Rattle.bw_query.specs.declared.answer_consumer.AnswerConsumer.{AnswerConsumer}
 use Rattle.bw_query.specs.declared.match_counter.MatchCounter.{MatchCounter}
 use Rattle.bw_query.specs.declared.scan.Scan.{Scan}
-use Rattle.bw_query.specs.declared.scan.Scan.TheVariants.{Program, Rows}
+use Rattle.bw_query.specs.declared.scan.Scan.TheVariants.{Program}
 use Rattle.bw_query.specs.declared.served.Scanned.{Scanned}
+use Rattle.bw_query.specs.declared.served.TableText.{TableText}
 use Rattle.bw_query.specs.Scan.{IsFor, loads_in, skips_in}
 use Rattle.bw_query.specs.Segments.{IsScanOf}
 
@@ -32,14 +34,6 @@ pub record AnswersGroup (columns : List Column) (scan : Scan) (old new : Answer)
   pub width : new.width ≡ old.width
   pub rows : new.rows ≡ old.rows + length group
   pub run : IsRunOver columns scan group counts
-
--- an answer has consumed all groups of a table, which were scanned
-pub record AnswersAll (columns : List Column) (scan : Scan) (old : Answer)
-    (All : List (List (List Value)) → Type 0) (new : Answer) (scanned : Scanned) : Type 0 where
-  pub groups : List (List (List Value))
-  pub all : All groups
-  pub covers : GoesOver old (together groups) new
-  pub counts : IsScanOf columns scan groups scanned
 
 -- At most one segment a row was scanned, with at most 4,096 loads and skips each. So the sums fit.
 pub record AreFew (rows : ℕ) (scanned : Scanned) : Type 0 where
@@ -60,23 +54,27 @@ pub record HasAnswered (start : AnswerConsumer) (columns : List Column)
   pub covers : GoesOver start.answer (together groups) now.answer
   pub counts : IsScanOf columns start.scan.now groups now.scanned
 
--- the fallback may be used to count rows only if every row matches
-abbrev pub IsCounted : Scan → Query → Type 0
-IsCounted (Program certified) query = Unit {0}
-IsCounted Rows query = CountsRows query
-
--- the matching rows can be counted in segments of these columns
+-- the rows that a program selects can be counted in segments of these columns
 pub record CountsColumns (counter : MatchCounter) (columns : List Column) : Type 0 where
-  pub scan : IsFor columns counter.query.now.cond counter.scan.now
-  pub counted : IsCounted counter.scan.now counter.query.now
+  pub program : IsFor columns (query_in counter.answer).cond (Program counter.certified.now)
+  pub alone : IsTrue (list_all is_count_all (query_in counter.answer).items.items)
+  pub fresh : counter.answer.rows ≡ 0
   pub matches : counter.matches ≤ counter.rows
   pub few : AreFew counter.rows counter.scanned
 
 -- from the first state to the second the matching rows of these groups were counted
 pub record HasCounted (start : MatchCounter) (columns : List Column)
     (groups : List (List (List Value))) (now : MatchCounter) : Type 0 where
-  pub scan : now.scan.now ≡ start.scan.now
-  pub query : now.query.now ≡ start.query.now
+  pub program : now.certified.now ≡ start.certified.now
+  pub answer : now.answer ≡ start.answer
   pub rows : length (together groups) ≡ now.rows
-  pub matches : length (matching_rows start.query.now.cond (together groups)) ≡ now.matches
-  pub counts : IsScanOf columns start.scan.now groups now.scanned
+  pub matches : length (matching_rows (query_in start.answer).cond (together groups)) ≡ now.matches
+  pub counts : IsScanOf columns (Program start.certified.now) groups now.scanned
+
+-- For a result that this one was at the start, this is the text over these groups of rows, which
+-- were scanned.
+pub record IsTextFrom (start : Answer) (scan : Scan) (columns : List Column)
+    (groups : List (List (List Value))) (found : TableText) : Type 0 where
+  pub counts : IsScanOf columns scan groups found.scanned
+  pub is : (names : List (List ℕ)) (query : Query) → IsOver names query [] start
+      → found.text.items ≡ csv_text (meaning names query (together groups))

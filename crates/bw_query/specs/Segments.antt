@@ -18,6 +18,7 @@ use Rattle.bw_memory.specs.StoredSegments.{stored_groups}
 use Rattle.bw_memory.specs.declared.table.MemoryTable.{MemoryTable}
 use Rattle.bw_query.specs.declared.scan.Scan.{Scan}
 use Rattle.bw_query.specs.declared.served.Scanned.{Scanned}
+use Rattle.bw_query.specs.declared.served.TableText.{TableText}
 use Rattle.bw_query.specs.Scan.{loads_in, skips_in}
 
 -- A consumer has consumed a group of rows of these columns, one or more: it fits further ones, and
@@ -39,15 +40,12 @@ pub record TakesGroup {C : Type 0} (columns : List Column) (Comes : List (List V
   pub comes : Comes group
   pub consumed : Consumes columns group Fits Rows Over old new
 
--- all groups of a table were consumed
-pub record TakesAll {C : Type 0} (columns : List Column)
-    (All : List (List (List Value)) → Type 0) (Fits : C → List Column → Type 0) (Rows : C → ℕ)
-    (Over : C → List Column → List (List (List Value)) → C → Type 0) (old new : C) : Type 0 where
+-- the text is one over all groups of a table
+pub record GivesText (All : List (List (List Value)) → Type 0)
+    (Gives : List (List (List Value)) → TableText → Type 0) (found : TableText) : Type 0 where
   pub groups : List (List (List Value))
   pub all : All groups
-  pub fits : Fits new columns
-  pub within_limit : Rows new ≤ most_rows
-  pub over : Over old columns groups new
+  pub gives : Gives groups found
 
 -- this many segments, of these groups of rows, were scanned, with the sums of the scan's loads and
 -- skips

@@ -3,13 +3,13 @@ ghost use Rattle.std.specs.Prelude.{◌≡◌, ◌+◌, ◌≤◌, IfErr, IfOk, 
 ghost use Rattle.bw_model.specs.Fault.{no_memory};
 ghost use Rattle.bw_model.specs.Limits.{most_rows};
 ghost use Rattle.bw_answer.specs.Progress.{query_in};
-ghost use Rattle.bw_query.specs.Consumers.{AnswersColumns, AnswersGroup, HasAnswered};
+ghost use Rattle.bw_query.specs.Consumers.{AnswersColumns, AnswersGroup, HasAnswered, IsTextFrom};
 ghost use Rattle.bw_query.specs.Scan.{IsFor};
 ghost use Rattle.bw_query.specs.declared.scan.Scan.TheVariants.{Program, Rows};
 
 use crate::consumer::SegmentConsumer;
 use crate::scan::Scan;
-use crate::served::Scanned;
+use crate::served::{Scanned, TableText};
 use bw_answer::Answer;
 use bw_cert::Certified;
 use bw_model::Fault;
@@ -31,10 +31,24 @@ impl SegmentConsumer for AnswerConsumer<'_, '_> {
 
     ghost over = { HasAnswered };
 
+    ghost gives = { λ start. IsTextFrom start.answer start.scan.now };
+
     fn take<S: Segment>(&mut self, segment: &S, registers: &mut Registers) -> Result<(), Fault> {
         let more = take_segment(segment, self.scan, registers, &mut self.answer)?;
         self.scanned = self.scanned.plus(more);
         Ok(())
+    }
+
+    fn into_text(self) -> Result<TableText, Fault> {
+        let AnswerConsumer {
+            scan: _,
+            answer,
+            scanned,
+        } = self;
+        Ok(TableText {
+            text: answer.into_text()?,
+            scanned,
+        })
     }
 }
 

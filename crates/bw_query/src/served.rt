@@ -22,6 +22,13 @@ pub(crate) const NOTHING_SCANNED: Scanned = Scanned {
     skips: 0,
 };
 
+/// The text of a result, and what was scanned for it.
+#[derive(Drop)]
+pub(crate) struct TableText {
+    pub(crate) text: Vec<u8>,
+    pub(crate) scanned: Scanned,
+}
+
 impl Scanned {
     /// Returns what was scanned with one more segment.
     pub(crate) fn plus(self, more: Counts) -> Self

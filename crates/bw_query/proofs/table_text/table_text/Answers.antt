@@ -1,19 +1,60 @@
--- Out of memory before, after or among the groups; and the text of all rows.
-use Rattle.std.proofs.Common.{[]}
+-- Out of memory before the groups; and the text of all rows.
+use Rattle.std.proofs.Common.{◌∙◌, [], Err, List, Ok, Result, ap, arith, subst, sym}
+use Rattle.std.specs.Vec.{vec_len}
+use Rattle.std.specs.Result.{IfOk}
+use Rattle.bw_answer.specs.Progress.{IsOver}
+use Rattle.bw_answer.specs.declared.answer.Answer.{Answer}
 use Rattle.bw_model.proofs.ErrLemmas.{err_passed_on}
+use Rattle.bw_model.specs.declared.column.Column.{Column}
 use Rattle.bw_model.specs.declared.fault.Fault.{Fault}
 use Rattle.bw_model.specs.declared.query.Query.{Query}
+use Rattle.bw_model.specs.declared.schema.Schema.{Schema}
 use Rattle.bw_model.specs.Column.{names_of}
-use Rattle.bw_model.specs.Groups.{together}
-use Rattle.std.proofs.Common.{subst, sym}
+use Rattle.bw_model.specs.Row.{Value}
+use Rattle.bw_query.specs.Consumers.{IsTextFrom}
 use Rattle.bw_query.specs.Scan.{IsFor}
+use Rattle.bw_query.specs.Segments.{GivesText, IsTextOf}
+use Rattle.bw_query.specs.declared.scan.Scan.{Scan}
+use Rattle.bw_query.specs.declared.scan.Scan.TheVariants.{Program}
+use Rattle.bw_query.specs.declared.served.TableText.{TableText}
 use Rattle.bw_query.proofs.table_text.table_text.Goals as goal
 
-pub take_rows-requires-clause-scan : goal.take_rows-requires-clause-scan
-take_rows-requires-clause-scan g c =
-    let names = names_of (g.T.Segments.table c.args.segments.now).columns.items in
-    let over = c.in_ok-reserve.ensures.covers names c.args.query.now [] (rw c.schema.ensures at c.in_ok-answer.ensures.covers) in
-    subst (λ (query : Query). IsFor (g.T.Segments.table c.args.segments.now).columns.items query.cond c.args.scan.now) (sym over.0) c.requires.scan
+-- what holds of a value, if there is one
+ok_map : {T E : Type 0} {P Q : T → Type 0} (result : Result T E) → ((value : T) → P value → Q value) → IfOk result P → IfOk result Q
+ok_map (Ok value) more holds = more value holds
+ok_map (Err error) more holds = tt
+
+-- the text of a query, from that of a result over no rows
+text_of : (columns : List Column) (query : Query) (scan : Scan) (All : List (List (List Value)) → Type 0) (start : Answer) → IsOver (names_of columns) query [] start
+    → (found : TableText) → GivesText All (IsTextFrom start scan columns) found → IsTextOf columns query scan All found.text.items found.scanned
+text_of columns query scan All start over found gave = record {
+  groups = gave.groups;
+  all = gave.all;
+  counts = gave.gives.counts;
+  is = gave.gives.is (names_of columns) query over;
+}
+
+pub consumed_text-requires-clause-fits : goal.consumed_text-requires-clause-fits
+consumed_text-requires-clause-fits g c =
+    let columns = (g.T.Segments.table c.args.segments.now).columns.items in
+    let over = c.in_ok-reserve.ensures.covers (names_of columns) c.args.query.now [] (rw c.schema.ensures at c.in_ok-answer.ensures.covers) in
+    record {
+      program = subst (λ (query : Query). IsFor columns query.cond (Program c.in-Program.certified)) (sym over.0) (rw c.in-Program.is at c.requires.scan);
+      alone = sym c.only_counts.ensures ∙ c.if-only_counts.true;
+      fresh = c.in_ok-reserve.ensures.rows ∙ c.in_ok-answer.ensures.rows;
+      matches = omega arith;
+      few = record { segments = omega arith; loads = omega arith; skips = omega arith };
+    }
+
+pub consumed_text-requires-in_default-clause-fits : goal.consumed_text-requires-in_default-clause-fits
+consumed_text-requires-in_default-clause-fits g c =
+    let columns = (g.T.Segments.table c.args.segments.now).columns.items in
+    let over = c.in_ok-reserve.ensures.covers (names_of columns) c.args.query.now [] (rw c.schema.ensures at c.in_ok-answer.ensures.covers) in
+    record {
+      scan = subst (λ (query : Query). IsFor columns query.cond c.args.scan.now) (sym over.0) c.requires.scan;
+      width = c.in_ok-reserve.ensures.width ∙ c.in_ok-answer.ensures.width ∙ ap (λ (schema : Schema). vec_len schema.columns) c.schema.ensures ∙ (g.T.Segments.table c.args.segments.now).columns.ok.0;
+      few = record { segments = omega arith; loads = omega arith; skips = omega arith };
+    }
 
 pub returns-in_err-answer-clause-refused : goal.returns-in_err-answer-clause-refused
 returns-in_err-answer-clause-refused g c =
@@ -27,22 +68,16 @@ returns-in_err-reserve-clause-refused g c =
     rw (err_passed_on _ c.from_residual-in_err-reserve.ensures.1)
     (subst (λ (fault : Fault). g.T.Segments.failed c.args.segments.now c.args.input.now c.args.segments.now c.args.input.now fault) (sym c.in_err-reserve.ensures.only_oom) failed)
 
-pub returns-in_err-into_text-clause-refused : goal.returns-in_err-into_text-clause-refused
-returns-in_err-into_text-clause-refused g c =
-    let all = c.in_ok-answer-2.ensures.taken in
-    let failed = g.met.T.Segments.fails_after c.args.segments.now c.args.input.now all.groups c.take_rows.new.segments c.take_rows.new.input all.all in
-    rw (err_passed_on _ c.from_residual-in_err-into_text.ensures.1)
-    (subst (λ (fault : Fault). g.T.Segments.failed c.args.segments.now c.args.input.now c.take_rows.new.segments c.take_rows.new.input fault) (sym c.in_err-into_text.ensures.only_oom) failed)
+pub returns-in-Program-clause-text : goal.returns-in-Program-clause-text
+returns-in-Program-clause-text g c =
+    let columns = (g.T.Segments.table c.args.segments.now).columns.items in
+    let over = c.in_ok-reserve.ensures.covers (names_of columns) c.args.query.now [] (rw c.schema.ensures at c.in_ok-answer.ensures.covers) in
+    let all = λ (groups : List (List (List Value))). g.T.Segments.ended c.args.segments.now c.args.input.now groups c.consumed_text.new.segments c.consumed_text.new.input in
+    ok_map c.consumed_text.result (λ found gave. rw c.in-Program.is (text_of columns c.args.query.now (Program c.in-Program.certified) all c.reserve.new.self over found gave)) c.consumed_text.ensures.text
 
-pub returns-clause-text : goal.returns-clause-text
-returns-clause-text g c =
-    let all = c.in_ok-answer-2.ensures.taken in
-    let names = names_of (g.T.Segments.table c.args.segments.now).columns.items in
-    let query = c.args.query.now in
-    let over = c.in_ok-reserve.ensures.covers names query [] (rw c.schema.ensures at c.in_ok-answer.ensures.covers) in
-    record {
-      groups = all.groups;
-      all = all.all;
-      counts = all.counts;
-      is = c.in_ok-into_text.ensures.text names query (together all.groups) (all.covers.covers names query [] over);
-    }
+pub returns-in_default-clause-text : goal.returns-in_default-clause-text
+returns-in_default-clause-text g c =
+    let columns = (g.T.Segments.table c.args.segments.now).columns.items in
+    let over = c.in_ok-reserve.ensures.covers (names_of columns) c.args.query.now [] (rw c.schema.ensures at c.in_ok-answer.ensures.covers) in
+    let all = λ (groups : List (List (List Value))). g.T.Segments.ended c.args.segments.now c.args.input.now groups c.consumed_text-in_default.new.segments c.consumed_text-in_default.new.input in
+    ok_map c.consumed_text-in_default.result (text_of columns c.args.query.now c.args.scan.now all c.reserve.new.self over) c.consumed_text-in_default.ensures.text

@@ -8,6 +8,9 @@ use Rattle.bw_model.specs.Groups.{together}
 use Rattle.bw_model.specs.Row.{Value}
 use Rattle.bw_model.specs.Selection.{matching_rows}
 use Rattle.bw_model.specs.declared.cond.Cond.{Cond}
+use Rattle.bw_answer.specs.Progress.{query_in}
+use Rattle.bw_answer.specs.declared.answer.Answer.{Answer}
+use Rattle.bw_query.specs.declared.scan.Scan.TheVariants.{Program}
 use Rattle.bw_query.proofs.ScannedLemmas.{few_more, scanned_more}
 use Rattle.bw_query.proofs.match_counter.MatchCounterSegmentConsumer.take.Goals as goal
 
@@ -28,7 +31,7 @@ matches_counted cond groups group matches more is next =
 pub overflow_add-self-2 : goal.overflow_add-self-2
 overflow_add-self-2 g c =
     let group = (g.S.Segment.meaning c.args.segment.now).rows in
-    omega (arith, c.requires.fits.matches, c.requires.capacity, c.count_in-found.ensures.matches, matches_among c.args.self.now.query.now.cond group)
+    omega (arith, c.requires.fits.matches, c.requires.capacity, c.count_in-found.ensures.matches, matches_among (query_in c.args.self.now.answer).cond group)
 
 pub returns-clause-consumes : goal.returns-clause-consumes
 returns-clause-consumes g c =
@@ -42,18 +45,19 @@ returns-clause-consumes g c =
     record {
       some = some;
       fits = record {
-        scan = fits.scan;
-        counted = fits.counted;
-        matches = omega (arith, fits.matches, found.matches, c.rows_in.ensures.count, matches_among self.query.now.cond group);
+        program = fits.program;
+        alone = fits.alone;
+        fresh = fits.fresh;
+        matches = omega (arith, fits.matches, found.matches, c.rows_in.ensures.count, matches_among (query_in self.answer).cond group);
         few = few_more self.rows c.rows_in.result c.count_in-found.result.1 self.scanned c.plus-self.result (omega (arith, some, c.rows_in.ensures.count)) fits.few found.run.bounded plus.segments plus.loads
             plus.skips;
       };
       rows = ap (λ (more : ℕ). self.rows + more) c.rows_in.ensures.count;
       over = λ start groups led. record {
-        scan = led.scan;
-        query = led.query;
+        program = led.program;
+        answer = led.answer;
         rows = rows_counted groups group self.rows c.rows_in.result led.rows c.rows_in.ensures.count;
-        matches = matches_counted start.query.now.cond groups group self.matches c.count_in-found.result.0 led.matches (found.matches ∙ ap (λ (cond : Cond). length (matching_rows cond group)) (ap (λ query. query.cond) led.query));
-        counts = scanned_more columns start.scan.now self.scan.now groups group c.count_in-found.result.1 self.scanned c.plus-self.result led.scan led.counts found.run plus.segments plus.loads plus.skips;
+        matches = matches_counted (query_in start.answer).cond groups group self.matches c.count_in-found.result.0 led.matches (found.matches ∙ ap (λ (answer : Answer). length (matching_rows (query_in answer).cond group)) led.answer);
+        counts = scanned_more columns (Program start.certified.now) (Program self.certified.now) groups group c.count_in-found.result.1 self.scanned c.plus-self.result (ap Program led.program) led.counts found.run plus.segments plus.loads plus.skips;
       };
     }
