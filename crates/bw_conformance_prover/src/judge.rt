@@ -8,7 +8,7 @@ use bw_cert::check;
 use bw_cert_text::Certificate;
 use bw_model::{Cond, Query, Row, Schema};
 use bw_program::Program;
-use bw_prover::{Hints, Unproved, VariableOrder, Witness, prove};
+use bw_prover::{Unproved, Witness, prove};
 use bw_sql::parse;
 use std::alloc::Global;
 use std::process::Abort;
@@ -34,13 +34,12 @@ pub(crate) enum Verdict {
     NoRule,
 }
 
-/// A program's table and condition, rows of the table, and the orders of variables for the program.
+/// A program's table and condition, and rows of the table.
 #[derive(Clone, Copy)]
 pub(crate) struct Case<'a> {
     pub(crate) schema: &'a Schema,
     pub(crate) cond: &'a Cond,
     pub(crate) rows: &'a [Row],
-    pub(crate) orders: &'a [VariableOrder],
     pub ghost names: { IsTrue (names_within (length schema.now.columns.items) cond.now) },
 }
 
@@ -65,11 +64,7 @@ impl Case<'_> {
     ) -> Result<Verdict, Fail>
         requires { IsTrue (fits self.schema.now.columns.items program) }
     {
-        let hints = Hints {
-            rows: 80_000,
-            orders: self.orders,
-        };
-        match prove(alloc, self.schema, self.cond, &program, &hints) {
+        match prove(alloc, self.schema, self.cond, &program, 80_000) {
             Ok(certificate) => {
                 let is_right = self.is_right(rt, alloc, &program, self.rows)?;
                 assert!(rt; is_right, "a certified program is wrong");

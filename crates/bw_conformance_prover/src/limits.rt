@@ -2,7 +2,7 @@
 use crate::tables::NumberSource;
 use bw_model::{Cond, Schema};
 use bw_program::{Instr, Program};
-use bw_prover::{Hints, Unproved, prove};
+use bw_prover::{Unproved, prove};
 use std::alloc::{AllocError, Global};
 use std::test::Fail;
 
@@ -42,8 +42,7 @@ fn the_longest_program_ends_at_a_limit(rt: HostRuntime) -> Result<(), Fail> {
     let instrs = longest(alloc)?;
     let program = Program::new(alloc, &schema, &instrs, 0)?.ok_or("no program")?;
     for rows in [0, 1000, u32::MAX] {
-        let hints = Hints { rows, orders: &[] };
-        let made = prove(alloc, &schema, &Cond::Always, &program, &hints);
+        let made = prove(alloc, &schema, &Cond::Always, &program, rows);
         assert!(rt; matches!(made, Err(Unproved::Limit)), "{rows} rows");
     }
     Ok(())

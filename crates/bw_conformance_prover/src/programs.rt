@@ -24,7 +24,6 @@ fn assert_certified(
         schema,
         cond: &query.cond,
         rows,
-        orders: &[],
     };
     let program = propose(alloc, schema, &query.cond)?.program;
     if changes {

@@ -3,7 +3,6 @@ use crate::judge::{Case, Verdict, query_of};
 use crate::tables::{SMALL, small_rows, table};
 use bw_model::{Row, Schema};
 use bw_program::Program;
-use bw_prover::VariableOrder;
 use std::alloc::Global;
 use std::process::Abort;
 use std::test::Fail;
@@ -47,14 +46,12 @@ fn assert_verdict(
     schema: &Schema,
     rows: &[Row],
     (text, program, wanted): (&str, &str, Verdict),
-    orders: &[VariableOrder],
 ) -> Result<(), Fail> {
     let query = query_of(alloc, schema, text)?;
     let case = Case {
         schema,
         cond: &query.cond,
         rows,
-        orders,
     };
     let program = Program::parse(alloc, schema, program.as_bytes())?;
     let verdict = case.judge(rt, alloc, program)?;
@@ -68,7 +65,7 @@ fn programs_without_a_certificate_have_their_reason(rt: HostRuntime) -> Result<(
     let schema = table(alloc, SMALL)?;
     let rows = small_rows(alloc)?;
     for reason in REASONS {
-        assert_verdict(&rt, alloc, &schema, &rows, reason, &[])?;
+        assert_verdict(&rt, alloc, &schema, &rows, reason)?;
     }
     Ok(())
 }
@@ -80,17 +77,20 @@ const BITS: &str = "\
     COLUMN y 0 1 NOT NULL\n\
     ";
 
-/// The program of `x < y OR y < x`. Its second comparison has the bit of `y` first.
-const BOTH_WAYS: &str = "\
-    LOAD r0 x 0\n\
-    LOAD r1 y 0\n\
-    NOT r2 r0\n\
-    AND r2 r2 r1\n\
-    NOT r3 r1\n\
-    AND r3 r3 r0\n\
-    OR r2 r2 r3\n\
-    RESULT r2\n\
-    ";
+/// Programs of `x < y OR y < x`. The second comparison of the one has the bit of `x` first, and that
+/// of the other the bit of `y`, as the condition has it.
+const BOTH_WAYS: [(&str, Verdict); 2] = [
+    (
+        "LOAD r0 x 0\nLOAD r1 y 0\nNOT r2 r0\nAND r2 r2 r1\nNOT r3 r1\nAND r3 r0 r3\n\
+        OR r2 r2 r3\nRESULT r2\n",
+        Verdict::Unordered,
+    ),
+    (
+        "LOAD r0 x 0\nLOAD r1 y 0\nNOT r2 r0\nAND r2 r2 r1\nNOT r3 r1\nAND r3 r3 r0\n\
+        OR r2 r2 r3\nRESULT r2\n",
+        Verdict::Certified,
+    ),
+];
 
 /// Returns all rows of the two columns.
 fn rows_of_bits(alloc: Global) -> Result<Vec<Row>, Fail> {
@@ -103,15 +103,13 @@ fn rows_of_bits(alloc: Global) -> Result<Vec<Row>, Fail> {
 }
 
 #[test]
-fn hints_order_variables(rt: HostRuntime) -> Result<(), Fail> {
+fn operands_order_variables(rt: HostRuntime) -> Result<(), Fail> {
     let alloc = rt.alloc();
     let schema = table(alloc, BITS)?;
     let rows = rows_of_bits(alloc)?;
-    let mut orders = [VariableOrder::Whole; 8];
-    for wanted in [Verdict::Unordered, Verdict::Certified] {
-        let case = ("x < y OR y < x", BOTH_WAYS, wanted);
-        assert_verdict(&rt, alloc, &schema, &rows, case, &orders)?;
-        orders[5] = VariableOrder::Places(0);
+    for (program, wanted) in BOTH_WAYS {
+        let case = ("x < y OR y < x", program, wanted);
+        assert_verdict(&rt, alloc, &schema, &rows, case)?;
     }
     Ok(())
 }

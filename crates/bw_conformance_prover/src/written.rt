@@ -145,7 +145,6 @@ fn assert_certified(
         schema: setting.schema,
         cond: &query.cond,
         rows: setting.rows,
-        orders: &[],
     };
     if setting.changes {
         assert_changes_judged(rt, alloc, case, &program)?;

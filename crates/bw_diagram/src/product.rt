@@ -33,14 +33,13 @@ pub enum Reason {
     Cofactors { v: u64, i: u64, j: u64 },
 }
 
-impl Product {
-    /// Returns whether the row is a shortcut of its connective.
+impl Connective {
+    /// Returns whether node `c` is the connective of nodes `a` and `b` by one of its shortcuts.
     #[tactic(auto, unfolding(crate::specs::Product::is_shortcut))]
-    fn is_shortcut(self) -> bool
-        ensures { result ≡ is_shortcut self.op self.a self.b self.c }
+    pub fn is_shortcut(self, a: u64, b: u64, c: u64) -> bool
+        ensures { result ≡ is_shortcut self a b c }
     {
-        let Product { op, a, b, c } = self;
-        match op {
+        match self {
             Connective::And => {
                 (a == 0 && c == 0)
                     || (b == 0 && c == 0)
@@ -61,7 +60,9 @@ impl Product {
             }
         }
     }
+}
 
+impl Product {
     /// Returns the product row of its nodes' cofactors.
     fn cofactor(self, nodes: &[Node], v: u64, bit: bool) -> Self
         ensures { result ≡ cofactor_product nodes.now v bit self }
@@ -95,7 +96,10 @@ impl Product {
         ensures { result ≡ follows variables nodes.now rows.now self reason }
     {
         match reason {
-            Reason::Shortcut => self.is_shortcut(),
+            Reason::Shortcut => {
+                let (a, b, c) = (u64::from(self.a), u64::from(self.b), u64::from(self.c));
+                self.op.is_shortcut(a, b, c)
+            }
             Reason::Cofactors { v, i, j } => {
                 v < u64::from(variables)
                     && self.cofactor(nodes, v, false).is_at(rows, i)

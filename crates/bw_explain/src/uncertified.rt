@@ -10,7 +10,7 @@ use bw_lanes::{LANES, Selection, lane};
 use bw_model::{Cond, Row, Schema, Truth};
 use bw_planes::PlaneSegment;
 use bw_program::Program;
-use bw_prover::{Hints, MAX_PRODUCTS, Unproved, Witness, prove};
+use bw_prover::{MAX_PRODUCTS, Unproved, Witness, prove};
 use bw_rowwise::truth;
 use bw_run::run_segment;
 use bw_segment::is_group;
@@ -32,12 +32,8 @@ struct Claim<'a> {
 pub(crate) fn put_uncertified(text: &mut Text, schema: &Schema, sql: &[u8], file: &[u8]) {
     let query = parse(text.alloc, schema, sql);
     let program = Program::parse(text.alloc, schema, split_file(file).program);
-    let hints = Hints {
-        rows: MAX_PRODUCTS,
-        orders: &[],
-    };
     if let (Ok(query), Ok(program)) = (&query, &program)
-        && let Err(unproved) = prove(text.alloc, schema, &query.cond, program, &hints)
+        && let Err(unproved) = prove(text.alloc, schema, &query.cond, program, MAX_PRODUCTS)
     {
         let claim = Claim {
             schema,

@@ -1,16 +1,15 @@
 //! Instructions, and what their registers hold.
 use crate::limits::{MAX_INSTRUCTIONS, MAX_LOOKS};
 use crate::plan::Plan;
+use crate::reason::Reason;
 use crate::registers::{Registers, Value};
 use crate::skips::Skips;
-use crate::unplanned::Unplanned;
 use bw_model::Schema;
 use bw_program::{ColumnIndex, Instr, Register};
-use bw_prover::VariableOrder;
 use std::alloc::Global;
 
 /// A register, unless there is no program or memory was refused.
-pub(crate) type Made = Result<Register, Unplanned>;
+pub(crate) type Made = Result<Register, Reason>;
 
 /// How two registers are combined, lane by lane.
 #[derive(Clone, Copy)]
@@ -26,10 +25,6 @@ pub(crate) struct Code<'a> {
     pub(crate) schema: &'a Schema,
     pub(crate) plan: Plan,
     pub(crate) instrs: Vec<Instr>,
-    /// For each instruction, the order of variables in which its certificate is worked out.
-    pub(crate) orders: Vec<VariableOrder>,
-    /// That of the next one.
-    pub(crate) order: VariableOrder,
     pub(crate) registers: Registers,
     pub(crate) skips: Skips,
     /// How many instructions compare a byte.
@@ -43,8 +38,6 @@ impl<'a> Code<'a> {
             schema,
             plan,
             instrs: Vec::new(alloc),
-            orders: Vec::new(alloc),
-            order: VariableOrder::Whole,
             registers: Registers::new(),
             skips: Skips::new(alloc),
             looks: 0,
@@ -52,15 +45,14 @@ impl<'a> Code<'a> {
     }
 
     /// Appends an instruction.
-    pub(crate) fn put(&mut self, instr: Instr) -> Result<(), Unplanned> {
+    pub(crate) fn put(&mut self, instr: Instr) -> Result<(), Reason> {
         if self.instrs.len() >= MAX_INSTRUCTIONS || !self.plan.skips && self.looks > MAX_LOOKS {
-            return Err(Unplanned::TooLong);
+            return Err(Reason::Length);
         }
         if matches!(instr, Instr::ByteLt(..) | Instr::ByteEq(..)) {
             self.looks = self.looks.saturating_add(1);
         }
         self.instrs.push(instr)?;
-        self.orders.push(self.order)?;
         Ok(())
     }
 

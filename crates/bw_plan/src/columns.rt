@@ -2,9 +2,13 @@
 use bw_model::Schema;
 use bw_program::ColumnIndex;
 
+/// Returns a column's number as instructions have it: a schema has at most 64.
+pub(crate) fn index_of(column: usize) -> ColumnIndex {
+    (column % 64) as u8
+}
+
 /// Returns how many bits a column's codes have, if the schema has the column.
-pub(crate) fn width_of(schema: &Schema, column: ColumnIndex) -> u32 {
-    let column = usize::from(column);
+pub(crate) fn width_of(schema: &Schema, column: usize) -> u32 {
     if column < schema.columns.len() {
         schema.width(column)
     } else {
@@ -13,9 +17,9 @@ pub(crate) fn width_of(schema: &Schema, column: ColumnIndex) -> u32 {
 }
 
 /// Returns whether a column may be null.
-pub(crate) fn is_nullable(schema: &Schema, column: ColumnIndex) -> bool {
-    match schema.columns.get(usize::from(column)) {
-        Some(column) => column.nullable,
-        None => false,
-    }
+pub(crate) fn is_nullable(schema: &Schema, column: usize) -> bool {
+    schema
+        .columns
+        .get(column)
+        .is_some_and(|column| column.nullable)
 }

@@ -1,12 +1,11 @@
 //! Comparisons of operands, as parts of a condition.
-use crate::columns::width_of;
+use crate::columns::{index_of, width_of};
 use crate::formula::{Formula, FormulaResult, Reader};
+use crate::reason::Reason;
 use crate::sets::Set;
-use crate::unplanned::Unplanned;
-use bw_diagram::{Bound, ChainKind};
+use bw_diagram::{Bound, ChainKind, Order};
 use bw_model::{Op, Operand, Truth};
-use bw_program::ColumnIndex;
-use bw_prover::{ColumnComparison, Comparison, compare};
+use bw_prover::{Comparison, compare};
 
 impl Reader<'_> {
     /// Returns a comparison of operands, or its opposite if it is negated. Refuses columns that the
@@ -18,7 +17,7 @@ impl Reader<'_> {
         y: Operand,
         negated: bool,
     ) -> FormulaResult {
-        match compare(self.schema, op, x, y).ok_or(Unplanned::NoProgram)? {
+        match compare(self.schema, op, x, y).ok_or(Reason::Limit)? {
             Comparison::Fixed(Truth::Unknown) => Ok(Formula::Fixed(Truth::Unknown)),
             Comparison::Fixed(truth) => Ok(Formula::Fixed(Truth::of(
                 (truth == Truth::Yes) != negated,
@@ -27,26 +26,26 @@ impl Reader<'_> {
                 self.columns |= 1 << (column % 64);
                 self.with_literal(column, bound, negated)
             }
-            Comparison::Columns(compared) => {
-                self.columns |= 1 << (compared.left % 64) | 1 << (compared.right % 64);
+            Comparison::Columns(order) => {
+                self.columns |= 1 << (order.left % 64) | 1 << (order.right % 64);
                 self.relations = self.relations.saturating_add(1);
-                Ok(Formula::Columns(ColumnComparison {
-                    negated: compared.negated != negated,
-                    ..compared
+                Ok(Formula::Columns(Order {
+                    negated: order.negated != negated,
+                    ..order
                 }))
             }
         }
     }
 
     /// Returns the comparison of a column with a literal, or its opposite if it is negated.
-    fn with_literal(&self, column: ColumnIndex, bound: Bound, negated: bool) -> FormulaResult {
+    fn with_literal(&self, column: usize, bound: Bound, negated: bool) -> FormulaResult {
         let limits = match bound.kind {
             ChainKind::Equal => [bound.limit, bound.limit.saturating_add(1)],
             ChainKind::Less => [0, bound.limit],
         };
         let inverted = bound.negated != negated;
         let width = width_of(self.schema, column);
-        let set = Set::between(self.alloc, column, width, limits, inverted)?;
+        let set = Set::between(self.alloc, index_of(column), width, limits, inverted)?;
         Ok(Formula::Codes(set))
     }
 }

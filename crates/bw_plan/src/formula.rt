@@ -1,12 +1,12 @@
 //! The parts of a condition as instructions compute them: all comparisons of one column with
 //! literals that an AND or OR combines are one set of codes.
-use crate::columns::{is_nullable, width_of};
+use crate::columns::{index_of, is_nullable, width_of};
 use crate::limits::{MANY_BITS, MAX_CONDITION_ROWS, MAX_CONDITION_ROWS_OF_MANY, MAX_LIST};
+use crate::reason::Reason;
 use crate::sets::{Set, top_slice};
-use crate::unplanned::Unplanned;
+use bw_diagram::Order;
 use bw_model::{Cond, Op, Operand, Schema, Truth};
 use bw_program::ColumnIndex;
-use bw_prover::ColumnComparison;
 use std::alloc::Global;
 
 /// A condition, or a part of it.
@@ -17,7 +17,7 @@ pub(crate) enum Formula {
     /// Whether a column's code is in a set.
     Codes(Set),
     /// A comparison of two columns.
-    Columns(ColumnComparison),
+    Columns(Order),
     /// Whether a column, which may be null, is null, or isn't if it is negated.
     Null(ColumnIndex, bool),
     /// The OR of all parts, or else their AND.
@@ -29,7 +29,7 @@ pub(crate) enum Formula {
 }
 
 /// A part, unless it has no program or memory was refused.
-pub(crate) type FormulaResult = Result<Formula, Unplanned>;
+pub(crate) type FormulaResult = Result<Formula, Reason>;
 
 /// Reads a condition under a schema.
 #[derive(Clone, Copy)]
@@ -46,7 +46,7 @@ impl Reader<'_> {
     /// Returns the most product rows of what it has read.
     pub(crate) fn max_rows(&self) -> u32 {
         let mut bits = 0u32;
-        for column in 0..64u8 {
+        for column in 0..64 {
             if self.columns >> column & 1 == 1 {
                 bits = bits.saturating_add(width_of(self.schema, column));
             }
@@ -105,7 +105,7 @@ impl Reader<'_> {
     /// it is, and then the other items.
     fn list(&mut self, x: Operand, items: &[Operand], negated: bool) -> FormulaResult {
         if items.len() > MAX_LIST {
-            return Err(Unplanned::NoProgram);
+            return Err(Reason::Limit);
         }
         let mut parts = Vec::new(self.alloc);
         for are_literals in [true, false] {
@@ -120,13 +120,12 @@ impl Reader<'_> {
 
     /// Returns `IS NULL`, or its opposite if it is negated.
     fn null_test(&self, x: Operand, negated: bool) -> FormulaResult {
-        if let Operand::Col(column) = x {
-            let index = u8::try_from(column).ok().ok_or(Unplanned::NoProgram)?;
-            if is_nullable(self.schema, index) {
-                return Ok(Formula::Null(index, negated));
+        Ok(match x {
+            Operand::Col(column) if is_nullable(self.schema, column) => {
+                Formula::Null(index_of(column), negated)
             }
-        }
-        Ok(Formula::Fixed(Truth::of((x == Operand::Null) != negated)))
+            _ => Formula::Fixed(Truth::of((x == Operand::Null) != negated)),
+        })
     }
 
     /// Returns the OR of some parts, or else their AND. All sets of one column become one where the
@@ -146,7 +145,7 @@ impl Reader<'_> {
         if parts.len() > 1 {
             return Ok(Formula::All(any, parts));
         }
-        parts.pop().ok_or(Unplanned::NoProgram)
+        parts.pop().ok_or(Reason::Limit)
     }
 
     /// Returns what all sets of a column are together, if there are several, and if the set isn't
@@ -157,7 +156,7 @@ impl Reader<'_> {
         parts: &[Formula],
         column: ColumnIndex,
         only_short: bool,
-    ) -> Result<Option<Set>, Unplanned> {
+    ) -> Result<Option<Set>, Reason> {
         let mut sets = Vec::new(self.alloc);
         for part in parts {
             match part {

@@ -26,13 +26,13 @@ mod formula;
 mod limits;
 mod plan;
 mod planner;
+mod reason;
 mod registers;
 mod relations;
 mod select;
 mod sets;
 mod skips;
 mod truths;
-mod unplanned;
 
 pub use planner::{Proposal, propose, propose_in_order, why_unplanned};
-pub use unplanned::Reason;
+pub use reason::Reason;

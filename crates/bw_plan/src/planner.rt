@@ -10,11 +10,11 @@ use crate::code::Code;
 use crate::formula::{Formula, Reader};
 use crate::limits::{MAX_ROWS, ROWS_BEFORE_FORECAST};
 use crate::plan::Plan;
-use crate::unplanned::{Reason, Unplanned};
+use crate::reason::Reason;
 use bw_cert_text::Certificate;
 use bw_model::{Cond, Fault, Schema};
-use bw_program::{Instr, Program, Register};
-use bw_prover::{Hints, Prover};
+use bw_program::Program;
+use bw_prover::Prover;
 use std::alloc::Global;
 
 /// A program for a condition, and a certificate that is to prove that it selects the right rows.
@@ -58,27 +58,21 @@ pub fn propose_in_order<'a>(
         IsTrue (has_columns schema.now.columns.items (certificate_fields proposal.certificate))) }
     ensures fault { IfErr result IsRefusal }
 {
-    match planned(alloc, schema, cond, order) {
-        Ok(proposal) => Ok(proposal),
-        Err(refusal) => Err(Fault::from(refusal)),
-    }
+    Ok(try_plans(alloc, schema, cond, order)?)
 }
 
 /// Returns why [`propose`] proposes no program for a condition, unless it proposes one.
 pub fn why_unplanned(alloc: Global, schema: &Schema, cond: &Cond) -> Option<Reason> {
-    match planned(alloc, schema, cond, cond) {
-        Ok(_) => None,
-        Err(refusal) => Some(Reason::from(refusal)),
-    }
+    try_plans(alloc, schema, cond, cond).err()
 }
 
 /// Returns what `propose_in_order` does, or why it doesn't.
-fn planned<'a>(
+fn try_plans<'a>(
     alloc: Global,
     schema: &'a Schema,
     cond: &Cond,
     order: &Cond,
-) -> Result<Proposal<'a>, Unplanned>
+) -> Result<Proposal<'a>, Reason>
     ensures program { IfOk result (λ proposal.
         IsTrue (fits schema.now.columns.items proposal.program)) }
     ensures certificate { IfOk result (λ proposal.
@@ -91,30 +85,20 @@ fn planned<'a>(
         columns: 0,
     };
     let part = reader.part_of(order, false)?;
-    let rows = reader.max_rows();
-    let mut prover = prover_of(alloc, schema, cond, rows)?;
-    let mut plan = Plan::new(reader.relations, prover.rows());
-    for _ in 0..2 {
+    let mut tried: Option<Plan> = None;
+    for _ in 0..3 {
+        let rows = reader.max_rows();
+        let prover = Prover::new(alloc, schema, cond, rows, ROWS_BEFORE_FORECAST)?;
+        let plan = match tried {
+            None => Plan::new(reader.relations, prover.rows()),
+            Some(last) => last.with_fewer_skips(),
+        };
         match proposal_by(alloc, schema, prover, &part, plan) {
-            Ok(proposal) => return Ok(proposal),
-            Err(Unplanned::TooLong | Unplanned::Unproved) if plan.skips => {
-                plan = plan.with_fewer_skips();
-            }
-            Err(refusal) => return Err(refusal),
+            Err(Reason::Length | Reason::Uncertified) if plan.skips => tried = Some(plan),
+            made => return made,
         }
-        prover = prover_of(alloc, schema, cond, rows)?;
     }
-    proposal_by(alloc, schema, prover, &part, plan)
-}
-
-/// Returns the proof of a program, begun with its condition, which takes at most so many rows.
-fn prover_of<'a>(
-    alloc: Global,
-    schema: &'a Schema,
-    cond: &Cond,
-    rows: u32,
-) -> Result<Prover<'a>, Unplanned> {
-    Ok(Prover::new(alloc, schema, cond, rows, ROWS_BEFORE_FORECAST)?)
+    Err(Reason::Uncertified)
 }
 
 /// Returns a program of a condition by one plan.
@@ -124,7 +108,7 @@ fn proposal_by<'a>(
     prover: Prover<'a>,
     part: &Formula,
     plan: Plan,
-) -> Result<Proposal<'a>, Unplanned>
+) -> Result<Proposal<'a>, Reason>
     ensures program { IfOk result (λ proposal.
         IsTrue (fits schema.now.columns.items proposal.program)) }
     ensures certificate { IfOk result (λ proposal.
@@ -132,27 +116,11 @@ fn proposal_by<'a>(
 {
     let mut code = Code::new(alloc, schema, plan);
     let answer = code.whole(part)?;
-    let program = program_of(alloc, schema, &code.instrs, answer)?;
-    let hints = Hints {
-        rows: MAX_ROWS,
-        orders: &code.orders,
-    };
-    let certificate = prover.certify(alloc, schema, &program, &hints)?;
+    let program = Program::new(alloc, schema, &code.instrs, answer)?;
+    let program = program.ok_or(Reason::Limit)?;
+    let certificate = prover.certify(schema, &program, MAX_ROWS)?;
     Ok(Proposal {
         program,
         certificate,
     })
-}
-
-/// Returns the program of the instructions.
-fn program_of(
-    alloc: Global,
-    schema: &Schema,
-    instrs: &[Instr],
-    answer: Register,
-) -> Result<Program, Unplanned>
-    ensures { IfOk result (λ program. IsTrue (fits schema.now.columns.items program)) }
-{
-    let program = Program::new(alloc, schema, instrs, answer)?;
-    program.ok_or(Unplanned::NoProgram)
 }

@@ -1,5 +1,5 @@
 //! What the registers of a program hold.
-use crate::unplanned::Unplanned;
+use crate::reason::Reason;
 use bw_program::{BitIndex, ColumnIndex, Instr, Register, SliceIndex};
 
 /// What a register may hold so that it can be used again, wherever it was computed.
@@ -52,10 +52,10 @@ impl Registers {
     }
 
     /// Returns a register that isn't needed, preferably one that holds nothing.
-    pub(crate) fn claim(&self) -> Result<Register, Unplanned> {
+    pub(crate) fn claim(&self) -> Result<Register, Reason> {
         let empty = self.find(None);
         let free = empty.or(self.states.iter().position(|state| !state.needed));
-        Ok((free.ok_or(Unplanned::TooLong)? % 64) as Register)
+        Ok((free.ok_or(Reason::Length)? % 64) as Register)
     }
 
     /// Returns a register that isn't needed and holds this.

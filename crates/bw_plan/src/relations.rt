@@ -1,11 +1,10 @@
 //! Instructions that compare the codes of two columns with one another, bit by bit.
 use crate::code::{Code, Connective, Made};
-use crate::columns::width_of;
+use crate::columns::{index_of, width_of};
+use crate::reason::Reason;
 use crate::registers::Value;
-use crate::unplanned::Unplanned;
-use bw_diagram::ChainKind;
+use bw_diagram::{ChainKind, Order};
 use bw_program::Register;
-use bw_prover::ColumnComparison;
 
 /// The registers of one bit of two columns: that is 1 if the bits differ, and that is 1, if they
 /// differ, if the left one is 0.
@@ -15,7 +14,7 @@ impl Code<'_> {
     /// Returns a register that is 1 if the code of a column is less than (equal to) that of
     /// another. Their top bits are compared from the top down, with skips to the end of the
     /// comparison if no row has them equal so far, and the bits below from the lowest one up.
-    pub(crate) fn relation(&mut self, relation: ColumnComparison) -> Made {
+    pub(crate) fn relation(&mut self, relation: Order) -> Made {
         let left = width_of(self.schema, relation.left);
         let bits = left.max(width_of(self.schema, relation.right));
         let low = bits.saturating_sub(self.plan.top_bits());
@@ -26,46 +25,34 @@ impl Code<'_> {
             ChainKind::Less => Some(self.fill(false)?),
             ChainKind::Equal => None,
         };
-        let same = self.tops(relation, low..bits, less)?;
-        if low > 0 {
-            let rest = self.lows(relation, low)?;
-            let Some(less) = less else {
-                return self.join_into(Connective::And, same, rest);
-            };
-            self.join_into(Connective::And, rest, same)?;
-            self.join_into(Connective::Or, less, rest)?;
-        }
-        let Some(less) = less else {
-            return Ok(same);
-        };
-        self.registers.release(same);
-        Ok(less)
-    }
-
-    /// Compares some bits from the top down. Returns a register that is 1 if they are equal, and
-    /// updates whether the code is less by them, if that is wanted.
-    fn tops(
-        &mut self,
-        relation: ColumnComparison,
-        bits: std::ops::Range<u32>,
-        less: Option<Register>,
-    ) -> Made {
         let mut same = None;
-        for bit in bits.rev() {
+        for bit in (low..bits).rev() {
             let now = self.next_below(relation, bit, less, same)?;
             if bit > 0 {
                 self.skip(now)?;
             }
             same = Some(now);
         }
-        same.ok_or(Unplanned::NoProgram)
+        let same = same.ok_or(Reason::Limit)?;
+        if low > 0 {
+            let rest = self.lows(relation, low)?;
+            let Some(less) = less else {
+                return self.join_into(Connective::And, same, rest);
+            };
+            self.join(Connective::And, rest, rest, same)?;
+            self.join_into(Connective::Or, less, rest)?;
+        }
+        if less.is_some() {
+            self.registers.release(same);
+        }
+        Ok(less.unwrap_or(same))
     }
 
     /// Adds the next bit below to a comparison from the top down. Updates whether the code is less
     /// by the bits so far, if that is wanted, and returns whether they are equal.
     fn next_below(
         &mut self,
-        relation: ColumnComparison,
+        relation: Order,
         bit: u32,
         less: Option<Register>,
         same: Option<Register>,
@@ -91,7 +78,7 @@ impl Code<'_> {
 
     /// Returns a register that is 1 if this many low bits of a column are a number less than (equal
     /// to) that of another.
-    fn lows(&mut self, relation: ColumnComparison, bits: u32) -> Made {
+    fn lows(&mut self, relation: Order, bits: u32) -> Made {
         let made = self.fill(relation.kind == ChainKind::Equal)?;
         for bit in 0..bits {
             let (differs, below) = self.bits(relation, bit)?;
@@ -117,21 +104,22 @@ impl Code<'_> {
     /// Returns the registers of one bit of two columns, of which at least one has it. The second is
     /// the first if only the right column has the bit. There is none if only the left one has it,
     /// or if only equality is wanted.
-    fn bits(&mut self, relation: ColumnComparison, bit: u32) -> Result<Bits, Unplanned> {
-        let (left, right, place) = (relation.left, relation.right, (bit % 64) as u8);
+    fn bits(&mut self, relation: Order, bit: u32) -> Result<Bits, Reason> {
+        let Order { left, right, .. } = relation;
+        let bit_of = |column| Value::Bit(index_of(column), (bit % 64) as u8);
         let is_less = relation.kind == ChainKind::Less;
         if bit >= width_of(self.schema, right) {
-            return Ok((self.value(Value::Bit(left, place))?, None));
+            return Ok((self.value(bit_of(left))?, None));
         }
-        let right = self.value(Value::Bit(right, place))?;
+        let below = self.value(bit_of(right))?;
         if bit >= width_of(self.schema, left) {
-            return Ok((right, is_less.then_some(right)));
+            return Ok((below, is_less.then_some(below)));
         }
-        let left = self.value(Value::Bit(left, place))?;
-        self.join(Connective::Xor, left, left, right)?;
+        let differs = self.value(bit_of(left))?;
+        self.join(Connective::Xor, differs, differs, below)?;
         if !is_less {
-            self.registers.release(right);
+            self.registers.release(below);
         }
-        Ok((left, is_less.then_some(right)))
+        Ok((differs, is_less.then_some(below)))
     }
 }

@@ -1,9 +1,9 @@
 //! Instructions that compare a column's codes with numbers, from the most significant byte down.
 use crate::code::{Code, Connective, Made};
 use crate::limits::{MAX_LIST_ROWS, SKIPPED_BYTES};
+use crate::reason::Reason;
 use crate::registers::Value;
 use crate::sets::{Set, bounds_below, byte_of, top_slice};
-use crate::unplanned::Unplanned;
 use bw_program::{ColumnIndex, Register, SliceIndex};
 
 /// What is looked for: the low bytes of a column's codes, from this one down, that have an odd number
@@ -24,7 +24,7 @@ impl Code<'_> {
         let column = set.column;
         let top = top_slice(self.schema, column);
         if set.is_long(top) && self.plan.rows > MAX_LIST_ROWS {
-            return Err(Unplanned::NoProgram);
+            return Err(Reason::Limit);
         }
         match set.bounds.as_slice() {
             [] => self.fill(false),
@@ -87,7 +87,7 @@ impl Code<'_> {
         &mut self,
         search: Search<'_>,
         out: Option<Register>,
-    ) -> Result<Option<Register>, Unplanned> {
+    ) -> Result<Option<Register>, Reason> {
         let Search { column, slice, .. } = search;
         let inner = bounds_below(search.bounds, slice);
         let (Some(bound), Some(next)) = (inner.first(), slice.checked_sub(1)) else {
@@ -116,32 +116,26 @@ impl Code<'_> {
     }
 
     /// Returns a register that is 1 where a byte has an odd number of the bounds' bytes above it.
-    fn bytes(&mut self, search: Search<'_>) -> Result<Option<Register>, Unplanned> {
+    fn bytes(&mut self, search: Search<'_>) -> Result<Option<Register>, Reason> {
         let Search { column, slice, .. } = search;
+        let groups = search
+            .bounds
+            .chunk_by(|a, b| byte_of(*a, slice) == byte_of(*b, slice));
+        let mut bytes = groups
+            .filter(|group| group.len() % 2 == 1)
+            .map(|group| group.first().map_or(0, |bound| byte_of(*bound, slice)))
+            .filter(|byte| *byte > 0)
+            .peekable();
         let mut made = None;
-        let mut before: Option<u8> = None;
-        let bounds = search.bounds;
-        for group in bounds.chunk_by(|a, b| byte_of(*a, slice) == byte_of(*b, slice)) {
-            let byte = group.first().map_or(0, |bound| byte_of(*bound, slice));
-            if group.len() % 2 == 0 || byte == 0 {
-                continue;
-            }
-            let Some(last) = before else {
-                before = Some(byte);
-                continue;
+        for _ in search.bounds {
+            let Some(byte) = bytes.next() else {
+                break;
             };
-            let is_next = last.checked_add(1) == Some(byte);
-            before = (!is_next).then_some(byte);
-            let value = if is_next {
-                Value::Equal(column, slice, last)
-            } else {
-                Value::Less(column, slice, last)
+            let value = match bytes.next_if(|next| byte.checked_add(1) == Some(*next)) {
+                Some(_) => Value::Equal(column, slice, byte),
+                None => Value::Less(column, slice, byte),
             };
             let next = self.value(value)?;
-            made = Some(self.toggle_lanes(next, None, made)?);
-        }
-        if let Some(last) = before {
-            let next = self.value(Value::Less(column, slice, last))?;
             made = Some(self.toggle_lanes(next, None, made)?);
         }
         Ok(made)

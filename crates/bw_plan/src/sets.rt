@@ -1,7 +1,7 @@
 //! Sets of a column's codes.
 use crate::columns::width_of;
 use crate::limits::LONG_SET;
-use crate::unplanned::Unplanned;
+use crate::reason::Reason;
 use bw_model::Schema;
 use bw_program::{ColumnIndex, SliceIndex};
 use std::alloc::Global;
@@ -24,7 +24,7 @@ impl Set {
         width: u32,
         limits: [i128; 2],
         inverted: bool,
-    ) -> Result<Self, Unplanned> {
+    ) -> Result<Self, Reason> {
         let mut set = Set {
             column,
             bounds: Vec::new(alloc),
@@ -52,7 +52,7 @@ impl Set {
         column: ColumnIndex,
         any: bool,
         sets: &[&Set],
-    ) -> Result<Self, Unplanned> {
+    ) -> Result<Self, Reason> {
         // Each bound, doubled, plus 1 if its set, or its complement, has the codes from there on;
         // and how many of these have the code in question.
         let mut ends: Vec<u64> = Vec::new(alloc);
@@ -89,7 +89,7 @@ impl Set {
 
 /// Returns the slice of the most significant byte of a column's codes.
 pub(crate) fn top_slice(schema: &Schema, column: ColumnIndex) -> SliceIndex {
-    (width_of(schema, column).saturating_sub(1) / 8).min(7) as u8
+    (width_of(schema, usize::from(column)).saturating_sub(1) / 8).min(7) as u8
 }
 
 /// Returns a byte of a number.

@@ -1,7 +1,7 @@
 //! Skips: where they begin, and where they meet.
 use crate::code::Code;
+use crate::reason::Reason;
 use crate::registers::Registers;
-use crate::unplanned::Unplanned;
 use bw_program::{Instr, Register};
 use std::alloc::Global;
 
@@ -35,7 +35,7 @@ impl Skips {
 
 impl Code<'_> {
     /// Appends a skip, taken if a register is zero in every lane.
-    pub(crate) fn skip(&mut self, register: Register) -> Result<(), Unplanned> {
+    pub(crate) fn skip(&mut self, register: Register) -> Result<(), Reason> {
         if !self.plan.skips {
             return Ok(());
         }

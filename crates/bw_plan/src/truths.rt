@@ -1,15 +1,14 @@
 //! Instructions that compute where a condition is TRUE, and where it is FALSE.
 use crate::code::{Code, Connective, Made};
-use crate::columns::is_nullable;
+use crate::columns::{index_of, is_nullable};
 use crate::formula::{Formula, deepest};
 use crate::limits::{MANY_LEVELS, SKIPPED_PARTS};
+use crate::reason::Reason;
 use crate::registers::Value;
 use crate::sets::Set;
-use crate::unplanned::Unplanned;
-use bw_diagram::{ChainKind, TruthPair};
+use bw_diagram::{Order, TruthPair};
 use bw_model::Truth;
 use bw_program::{ColumnIndex, Register};
-use bw_prover::{ColumnComparison, VariableOrder};
 
 /// Whether the register of where a condition is TRUE is needed, and that of where it is FALSE.
 type WantedTruths = TruthPair<bool>;
@@ -18,13 +17,13 @@ type WantedTruths = TruthPair<bool>;
 type TruthRegisters = TruthPair<Option<Register>>;
 
 /// These registers, unless there is no program or memory was refused.
-type MadeTruths = Result<TruthRegisters, Unplanned>;
+type MadeTruths = Result<TruthRegisters, Reason>;
 
 impl Code<'_> {
     /// Returns the register of where a whole condition is TRUE.
     pub(crate) fn whole(&mut self, part: &Formula) -> Made {
         let made = self.truths(part, TruthPair::of(true, false))?;
-        let answer = made.yes.ok_or(Unplanned::NoProgram)?;
+        let answer = made.yes.ok_or(Reason::Limit)?;
         let first = self.open_skips();
         if self.skips.count == 0 {
             // A skip at the end lets counts show empty segments.
@@ -41,7 +40,7 @@ impl Code<'_> {
         match part {
             Formula::Fixed(truth) => self.constant(*truth, wanted),
             Formula::Codes(set) => self.in_set(set, wanted),
-            Formula::Columns(compared) => self.compare_columns(*compared, wanted),
+            Formula::Columns(order) => self.compare_columns(*order, wanted),
             Formula::Null(column, negated) => {
                 let made = self.null_test(*column, wanted.opposite_if(*negated))?;
                 Ok(made.opposite_if(*negated))
@@ -65,7 +64,7 @@ impl Code<'_> {
         let first = if depth > MANY_LEVELS { deepest } else { 0 };
         let made = match parts.get(first) {
             Some(part) => self.truths(part, wanted)?,
-            None => return Err(Unplanned::NoProgram),
+            None => return Err(Reason::Limit),
         };
         for (number, part) in parts.iter().enumerate() {
             if number == first {
@@ -84,7 +83,7 @@ impl Code<'_> {
     }
 
     /// Skips to the end of the parts if the others can change nothing.
-    fn skip_if_settled(&mut self, any: bool, made: TruthRegisters) -> Result<(), Unplanned> {
+    fn skip_if_settled(&mut self, any: bool, made: TruthRegisters) -> Result<(), Reason> {
         let made = made.opposite_if(any);
         match (made.yes, made.no) {
             (_, Some(excluded)) => {
@@ -105,7 +104,7 @@ impl Code<'_> {
         any: bool,
         made: TruthRegisters,
         next: TruthRegisters,
-    ) -> Result<(), Unplanned> {
+    ) -> Result<(), Reason> {
         let (made, next) = (made.opposite_if(any), next.opposite_if(any));
         if let (Some(to), Some(y)) = (made.yes, next.yes) {
             self.join_into(Connective::And, to, y)?;
@@ -143,7 +142,7 @@ impl Code<'_> {
                 self.join_into(Connective::Or, held, other)?;
                 (held, !negated)
             }
-            _ => return Err(Unplanned::NoProgram),
+            _ => return Err(Reason::Limit),
         };
         self.sides(held, &[], false, inverted, wanted)
     }
@@ -171,23 +170,20 @@ impl Code<'_> {
 
     /// Returns the registers of a comparison of two columns. Its skips meet right after its own
     /// instructions: after a NOT or a null plane, "less so far" would differ by them.
-    fn compare_columns(&mut self, compared: ColumnComparison, wanted: WantedTruths) -> MadeTruths {
+    fn compare_columns(&mut self, order: Order, wanted: WantedTruths) -> MadeTruths {
         let first = self.open_skips();
-        self.order = VariableOrder::Places(compared.right);
-        let ColumnComparison { left, right, .. } = compared;
-        let held = if left == right {
-            self.fill(compared.kind == ChainKind::Equal)?
-        } else {
-            self.relation(compared)?
+        let terminal = order.terminal();
+        let held = match terminal {
+            Some(terminal) => self.fill(terminal == 1)?,
+            None => self.relation(order)?,
         };
         self.meet_from(first);
         self.meet();
-        let columns = [left, right];
-        let columns = &columns[usize::from(left == right)..];
-        let made = self.sides(held, columns, true, compared.negated, wanted)?;
+        let columns = [index_of(order.left), index_of(order.right)];
+        let columns = &columns[usize::from(terminal.is_some())..];
+        let made = self.sides(held, columns, true, order.negated, wanted)?;
         self.meet_from(first);
         self.meet();
-        self.order = VariableOrder::Whole;
         Ok(made)
     }
 
@@ -207,7 +203,7 @@ impl Code<'_> {
         if wanted.no {
             let outside = if wanted.yes { self.copy(held)? } else { held };
             for column in columns {
-                if is_nullable(self.schema, *column) {
+                if is_nullable(self.schema, usize::from(*column)) {
                     let nulls = self.value(Value::Nulls(*column))?;
                     self.join_into(Connective::Or, outside, nulls)?;
                 }
@@ -216,7 +212,7 @@ impl Code<'_> {
         }
         if wanted.yes {
             for column in columns {
-                if is_nullable(self.schema, *column) {
+                if is_nullable(self.schema, usize::from(*column)) {
                     if early && !wanted.no {
                         self.skip(held)?;
                     }

@@ -4,9 +4,9 @@ ghost use Rattle.std.specs.Prelude.{◌≡◌, ◌≤◌};
 use crate::columns::bit_variable;
 use crate::facts::{Cited, Facts};
 use crate::ledger::{Key, Keyed};
-use crate::unproved::Stop;
+use crate::unproved::Unproved;
 use bw_diagram::ChainKind;
-use bw_program::{ColumnIndex, SliceIndex};
+use bw_program::SliceIndex;
 
 /// A chain: `len` bits of a column's code from the lowest one of a slice are compared with a
 /// number, or, if there is a right column, the `len` low bits of both. It has the number of its
@@ -14,23 +14,23 @@ use bw_program::{ColumnIndex, SliceIndex};
 #[derive(Clone, Copy)]
 pub(crate) struct Link {
     pub(crate) kind: ChainKind,
-    pub(crate) left: ColumnIndex,
-    pub(crate) right: Option<ColumnIndex>,
+    pub(crate) left: usize,
+    pub(crate) right: Option<usize>,
     pub(crate) slice: SliceIndex,
     pub(crate) len: u32,
     pub(crate) bound: u64,
-    pub(crate) node: u32,
-    pub(crate) prev: Option<u32>,
+    pub(crate) node: u64,
+    pub(crate) prev: Option<u64>,
 }
 
 impl Keyed for Link {
-    fn key(self) -> Key {
+    fn key(&self) -> Key {
         let right = match self.right {
-            Some(right) => 1 << 8 | u64::from(right),
+            Some(right) => 1 << 8 | right as u64,
             None => 0,
         };
         let bits = u64::from(self.slice) << 8 | u64::from(self.len % 64);
-        let columns = u64::from(self.left) << 16 | right;
+        let columns = (self.left as u64) << 16 | right;
         (self.bound, (columns << 16 | bits) << 1 | self.kind as u64)
     }
 }
@@ -38,13 +38,7 @@ impl Keyed for Link {
 impl Link {
     /// Returns the comparison of `len` bits of a column's code, from those of a slice, with a
     /// number.
-    pub(crate) fn of(
-        kind: ChainKind,
-        left: ColumnIndex,
-        slice: SliceIndex,
-        len: u32,
-        bound: u64,
-    ) -> Self
+    pub(crate) fn of(kind: ChainKind, left: usize, slice: SliceIndex, len: u32, bound: u64) -> Self
         ensures { result.len ≡ len }
     {
         Link {
@@ -61,18 +55,34 @@ impl Link {
 
     /// Returns the node of a comparison of numbers with top bits `x` and `y`, from that of the bits
     /// below, `lower`.
-    fn outcome(self, x: bool, y: bool, lower: u32) -> u32 {
+    fn outcome(self, x: bool, y: bool, lower: u64) -> u64 {
         match self.kind {
             _ if x == y => lower,
-            ChainKind::Less => u32::from(y),
+            ChainKind::Less => u64::from(y),
             ChainKind::Equal => 0,
         }
     }
 }
 
 impl Facts<'_> {
+    /// Returns the number and the node of the chain of a comparison: none, and the terminal, if
+    /// there is one that is its node.
+    pub(crate) fn chain_unless(
+        &mut self,
+        terminal: Option<u32>,
+        link: Link,
+    ) -> Result<(Option<u64>, u64), Unproved>
+        requires { link.len ≤ 63 }
+    {
+        if let Some(terminal) = terminal {
+            return Ok((None, u64::from(terminal)));
+        }
+        let chain = self.chain(link)?;
+        Ok((Some(chain.number), chain.node))
+    }
+
     /// Returns the chain of a comparison, and adds it and those of fewer bits if they are missing.
-    pub(crate) fn chain(&mut self, whole: Link) -> Result<Cited, Stop>
+    pub(crate) fn chain(&mut self, whole: Link) -> Result<Cited, Unproved>
         requires { whole.len ≤ 63 }
     {
         let mut last = None;
@@ -85,11 +95,11 @@ impl Facts<'_> {
             };
             last = Some(self.link(link, last)?);
         }
-        last.ok_or(Stop::Limit)
+        last.ok_or(Unproved::Limit)
     }
 
     /// Returns a chain, and adds it if it is missing. `lower` is the chain of one bit less.
-    fn link(&mut self, link: Link, lower: Option<Cited>) -> Result<Cited, Stop>
+    fn link(&mut self, link: Link, lower: Option<Cited>) -> Result<Cited, Unproved>
         requires { link.len ≤ 63 }
     {
         if let Some((number, Link { node, .. })) = self.chains.find(link.key()) {
@@ -97,7 +107,7 @@ impl Facts<'_> {
         }
         let (node, prev) = match lower {
             Some(lower) => (self.node_above(link, lower.node)?, Some(lower.number)),
-            None => (u32::from(link.kind == ChainKind::Equal), None),
+            None => (u64::from(link.kind == ChainKind::Equal), None),
         };
         let number = self.chains.push(Link { node, prev, ..link })?;
         Ok(Cited { number, node })
@@ -105,10 +115,10 @@ impl Facts<'_> {
 
     /// Returns the node of a comparison, from that of the bits below the top bit, `lower`. A column
     /// may have no variable there.
-    fn node_above(&mut self, link: Link, lower: u32) -> Result<u32, Stop>
+    fn node_above(&mut self, link: Link, lower: u64) -> Result<u64, Unproved>
         requires { link.len ≤ 63 }
     {
-        let place = link.len.checked_sub(1).ok_or(Stop::NoRule)?;
+        let place = link.len.checked_sub(1).ok_or(Unproved::NoRule)?;
         let low = self.node_if(link, false, place, lower)?;
         let bit = 8 * u32::from(link.slice) + place;
         let Some(variable) = bit_variable(self.schema, link.left, bit) else {
@@ -119,7 +129,7 @@ impl Facts<'_> {
     }
 
     /// Returns that node if the left column's top bit, at this place, is `x`.
-    fn node_if(&mut self, link: Link, x: bool, place: u32, lower: u32) -> Result<u32, Stop>
+    fn node_if(&mut self, link: Link, x: bool, place: u32, lower: u64) -> Result<u64, Unproved>
         requires { place ≤ 62 }
     {
         let Some(right) = link.right else {

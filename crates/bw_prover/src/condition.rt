@@ -3,24 +3,22 @@
 ghost use Rattle.std.specs.Prelude.{◌≤◌};
 
 use crate::chain::Link;
-use crate::columns::{column_index, width_of};
-use crate::comparison::{ColumnComparison, Comparison, compare};
+use crate::columns::width_of;
+use crate::comparison::{Comparison, compare};
 use crate::facts::Cited;
-use crate::order::VariableOrder;
 use crate::prover::Prover;
-use crate::unproved::Stop;
+use crate::unproved::Unproved;
 use bw_cert_text::{ConditionEntry, Entry};
-use bw_diagram::{Bound, ChainKind, Connective, TruthPair};
+use bw_diagram::{Bound, Connective, Order, TruthPair};
 use bw_model::{Cond, Op, Operand, Truth};
-use bw_program::ColumnIndex;
 
 /// The node that is 1 where a condition is TRUE, and the node that is 1 where it is FALSE.
-type TruthNodes = TruthPair<u32>;
+type TruthNodes = TruthPair<u64>;
 
 impl Prover<'_> {
     /// Returns the nodes of a condition, and appends the lines of its steps, operands first.
     #[cycle(steps)]
-    pub(crate) fn steps(&mut self, cond: &Cond) -> Result<TruthNodes, Stop> {
+    pub(crate) fn steps(&mut self, cond: &Cond) -> Result<TruthNodes, Unproved> {
         match cond {
             Cond::Always => self.put_fixed(Truth::Yes),
             Cond::Cmp(op, x, y) => self.put_comparison(*op, *x, *y),
@@ -46,10 +44,10 @@ impl Prover<'_> {
 
     /// Returns the nodes of the OR of all parts, or else of their AND.
     #[cycle(steps)]
-    fn put_parts(&mut self, any: bool, parts: &[Cond]) -> Result<TruthNodes, Stop> {
-        let (first, others) = parts.split_first().ok_or(Stop::NoRule)?;
+    fn put_parts(&mut self, any: bool, parts: &[Cond]) -> Result<TruthNodes, Unproved> {
+        let (first, others) = parts.split_first().ok_or(Unproved::NoRule)?;
         let mut made = self.steps(first)?;
-        let before = self.facts.products.len();
+        let before = self.facts.products.count;
         for (joined, part) in others.iter().enumerate() {
             self.forecast(before, joined, others.len())?;
             let next = self.steps(part)?;
@@ -61,20 +59,20 @@ impl Prover<'_> {
     /// Refuses if the limit of product rows would be passed, if each of so many parts took as many
     /// rows as those that are joined so far did on average. What a part is joined with grows, so
     /// most take more.
-    fn forecast(&self, before: u32, joined: usize, parts: usize) -> Result<(), Stop> {
+    fn forecast(&self, before: u32, joined: usize, parts: usize) -> Result<(), Unproved> {
         let products = &self.facts.products;
-        let taken = i128::from(products.len()) - i128::from(before);
+        let taken = i128::from(products.count) - i128::from(before);
         let left = i128::from(products.limit) - i128::from(before);
         let each = taken / (joined as i128).max(1);
-        if products.len() >= self.forecast_from && each > left / (parts as i128).max(1) {
-            return Err(Stop::Limit);
+        if products.count >= self.forecast_from && each > left / (parts as i128).max(1) {
+            return Err(Unproved::Limit);
         }
         Ok(())
     }
 
     /// Returns the nodes of the OR of the equations of a list with one operand.
-    fn put_list(&mut self, x: Operand, items: &[Operand]) -> Result<TruthNodes, Stop> {
-        let (first, others) = items.split_first().ok_or(Stop::NoRule)?;
+    fn put_list(&mut self, x: Operand, items: &[Operand]) -> Result<TruthNodes, Unproved> {
+        let (first, others) = items.split_first().ok_or(Unproved::NoRule)?;
         let mut made = self.put_comparison(Op::Eq, x, *first)?;
         for item in others {
             let next = self.put_comparison(Op::Eq, x, *item)?;
@@ -84,15 +82,20 @@ impl Prover<'_> {
     }
 
     /// Appends the line of a step, and returns its nodes.
-    fn put_step(&mut self, entry: ConditionEntry, yes: u32, no: u32) -> Result<TruthNodes, Stop> {
+    fn put_step(
+        &mut self,
+        entry: ConditionEntry,
+        yes: u64,
+        no: u64,
+    ) -> Result<TruthNodes, Unproved> {
         self.put(Entry::Condition(entry))?;
         Ok(TruthPair::of(yes, no))
     }
 
     /// Returns the nodes of a step with one truth on every row.
-    fn put_fixed(&mut self, truth: Truth) -> Result<TruthNodes, Stop> {
+    fn put_fixed(&mut self, truth: Truth) -> Result<TruthNodes, Unproved> {
         let (yes, no) = (truth == Truth::Yes, truth == Truth::No);
-        self.put_step(ConditionEntry::Fixed, u32::from(yes), u32::from(no))
+        self.put_step(ConditionEntry::Fixed, u64::from(yes), u64::from(no))
     }
 
     /// Returns the nodes of two parts, combined by OR, or else by AND.
@@ -101,11 +104,11 @@ impl Prover<'_> {
         any: bool,
         a: TruthNodes,
         b: TruthNodes,
-    ) -> Result<TruthNodes, Stop> {
+    ) -> Result<TruthNodes, Unproved> {
         let ops = TruthPair::of(Connective::And, Connective::Or).opposite_if(any);
         let yes = self.facts.row(ops.yes, a.yes, b.yes)?;
         let no = self.facts.row(ops.no, a.no, b.no)?;
-        let (i, j) = (yes.reference(), no.reference());
+        let (i, j) = (yes.number, no.number);
         let entry = if any {
             ConditionEntry::Or(i, j)
         } else {
@@ -115,60 +118,61 @@ impl Prover<'_> {
     }
 
     /// Returns the nodes of `IS TRUE`, `IS FALSE` or `IS UNKNOWN`.
-    fn put_truth_test(&mut self, truth: Truth, made: TruthNodes) -> Result<TruthNodes, Stop> {
+    fn put_truth_test(&mut self, truth: Truth, made: TruthNodes) -> Result<TruthNodes, Unproved> {
         let yes = match truth {
             Truth::Yes => made.yes,
             Truth::No => made.no,
             Truth::Unknown => {
                 let known = self.facts.row(Connective::Or, made.yes, made.no)?;
                 let other = self.opposite(known.node)?;
-                let entry = ConditionEntry::IsUnknown(known.reference(), other.reference());
+                let entry = ConditionEntry::IsUnknown(known.number, other.number);
                 return self.put_step(entry, other.node, known.node);
             }
         };
         let no = self.opposite(yes)?;
-        self.put_step(ConditionEntry::Is(no.reference()), yes, no.node)
+        self.put_step(ConditionEntry::Is(no.number), yes, no.node)
     }
 
     /// Returns the row of a node's complement.
-    fn opposite(&mut self, node: u32) -> Result<Cited, Stop> {
+    fn opposite(&mut self, node: u64) -> Result<Cited, Unproved> {
         self.facts.row(Connective::Diff, 1, node)
     }
 
     /// Returns the nodes of `IS NULL`.
-    fn put_null_test(&mut self, x: Operand) -> Result<TruthNodes, Stop> {
+    fn put_null_test(&mut self, x: Operand) -> Result<TruthNodes, Unproved> {
         let Operand::Col(column) = x else {
             return self.put_fixed(Truth::of(x == Operand::Null));
         };
-        let column = column_index(self.facts.schema, column).ok_or(Stop::NoRule)?;
         let Some(yes) = self.facts.nulls(column)? else {
             return self.put_fixed(Truth::No);
         };
         let no = self.opposite(yes)?;
-        self.put_step(ConditionEntry::NullTest(no.reference()), yes, no.node)
+        self.put_step(ConditionEntry::NullTest(no.number), yes, no.node)
     }
 
     /// Returns the nodes of a comparison.
-    fn put_comparison(&mut self, op: Op, x: Operand, y: Operand) -> Result<TruthNodes, Stop> {
-        match compare(self.facts.schema, op, x, y).ok_or(Stop::NoRule)? {
+    fn put_comparison(&mut self, op: Op, x: Operand, y: Operand) -> Result<TruthNodes, Unproved> {
+        match compare(self.facts.schema, op, x, y).ok_or(Unproved::NoRule)? {
             Comparison::Fixed(truth) => self.put_fixed(truth),
             Comparison::Literal(column, bound) => self.put_literal_comparison(column, bound),
-            Comparison::Columns(compared) => self.put_columns(compared),
+            Comparison::Columns(order) => self.put_columns(x, y, order),
         }
     }
 
-    /// Returns the row and the node that is 1 if a column has a value: none, and 1, if it always
-    /// has.
-    fn values(&mut self, column: ColumnIndex) -> Result<(Option<u64>, u32), Stop> {
-        let Some(nulls) = self.facts.nulls(column)? else {
-            return Ok((None, 1));
-        };
-        let values = self.opposite(nulls)?;
-        Ok((Some(values.reference()), values.node))
+    /// Returns the row and the node that is 1 if an operand, a column, has a value: none, and 1, if
+    /// it always has.
+    fn values(&mut self, x: Operand) -> Result<(Option<u64>, u64), Unproved> {
+        if let Operand::Col(column) = x
+            && let Some(nulls) = self.facts.nulls(column)?
+        {
+            let values = self.opposite(nulls)?;
+            return Ok((Some(values.number), values.node));
+        }
+        Ok((None, 1))
     }
 
     /// Returns the rows of where node `m` is 1 and node `e` is 1, or is 0.
-    fn sides(&mut self, m: u32, e: u32) -> Result<TruthPair<Cited>, Stop> {
+    fn sides(&mut self, m: u64, e: u64) -> Result<TruthPair<Cited>, Unproved> {
         let yes = self.facts.row(Connective::And, m, e)?;
         let no = self.facts.row(Connective::Diff, m, e)?;
         Ok(TruthPair::of(yes, no))
@@ -177,26 +181,20 @@ impl Prover<'_> {
     /// Returns the nodes of a comparison of a column with a number.
     fn put_literal_comparison(
         &mut self,
-        column: ColumnIndex,
+        column: usize,
         bound: Bound,
-    ) -> Result<TruthNodes, Stop> {
-        let width = width_of(self.facts.schema, column).ok_or(Stop::NoRule)?;
-        let (value, m) = self.values(column)?;
-        let (chain, e) = match bound.terminal(width) {
-            Some(terminal) => (None, terminal),
-            None => {
-                let limit = bound.limit as u64;
-                let link = Link::of(bound.kind, column, 0, width, limit);
-                let chain = self.facts.chain(link)?;
-                (Some(chain.reference()), chain.node)
-            }
-        };
+    ) -> Result<TruthNodes, Unproved> {
+        let width = width_of(self.facts.schema, column).ok_or(Unproved::NoRule)?;
+        let (value, m) = self.values(Operand::Col(column))?;
+        let limit = u64::try_from(bound.limit).unwrap_or(0);
+        let link = Link::of(bound.kind, column, 0, width, limit);
+        let (chain, e) = self.facts.chain_unless(bound.terminal(width), link)?;
         let TruthPair { yes, no } = self.sides(m, e)?;
         let entry = ConditionEntry::Compare {
             chain,
             value,
-            yes: yes.reference(),
-            no: no.reference(),
+            yes: yes.number,
+            no: no.number,
         };
         let made = self.put_step(entry, yes.node, no.node)?;
         Ok(made.opposite_if(bound.negated))
@@ -204,56 +202,32 @@ impl Prover<'_> {
 
     /// Returns the nodes of a comparison of two columns, the shorter one with zeros above its top
     /// bit.
-    fn put_columns(&mut self, compared: ColumnComparison) -> Result<TruthNodes, Stop> {
-        let ColumnComparison {
-            kind,
-            left,
-            right,
-            negated,
-            swapped,
-        } = compared;
-        let [first, second] = if swapped {
-            [right, left]
-        } else {
-            [left, right]
-        };
-        let (first, m) = self.values(first)?;
-        let (second, n) = self.values(second)?;
-        self.facts.order.choose(VariableOrder::Places(right));
+    fn put_columns(
+        &mut self,
+        x: Operand,
+        y: Operand,
+        order: Order,
+    ) -> Result<TruthNodes, Unproved> {
+        let width = width_of(self.facts.schema, order.left).ok_or(Unproved::NoRule)?;
+        let len = width.max(width_of(self.facts.schema, order.right).ok_or(Unproved::NoRule)?);
+        let (left, m) = self.values(x)?;
+        let (right, n) = self.values(y)?;
         let both = self.facts.row(Connective::And, m, n)?;
-        let (chain, e) = self.order_of(kind, left, right)?;
+        let link = Link {
+            right: Some(order.right),
+            ..Link::of(order.kind, order.left, 0, len, 0)
+        };
+        let (chain, e) = self.facts.chain_unless(order.terminal(), link)?;
         let TruthPair { yes, no } = self.sides(both.node, e)?;
         let entry = ConditionEntry::CompareColumns {
             chain,
-            left: first,
-            right: second,
-            both: both.reference(),
-            yes: yes.reference(),
-            no: no.reference(),
+            left,
+            right,
+            both: both.number,
+            yes: yes.number,
+            no: no.number,
         };
-        self.facts.order.choose(VariableOrder::Whole);
         let made = self.put_step(entry, yes.node, no.node)?;
-        Ok(made.opposite_if(negated))
-    }
-
-    /// Returns the number of the chain over two columns, and its node: none, and a terminal, if
-    /// they are one column.
-    fn order_of(
-        &mut self,
-        kind: ChainKind,
-        left: ColumnIndex,
-        right: ColumnIndex,
-    ) -> Result<(Option<u64>, u32), Stop> {
-        if left == right {
-            return Ok((None, u32::from(kind == ChainKind::Equal)));
-        }
-        let width = width_of(self.facts.schema, left).ok_or(Stop::NoRule)?;
-        let len = width.max(width_of(self.facts.schema, right).ok_or(Stop::NoRule)?);
-        let link = Link {
-            right: Some(right),
-            ..Link::of(kind, left, 0, len, 0)
-        };
-        let chain = self.facts.chain(link)?;
-        Ok((Some(chain.reference()), chain.node))
+        Ok(made.opposite_if(order.negated))
     }
 }

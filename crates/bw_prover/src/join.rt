@@ -3,23 +3,29 @@ ghost use Rattle.std.specs.Prelude.{◌<◌};
 
 use crate::prover::Prover;
 use crate::reads::{RegisterSet, set_of};
-use crate::unproved::{Loss, Stop};
+use crate::unproved::Unproved;
 use crate::walk::{Edge, Held, Walk};
 use bw_cert_text::{EdgePairs, EdgeProducts, Entry, Keep};
 use bw_diagram::Connective;
 use bw_program::Register;
-use std::alloc::Global;
+
+/// The join from which on a register's value isn't known, and the skip by which it differs.
+#[derive(Clone, Copy)]
+pub(crate) struct Loss {
+    pub(crate) join: usize,
+    pub(crate) skip: usize,
+    /// The node that is 1 where the skip's register is 0 and the two values differ, if there is a
+    /// value by the skip.
+    pub(crate) differs: Option<u64>,
+    /// The node of the skip's register.
+    pub(crate) tested: u64,
+}
 
 impl Prover<'_> {
     /// Appends the lines of a place's join, if skips lead there. Each register that is read later
     /// is kept if it has the same value by each skip as on fall-through; else it isn't known.
-    pub(crate) fn meet(
-        &mut self,
-        alloc: Global,
-        walk: &mut Walk,
-        place: usize,
-        read: RegisterSet,
-    ) -> Result<(), Stop> {
+    pub(crate) fn meet(&mut self, walk: &mut Walk, read: RegisterSet) -> Result<(), Unproved> {
+        let place = walk.place;
         if walk.edges.iter().all(|edge| edge.target != place) {
             return Ok(());
         }
@@ -31,7 +37,7 @@ impl Prover<'_> {
             walk.registers[register as usize] = if read & set_of(register) == 0 {
                 Held::Nothing
             } else {
-                self.keep(alloc, walk, place, register, node)?
+                self.keep(walk, register, node)?
             };
         }
         walk.edges.retain(|edge| edge.target != place);
@@ -40,32 +46,25 @@ impl Prover<'_> {
 
     /// Appends the line of a register that a join keeps with this node, and returns that, or how it
     /// is lost.
-    fn keep(
-        &mut self,
-        alloc: Global,
-        walk: &mut Walk,
-        place: usize,
-        register: Register,
-        node: u32,
-    ) -> Result<Held, Stop>
+    fn keep(&mut self, walk: &Walk, register: Register, node: u64) -> Result<Held, Unproved>
         requires { register < 64 }
     {
-        let mut pairs = Vec::new(alloc);
+        let mut pairs = Vec::new(self.facts.alloc);
         for edge in &walk.edges {
-            if edge.target != place {
-                continue;
-            }
-            match self.pair(edge, register, node)? {
-                Ok(pair) => pairs.push(pair)?,
-                Err(loss) => return Ok(Held::Lost(loss)),
+            if edge.target == walk.place {
+                match self.pair(edge, register, node)? {
+                    Ok(pair) => pairs.push(pair)?,
+                    Err(loss) => return Ok(Held::Lost(loss)),
+                }
             }
         }
-        let through = self.facts.row(Connective::Xor, node, node)?;
+        let through = self.facts.row(Connective::Xor, node, node)?.number;
+        let edges = EdgePairs::new(&pairs);
         self.put(Entry::Keep(Keep {
             register,
-            node: u64::from(node),
-            through: through.reference(),
-            edges: EdgePairs::new(&pairs),
+            node,
+            through,
+            edges,
         }))?;
         Ok(Held::Node(node))
     }
@@ -77,26 +76,26 @@ impl Prover<'_> {
         &mut self,
         edge: &Edge,
         register: Register,
-        node: u32,
-    ) -> Result<Result<EdgeProducts, Loss>, Stop> {
-        let mut loss = Loss {
-            join: edge.target,
-            skip: edge.skip,
-            differs: None,
-            tested: edge.tested,
+        node: u64,
+    ) -> Result<Result<EdgeProducts, Loss>, Unproved> {
+        let (skip, join, tested) = (edge.skip, edge.target, edge.tested);
+        let lost = |differs| Loss {
+            join,
+            skip,
+            differs,
+            tested,
         };
         let Some(Held::Node(held)) = edge.registers.get(usize::from(register)).copied() else {
-            return Ok(Err(loss));
+            return Ok(Err(lost(None)));
         };
         let differs = self.facts.row(Connective::Xor, held, node)?;
-        let within = self.facts.row(Connective::Diff, differs.node, edge.tested)?;
+        let within = self.facts.row(Connective::Diff, differs.node, tested)?;
         if within.node != 0 {
-            loss.differs = Some(within.node);
-            return Ok(Err(loss));
+            return Ok(Err(lost(Some(within.node))));
         }
         Ok(Ok(EdgeProducts {
-            differs: differs.reference(),
-            within: within.reference(),
+            differs: differs.number,
+            within: within.number,
         }))
     }
 }

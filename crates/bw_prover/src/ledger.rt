@@ -1,5 +1,5 @@
 //! Facts in the order in which they were added, each of which occurs once and can be found.
-use crate::unproved::Stop;
+use crate::unproved::Unproved;
 use std::alloc::Global;
 
 /// What distinguishes an entry from others.
@@ -8,14 +8,7 @@ pub(crate) type Key = (u64, u64);
 /// An entry of a ledger, in which its key occurs once.
 pub(crate) trait Keyed: Copy {
     /// Returns its key.
-    fn key(self) -> Key;
-}
-
-/// An entry, and the number of the one before it with the same hash, plus 1, or 0.
-#[derive(Clone, Copy)]
-struct Slot<T: Keyed> {
-    entry: T,
-    before: u32,
+    fn key(&self) -> Key;
 }
 
 /// Entries in order, numbered from 0. Those with one hash are chained from the last to the first.
@@ -23,10 +16,12 @@ struct Slot<T: Keyed> {
 /// `IndexMap`.
 #[derive(Drop)]
 pub(crate) struct Ledger<T: Keyed> {
-    slots: Vec<Slot<T>>,
+    pub(crate) entries: Vec<T>,
+    /// For each entry the number of the one before it with the same hash, plus 1, or 0.
+    before: Vec<u32>,
     /// For each hash the number of the last entry that has it, plus 1, or 0.
     last: Vec<u32>,
-    count: u32,
+    pub(crate) count: u32,
     /// How many entries it may have.
     pub(crate) limit: u32,
 }
@@ -38,68 +33,63 @@ impl<T: Keyed> Ledger<T> {
     /// Returns no entries, with a limit of their number.
     pub(crate) fn new(alloc: Global, limit: u32) -> Self {
         Ledger {
-            slots: Vec::new(alloc),
+            entries: Vec::new(alloc),
+            before: Vec::new(alloc),
             last: Vec::new(alloc),
             count: 0,
             limit,
         }
     }
 
-    /// Returns how many there are.
-    pub(crate) fn len(&self) -> u32 {
-        self.count
-    }
-
-    /// Returns the entry of a number.
-    pub(crate) fn get(&self, number: u32) -> Option<T> {
-        Some(self.slots.get(number as usize)?.entry)
-    }
-
     /// Returns the entry with a key, and its number.
-    pub(crate) fn find(&self, wanted: Key) -> Option<(u32, T)> {
+    pub(crate) fn find(&self, wanted: Key) -> Option<(u64, T)> {
         let mut next = *self.last.get(place(wanted, self.last.len()))?;
         for _ in 0..self.count {
             let number = next.checked_sub(1)?;
-            let slot = self.slots.get(number as usize)?;
-            let key = slot.entry.key();
+            let entry = self.entries.get(number as usize)?;
+            let key = entry.key();
             if key.0 == wanted.0 && key.1 == wanted.1 {
-                return Some((number, slot.entry));
+                return Some((u64::from(number), *entry));
             }
-            next = slot.before;
+            next = *self.before.get(number as usize)?;
         }
         None
     }
 
     /// Adds an entry with a new key, and returns its number.
-    pub(crate) fn push(&mut self, entry: T) -> Result<u32, Stop> {
+    pub(crate) fn push(&mut self, entry: T) -> Result<u64, Unproved> {
         let number = self.count;
         if number >= self.limit {
-            return Err(Stop::Limit);
+            return Err(Unproved::Limit);
         }
         if number as usize >= self.last.len() {
             self.spread()?;
         }
-        let slot = Slot { entry, before: 0 };
-        self.slots.push(slot)?;
+        self.entries.push(entry)?;
+        self.before.push(0)?;
         self.count = number + 1;
         self.chain(number);
-        Ok(number)
+        Ok(u64::from(number))
     }
 
     /// Chains an entry to those with its hash.
     fn chain(&mut self, number: u32) {
-        let Some(slot) = self.slots.get_mut(number as usize) else {
+        let Some(entry) = self.entries.get(number as usize) else {
             return;
         };
-        let at = place(slot.entry.key(), self.last.len());
-        if let (Some(last), Some(after)) = (self.last.get_mut(at), number.checked_add(1)) {
-            slot.before = *last;
+        let at = place(entry.key(), self.last.len());
+        if let (Some(last), Some(before), Some(after)) = (
+            self.last.get_mut(at),
+            self.before.get_mut(number as usize),
+            number.checked_add(1),
+        ) {
+            *before = *last;
             *last = after;
         }
     }
 
     /// Spreads the entries over four times as many hashes.
-    fn spread(&mut self) -> Result<(), Stop> {
+    fn spread(&mut self) -> Result<(), Unproved> {
         let hashes = 4 * self.count as usize + FEWEST_HASHES;
         self.last.clear();
         self.last.resize(hashes, 0)?;

@@ -31,8 +31,7 @@ mod unproved;
 mod walk;
 mod witness;
 
-pub use comparison::{ColumnComparison, Comparison, compare};
-pub use order::VariableOrder;
+pub use comparison::{Comparison, compare};
 pub use product::MAX_PRODUCTS;
-pub use prover::{Hints, Prover, prove};
+pub use prover::{Prover, prove};
 pub use unproved::{Unproved, Witness};

@@ -1,165 +1,126 @@
-//! The orders in which diagrams test variables.
-use crate::columns::{column_index, width_of};
+//! The order in which diagrams test variables: column by column, in the sequence that suits the
+//! condition, each from the null variable and the top bit down; columns that are compared with one
+//! another place by place, the left column first.
+use crate::columns::width_of;
+use crate::comparison::{Comparison, compare};
+use bw_diagram::Order;
 use bw_model::{Cond, Op, Operand, Schema};
-use bw_program::ColumnIndex;
 use std::alloc::{AllocError, Global};
 
-/// An order of the variables of a schema, in which the nodes of a product row test them.
-#[derive(Clone, Copy, PartialEq, Eq)]
-pub enum VariableOrder {
-    /// Column by column, in the sequence that suits the condition, each from the null variable and
-    /// the top bit down; columns that are compared with one another place by place, the left column
-    /// first.
-    Whole,
-    /// The order of one comparison of two columns, of which this is the right one: place by place
-    /// from the null variables and the top bits down, the left column first.
-    Places(ColumnIndex),
-}
-
-/// Where a variable is in the whole order: by its column's group, its place in the column, which is
-/// 0 for the null variable and 64 for the lowest bit, and the column's level in the group.
-#[derive(Clone, Copy, PartialEq, Eq, PartialOrd, Ord)]
+/// Where a variable is in the order: by its column's group, its place in the column, which is 0 for
+/// the null variable and 64 for the lowest bit, and the column's level in the group.
+#[derive(Clone, Copy, Default, PartialEq, Eq, PartialOrd, Ord)]
 struct Position {
     group: u8,
     place: u8,
     level: u8,
-    column: ColumnIndex,
+    column: u8,
 }
 
-/// The orders of a schema's variables under a condition.
+/// The order of a schema's variables under a condition.
 #[derive(Drop)]
-pub(crate) struct Order {
+pub(crate) struct VariableOrder {
     positions: Vec<Position>,
-    /// Whether the nodes of every comparison of the condition test variables in the whole order.
-    /// Equal functions are then equal nodes.
+    /// Whether the nodes of every comparison of the condition test variables in this order. Equal
+    /// functions are then equal nodes.
     pub(crate) is_total: bool,
-    /// In which order rows are worked out.
-    pub(crate) current: VariableOrder,
 }
 
-impl Order {
-    /// Returns the orders under a condition.
+impl VariableOrder {
+    /// Returns the order under a condition.
     pub(crate) fn new(alloc: Global, schema: &Schema, cond: &Cond) -> Result<Self, AllocError> {
-        let (groups, is_total) = groups_of(alloc, schema, cond)?;
+        let (tops, is_total) = tops_of(alloc, schema, cond)?;
         let mut positions = Vec::new(alloc);
         for (number, column) in schema.columns.iter().enumerate() {
-            let Group { first, level } = groups[number % 64];
             let width = schema.width(number);
             for place in 0..=64u8 {
                 if u32::from(place) > 64 - width || place == 0 && column.nullable {
-                    positions.push(Position {
-                        group: first,
-                        place,
-                        level,
-                        column: (number % 64) as u8,
-                    })?;
+                    let top = tops[number % 64];
+                    positions.push(Position { place, ..top })?;
                 }
             }
         }
-        Ok(Order {
+        Ok(VariableOrder {
             positions,
             is_total,
-            current: VariableOrder::Whole,
         })
     }
 
-    /// Has rows worked out in an order from now on: in the whole one if that serves all.
-    pub(crate) fn choose(&mut self, order: VariableOrder) {
-        self.current = if self.is_total {
-            VariableOrder::Whole
-        } else {
-            order
-        };
-    }
-
-    /// Returns which of two variables is tested first.
-    pub(crate) fn first(&self, order: VariableOrder, a: u32, b: u32) -> u32 {
-        let (x, y) = (
-            self.positions.get(a as usize),
-            self.positions.get(b as usize),
-        );
-        let (Some(x), Some(y)) = (x, y) else {
-            return a;
-        };
-        let is_later = match order {
-            VariableOrder::Whole => y < x,
-            VariableOrder::Places(right) => {
-                (y.place, y.column == right) < (x.place, x.column == right)
-            }
-        };
-        if is_later { b } else { a }
+    /// Returns whether the second of two variables is tested before the first one, and whether
+    /// comparisons may have it otherwise, if no one order fits all of them: bits of one place in
+    /// columns that are compared.
+    pub(crate) fn is_later(&self, a: u64, b: u64) -> Option<(bool, bool)> {
+        let x = self.positions.get(a as usize)?;
+        let y = self.positions.get(b as usize)?;
+        let is_open = !self.is_total && x.place > 0 && (x.group, x.place) == (y.group, y.place);
+        Some((y < x, is_open))
     }
 }
 
-/// A column's group, by the place of its first column in the sequence, and how far to the right the
-/// column is in it.
-#[derive(Clone, Copy)]
-struct Group {
-    first: u8,
-    level: u8,
-}
-
-/// Returns for each column the group of those that a condition compares it with, directly or
-/// through others, and whether in each group every pair of compared columns is left with right.
-fn groups_of(
+/// Returns the position of each column's null variable, and whether in each group every pair of
+/// compared columns is left with right. A group has the columns that a condition compares with one
+/// another, directly or through others; its number is the place of its first one in the sequence.
+fn tops_of(
     alloc: Global,
     schema: &Schema,
     cond: &Cond,
-) -> Result<([Group; 64], bool), AllocError> {
+) -> Result<([Position; 64], bool), AllocError> {
     let mut compared = Compared {
         schema,
         pairs: Vec::new(alloc),
     };
     let mut sequence = compared.sequence_of(cond)?;
-    for column in 0..schema.columns.len() {
-        sequence.push((column % 64) as u8);
+    let mut tops = [Position::default(); 64];
+    for column in 0..64u8 {
+        sequence.push(column);
     }
-    let mut groups = [Group { first: 0, level: 0 }; 64];
-    for (place, column) in sequence.columns().iter().enumerate() {
-        groups[usize::from(*column % 64)].first = (place % 64) as u8;
+    for (group, column) in sequence.columns().iter().enumerate() {
+        tops[usize::from(*column % 64)] = Position {
+            group: (group % 64) as u8,
+            column: *column,
+            ..Position::default()
+        };
     }
     for _ in 0..64 {
-        if are_settled(&mut groups, &compared.pairs) {
-            return Ok((groups, true));
+        if are_settled(&mut tops, &compared.pairs) {
+            return Ok((tops, true));
         }
     }
-    Ok((groups, false))
+    Ok((tops, false))
 }
 
 /// Gives both columns of each pair one group, and the right one a higher level than the left one.
 /// Returns whether they were so.
-fn are_settled(groups: &mut [Group; 64], pairs: &[(ColumnIndex, ColumnIndex)]) -> bool {
+fn are_settled(tops: &mut [Position; 64], pairs: &[(u8, u8)]) -> bool {
     let mut settled = true;
     for (left, right) in pairs {
         let (left, right) = (usize::from(*left % 64), usize::from(*right % 64));
-        let (x, y) = (groups[left], groups[right]);
-        let first = x.first.min(y.first);
+        let (x, y) = (tops[left], tops[right]);
         let above = if x.level < 63 { x.level + 1 } else { 63 };
-        let level = above.max(y.level);
-        settled &= x.first == y.first && x.level < y.level;
-        groups[left].first = first;
-        groups[right] = Group { first, level };
+        settled &= x.group == y.group && x.level < y.level;
+        tops[left].group = x.group.min(y.group);
+        tops[right].group = x.group.min(y.group);
+        tops[right].level = above.max(y.level);
     }
     settled
 }
-
 /// Some columns, the one that is tested first at the front, and how many bits are compared with
 /// them.
 #[derive(Clone, Copy)]
 struct Sequence {
-    columns: [ColumnIndex; 64],
+    columns: [u8; 64],
     count: usize,
     weight: u64,
 }
 
 impl Sequence {
     /// Returns the columns.
-    fn columns(&self) -> &[ColumnIndex] {
+    fn columns(&self) -> &[u8] {
         self.columns.get(..self.count).unwrap_or(&self.columns)
     }
 
     /// Appends a column, if it is missing.
-    fn push(&mut self, column: ColumnIndex) {
+    fn push(&mut self, column: u8) {
         let is_new = !self.columns().contains(&column);
         if let (true, Some(slot)) = (is_new, self.columns.get_mut(self.count)) {
             *slot = column;
@@ -189,7 +150,7 @@ impl Sequence {
 #[derive(Drop)]
 struct Compared<'a> {
     schema: &'a Schema,
-    pairs: Vec<(ColumnIndex, ColumnIndex)>,
+    pairs: Vec<(u8, u8)>,
 }
 
 impl Compared<'_> {
@@ -202,7 +163,6 @@ impl Compared<'_> {
             weight: 0,
         };
         match cond {
-            Cond::Always => {}
             Cond::Cmp(op, x, y) => self.add(&mut made, *op, *x, *y)?,
             Cond::Between(x, y, z) => {
                 self.add(&mut made, Op::Ge, *x, *y)?;
@@ -213,7 +173,8 @@ impl Compared<'_> {
                     self.add(&mut made, Op::Eq, *x, *item)?;
                 }
             }
-            Cond::IsNull(x) => self.add(&mut made, Op::Eq, *x, Operand::Null)?,
+            Cond::IsNull(Operand::Col(column)) => self.append(&mut made, *column),
+            Cond::Always | Cond::IsNull(_) => {}
             Cond::And(parts) | Cond::Or(parts) => {
                 for part in parts {
                     made = made.join(self.sequence_of(part)?);
@@ -226,26 +187,24 @@ impl Compared<'_> {
 
     /// Appends the columns of a comparison, and adds their pair.
     fn add(&mut self, to: &mut Sequence, op: Op, x: Operand, y: Operand) -> Result<(), AllocError> {
-        if let (Some(x), Some(y)) = (self.append(to, x), self.append(to, y)) {
-            if x != y {
-                let is_swapped = matches!(op, Op::Gt | Op::Le);
-                self.pairs.push(if is_swapped { (y, x) } else { (x, y) })?;
+        match compare(self.schema, op, x, y) {
+            Some(Comparison::Literal(column, _)) => self.append(to, column),
+            Some(Comparison::Columns(Order { left, right, .. })) => {
+                self.append(to, left);
+                self.append(to, right);
+                if left != right {
+                    self.pairs.push(((left % 64) as u8, (right % 64) as u8))?;
+                }
             }
+            _ => {}
         }
         Ok(())
     }
 
-    /// Appends the column of an operand, whose bits are compared once more, and returns it, if the
-    /// operand is a column of the schema.
-    fn append(&self, to: &mut Sequence, operand: Operand) -> Option<ColumnIndex> {
-        let Operand::Col(column) = operand else {
-            return None;
-        };
-        let column = column_index(self.schema, column)?;
-        to.weight = to
-            .weight
-            .saturating_add(u64::from(width_of(self.schema, column)?));
-        to.push(column);
-        Some(column)
+    /// Appends a column, whose bits are compared once more.
+    fn append(&self, to: &mut Sequence, column: usize) {
+        let width = width_of(self.schema, column).unwrap_or(0);
+        to.weight = to.weight.saturating_add(u64::from(width));
+        to.push((column % 64) as u8);
     }
 }

@@ -5,29 +5,17 @@ ghost use Rattle.bw_cert_text.specs.Columns.{has_columns};
 
 use crate::emit::{NO_LINE, certificate};
 use crate::facts::Facts;
-use crate::order::VariableOrder;
 use crate::product::MAX_PRODUCTS;
-use crate::unproved::{Stop, Unproved};
+use crate::unproved::Unproved;
 use bw_cert_text::{Body, BodyLine, Certificate, Entry};
 use bw_diagram::Connective;
 use bw_model::{Cond, Schema};
 use bw_program::Program;
 use std::alloc::Global;
 
-/// How a certificate is to be found.
-#[derive(Clone, Copy)]
-pub struct Hints<'a> {
-    /// The most product rows: at most `MAX_PRODUCTS` count.
-    pub rows: u32,
-    /// In which order of variables the rows of each instruction are worked out, those of the join
-    /// after it, and, after all instructions, those of the end. They count only if no one order
-    /// fits all comparisons of columns; the whole order stands for those that are missing.
-    pub orders: &'a [VariableOrder],
-}
-
 /// Finds a certificate of a program for a condition, both of this schema, by which the checker
-/// accepts it. Returns the certificate, or why none is found. What it returns depends on nothing
-/// but the arguments.
+/// accepts it, of at most so many product rows: at most `MAX_PRODUCTS` count. Returns the
+/// certificate, or why none is found. What it returns depends on nothing but the arguments.
 ///
 /// A program that is right on every bit pattern is certified within the limits, if one order of
 /// variables fits all comparisons of columns, and no instruction reads a register before one writes
@@ -37,13 +25,12 @@ pub fn prove<'a>(
     schema: &'a Schema,
     cond: &Cond,
     program: &Program,
-    hints: &Hints<'_>,
+    rows: u32,
 ) -> Result<Certificate<'a>, Unproved>
     ensures { IfOk result (λ certificate.
         IsTrue (has_columns schema.now.columns.items (certificate_fields certificate))) }
 {
-    let prover = Prover::new(alloc, schema, cond, hints.rows, u32::MAX)?;
-    prover.certify(alloc, schema, program, hints)
+    Prover::new(alloc, schema, cond, rows, u32::MAX)?.certify(schema, program, rows)
 }
 
 /// The proof of a program, begun with its condition.
@@ -53,7 +40,7 @@ pub struct Prover<'a> {
     /// The lines of the condition, the instructions and the joins.
     lines: Body,
     /// The node that is 1 where the condition is TRUE.
-    wanted: u32,
+    wanted: u64,
     /// From how many product rows on AND and OR end if their parts would pass the limit.
     pub(crate) forecast_from: u32,
 }
@@ -75,60 +62,36 @@ impl<'a> Prover<'a> {
             wanted: 0,
             forecast_from,
         };
-        match prover.steps(cond) {
-            Ok(made) => {
-                prover.wanted = made.yes;
-                Ok(prover)
-            }
-            Err(stop) => Err(prover.facts.explain(alloc, stop)),
-        }
+        prover.wanted = prover.steps(cond)?.yes;
+        Ok(prover)
     }
 
-    /// Returns how many product rows the condition has.
+    /// Returns how many product rows there are so far.
     pub fn rows(&self) -> u32 {
-        self.facts.products.len()
+        self.facts.products.count
     }
 
     /// Finds a certificate of a program of the same schema, as [`prove`] does.
     pub fn certify(
         mut self,
-        alloc: Global,
         schema: &'a Schema,
         program: &Program,
-        hints: &Hints<'_>,
+        rows: u32,
     ) -> Result<Certificate<'a>, Unproved>
         ensures { IfOk result (λ certificate.
             IsTrue (has_columns schema.now.columns.items (certificate_fields certificate))) }
     {
-        match self.certificate_of(alloc, schema, program, hints) {
-            Ok(certificate) => Ok(certificate),
-            Err(stop) => Err(self.facts.explain(alloc, stop)),
-        }
-    }
-
-    /// Returns the certificate of a program.
-    fn certificate_of(
-        &mut self,
-        alloc: Global,
-        schema: &'a Schema,
-        program: &Program,
-        hints: &Hints<'_>,
-    ) -> Result<Certificate<'a>, Stop>
-        ensures { IfOk result (λ certificate.
-            IsTrue (has_columns schema.now.columns.items (certificate_fields certificate))) }
-    {
-        self.facts.products.limit = hints.rows.min(MAX_PRODUCTS);
-        let made = self.walk(alloc, program, hints)?;
-        let row = self.facts.row(Connective::Xor, made, self.wanted)?;
+        self.facts.products.limit = rows.min(MAX_PRODUCTS);
+        let (made, wanted) = (self.walk(program)?, self.wanted);
+        let row = self.facts.row(Connective::Xor, made, wanted)?;
         if row.node != 0 {
-            return Err(Stop::Differs(row.node));
+            return Err(self.facts.difference(row.node)?);
         }
-        let lines = std::mem::replace(&mut self.lines, Body::new(alloc));
-        certificate(alloc, schema, &self.facts, lines, row.reference())
+        certificate(schema, self.facts, self.lines, row.number)
     }
 
     /// Appends a line.
-    pub(crate) fn put(&mut self, entry: Entry<'_>) -> Result<(), Stop> {
+    pub(crate) fn put(&mut self, entry: Entry<'_>) -> Result<(), Unproved> {
         let line = NO_LINE;
         self.lines.push(&BodyLine { line, entry })?;
         Ok(())

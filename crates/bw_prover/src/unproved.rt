@@ -50,46 +50,14 @@ pub struct Witness {
     pub through: Row,
 }
 
-/// Why no certificate is found, in nodes.
-#[derive(Clone, Copy)]
-pub(crate) enum Stop {
-    Limit,
-    NoRule,
-    Memory,
-    /// An instruction reads a register before one writes it.
-    Unwritten(usize, Register),
-    /// An instruction reads a register whose value isn't known since a join.
-    Lost(usize, Register, Loss),
-    /// The result's node isn't the condition's: this node is 1 where they differ.
-    Differs(u32),
-}
-
-/// The join from which on a register's value isn't known, and the skip by which it differs.
-#[derive(Clone, Copy)]
-pub(crate) struct Loss {
-    pub(crate) join: usize,
-    pub(crate) skip: usize,
-    /// The node that is 1 where the skip's register is 0 and the two values differ, if there is a
-    /// value by the skip.
-    pub(crate) differs: Option<u32>,
-    /// The node of the skip's register.
-    pub(crate) tested: u32,
-}
-
 impl From<AllocError> for Unproved {
     fn from(_error: AllocError) -> Self {
         Unproved::Memory
     }
 }
 
-impl From<AllocError> for Stop {
-    fn from(_error: AllocError) -> Self {
-        Stop::Memory
-    }
-}
-
-impl<T: Drop> From<AllocFailed<T>> for Stop {
+impl<T: Drop> From<AllocFailed<T>> for Unproved {
     fn from(_error: AllocFailed<T>) -> Self {
-        Stop::Memory
+        Unproved::Memory
     }
 }

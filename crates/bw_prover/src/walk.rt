@@ -1,21 +1,20 @@
 //! One walk over a program's instructions, which gives each register its node.
 use crate::chain::Link;
 use crate::columns::width_of;
-use crate::order::VariableOrder;
-use crate::prover::{Hints, Prover};
+use crate::join::Loss;
+use crate::prover::Prover;
 use crate::reads::{read_later, uses};
-use crate::unproved::{Loss, Stop};
+use crate::unproved::Unproved;
 use bw_cert_text::{Entry, InstructionEntry};
 use bw_diagram::{ChainKind, Connective};
-use bw_program::{ColumnIndex, Instr, Program, Register, SliceIndex};
-use std::alloc::Global;
+use bw_program::{Instr, Program, Register};
 
 /// What is known of a register at a place: nothing, as before it is written, or if it isn't read
 /// later; the node whose value it has in every lane; or how that was lost at a join.
 #[derive(Clone, Copy)]
 pub(crate) enum Held {
     Nothing,
-    Node(u32),
+    Node(u64),
     Lost(Loss),
 }
 
@@ -25,66 +24,50 @@ pub(crate) enum Held {
 pub(crate) struct Edge {
     pub(crate) skip: usize,
     pub(crate) target: usize,
-    pub(crate) tested: u32,
+    pub(crate) tested: u64,
     pub(crate) registers: [Held; 64],
 }
 
-/// A walk that has reached a place: what is known there, and the skips to places beyond.
+/// A walk that has reached a place: which that is, what is known there, and the skips to places
+/// beyond.
 #[derive(Drop)]
 pub(crate) struct Walk {
+    pub(crate) place: usize,
     pub(crate) registers: [Held; 64],
     pub(crate) edges: Vec<Edge>,
 }
 
 /// The line of an instruction, and the node of the register that it writes, or, of a skip, that it
 /// reads.
-type Effect = (InstructionEntry, u32);
-
-impl Walk {
-    /// Returns the node of a register that an instruction reads.
-    fn read(&self, instruction: usize, register: Register) -> Result<u32, Stop> {
-        match self.registers.get(usize::from(register)) {
-            Some(Held::Node(node)) => Ok(*node),
-            Some(Held::Lost(loss)) => Err(Stop::Lost(instruction, register, *loss)),
-            _ => Err(Stop::Unwritten(instruction, register)),
-        }
-    }
-}
+type Effect = (InstructionEntry, u64);
 
 impl Prover<'_> {
     /// Appends the lines of a program's instructions and joins, and returns the result's node.
-    pub(crate) fn walk(
-        &mut self,
-        alloc: Global,
-        program: &Program,
-        hints: &Hints<'_>,
-    ) -> Result<u32, Stop> {
+    pub(crate) fn walk(&mut self, program: &Program) -> Result<u64, Unproved> {
+        let alloc = self.facts.alloc;
         let reads = read_later(alloc, program)?;
         let mut walk = Walk {
+            place: 0,
             registers: [Held::Nothing; 64],
             edges: Vec::new(alloc),
         };
-        let end = program.len();
         for (number, read) in reads.iter().enumerate() {
-            let order = hints.orders.get(number).copied();
-            self.meet(alloc, &mut walk, number, *read)?;
-            self.facts
-                .order
-                .choose(order.unwrap_or(VariableOrder::Whole));
-            if number < end {
-                self.follow(&mut walk, number, program.instr(number))?;
+            walk.place = number;
+            self.meet(&mut walk, *read)?;
+            if number < program.len() {
+                self.follow(&mut walk, program.instr(number))?;
             }
         }
-        walk.read(end, program.result())
+        self.read(&walk, program.result())
     }
 
     /// Appends the line of an instruction, and records its effect.
-    fn follow(&mut self, walk: &mut Walk, number: usize, instr: Instr) -> Result<(), Stop> {
-        let (entry, node) = self.effect(walk, number, instr)?;
+    fn follow(&mut self, walk: &mut Walk, instr: Instr) -> Result<(), Unproved> {
+        let (entry, node) = self.effect(walk, instr)?;
         self.put(Entry::Instruction(entry))?;
         if let Instr::Skip(_, target) = instr {
             walk.edges.push(Edge {
-                skip: number,
+                skip: walk.place,
                 target,
                 tested: node,
                 registers: walk.registers,
@@ -95,59 +78,65 @@ impl Prover<'_> {
         Ok(())
     }
 
-    /// Returns the effect of an instruction.
-    fn effect(&mut self, walk: &Walk, number: usize, instr: Instr) -> Result<Effect, Stop> {
-        let (op, x, y) = match instr {
-            Instr::And(_, x, y) => (Connective::And, x, y),
-            Instr::Or(_, x, y) => (Connective::Or, x, y),
-            Instr::Xor(_, x, y) => (Connective::Xor, x, y),
-            Instr::Not(_, x) => {
-                return self.operation(Connective::Diff, 1, walk.read(number, x)?);
-            }
-            Instr::Skip(x, _) => return Ok((InstructionEntry::Skip, walk.read(number, x)?)),
-            _ => return self.constant(instr),
-        };
-        let (a, b) = (walk.read(number, x)?, walk.read(number, y)?);
-        self.operation(op, a, b)
+    /// Returns the node of a register that the instruction reads.
+    fn read(&mut self, walk: &Walk, register: Register) -> Result<u64, Unproved> {
+        let instruction = walk.place;
+        match walk.registers.get(usize::from(register)).copied() {
+            Some(Held::Node(node)) => Ok(node),
+            Some(Held::Lost(loss)) => Err(Unproved::Unknown {
+                instruction,
+                register,
+                join: loss.join,
+                skip: loss.skip,
+                witness: self.facts.witness(loss).unwrap_or(None),
+            }),
+            _ => Err(Unproved::Unwritten {
+                instruction,
+                register,
+            }),
+        }
     }
 
-    /// Returns the effect of a connective of two nodes.
-    fn operation(&mut self, op: Connective, a: u32, b: u32) -> Result<Effect, Stop> {
+    /// Returns the effect of an instruction.
+    fn effect(&mut self, walk: &Walk, instr: Instr) -> Result<Effect, Unproved> {
+        let (op, a, b) = match instr {
+            Instr::And(_, x, y) => (Connective::And, self.read(walk, x)?, self.read(walk, y)?),
+            Instr::Or(_, x, y) => (Connective::Or, self.read(walk, x)?, self.read(walk, y)?),
+            Instr::Xor(_, x, y) => (Connective::Xor, self.read(walk, x)?, self.read(walk, y)?),
+            Instr::Not(_, x) => (Connective::Diff, 1, self.read(walk, x)?),
+            Instr::Skip(x, _) => return Ok((InstructionEntry::Skip, self.read(walk, x)?)),
+            _ => return self.constant(instr),
+        };
         let row = self.facts.row(op, a, b)?;
-        Ok((InstructionEntry::Op(row.reference()), row.node))
+        Ok((InstructionEntry::Op(row.number), row.node))
     }
 
     /// Returns the effect of an instruction that reads no register.
-    fn constant(&mut self, instr: Instr) -> Result<Effect, Stop> {
+    fn constant(&mut self, instr: Instr) -> Result<Effect, Unproved> {
         let node = match instr {
-            Instr::Load(_, col, bit) => self.facts.bit(col, u32::from(bit))?,
-            Instr::Nulls(_, col) => self.facts.nulls(col)?.ok_or(Stop::NoRule)?,
-            Instr::Fill(_, bit) => return Ok((InstructionEntry::Fill, u32::from(bit))),
-            Instr::ByteLt(_, col, slice, k) => return self.byte(ChainKind::Less, col, slice, k),
-            Instr::ByteEq(_, col, slice, k) => return self.byte(ChainKind::Equal, col, slice, k),
-            _ => return Err(Stop::NoRule),
+            Instr::Load(_, column, bit) => self.facts.bit(column.into(), bit.into())?,
+            Instr::Nulls(_, column) => self.facts.nulls(column.into())?.ok_or(Unproved::NoRule)?,
+            Instr::Fill(_, bit) => return Ok((InstructionEntry::Fill, u64::from(bit))),
+            Instr::ByteLt(_, column, slice, byte) => {
+                return self.byte(Link::of(ChainKind::Less, column.into(), slice, 0, byte.into()));
+            }
+            Instr::ByteEq(_, column, slice, byte) => {
+                return self.byte(Link::of(ChainKind::Equal, column.into(), slice, 0, byte.into()));
+            }
+            _ => return Err(Unproved::NoRule),
         };
-        Ok((InstructionEntry::Load(u64::from(node)), node))
+        Ok((InstructionEntry::Load(node), node))
     }
 
-    /// Returns the effect of a byte comparison. One with a number that is greater than each byte
-    /// has no chain.
-    fn byte(
-        &mut self,
-        kind: ChainKind,
-        column: ColumnIndex,
-        slice: SliceIndex,
-        byte: u8,
-    ) -> Result<Effect, Stop> {
-        let width = width_of(self.facts.schema, column).ok_or(Stop::NoRule)?;
-        let above = width.checked_sub(8 * u32::from(slice));
-        let len = above.ok_or(Stop::NoRule)?.min(8);
-        if u32::from(byte) >= 1 << len {
-            let node = u32::from(kind == ChainKind::Less);
-            return Ok((InstructionEntry::Byte(None), node));
-        }
-        let link = Link::of(kind, column, slice, len, u64::from(byte));
-        let chain = self.facts.chain(link)?;
-        Ok((InstructionEntry::Byte(Some(chain.reference())), chain.node))
+    /// Returns the effect of a byte comparison, whose length isn't known yet. One with a number
+    /// that is greater than each byte has no chain.
+    fn byte(&mut self, link: Link) -> Result<Effect, Unproved> {
+        let width = width_of(self.facts.schema, link.left).ok_or(Unproved::NoRule)?;
+        let above = width.checked_sub(8 * u32::from(link.slice));
+        let len = above.ok_or(Unproved::NoRule)?.min(8);
+        let is_above = link.bound >= 1 << len;
+        let terminal = is_above.then_some(u32::from(link.kind == ChainKind::Less));
+        let (chain, node) = self.facts.chain_unless(terminal, Link { len, ..link })?;
+        Ok((InstructionEntry::Byte(chain), node))
     }
 }

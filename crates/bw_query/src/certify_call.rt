@@ -19,7 +19,7 @@ use bw_cert::{check_file, split_file};
 use bw_io::{Sink, write_whole};
 use bw_model::{Cond, Fault, Schema, code};
 use bw_program::Program;
-use bw_prover::{Hints, MAX_PRODUCTS, Unproved, prove};
+use bw_prover::{MAX_PRODUCTS, Unproved, prove};
 use bw_sql::parse;
 use bw_text::Lines;
 use std::alloc::{AllocError, Global};
@@ -109,11 +109,7 @@ fn proved_file(
         IsPrintedFrom schema.now.columns.items program.now file.items) }
     ensures fault { IfErr result IsNotFound }
 {
-    let hints = Hints {
-        rows: MAX_PRODUCTS,
-        orders: &[],
-    };
-    match prove(alloc, schema, cond, program, &hints) {
+    match prove(alloc, schema, cond, program, MAX_PRODUCTS) {
         Ok(certificate) => Ok(file_of(alloc, schema, program, &certificate)?),
         Err(unproved) => Err(fault_of(alloc, text, program.len(), &unproved)),
     }
