@@ -207,7 +207,12 @@ def opened(path: str) -> sqlite3.Connection:
         with open_regular(path) as file:
             told = os.fstat(file.fileno())
             refuse_header(path, file.read(100), told.st_size)
-            database = sqlite3.connect(uri_of(path), uri=True, check_same_thread=False)
+            try:
+                database = sqlite3.connect(uri_of(path), uri=True, check_same_thread=False)
+            except sqlite3.OperationalError:
+                if os.path.samestat(os.stat(path), told):
+                    raise
+                continue
             if os.path.samestat(os.stat(path), told):
                 for pragma in ("trusted_schema = off", "cell_size_check = on"):
                     database.execute(f"PRAGMA {pragma}")
