@@ -31,12 +31,19 @@ def whole_rows(chance: random.Random, columns: dict[str, Bounds], near: Sequence
                count: int) -> list[list[int | str]]:
     """Returns rows of whole numbers: near a column's minimum or maximum, near another number, or
     any."""
+    draw, places = chance.random, len(near)
+
     def value(low: int, high: int, nullable: bool) -> int | str:
-        if nullable and chance.randrange(6) == 0:
+        if nullable and draw() < 1 / 6:
             return "NULL"
-        return max(low, min(high, chance.choice((
-            low + chance.randrange(6), high - chance.randrange(6),
-            chance.choice(near) + chance.randrange(3), chance.randint(low, high)))))
+        which = draw()
+        if which < 1 / 4:
+            return min(high, low + int(draw() * 6))
+        if which < 1 / 2:
+            return max(low, high - int(draw() * 6))
+        if which < 3 / 4:
+            return max(low, min(high, near[int(draw() * places)] + int(draw() * 3)))
+        return chance.randint(low, high)
 
     return [[value(*column) for column in columns.values()] for _ in range(count)]
 

@@ -8,6 +8,7 @@ outputs without a paragraph between them are a block. `cases/README.md` describe
 from __future__ import annotations
 
 import difflib
+import hashlib
 import pathlib
 import re
 import shlex
@@ -175,8 +176,9 @@ def on_wrong_stream(done: Done) -> list[str]:
 
 def with_pandas() -> str | None:
     """Returns a python3 that has pandas: the one on the PATH, or the system's."""
+    test = "import importlib.util as i, sys; sys.exit(not i.find_spec('pandas'))"
     for python in filter(None, [shutil.which("python3"), shutil.which("/usr/bin/python3")]):
-        if support.run([python, "-c", "import pandas"]).status == 0:
+        if support.run([python, "-c", test]).status == 0:
             return python
     return None
 
@@ -226,26 +228,40 @@ def run_calls(calls: list[Call], folder: pathlib.Path, told: pathlib.Path) -> li
     return found
 
 
-def not_restored(folder: pathlib.Path) -> list[str]:
-    """Returns the table files of a folder that differ after being dumped and loaded again, in the
-    same layout and with the schema that `bw info` prints. A table of version 2 that doesn't need it
-    is restored as one of version 1. What `bw dump` rejects is left out."""
-    wrong = []
-    for table in filter(pathlib.Path.is_file, sorted(folder.glob("*.bw"))):
+# whether tables were restored, by their bytes: many sections begin with the same ones
+RESTORED: dict[bytes, bool] = {}
+
+
+def is_restored(table: pathlib.Path) -> bool:
+    """Returns whether a table file is the same after it was dumped and loaded again, in the same
+    layout and with the schema that `bw info` prints. A table of version 2 that doesn't need it is
+    restored as one of version 1. What `bw dump` rejects is left out."""
+    before = table.read_bytes()
+    mark = hashlib.sha256(before).digest()
+    if mark not in RESTORED:
         told, dumped = (subprocess.run([BW, word, table], stdin=subprocess.DEVNULL, check=False,
                                        stdout=subprocess.PIPE, stderr=subprocess.PIPE)
                         for word in ("info", "dump"))
-        if told.returncode or dumped.returncode:
-            continue
-        schema, rows, again = folder / "again.schema", folder / "again.csv", folder / "again"
-        schema.write_bytes(told.stdout)
-        rows.write_bytes(dumped.stdout)
-        before = table.read_bytes()
-        done = support.bw("load", "--layout", ["planes", "slices"][before[9]], schema, rows, again)
-        after = again.read_bytes() if done.status == 0 else b""
-        if after != before and (before[8] == 1 or after != before[:8] + b"\1" + before[9:]):
-            wrong.append(table.name)
-    return wrong
+        RESTORED[mark] = bool(told.returncode or dumped.returncode) or \
+            is_loaded_again(table, before, told.stdout, dumped.stdout)
+    return RESTORED[mark]
+
+
+def is_loaded_again(table: pathlib.Path, before: bytes, told: bytes, dumped: bytes) -> bool:
+    """Returns whether a schema and rows are loaded as a table of these bytes."""
+    schema, rows, again = table.parent / "again.schema", table.parent / "again.csv", \
+        table.parent / "again"
+    schema.write_bytes(told)
+    rows.write_bytes(dumped)
+    done = support.bw("load", "--layout", ["planes", "slices"][before[9]], schema, rows, again)
+    after = again.read_bytes() if done.status == 0 else b""
+    return after == before or before[8] != 1 and after == before[:8] + b"\1" + before[9:]
+
+
+def not_restored(folder: pathlib.Path) -> list[str]:
+    """Returns the table files of a folder that aren't restored."""
+    return [table.name for table in filter(pathlib.Path.is_file, sorted(folder.glob("*.bw")))
+            if not is_restored(table)]
 
 
 class Page(support.TestCase):

@@ -3,6 +3,7 @@ without bwtools."""
 from __future__ import annotations
 
 import csv
+import decimal
 import io
 import math
 import re
@@ -18,6 +19,10 @@ from bwtools.telling import Refused
 from tests import support
 
 
+# of doubles; it raises an error instead of rounding
+EXACT = decimal.Context(prec=700, traps=[decimal.Inexact])
+
+
 class Sum:
     """The sum of values, exactly: of whole numbers, of decimals of up to nine digits, or of
     doubles."""
@@ -30,9 +35,12 @@ class Sum:
             self.values.append(value)
 
     def exact(self) -> Fraction:
-        is_decimal = all(round(value, 9) == value for value in self.values)
-        return sum(map(Fraction, map(repr, self.values)), Fraction()) if is_decimal \
-            else Fraction(math.fsum(self.values))
+        if any(round(value, 9) != value for value in self.values):
+            return Fraction(math.fsum(self.values))
+        total = decimal.Decimal()
+        for value in self.values:
+            total = EXACT.add(total, decimal.Decimal(repr(value)))
+        return Fraction(total)
 
     def finalize(self) -> Any:
         if not self.values:

@@ -3,6 +3,7 @@ that are loaded."""
 from __future__ import annotations
 
 import argparse
+import compileall
 import contextlib
 import functools
 import gc
@@ -16,11 +17,13 @@ import signal
 import subprocess
 import sys
 import tempfile
+import time
 import traceback
 import unittest
 import warnings
-from typing import Any, Callable, Iterable, NamedTuple, NoReturn, Sequence, TypeVar
+from typing import Any, Callable, Iterable, NamedTuple, Sequence, TypeVar
 
+import bwtools
 from bwtools import importing, kinds, writing
 from bwtools.options import add_options, parsed
 from bwtools.programs import import_
@@ -33,6 +36,9 @@ PYTHON = ROOT / "python"
 # the Python programs, and the module of each
 TOOLS = {"bw-ask": "ask", "bw-from-numbers": "from_numbers", "bw-import": "import_",
          "bw-shards": "shards", "bw-to-numbers": "to_numbers"}
+# what programs import once they need it
+LATER = ("argparse", "csv", "decimal", "difflib", "fractions", "hashlib", "json", "shlex", "shutil",
+         "sqlite3", "subprocess", "threading", "unicodedata")
 # how many seconds a call may take
 LONGEST = 120
 
@@ -99,60 +105,121 @@ def sh(command: str, folder: pathlib.Path, seconds: int = LONGEST, **names: str)
 
 @functools.lru_cache(None)
 def import_package() -> None:
-    """Imports all of bwtools, and has it compile most patterns, so that a forked program
-    needn't."""
+    """Imports all of bwtools, and has it import and ask a table, so that it compiles most patterns
+    here and not in each forked program. Bytecode that is missing is written first, if it can be,
+    for programs that are started and for the next run."""
+    for folder in (PYTHON / "bwtools", ROOT / "tests"):
+        if os.access(folder, os.W_OK):
+            compileall.compile_dir(folder, quiet=2)
     for path in sorted((PYTHON / "bwtools").rglob("*.py")):
         name = ".".join(path.relative_to(PYTHON).with_suffix("").parts)
         importlib.import_module(name.removesuffix(".__init__"))
-    numbers_of(b"a,b,c,d,e,f\n1,1.5,2024-05-01,12:30,true,x\n-2,,2024-05-02,12:31,false,1e5\n")
+    for name in LATER:
+        importlib.import_module(name)
+    import_.parser_of().format_usage()
+    with tempfile.TemporaryDirectory() as name:
+        table = imported(pathlib.Path(name, "t"), "a,b,c,d,e,f\n1,1.5,2024-05-01,12:30,true,x\n"
+                                                  "-2,,2024-05-02,12:31,false,1e5\n")
+        with bwtools.connect(table) as connection:
+            for sql in ("SELECT * FROM t WHERE a = 1 OR f = 'x'", "SELECT upper(f) FROM t"):
+                list(connection.answer(sql).fields())
     # the programs, which are short, turn it off
     gc.enable()
+    # what forks share stays shared
+    gc.freeze()
+
+
+class Running:
+    """A Python program in a fork of this process, which saves the start of another Python. Its
+    files are a program's own: input of these bytes, or an open file of this number. Errors may
+    be written to the same file as output."""
+
+    def __init__(self, name: str, *words: Any, given: bytes | str | int = b"", cwd: Any = None,
+                 names: dict[str, str] | None = None, is_mixed: bool = False) -> None:
+        import_package()
+        self.files = [tempfile.TemporaryFile() for _ in range(3)]
+        places = [file.fileno() for file in self.files]
+        if isinstance(given, int):
+            places[0] = given
+        else:
+            self.files[0].write(given.encode() if isinstance(given, str) else given)
+            self.files[0].seek(0)
+        if is_mixed:
+            places[2] = places[1]
+
+        def run_here() -> Any:
+            for number, place in enumerate(places):
+                os.dup2(place, number)
+            return run_tool(name, list(map(str, words)), cwd, names or {})
+
+        self.process = in_fork(run_here)
+
+    def until(self, path: pathlib.Path) -> None:
+        """Waits until there is a file, or the program has ended."""
+        while not path.exists() and not os.waitid(
+                os.P_PID, self.process, os.WEXITED | os.WNOWAIT | os.WNOHANG):
+            time.sleep(.002)
+
+    def done(self) -> Done:
+        """Waits for the end. Returns what the program left."""
+        status = os.waitstatus_to_exitcode(os.waitpid(self.process, 0)[1])
+        told = []
+        for file in self.files:
+            file.seek(0)
+            told.append(text_of(file.read()))
+            file.close()
+        return Done(status, *told[1:])
 
 
 def tool(name: str, *words: Any, given: bytes | str = b"", cwd: Any = None,
          **names: str) -> Done:
-    """Runs a Python program in a fork of this process, which saves the start of another Python. Its
-    files are a program's own."""
-    import_package()
-    with tempfile.TemporaryFile() as stdin, tempfile.TemporaryFile() as out, \
-            tempfile.TemporaryFile() as err:
-        stdin.write(given.encode() if isinstance(given, str) else given)
-        stdin.seek(0)
-        process = os.fork()
-        if not process:
-            for number, file in enumerate((stdin, out, err)):
-                os.dup2(file.fileno(), number)
-            run_forked(name, list(map(str, words)), cwd, names)
-        status = os.waitstatus_to_exitcode(os.waitpid(process, 0)[1])
-        out.seek(0)
-        err.seek(0)
-        return Done(status, text_of(out.read()), text_of(err.read()))
+    """Runs a Python program in a fork of this process."""
+    return Running(name, *words, given=given, cwd=cwd, names=names).done()
 
 
-def run_forked(name: str, words: list[str], cwd: Any, names: dict[str, str]) -> NoReturn:
-    """Runs a Python program to its end, in a process of its own."""
+def in_fork(act: Callable[[], Any]) -> int:
+    """Begins a function in a fork of this process, whose number it returns. That ends with the
+    status that the function returns, or 0, or with 1 if it raises something: never does it go on
+    with the tests."""
+    process = os.fork()
+    if not process:
+        status: Any = 1
+        try:
+            status = act() or 0
+        except BaseException:
+            traceback.print_exc()
+        finally:
+            os._exit(status if isinstance(status, int) else 1)
+    return process
+
+
+def run_tool(name: str, words: list[str], cwd: Any, names: dict[str, str]) -> Any:
+    """Runs a Python program, in a process of its own. Returns its status."""
+    # nohup, or a shell's &, makes a program ignore them
+    signal.signal(signal.SIGINT, signal.default_int_handler)
+    for number in (signal.SIGHUP, signal.SIGTERM):
+        signal.signal(number, signal.SIG_DFL)
+    signal.alarm(LONGEST)
+    # unittest shows it, and Python doesn't
+    warnings.simplefilter("ignore", ResourceWarning)
+    gc.disable()
+    os.chdir(cwd or os.getcwd())
+    os.environ.update(names)
+    sys.argv = [name, *words]
+    sys.stdin = open(0, encoding="utf-8", closefd=False)
+    sys.stdout = open(1, "w", encoding="utf-8", closefd=False)
+    sys.stderr = open(2, "w", 1, "utf-8", "backslashreplace", closefd=False)
     status: Any = 1
     try:
-        signal.alarm(LONGEST)
-        gc.disable()
-        os.chdir(cwd or os.getcwd())
-        os.environ.update(names)
-        sys.argv = [name, *words]
-        sys.stdin = open(0, encoding="utf-8", closefd=False)
-        sys.stdout = open(1, "w", encoding="utf-8", closefd=False)
-        sys.stderr = open(2, "w", encoding="utf-8", errors="backslashreplace", closefd=False)
         status = importlib.import_module(f"bwtools.programs.{TOOLS[name]}").main()
     except SystemExit as ended:
         status = ended.code
     except BaseException:
         traceback.print_exc()
-    finally:
-        for file in (sys.stdout, sys.stderr):
-            try:
-                file.flush()
-            except OSError:
-                pass
-        os._exit(status or 0)
+    for file in (sys.stdout, sys.stderr):
+        with contextlib.suppress(OSError):
+            file.flush()
+    return status
 
 
 def content(folder: pathlib.Path) -> dict[str, bytes]:
@@ -162,9 +229,8 @@ def content(folder: pathlib.Path) -> dict[str, bytes]:
 
 
 def copy_python(folder: pathlib.Path) -> None:
-    """Copies the Python programs, without what was compiled of them, so that they can be
-    changed."""
-    shutil.copytree(PYTHON, folder, ignore=shutil.ignore_patterns("__pycache__"))
+    """Copies the Python programs, with what was compiled of them, so that they can be changed."""
+    shutil.copytree(PYTHON, folder)
     for path in [folder, *folder.rglob("*")]:
         path.chmod(path.stat().st_mode | 0o200)
 

@@ -12,6 +12,7 @@ import contextlib
 import csv
 import datetime
 import decimal
+import itertools
 import math
 import os
 import pathlib
@@ -69,22 +70,23 @@ def read_properties(path):
 
 
 def read_plain(path):
-    """Returns the rows of a file with comments."""
+    """Returns the rows of a file with comments, for a sample those of its first lines."""
     separator = "\t" if path.suffix == ".tab" else ","
-    lines = pathlib.Path(path).read_text(encoding="utf-8").splitlines()
+    with open(path, encoding="utf-8") as file:
+        lines = [line.rstrip("\n") for line in itertools.islice(file, None if IS_WHOLE else 1000)]
     rows = [line.split(separator) for line in lines if line and not line.startswith("#")]
     width = max(map(len, rows))
     return [row + [""] * (width - len(row)) for row in rows]
 
 
 def read_derived(path):
-    """Returns ranges of addresses with what is derived of them, as floats: a share, a logarithm,
-    and a deviation."""
+    """Returns ranges of addresses with what is derived of them, as floats: a share, a logarithm
+    in millionths, and a deviation."""
     ranges = [tuple(map(int, row[:2])) for row in read_plain(path) if row[0].isdigit()]
     sizes = [last - first + 1 for first, last in ranges]
     mean = sum(sizes) / len(sizes)
     return [["first", "share", "log", "deviation"],
-            *([str(first), repr(size / last), repr(math.log10(size / first)),
+            *([str(first), repr(size / last), repr(math.log10(size / first) / 1e6),
                repr((size - mean) / mean if size % 5 else 0.0)]
               for (first, last), size in zip(ranges, sizes))]
 

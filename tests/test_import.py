@@ -14,7 +14,6 @@ import signal
 import sqlite3
 import subprocess
 import sys
-import time
 
 from tests import drawn, support
 from tests.support import BW, LONGEST, PYTHON, bw, content, tool, write_script
@@ -289,27 +288,18 @@ class Faults(Tools):
         it does."""
         program, begun = self.folder / "slow", self.folder / "begun"
         write_script(program, f'[ "$1" = infer ] && exec "{BW}" "$@"\n: > "{begun}"\n{script}')
+        running = support.Running("bw-import", "t.csv", "t.bw", cwd=self.folder,
+                                  names={"BW": str(program)})
+        running.until(begun)
+        return running
 
-        def hear():
-            # nohup, or a shell's &, makes a program ignore them
-            for number in (signal.SIGINT, signal.SIGHUP):
-                signal.signal(number, signal.SIG_DFL)
-
-        process = subprocess.Popen(
-            [sys.executable, "-S", PYTHON / "bin" / "bw-import", "t.csv", "t.bw"], cwd=self.folder,
-            stdout=subprocess.PIPE, stderr=subprocess.PIPE,
-            env={**os.environ, "BW": str(program)}, preexec_fn=hear)
-        while not begun.exists() and process.poll() is None:
-            time.sleep(.005)
-        return process
-
-    def end(self, process, number):
+    def end(self, running, number):
         """Sends a signal to an import. Returns its status and its output."""
-        process.send_signal(number)
-        told = process.communicate(timeout=LONGEST)
+        os.kill(running.process, number)
+        done = running.done()
         for name in ("slow", "begun"):
             (self.folder / name).unlink()
-        return process.returncode, told[0]
+        return done[:2]
 
     def test_interrupts(self):
         for has_before in (False, True):
@@ -322,7 +312,7 @@ class Faults(Tools):
                                    (signal.SIGHUP, 129)):
                 with self.subTest(number.name, has_before=has_before):
                     done = self.end(self.begin("exec sleep 5"), number)
-                    self.assertEqual(done, (status, b""))
+                    self.assertEqual(done, (status, ""))
                     self.assertEqual(content(self.folder), before)
                     self.assertEqual(len(list(self.folder.iterdir())), len(before))
 
@@ -360,10 +350,9 @@ class Faults(Tools):
             (self.folder / f"{name}.csv").write_bytes(data)
         for turn in range(2):
             with self.subTest(turn=turn):
-                both = [subprocess.Popen(
-                    [sys.executable, "-S", PYTHON / "bin" / "bw-import", f"{name}.csv", "t.bw"],
-                    cwd=self.folder, stdout=subprocess.DEVNULL) for name in files]
-                self.assertEqual([each.wait(LONGEST) for each in both], [0, 0])
+                both = [support.Running("bw-import", f"{name}.csv", "t.bw", cwd=self.folder)
+                        for name in files]
+                self.assertEqual([each.done().status for each in both], [0, 0])
                 found = self.ask("SELECT * FROM t")
                 self.assertEqual((found.status, found.err), (0, ""))
                 self.assertIn(found.out.encode(), files.values())
@@ -371,21 +360,40 @@ class Faults(Tools):
                                  ["one.csv", "t.bw", "t.bw.columns", "two.csv"])
 
 
-@support.each([
-    ("names after two dashes", "bw-import -- -x.csv -x.bw && bw-ask -- -x.bw"),
-    ("standard input", "bw-import - s.bw < ./-x.csv && bw-ask s.bw"),
-    ("a pipe", "cat ./-x.csv | bw-import - p.bw && bw-ask p.bw"),
-    ("a compressed file", "bw-import x.csv.gz z.bw && bw-ask z.bw"),
-    ("a compressed pipe", "cat x.csv.gz | bw-import - y.bw && bw-ask y.bw")])
 class Names(Tools):
     """Names that begin as options do, standard input, and compressed files."""
 
-    def check(self, _, command):
+    ASKS, ANSWER = "SELECT price FROM t WHERE id = 3", (0, "price\n13.50\n", "")
+
+    def check(self, *words, given=b""):
         (self.folder / "-x.csv").write_bytes(SHOP)
         (self.folder / "x.csv.gz").write_bytes(gzip.compress(SHOP))
-        done = support.sh(f"PATH='{PYTHON}/bin':$PATH; {{ {command} 'SELECT price FROM t WHERE id "
-                          "= 3'; }", self.folder)
-        self.assertEqual((done.status, done.out[-12:], done.err), (0, "price\n13.50\n", ""))
+        made = tool("bw-import", *words, given=given, cwd=self.folder)
+        self.assertEqual((made.status, made.err), (0, ""))
+        done = tool("bw-ask", "--", words[-1], self.ASKS, cwd=self.folder)
+        self.assertEqual(done, self.ANSWER)
+
+    def test_names_after_two_dashes(self):
+        self.check("--", "-x.csv", "-x.bw")
+
+    def test_standard_input(self):
+        self.check("-", "s.bw", given=SHOP)
+
+    def test_a_compressed_file(self):
+        self.check("x.csv.gz", "z.bw")
+
+    def test_compressed_standard_input(self):
+        self.check("-", "y.bw", given=gzip.compress(SHOP))
+
+    def test_pipes(self):
+        """They are read by programs of the PATH."""
+        (self.folder / "x.csv").write_bytes(SHOP)
+        (self.folder / "x.csv.gz").write_bytes(gzip.compress(SHOP))
+        for name in ("x.csv", "x.csv.gz"):
+            with self.subTest(name):
+                done = support.sh(f"PATH='{PYTHON}/bin':$PATH; cat {name} | bw-import - p.bw && "
+                                  f"bw-ask p.bw '{self.ASKS}'", self.folder)
+                self.assertEqual((done.status, done.out[-12:], done.err), self.ANSWER)
 
 
 class Output(Tools):
@@ -459,15 +467,14 @@ class Asking(Tools):
         """Runs ask at a terminal at which statements are typed. Returns its status, and its output
         and errors in order."""
         ours, theirs = os.openpty()
-        with subprocess.Popen(
-                [sys.executable, "-S", PYTHON / "bin" / "bw-ask", *options, "t.bw"], stdin=theirs,
-                cwd=self.folder, stdout=subprocess.PIPE, stderr=subprocess.STDOUT) as process:
-            os.close(theirs)
-            # the last character is the key for the end of input
-            os.write(ours, statements.encode() + b"\x04")
-            told = process.communicate(timeout=LONGEST)[0].decode()
+        running = support.Running("bw-ask", *options, "t.bw", given=theirs, is_mixed=True,
+                                  cwd=self.folder)
+        os.close(theirs)
+        # the last character is the key for the end of input
+        os.write(ours, statements.encode() + b"\x04")
+        done = running.done()
         os.close(ours)
-        return process.returncode, told
+        return done[:2]
 
 
 class Statements(Asking):
@@ -522,11 +529,12 @@ class Large(Asking):
 
     def setUp(self):
         Tools.setUp(self)
-        numbers = range(10 ** 9, 10 ** 9 + 12_000)
+        # of 18 digits, so that few of them are long
+        numbers = range(10 ** 17, 10 ** 17 + 12_000)
         rows = "".join(f"{number},text {number % 1000}\n" for number in numbers)
         self.imported(f"a,b\n{rows}".encode())
-        many, more = (", ".join(map(str, numbers[::step])) for step in (3, 2))
-        self.asked = ["SELECT * FROM t", "SELECT a FROM t WHERE a < 1000000003",
+        many, more = (", ".join(map(str, numbers[::step])) for step in (5, 3))
+        self.asked = ["SELECT * FROM t", f"SELECT a FROM t WHERE a < {10 ** 17 + 3}",
                       "SELECT a, b, a FROM t WHERE b <> 'text 7'",
                       f"SELECT a FROM t WHERE a IN ({many})",
                       f"SELECT a FROM t WHERE a IN ({more})", "SELECT b FROM t"]
@@ -544,7 +552,7 @@ class Large(Asking):
         # the second of these is too long for bw
         done = self.ask(given="; ".join(self.asked[place] for place in (0, 4, 5)))
         self.assertEqual(done, (0, "".join(f"{found[place].out}\n" for place in (0, 4, 5)), ""))
-        self.assertEqual(found[4].out.count("\n"), 6_001)
+        self.assertEqual(found[4].out.count("\n"), 4_001)
 
 
 # how a session ends by itself, which another one follows, its output, the message, and the status
@@ -585,7 +593,6 @@ class Places(Tools):
 
     def setUp(self):
         super().setUp()
-        support.copy_python(self.folder / "copy")
         (self.folder / "bin").mkdir()
         for name in support.TOOLS:
             (self.folder / "bin" / name).symlink_to(PYTHON / "bin" / name)
@@ -596,6 +603,7 @@ class Places(Tools):
         return support.run(words, cwd=self.folder, **names)
 
     def test_a_copy_and_symlinks(self):
+        support.copy_python(self.folder / "copy")
         for place in ("copy/bin", "bin"):
             with self.subTest(place):
                 made = self.run_in(f"{place}/bw-import", "t.csv", "t.bw")
@@ -614,6 +622,7 @@ class Places(Tools):
         path = f"{os.path.dirname(sys.executable)}:/usr/bin:/bin"
         if shutil.which("bw", path=path):
             self.skipTest("no program: uninstall bw")
+        support.copy_python(self.folder / "copy")
         self.imported(SHOP)
         done = self.run_in("copy/bin/bw-ask", "t.bw", self.ASKS, BW="", PATH=path)
         self.assertEqual(done.status, 3)

@@ -47,10 +47,11 @@ class Installed(support.TestCase):
     def setUp(self):
         self.folder = self.new_folder()
 
-    def install(self, *words, top=ROOT, **names):
-        """Runs ./install of a tree. The packed tar has its own program."""
+    def install(self, *words, top=ROOT, by=(sys.executable, "-S"), **names):
+        """Runs ./install of a tree, by a Python that starts fast. The packed tar has its own
+        program."""
         given = {} if (top / "bw").is_file() and top != ROOT else {"BW": str(BW)}
-        return run([top / "install", *words], **given, **names)
+        return run([*by, top / "install", *words], **given, **names)
 
     def assert_works(self, place, **names):
         """Tests that the tools of a folder work."""
@@ -64,7 +65,7 @@ class Installed(support.TestCase):
     def check_installs(self, top):
         """Installs from a folder into an empty one, installs again, and uninstalls."""
         prefix = self.folder / "a prefix"
-        done = self.install(prefix, top=top)
+        done = self.install(prefix, top=top, by=())
         self.assertEqual((done.status, done.err), (0, ""))
         self.assertIn(f"export PATH='{prefix}/bin':", done.out)
         kept, package = content(prefix), prefix / "share" / "bw" / "python" / "bwtools"
@@ -91,6 +92,7 @@ def copy_tree(folder):
         target = folder / path.relative_to(ROOT)
         target.parent.mkdir(parents=True, exist_ok=True)
         shutil.copy2(path, target)
+        target.chmod(target.stat().st_mode | 0o200)
     return folder
 
 
@@ -113,7 +115,7 @@ class Install(Installed):
         top, = [each for each in self.folder.iterdir() if each.is_dir()]
         self.assert_works(top / "python" / "bin")
         prefix = self.folder / "from the tar"
-        self.assertEqual(self.install(prefix, top=top).status, 0)
+        self.assertEqual(self.install(prefix, top=top, by=()).status, 0)
         self.assertEqual(run([prefix / "bin" / "bw", "--version"]), run([BW, "--version"]))
 
     def test_foreign_files_are_not_overwritten(self):
@@ -167,35 +169,38 @@ class Install(Installed):
         self.assertTrue((self.folder / "home/.local/bin/bw-import").exists())
 
     def test_an_older_install_is_replaced(self):
-        copied, prefix, fresh = (self.folder / name for name in ("tree", "p", "r"))
-        for name in ("install", "LICENSE", *(f"docs/{page.name}"
-                                             for page in (ROOT / "docs").glob("bw*.1"))):
-            (copied / name).parent.mkdir(parents=True, exist_ok=True)
-            shutil.copy2(ROOT / name, copied / name)
-        copy_python(copied / "python")
+        older, newer = (copy_tree(self.folder / name) for name in ("older", "newer"))
+        prefix, fresh = self.folder / "p", self.folder / "r"
         for name in ("bw-old", "bw-ask"):
-            (copied / "python" / "bin" / name).write_text("#!/bin/sh\n")
-        run([copied / "install", prefix], BW=str(BW))
+            (older / "python" / "bin" / name).write_text("#!/bin/sh\n")
+        self.install(prefix, top=older)
         self.assertTrue((prefix / "bin" / "bw-old").is_symlink())
-        self.assertEqual(self.install(prefix).status, 0)
-        self.assert_works(prefix / "bin")
-        self.install(fresh)
-        self.assertEqual(content(prefix).keys(), content(fresh).keys())
+        for place in (prefix, fresh):
+            self.assertEqual(self.install(place, top=newer).status, 0)
         self.assertFalse(os.path.lexists(prefix / "bin" / "bw-old"))
+        found, wanted = ({name: each for name, each in content(place).items()
+                          if not name.endswith((".json", ".pyc"))} for place in (prefix, fresh))
+        self.assertEqual(found, wanted)
 
     def test_a_broken_off_install_is_taken_up(self):
-        for delay in (0.04, 0.08):
-            broken = self.folder / str(delay)
-            with subprocess.Popen([sys.executable, ROOT / "install", broken],
+        for is_repeated in (True, False):
+            broken = self.folder / str(is_repeated)
+            begun = broken / "share" / "bw" / "installed.json"
+            with subprocess.Popen([sys.executable, "-S", ROOT / "install", broken],
                                   env={**os.environ, "BW": str(BW)}, stdout=subprocess.DEVNULL,
                                   stderr=subprocess.DEVNULL) as process:
-                time.sleep(delay)
+                while not begun.exists() and process.poll() is None:
+                    time.sleep(.001)
                 process.send_signal(signal.SIGKILL)
-            with self.subTest(delay=delay):
-                self.assertEqual(self.install(broken).status, 0)
+            with self.subTest(is_repeated=is_repeated):
+                self.assertEqual(process.returncode, -signal.SIGKILL)
+                if is_repeated:
+                    self.assertEqual(self.install(broken).status, 0)
                 self.assertEqual(self.install("--uninstall", broken).status, 0)
-                self.assertEqual([name for name in content(broken) if not name.endswith(".part")],
-                                 [])
+                # a file that was begun stays in its folder
+                left = {name for name, each in content(broken).items()
+                        if is_repeated or each is not True}
+                self.assertEqual({name for name in left if not name.endswith(".part")}, set())
 
 
 class Copies(Installed):
@@ -236,8 +241,8 @@ class Pip(Installed):
 
     def test_pip(self):
         # setuptools before 71 makes packages by wheel
-        test = ("import setuptools, pip; at = int(setuptools.__version__.split('.')[0]); assert "
-                "at >= 61\nif at < 71: import wheel")
+        test = ("from importlib.metadata import version\nat = int(version('setuptools')"
+                ".split('.')[0]); assert at >= 61 and version('pip')\nif at < 71: version('wheel')")
         python = next((each for each in dict.fromkeys((sys.executable, "/usr/bin/python3"))
                        if os.path.exists(each) and run([each, "-c", test]).status == 0), None)
         if not python:

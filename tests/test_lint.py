@@ -15,8 +15,9 @@ from tests.support import ROOT
 
 # as .flake8 has them
 RULES = ["--select", "E,F,W", "--ignore", "E402", "--line-length", "100"]
+# installed packages take longer to read than the tree, and nothing here needs their types
 STRICT = ["--strict", "--python-version", "3.9", "--ignore-missing-imports", "--no-error-summary",
-          "--explicit-package-bases", "--cache-dir"]
+          "--explicit-package-bases", "--no-site-packages", "--cache-dir"]
 # what is typed beside the package
 TYPED = [f"tests/{name}.py" for name in ("support", "pages", "drawn", "reference")]
 WORD = re.compile(r"[^\s(){}\[\],;.:λ@]+")

@@ -7,6 +7,7 @@ import concurrent.futures
 import csv
 import functools
 import io
+import json
 import os
 import random
 import shutil
@@ -45,6 +46,21 @@ if __name__ == "__main__":
             silence_logs=logging.CRITICAL) as cluster:
         print(cluster.scheduler_address, flush=True)
         sys.stdin.read()
+"""
+
+# runs bw-shards once for each list of arguments, and prints the status; Dask is imported once
+IN_TURN = """
+import json, os, sys
+sys.path.insert(0, sys.argv[1])
+import distributed
+from bwtools.programs import shards
+for number, words in enumerate(json.load(sys.stdin)):
+    if not os.fork():
+        for place, name in ((1, "out"), (2, "err")):
+            os.dup2(os.open(f"{name}-{number}", os.O_WRONLY | os.O_CREAT, 0o600), place)
+        sys.argv = ["bw-shards", *words]
+        sys.exit(shards.main())
+    print(os.waitstatus_to_exitcode(os.wait()[1]), flush=True)
 """
 
 # statements of each kind, without SELECT: with results of rows and of totals, and some that select
@@ -245,11 +261,18 @@ class Damage(Shards):
 
 
 class Folders(Shards):
-    """Which folders are queried, and which are written."""
+    """Which folders are queried, and which are written. Each test has the same files."""
+
+    @classmethod
+    def setUpClass(cls):
+        cls.folder = cls.new_class_folder()
+        cls.load(cls)
+        cls.loaded = cls.folder
 
     def setUp(self):
         self.folder = self.new_folder()
-        self.load()
+        shutil.copytree(self.loaded / "s", self.folder / "s", copy_function=os.link)
+        (self.folder / "t.csv").write_bytes(made_csv())
         (self.folder / "empty").mkdir()
 
     def test_asking_what_is_no_folder_of_shards(self):
@@ -319,21 +342,12 @@ class Loads(Shards):
 
     def interrupted(self, number):
         """Returns the status of a load that is interrupted in its second shard."""
-        def hear():
-            for each in (signal.SIGINT, signal.SIGHUP):
-                signal.signal(each, signal.SIG_DFL)
-
         program = self.program('[ $n != 2 ] || { : > "$0.begun"; exec sleep 5; }')
-        begun = self.slow.with_name("slow.begun")
-        words = [sys.executable, "-S", PYTHON / "bin" / "bw-shards", "load", "t.csv", "s",
-                 "--rows", "500"]
-        with subprocess.Popen(words, stdout=subprocess.DEVNULL, stderr=subprocess.DEVNULL,
-                              cwd=self.folder, env={**os.environ, "BW": program},
-                              preexec_fn=hear) as process:
-            while not begun.exists() and process.poll() is None:
-                time.sleep(.005)
-            process.send_signal(number)
-            return process.wait(LONGEST)
+        running = support.Running("bw-shards", "load", "t.csv", "s", "--rows", "500",
+                                  cwd=self.folder, names={"BW": program})
+        running.until(self.slow.with_name("slow.begun"))
+        os.kill(running.process, number)
+        return running.done().status
 
     def check(self, has_before):
         self.folder = self.new_folder()
@@ -435,9 +449,17 @@ class Workers(Loaded):
         cls.addClassCleanup(end)
         return cluster.stdout.readline().strip()
 
-    def by_workers(self, address, name, *words, given="", **names):
-        return support.run([self.python, PYTHON / "bin" / "bw-shards", "ask", name, *words,
-                            "--scheduler", address], given, cwd=self.folder, **names)
+    def by_workers(self, *words, given="", **names):
+        return support.run([self.python, PYTHON / "bin" / "bw-shards", *words], given,
+                           cwd=self.folder, **names)
+
+    def in_turn(self, *calls):
+        """Runs bw-shards with each of these arguments. Returns what the calls left."""
+        done = support.run([self.python, "-c", IN_TURN, PYTHON], json.dumps(calls),
+                           cwd=self.folder)
+        return [support.Done(int(status), *((self.folder / f"{name}-{number}").read_text()
+                                            for name in ("out", "err")))
+                for number, status in enumerate(done.out.split())]
 
     def test_a_worker_that_dies(self):
         """Its shard is run again."""
@@ -445,8 +467,8 @@ class Workers(Loaded):
         slow.write_text(HELD.format(self.folder, BW))
         slow.chmod(0o755)
         with concurrent.futures.ThreadPoolExecutor() as pool:
-            running = pool.submit(self.by_workers, self.address, "s", given=statements(GOOD),
-                                  BW=str(slow))
+            running = pool.submit(self.by_workers, "ask", "s", "--scheduler", self.address,
+                                  given=statements(GOOD), BW=str(slow))
             told = self.folder / "held" / "worker"
             while not told.exists() and not running.done():
                 time.sleep(.02)
@@ -459,23 +481,23 @@ class Workers(Loaded):
         self.assertEqual(done[:2], self.of_table(given=statements(GOOD))[:2])
 
     def test_shards_that_fail(self):
-        """Each fails the whole query."""
+        """Each fails the whole query, as a scheduler does that isn't there."""
         for name in ("missing", "damaged"):
             shutil.copytree(self.folder / "s", self.folder / name)
         (self.folder / "missing" / "shard-003.bw").unlink()
         damaged = self.folder / "damaged" / "shard-001.bw"
         damaged.write_bytes(damaged.read_bytes()[:-1] + b"\1")
-        done = self.by_workers(self.address, "s", f"SELECT {ALL}")
-        self.assertEqual(done[:2], self.of_table(f"SELECT {ALL}")[:2])
-        for name, shard, told in (("missing", 3, "No such file or directory"),
-                                  ("damaged", 1, "isn't the table that")):
-            with self.subTest(name):
-                done = self.by_workers(self.address, name, "SELECT COUNT(*) FROM t")
-                self.assertIn(done.status, (3, 5))
+        count = "SELECT COUNT(*) FROM t"
+        calls = [["ask", name, count, "--scheduler", address]
+                 for name, address in (("missing", self.address), ("damaged", self.address),
+                                       ("s", "nothing"))]
+        came = self.in_turn(*calls)
+        self.assertEqual(len(came), len(calls))
+        for done, (told, statuses) in zip(came, (
+                ("missing/shard-003.bw: No such file or directory", (3, 5)),
+                ("damaged/shard-001.bw: isn't the table that", (3, 5)),
+                ("the scheduler nothing can't be used", (3,)))):
+            with self.subTest(told):
+                self.assertIn(done.status, statuses)
                 self.assertEqual(done.out, "")
-                self.assertIn(f"{name}/shard-00{shard}.bw: {told}", done.err)
-
-    def test_no_address(self):
-        done = self.by_workers("nothing", "s", f"SELECT {ALL}")
-        self.assertEqual(done[:2], (3, ""))
-        self.assertIn("the scheduler nothing can't be used", done.err)
+                self.assertIn(told, done.err)

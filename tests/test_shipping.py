@@ -75,7 +75,8 @@ class Trees(support.TestCase):
         if kit:
             support.write_script(tools / "rt",
                                  f'[ "$*" != version ] || {{ echo "{kit}"; exit; }}\n{gate}')
-        (tools / "python3").symlink_to(sys.executable)
+        # the module site, of no use here, takes longer to start than a small test
+        support.write_script(tools / "python3", f'exec "{sys.executable}" -S "$@"')
         done = subprocess.run(words, cwd=self.folder, stdin=subprocess.DEVNULL, text=True,
                               stdout=subprocess.PIPE, stderr=subprocess.STDOUT, check=False,
                               env={"PATH": f"{tools}:/usr/bin:/bin", **names})
@@ -123,7 +124,7 @@ class Check(Trees):
 
     def setUp(self):
         super().setUp()
-        (self.folder / "tests" / "__init__.py").touch()
+        (self.folder / "tests" / "__init__.py").write_text("def prepare():\n    pass\n")
         (self.folder / "tests" / "test_small.py").write_text(TESTS)
         support.write_script(self.folder / "bw", 'echo "$PWD/dist/bw"')
 

@@ -22,7 +22,7 @@ from bwtools.sql.value_rows import ValueRows
 from bwtools.style import Style
 from bwtools.telling import Refused
 
-from tests.support import BW, PYTHON, Imported
+from tests.support import BW, PYTHON, Imported, tool
 
 ASK = PYTHON / "bin" / "bw-ask"
 CITIES = "city,n,price,day\nBern,1,$2.50,2024-05-01\nUlm,20,$12.00,2024-05-02\nGenève,,$0.75,\n"
@@ -142,9 +142,7 @@ class Programs(Imported):
     tables = {"cities.bw": (CITIES,)}
 
     def ask(self, *words, given=""):
-        done = subprocess.run([sys.executable, "-S", ASK, *words], input=given, text=True,
-                              cwd=self.folder, capture_output=True, check=False, timeout=60)
-        return done.returncode, done.stdout, done.stderr
+        return tool("bw-ask", *words, given=given, cwd=self.folder)
 
     def test_forms_and_options(self):
         sql = "SELECT city, n, price FROM cities"

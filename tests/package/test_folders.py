@@ -11,7 +11,7 @@ from bwtools import pairs, placing, putting, store
 from bwtools.column import Column
 from bwtools.shards import FILE, Folder, shard_file
 
-from tests.support import texts
+from tests.support import in_fork, texts
 
 
 class Folders(unittest.TestCase):
@@ -47,17 +47,16 @@ class Folders(unittest.TestCase):
 
     def killed(self, content, is_done):
         """Puts a folder in a process that is killed before the folders are exchanged, or after."""
-        process = os.fork()
-        if process == 0:
-            def exchange(one, other, real=placing.exchange):
-                if is_done:
-                    real(one, other)
-                os.kill(os.getpid(), signal.SIGKILL)
+        def exchange(one, other, real=placing.exchange):
+            if is_done:
+                real(one, other)
+            os.kill(os.getpid(), signal.SIGKILL)
 
+        def put():
             with mock.patch("bwtools.placing.exchange", exchange):
                 self.put(content, 3)
-            os._exit(0)
-        return os.waitpid(process, 0)[1]
+
+        return os.waitpid(in_fork(put), 0)[1]
 
     def test_stopped_before_and_after_the_exchange(self):
         for is_done, wanted in ((False, ["old"] * 2), (True, ["new"] * 3)):
@@ -77,16 +76,12 @@ class Folders(unittest.TestCase):
         self.assertEqual(self.found(), (["new"] * 3, ["new"]))
 
     def test_two_at_once(self):
+        def put(number):
+            for turn in range(10):
+                self.put(f"{number} {turn}", number + 1)
+
         self.put("old")
-        children = []
-        for number in range(3):
-            process = os.fork()
-            if process == 0:
-                for turn in range(10):
-                    self.put(f"{number} {turn}", number + 1)
-                os._exit(0)
-            children.append(process)
-        for process in children:
+        for process in [in_fork(lambda number=number: put(number)) for number in range(3)]:
             self.assertEqual(os.waitpid(process, 0)[1], 0)
         contents, listed = self.found()
         self.assertEqual(set(contents), set(listed))

@@ -6,9 +6,11 @@ import importlib.util
 import math
 import unittest
 import warnings
+from typing import Any
 from unittest import mock
 
 import bwtools
+import bwtools.sql.cursor
 
 from tests.support import Imported
 
@@ -118,6 +120,11 @@ class Arrays(Frames):
         with self.assertRaisesRegex(bwtools.ProgrammingError,
                                     "2 columns have the heading id: give them aliases"):
             self.cursor("SELECT id, id FROM kinds").columns()
+
+    def test_the_type_hint_is_that_of_numpy(self):
+        import numpy
+        hint = bwtools.sql.cursor.Cursor.columns.__annotations__["return"]
+        self.assertIn("MaskedArray", str(eval(hint, {"numpy": numpy, "Any": Any})))
 
     def test_rows_are_still_fetched(self):
         cursor = self.cursor("SELECT id FROM kinds")

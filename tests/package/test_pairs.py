@@ -2,6 +2,7 @@
 import os
 import pathlib
 import signal
+import sqlite3
 import tempfile
 import unittest
 from unittest import mock
@@ -10,7 +11,7 @@ from bwtools import pairs, placing, store
 from bwtools.column import Column
 from bwtools.telling import Refused
 
-from tests.support import described, texts
+from tests.support import described, in_fork, texts
 
 A_TABLE = "ad875d4bcb7fa0fef5d27aadd709b8ca253b2a10d15e8283d4dc7823bf26918e"
 
@@ -83,21 +84,20 @@ class Pairs(unittest.TestCase):
 
     def killed(self, content, moves):
         """Puts a pair in a process that is killed before its next move after so many."""
-        process = os.fork()
-        if process == 0:
-            done = 0
+        done = 0
 
-            def replace(made, target, real=os.replace):
-                nonlocal done
-                if done == moves:
-                    os.kill(os.getpid(), signal.SIGKILL)
-                real(made, target)
-                done += 1
+        def replace(made, target, real=os.replace):
+            nonlocal done
+            if done == moves:
+                os.kill(os.getpid(), signal.SIGKILL)
+            real(made, target)
+            done += 1
 
+        def put():
             with mock.patch("os.replace", replace):
                 self.put(content)
-            os._exit(0)
-        return os.waitpid(process, 0)[1]
+
+        return os.waitpid(in_fork(put), 0)[1]
 
     def test_stopped_at_each_moment(self):
         for moves, content in ((0, "a table"), (1, "a table"), (2, "another one"),
@@ -131,14 +131,11 @@ class Pairs(unittest.TestCase):
 
     def test_two_at_once(self):
         """Many processes replace one pair, while it is read: each time one pair is found whole."""
-        children = []
-        for number in range(4):
-            process = os.fork()
-            if process == 0:
-                for turn in range(25):
-                    self.put(f"{number} {turn}")
-                os._exit(0)
-            children.append(process)
+        def put(number):
+            for turn in range(25):
+                self.put(f"{number} {turn}")
+
+        children = [in_fork(lambda number=number: put(number)) for number in range(4)]
         for _ in range(60):
             content, listed = self.found()
             self.assertEqual([content], listed)
@@ -147,6 +144,16 @@ class Pairs(unittest.TestCase):
         content, listed = self.found()
         self.assertEqual([content], listed)
         self.assertEqual(self.left(), ["t.bw", "t.bw.columns"])
+
+    def test_a_columns_file_that_goes_away_while_it_is_opened(self):
+        """SQLite says that it can't open it, and Python that it isn't there."""
+        def connect(*words, **more):
+            self.columns.unlink()
+            return real(*words, **more)
+
+        real = sqlite3.connect
+        with mock.patch("sqlite3.connect", connect), self.assertRaisesRegex(Refused, "is missing"):
+            self.found()
 
     def test_a_failed_move_leaves_the_old_pair(self):
         self.columns.unlink()

@@ -123,6 +123,7 @@ class Questions(Imported, reference.Compared):
         return answer and list(answer.rows())
 
     def test_each_way_has_the_rows_of_sqlite(self):
+        """Columns that were listed for one question serve the others, and the same one."""
         counts = {1: 0, 2: 0}
         for place, asked, instead in questions():
             wanted = self.reference.rows(instead)
@@ -132,15 +133,10 @@ class Questions(Imported, reference.Compared):
                     if rows is not None:
                         counts[way] += 1
                         self.compare(rows, wanted)
+            with self.subTest(place, asked=asked):
+                self.compare(list(self.connection.answer(asked).rows()), wanted)
         self.assertGreaterEqual(counts[1], 50)
         self.assertGreaterEqual(counts[2], 80)
-
-    def test_questions_are_answered_again(self):
-        """The columns that were listed for one question serve the others."""
-        for place, asked, _ in questions():
-            with self.subTest(place):
-                rows = list(self.connection.answer(asked).rows())
-                self.assertEqual(list(self.connection.answer(asked).rows()), rows)
 
     def test_fields_of_plain_columns_are_those_of_the_file(self):
         for name, (data, *_) in self.tables.items():

@@ -116,16 +116,23 @@ class Foreign(Files):
         data, right = self.path.read_bytes(), list(map(described, COLUMNS))
         for at in (*range(100), *range(100, len(data), 197)):
             for bit in (1, 0x80):
-                self.path.write_bytes(data[:at] + bytes([data[at] ^ bit]) + data[at + 1:])
+                self.overwrite(at, data[at] ^ bit)
                 with contextlib.suppress(Refused), contextlib.closing(Store(self.path)) as found:
                     found.verify()
                     if list(map(described, found.columns)) != right:
                         # a text that ascends all the same, or a word: no check can know it
                         self.assertEqual(len(found.columns), len(right), at)
+            self.overwrite(at, data[at])
         for end in (1, 99, 100, 4096, len(data) - 1):
             self.path.write_bytes(data[:end])
             with self.subTest(end):
                 self.refused("columns file|damaged")
+
+    def overwrite(self, at, byte):
+        """Changes a byte of the file in its place: a file that is written anew waits for a disk."""
+        with self.path.open("r+b") as file:
+            file.seek(at)
+            file.write(bytes([byte]))
 
     def changed(self, *statements):
         """Changes the file by SQL, with a schema that may be written."""
