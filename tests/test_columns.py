@@ -2,6 +2,7 @@
 numbers, loaded as a table and translated back without a difference. Files that would lose something
 are rejected, and nothing is written. Results of drawn conditions are compared with SQLite's over
 the original fields."""
+import contextlib
 import csv
 import decimal
 import io
@@ -10,6 +11,8 @@ import random
 import sqlite3
 
 from bwtools import answers, store
+from bwtools.options import parsed
+from bwtools.programs import to_numbers
 
 from tests import drawn, support
 from tests.support import bw, tool
@@ -195,11 +198,17 @@ BACK = [
 
 
 class ThereAndBack(Columns):
-    """A file is translated to numbers, loaded as a table, and restored."""
+    """A file is translated to numbers, loaded as a table, and restored. This process does what the
+    program does: other classes run that."""
 
-    def check(self, _, data, options, wanted=None):
+    PARSER = to_numbers.parser_of()
+
+    def check(self, _, data, words, wanted=None):
         folder = self.new_folder()
-        self.assertEqual(self.to_numbers(folder, data, *options).status, 0)
+        (folder / "in.csv").write_bytes(data)
+        given = [*words, str(folder / "in.csv"), str(folder / "out.csv")]
+        with contextlib.redirect_stdout(io.StringIO()):
+            to_numbers.work(parsed(self.PARSER, given))
         self.assertEqual(self.came_back(folder),
                          wanted or records_of(data.decode(), strict=True))
 
