@@ -122,6 +122,8 @@ def is_called(call: Call, test: str, is_alone: bool) -> bool:
     """Returns whether a file of tests calls a call. A function is imported from a library; a call
     of a type is written with the type, but for a method its name suffices if no other call of the
     surface has that name."""
+    if call.name not in test:
+        return False
     if not call.owner:
         used = rf"\bbw_\w+::(?:{{[^}}]*\b{call.name}\b[^}}]*}}|{call.name}\b)"
         made = rf"(?<!fn )(?<![.:\w])(?:bw_\w+::)?{call.name}\("

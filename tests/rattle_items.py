@@ -8,7 +8,7 @@ from pathlib import Path
 from typing import Iterator, Optional
 
 WIDTH = 100
-OPEN, CLOSE = "([{", ")]}"
+OPEN, BRACKET = "([{", re.compile(r"[][(){}]")
 # comments, texts and characters: what looks like code and isn't
 OPAQUE = re.compile(r'//[^\n]*|b?"(?:\\.|[^"\\])*"|b?\'(?:\\.[^\']*|[^\'\\])\'', re.DOTALL)
 ATTRIBUTE = re.compile(r"\s*#!?\[")
@@ -53,22 +53,24 @@ class Source:
 
     def block(self, start: int) -> tuple[int, int]:
         """Returns where the first bracket from a place on opens, and the place after it closes."""
-        at = min((place for place in (self.mask.find(sign, start) for sign in OPEN)
-                  if place >= 0), default=len(self.mask))
-        depth = 0
-        for place in range(at, len(self.mask)):
-            depth += (self.mask[place] in OPEN) - (self.mask[place] in CLOSE)
-            if depth == 0:
-                return at, place + 1
-        return at, len(self.mask)
+        opened: list[int] = []
+        for found in BRACKET.finditer(self.mask, start):
+            if found.group() in OPEN:
+                opened.append(found.start())
+            elif len(opened) == 1:
+                return opened[0], found.end()
+            elif opened:
+                opened.pop()
+        return opened[0] if opened else len(self.mask), len(self.mask)
 
     def find(self, signs: str, start: int = 0) -> int:
         """Returns the first place from `start` on, outside brackets, of one of these signs, or the
         end. An opening bracket that is one of them is found too."""
-        at = start
-        while at < len(self.mask) and self.mask[at] not in signs:
-            at = self.block(at)[1] if self.mask[at] in OPEN else at + 1
-        return at
+        sought = re.compile(f"[{re.escape(signs + OPEN)}]")
+        found = sought.search(self.mask, start)
+        while found and found.group() not in signs:
+            found = sought.search(self.mask, self.block(found.start())[1])
+        return found.start() if found else len(self.mask)
 
     def parts(self) -> list[Source]:
         """Returns what stands between commas, outside brackets and the arguments of types."""
