@@ -130,15 +130,15 @@ class Logic(support.TestCase):
 
     def test_each_is_named_somewhere(self):
         defined, cited = [], set()
-        for path in sorted(ROOT.glob("crates/*/*/**/*")):
-            part = path.relative_to(ROOT).parts[2]
-            if path.suffix == ".rt" and part == "src":
-                cited.update(WORD.findall(path.read_text(encoding="utf-8")))
-            elif path.suffix == ".antt" and part in ("specs", "proofs"):
-                for line in path.read_text(encoding="utf-8").split("\n"):
-                    name, words = names_in(line)
-                    cited.update(words)
-                    if name and name != "_" and is_cited_by_name(path):
-                        defined.append((str(path.relative_to(ROOT)), name))
+        for path in ROOT.glob("crates/*/src/**/*.rt"):
+            cited.update(WORD.findall(path.read_text(encoding="utf-8")))
+        for path in sorted([*ROOT.glob("crates/*/specs/**/*.antt"),
+                            *ROOT.glob("crates/*/proofs/**/*.antt")]):
+            is_needed = is_cited_by_name(path)
+            for line in path.read_text(encoding="utf-8").split("\n"):
+                name, words = names_in(line)
+                cited.update(words)
+                if name and name != "_" and is_needed:
+                    defined.append((str(path.relative_to(ROOT)), name))
         self.assertGreater(len(defined), 1000)
         self.assertEqual([each for each in defined if each[1] not in cited], [])

@@ -45,9 +45,9 @@ class Statements(unittest.TestCase):
 
     def test_long_ones_take_no_longer_than_their_length(self):
         begun = time.monotonic()
-        lines = [f"'{'x' * 50}\n" for _ in range(40_001)]
+        lines = [f"'{'x' * 50}\n" for _ in range(20_001)]
         self.assertEqual(len(list(statements_in(lines))), 1)
-        self.assertLess(time.monotonic() - begun, 20)
+        self.assertLess(time.monotonic() - begun, 10)
 
 
 class Words(unittest.TestCase):

@@ -355,7 +355,7 @@ class Failures(Connections):
                               stdin=subprocess.DEVNULL,
                               stdout=subprocess.PIPE, text=True) as process:
             self.assertEqual(process.stdout.readline(), "ready\n")
-            time.sleep(0.5)
+            time.sleep(0.3)
             begun = time.monotonic()
             process.send_signal(signal.SIGINT)
             timer = threading.Timer(60, process.kill)
