@@ -338,10 +338,11 @@ class Prompts(support.TestCase):
                 termios.tcsetattr(theirs, termios.TCSANOW, mode)
                 os.write(ours, given + b"\x04\x04")
             out, told = process.communicate(None if by_input else given, support.LONGEST)
-        os.set_blocking(ours, False)
-        with contextlib.suppress(BlockingIOError):
-            errors = os.read(ours, 4096)
         os.close(theirs)
+        # all that was written there, in one piece or in two; then reading fails
+        with contextlib.suppress(OSError):
+            while part := os.read(ours, 4096):
+                errors += part
         os.close(ours)
         self.assertEqual((out, errors.decode() + (told or b"").decode()),
                          (b"COUNT(*)\n5\n\n", wanted))
