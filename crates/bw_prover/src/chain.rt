@@ -3,7 +3,7 @@ ghost use Rattle.std.specs.Prelude.{◌≡◌, ◌≤◌};
 
 use crate::columns::bit_variable;
 use crate::facts::{Cited, Facts};
-use crate::ledger::{Key, Keyed};
+use crate::ledger::Key;
 use crate::unproved::Unproved;
 use bw_diagram::ChainKind;
 use bw_program::SliceIndex;
@@ -23,19 +23,15 @@ pub(crate) struct Link {
     pub(crate) prev: Option<u64>,
 }
 
-impl Keyed for Link {
-    fn key(&self) -> Key {
-        let right = match self.right {
-            Some(right) => 1 << 8 | right as u64,
-            None => 0,
-        };
+impl Link {
+    /// Returns what distinguishes it from other chains.
+    fn key(self) -> Key {
+        let right = self.right.map_or(0, |right| 1 << 8 | right as u64);
         let bits = u64::from(self.slice) << 8 | u64::from(self.len % 64);
         let columns = (self.left as u64) << 16 | right;
         (self.bound, (columns << 16 | bits) << 1 | self.kind as u64)
     }
-}
 
-impl Link {
     /// Returns the comparison of `len` bits of a column's code, from those of a slice, with a
     /// number.
     pub(crate) fn of(kind: ChainKind, left: usize, slice: SliceIndex, len: u32, bound: u64) -> Self
@@ -109,7 +105,8 @@ impl Facts<'_> {
             Some(lower) => (self.node_above(link, lower.node)?, Some(lower.number)),
             None => (u64::from(link.kind == ChainKind::Equal), None),
         };
-        let number = self.chains.push(Link { node, prev, ..link })?;
+        let key = link.key();
+        let number = self.chains.push(key, Link { node, prev, ..link })?;
         Ok(Cited { number, node })
     }
 
@@ -128,15 +125,14 @@ impl Facts<'_> {
         self.choice(variable, low, high)
     }
 
-    /// Returns that node if the left column's top bit, at this place, is `x`.
+    /// Returns that node if the left column's top bit, at this place, is `x`. A chain of two columns
+    /// has no bits of a bound.
     fn node_if(&mut self, link: Link, x: bool, place: u32, lower: u64) -> Result<u64, Unproved>
         requires { place ≤ 62 }
     {
-        let Some(right) = link.right else {
-            return Ok(link.outcome(x, link.bound >> place & 1 == 1, lower));
-        };
-        let low = link.outcome(x, false, lower);
-        match bit_variable(self.schema, right, place) {
+        let low = link.outcome(x, link.bound >> place & 1 == 1, lower);
+        let right = link.right;
+        match right.and_then(|right| bit_variable(self.schema, right, place)) {
             Some(variable) => self.choice(variable, low, link.outcome(x, true, lower)),
             None => Ok(low),
         }

@@ -16,22 +16,18 @@ pub enum Comparison {
 /// Returns what a comparison of operands means for codes, unless the schema lacks a column, or two
 /// columns have unequal minimums.
 pub fn compare(schema: &Schema, op: Op, x: Operand, y: Operand) -> Option<Comparison> {
-    match (x, y) {
-        (Operand::Col(column), Operand::Lit(n)) => with_literal(schema, op, column, n),
-        (Operand::Lit(n), Operand::Col(column)) => {
-            with_literal(schema, op.swap_operands(), column, n)
-        }
+    let (op, column, n) = match (x, y) {
+        (Operand::Col(column), Operand::Lit(n)) => (op, column, n),
+        (Operand::Lit(n), Operand::Col(column)) => (op.swap_operands(), column, n),
         (Operand::Col(c), Operand::Col(d)) => {
             let is_alike = schema.columns.get(c)?.lo == schema.columns.get(d)?.lo;
-            is_alike.then_some(Comparison::Columns(Order::of(op, c, d)))
+            return is_alike.then_some(Comparison::Columns(Order::of(op, c, d)));
         }
-        (Operand::Lit(m), Operand::Lit(n)) => Some(Comparison::Fixed(Truth::of(op.holds(m, n)))),
-        _ => Some(Comparison::Fixed(Truth::Unknown)),
-    }
-}
-
-/// Returns the comparison of a column with a literal.
-fn with_literal(schema: &Schema, op: Op, column: usize, n: i64) -> Option<Comparison> {
+        (Operand::Lit(m), Operand::Lit(n)) => {
+            return Some(Comparison::Fixed(Truth::of(op.holds(m, n))));
+        }
+        _ => return Some(Comparison::Fixed(Truth::Unknown)),
+    };
     let bound = Bound::of(op, n, schema.columns.get(column)?.lo);
     Some(Comparison::Literal(column, bound))
 }

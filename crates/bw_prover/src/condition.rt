@@ -15,10 +15,13 @@ use bw_model::{Cond, Op, Operand, Truth};
 /// The node that is 1 where a condition is TRUE, and the node that is 1 where it is FALSE.
 type TruthNodes = TruthPair<u64>;
 
+/// These nodes, or why they have no certificate.
+type NodesResult = Result<TruthNodes, Unproved>;
+
 impl Prover<'_> {
     /// Returns the nodes of a condition, and appends the lines of its steps, operands first.
     #[cycle(steps)]
-    pub(crate) fn steps(&mut self, cond: &Cond) -> Result<TruthNodes, Unproved> {
+    pub(crate) fn steps(&mut self, cond: &Cond) -> NodesResult {
         match cond {
             Cond::Always => self.put_fixed(Truth::Yes),
             Cond::Cmp(op, x, y) => self.put_comparison(*op, *x, *y),
@@ -44,7 +47,7 @@ impl Prover<'_> {
 
     /// Returns the nodes of the OR of all parts, or else of their AND.
     #[cycle(steps)]
-    fn put_parts(&mut self, any: bool, parts: &[Cond]) -> Result<TruthNodes, Unproved> {
+    fn put_parts(&mut self, any: bool, parts: &[Cond]) -> NodesResult {
         let (first, others) = parts.split_first().ok_or(Unproved::NoRule)?;
         let mut made = self.steps(first)?;
         let before = self.facts.products.count;
@@ -71,7 +74,7 @@ impl Prover<'_> {
     }
 
     /// Returns the nodes of the OR of the equations of a list with one operand.
-    fn put_list(&mut self, x: Operand, items: &[Operand]) -> Result<TruthNodes, Unproved> {
+    fn put_list(&mut self, x: Operand, items: &[Operand]) -> NodesResult {
         let (first, others) = items.split_first().ok_or(Unproved::NoRule)?;
         let mut made = self.put_comparison(Op::Eq, x, *first)?;
         for item in others {
@@ -82,29 +85,19 @@ impl Prover<'_> {
     }
 
     /// Appends the line of a step, and returns its nodes.
-    fn put_step(
-        &mut self,
-        entry: ConditionEntry,
-        yes: u64,
-        no: u64,
-    ) -> Result<TruthNodes, Unproved> {
+    fn put_step(&mut self, entry: ConditionEntry, yes: u64, no: u64) -> NodesResult {
         self.put(Entry::Condition(entry))?;
         Ok(TruthPair::of(yes, no))
     }
 
     /// Returns the nodes of a step with one truth on every row.
-    fn put_fixed(&mut self, truth: Truth) -> Result<TruthNodes, Unproved> {
+    fn put_fixed(&mut self, truth: Truth) -> NodesResult {
         let (yes, no) = (truth == Truth::Yes, truth == Truth::No);
         self.put_step(ConditionEntry::Fixed, u64::from(yes), u64::from(no))
     }
 
     /// Returns the nodes of two parts, combined by OR, or else by AND.
-    fn put_connective(
-        &mut self,
-        any: bool,
-        a: TruthNodes,
-        b: TruthNodes,
-    ) -> Result<TruthNodes, Unproved> {
+    fn put_connective(&mut self, any: bool, a: TruthNodes, b: TruthNodes) -> NodesResult {
         let ops = TruthPair::of(Connective::And, Connective::Or).opposite_if(any);
         let yes = self.facts.row(ops.yes, a.yes, b.yes)?;
         let no = self.facts.row(ops.no, a.no, b.no)?;
@@ -118,7 +111,7 @@ impl Prover<'_> {
     }
 
     /// Returns the nodes of `IS TRUE`, `IS FALSE` or `IS UNKNOWN`.
-    fn put_truth_test(&mut self, truth: Truth, made: TruthNodes) -> Result<TruthNodes, Unproved> {
+    fn put_truth_test(&mut self, truth: Truth, made: TruthNodes) -> NodesResult {
         let yes = match truth {
             Truth::Yes => made.yes,
             Truth::No => made.no,
@@ -139,19 +132,16 @@ impl Prover<'_> {
     }
 
     /// Returns the nodes of `IS NULL`.
-    fn put_null_test(&mut self, x: Operand) -> Result<TruthNodes, Unproved> {
-        let Operand::Col(column) = x else {
+    fn put_null_test(&mut self, x: Operand) -> NodesResult {
+        let Some(yes) = self.facts.nulls(x)? else {
             return self.put_fixed(Truth::of(x == Operand::Null));
-        };
-        let Some(yes) = self.facts.nulls(column)? else {
-            return self.put_fixed(Truth::No);
         };
         let no = self.opposite(yes)?;
         self.put_step(ConditionEntry::NullTest(no.number), yes, no.node)
     }
 
     /// Returns the nodes of a comparison.
-    fn put_comparison(&mut self, op: Op, x: Operand, y: Operand) -> Result<TruthNodes, Unproved> {
+    fn put_comparison(&mut self, op: Op, x: Operand, y: Operand) -> NodesResult {
         match compare(self.facts.schema, op, x, y).ok_or(Unproved::NoRule)? {
             Comparison::Fixed(truth) => self.put_fixed(truth),
             Comparison::Literal(column, bound) => self.put_literal_comparison(column, bound),
@@ -162,13 +152,11 @@ impl Prover<'_> {
     /// Returns the row and the node that is 1 if an operand, a column, has a value: none, and 1, if
     /// it always has.
     fn values(&mut self, x: Operand) -> Result<(Option<u64>, u64), Unproved> {
-        if let Operand::Col(column) = x
-            && let Some(nulls) = self.facts.nulls(column)?
-        {
-            let values = self.opposite(nulls)?;
-            return Ok((Some(values.number), values.node));
-        }
-        Ok((None, 1))
+        let Some(nulls) = self.facts.nulls(x)? else {
+            return Ok((None, 1));
+        };
+        let values = self.opposite(nulls)?;
+        Ok((Some(values.number), values.node))
     }
 
     /// Returns the rows of where node `m` is 1 and node `e` is 1, or is 0.
@@ -179,11 +167,7 @@ impl Prover<'_> {
     }
 
     /// Returns the nodes of a comparison of a column with a number.
-    fn put_literal_comparison(
-        &mut self,
-        column: usize,
-        bound: Bound,
-    ) -> Result<TruthNodes, Unproved> {
+    fn put_literal_comparison(&mut self, column: usize, bound: Bound) -> NodesResult {
         let width = width_of(self.facts.schema, column).ok_or(Unproved::NoRule)?;
         let (value, m) = self.values(Operand::Col(column))?;
         let limit = u64::try_from(bound.limit).unwrap_or(0);
@@ -202,12 +186,7 @@ impl Prover<'_> {
 
     /// Returns the nodes of a comparison of two columns, the shorter one with zeros above its top
     /// bit.
-    fn put_columns(
-        &mut self,
-        x: Operand,
-        y: Operand,
-        order: Order,
-    ) -> Result<TruthNodes, Unproved> {
+    fn put_columns(&mut self, x: Operand, y: Operand, order: Order) -> NodesResult {
         let width = width_of(self.facts.schema, order.left).ok_or(Unproved::NoRule)?;
         let len = width.max(width_of(self.facts.schema, order.right).ok_or(Unproved::NoRule)?);
         let (left, m) = self.values(x)?;

@@ -51,30 +51,24 @@ fn chain_lines<'a>(
 fn chain_line(schema: &Schema, n: u64, link: Link) -> Result<ChainLine<'_>, Unproved>
     ensures { IfOk result (λ line. IsTrue (is_chain_named schema.now.columns.items line)) }
 {
-    let Link {
-        kind,
-        node,
-        prev,
-        ..
-    } = link;
-    let (len, left) = (u64::from(link.len), name(schema, link.left)?);
+    let left = name(schema, link.left)?;
     let columns = match link.right {
         None => ChainColumns::One {
-            kind,
+            kind: link.kind,
             column: left,
             start: 8 * u64::from(link.slice),
-            len,
+            len: link.len.into(),
             bound: link.bound,
-            node,
-            prev,
+            node: link.node,
+            prev: link.prev,
         },
         Some(right) => ChainColumns::Two {
-            kind,
+            kind: link.kind,
             left,
             right: name(schema, right)?,
-            len,
-            node,
-            prev,
+            len: link.len.into(),
+            node: link.node,
+            prev: link.prev,
         },
     };
     let line = NO_LINE;

@@ -1,14 +1,14 @@
 //! What a certificate states: nodes, chains and product rows, each once and after those it follows
 //! from. Each is added when it is first requested, as the line that states it.
 use crate::chain::Link;
-use crate::columns::{bit_variable, null_variable};
+use crate::columns::null_variable;
 use crate::emit::NO_LINE;
-use crate::ledger::{Key, Keyed, Ledger};
+use crate::ledger::Ledger;
 use crate::order::VariableOrder;
 use crate::product::{MAX_PRODUCTS, Waiting};
 use crate::unproved::Unproved;
 use bw_cert_text::{NodeLine, ProductLine};
-use bw_model::{Cond, Schema};
+use bw_model::{Cond, Operand, Schema};
 use std::alloc::{AllocError, Global};
 
 /// The most nodes of a certificate, besides the two terminals.
@@ -22,12 +22,6 @@ const MAX_CHAINS: u32 = 65_536;
 pub(crate) struct Cited {
     pub(crate) number: u64,
     pub(crate) node: u64,
-}
-
-impl Keyed for NodeLine {
-    fn key(&self) -> Key {
-        (self.v, self.low << 32 | self.high)
-    }
 }
 
 /// The nodes, chains and product rows of a certificate, under a schema.
@@ -82,8 +76,11 @@ impl<'a> Facts<'a> {
 
     /// Returns the node that tests a variable.
     pub(crate) fn test(&mut self, v: u64, low: u64, high: u64) -> Result<u64, Unproved> {
-        let n = u64::from(self.nodes.count) + 2;
-        let line = NO_LINE;
+        let key = (v, low << 32 | high);
+        if let Some((_, known)) = self.nodes.find(key) {
+            return Ok(known.n);
+        }
+        let (line, n) = (NO_LINE, u64::from(self.nodes.count) + 2);
         let node = NodeLine {
             line,
             n,
@@ -91,10 +88,7 @@ impl<'a> Facts<'a> {
             low,
             high,
         };
-        if let Some((_, known)) = self.nodes.find(node.key()) {
-            return Ok(known.n);
-        }
-        self.nodes.push(node)?;
+        self.nodes.push(key, node)?;
         Ok(n)
     }
 
@@ -107,17 +101,13 @@ impl<'a> Facts<'a> {
         self.test(v, low, high)
     }
 
-    /// Returns the node that is 1 where a bit of a column's code is 1.
-    pub(crate) fn bit(&mut self, column: usize, bit: u32) -> Result<u64, Unproved> {
-        let variable = bit_variable(self.schema, column, bit).ok_or(Unproved::NoRule)?;
-        self.test(variable, 0, 1)
-    }
-
-    /// Returns the node that is 1 if a column is null, if it has a null variable.
-    pub(crate) fn nulls(&mut self, column: usize) -> Result<Option<u64>, Unproved> {
-        match null_variable(self.schema, column) {
-            Some(variable) => Ok(Some(self.test(variable, 0, 1)?)),
-            None => Ok(None),
+    /// Returns the node that is 1 if an operand is null, if it is a column that may be.
+    pub(crate) fn nulls(&mut self, x: Operand) -> Result<Option<u64>, Unproved> {
+        if let Operand::Col(column) = x
+            && let Some(variable) = null_variable(self.schema, column)
+        {
+            return Ok(Some(self.test(variable, 0, 1)?));
         }
+        Ok(None)
     }
 }

@@ -26,7 +26,6 @@ mod ledger;
 mod order;
 mod product;
 mod prover;
-mod reads;
 mod unproved;
 mod walk;
 mod witness;

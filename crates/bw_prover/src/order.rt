@@ -17,6 +17,9 @@ struct Position {
     column: u8,
 }
 
+/// The level of columns that are compared both ways: each then has to be above the other.
+const LAST_LEVEL: u8 = 63;
+
 /// The order of a schema's variables under a condition.
 #[derive(Drop)]
 pub(crate) struct VariableOrder {
@@ -29,7 +32,14 @@ pub(crate) struct VariableOrder {
 impl VariableOrder {
     /// Returns the order under a condition.
     pub(crate) fn new(alloc: Global, schema: &Schema, cond: &Cond) -> Result<Self, AllocError> {
-        let (tops, is_total) = tops_of(alloc, schema, cond)?;
+        let pairs = Vec::new(alloc);
+        let mut reader = Reader { schema, pairs };
+        let mut sequence = reader.sequence_of(alloc, cond)?;
+        for column in 0..64 {
+            sequence.push(column)?;
+        }
+        let mut tops = tops_of(&sequence.columns);
+        let is_total = (0..64).any(|_| !arrange(&mut tops, &reader.pairs));
         let mut positions = Vec::new(alloc);
         for (number, column) in schema.columns.iter().enumerate() {
             let width = schema.width(number);
@@ -47,121 +57,93 @@ impl VariableOrder {
     }
 
     /// Returns whether the second of two variables is tested before the first one, and whether
-    /// comparisons may have it otherwise, if no one order fits all of them: bits of one place in
-    /// columns that are compared.
+    /// comparisons may have it otherwise, since no one order fits all of them: bits of one place in
+    /// columns of the last level.
     pub(crate) fn is_later(&self, a: u64, b: u64) -> Option<(bool, bool)> {
         let x = self.positions.get(a as usize)?;
         let y = self.positions.get(b as usize)?;
-        let is_open = !self.is_total && x.place > 0 && (x.group, x.place) == (y.group, y.place);
-        Some((y < x, is_open))
+        let is_open = (x.group, x.place, x.level) == (y.group, y.place, LAST_LEVEL);
+        Some((y < x, is_open && x.place > 0 && y.level == LAST_LEVEL))
     }
 }
 
-/// Returns the position of each column's null variable, and whether in each group every pair of
-/// compared columns is left with right. A group has the columns that a condition compares with one
-/// another, directly or through others; its number is the place of its first one in the sequence.
-fn tops_of(
-    alloc: Global,
-    schema: &Schema,
-    cond: &Cond,
-) -> Result<([Position; 64], bool), AllocError> {
-    let mut compared = Compared {
-        schema,
-        pairs: Vec::new(alloc),
-    };
-    let mut sequence = compared.sequence_of(cond)?;
+/// Returns the position of each column's null variable, in a group of its own.
+fn tops_of(sequence: &[u8]) -> [Position; 64] {
     let mut tops = [Position::default(); 64];
-    for column in 0..64u8 {
-        sequence.push(column);
+    for (group, column) in sequence.iter().enumerate() {
+        let top = &mut tops[usize::from(*column % 64)];
+        top.group = (group % 64) as u8;
+        top.column = *column;
     }
-    for (group, column) in sequence.columns().iter().enumerate() {
-        tops[usize::from(*column % 64)] = Position {
-            group: (group % 64) as u8,
-            column: *column,
-            ..Position::default()
-        };
-    }
-    for _ in 0..64 {
-        if are_settled(&mut tops, &compared.pairs) {
-            return Ok((tops, true));
-        }
-    }
-    Ok((tops, false))
+    tops
 }
 
 /// Gives both columns of each pair one group, and the right one a higher level than the left one.
-/// Returns whether they were so.
-fn are_settled(tops: &mut [Position; 64], pairs: &[(u8, u8)]) -> bool {
-    let mut settled = true;
+/// Returns whether one of them changed. Some 64 times make groups of the columns that a condition
+/// compares with one another, directly or through others; a group's number is the place of its first
+/// one in the sequence.
+fn arrange(tops: &mut [Position; 64], pairs: &[(u8, u8)]) -> bool {
+    let mut has_changed = false;
     for (left, right) in pairs {
         let (left, right) = (usize::from(*left % 64), usize::from(*right % 64));
         let (x, y) = (tops[left], tops[right]);
-        let above = if x.level < 63 { x.level + 1 } else { 63 };
-        settled &= x.group == y.group && x.level < y.level;
+        let above = x.level.saturating_add(1).min(LAST_LEVEL);
+        has_changed |= x.group != y.group || x.level >= y.level;
         tops[left].group = x.group.min(y.group);
         tops[right].group = x.group.min(y.group);
         tops[right].level = above.max(y.level);
     }
-    settled
+    has_changed
 }
+
 /// Some columns, the one that is tested first at the front, and how many bits are compared with
 /// them.
-#[derive(Clone, Copy)]
+#[derive(Drop)]
 struct Sequence {
-    columns: [u8; 64],
-    count: usize,
+    columns: Vec<u8>,
     weight: u64,
 }
 
 impl Sequence {
-    /// Returns the columns.
-    fn columns(&self) -> &[u8] {
-        self.columns.get(..self.count).unwrap_or(&self.columns)
-    }
-
     /// Appends a column, if it is missing.
-    fn push(&mut self, column: u8) {
-        let is_new = !self.columns().contains(&column);
-        if let (true, Some(slot)) = (is_new, self.columns.get_mut(self.count)) {
-            *slot = column;
-            self.count += 1;
+    fn push(&mut self, column: u8) -> Result<(), AllocError> {
+        if !self.columns.contains(&column) {
+            self.columns.push(column)?;
         }
+        Ok(())
     }
 
     /// Returns these columns and others, the smaller ones first: the nodes of the larger ones are
     /// then unchanged below them. Without this, long conditions of `test_conditions` take a fifth
     /// more product rows.
-    fn join(self, others: Self) -> Self {
+    fn join(self, others: Self) -> Result<Self, AllocError> {
         let (mut made, last) = if others.weight <= self.weight {
             (others, self)
         } else {
             (self, others)
         };
-        for column in last.columns() {
-            made.push(*column);
+        for column in last.columns.iter() {
+            made.push(*column)?;
         }
         made.weight = made.weight.saturating_add(last.weight);
-        made
+        Ok(made)
     }
 }
 
-/// The pairs of different columns that a condition compares with one another: a chain over the two
-/// tests the left one's bit first.
+/// Reads a condition's columns, and the pairs of different ones that it compares with one another: a
+/// chain over the two tests the left one's bit first.
 #[derive(Drop)]
-struct Compared<'a> {
+struct Reader<'a> {
     schema: &'a Schema,
     pairs: Vec<(u8, u8)>,
 }
 
-impl Compared<'_> {
+impl Reader<'_> {
     /// Returns the columns of a condition, and adds its pairs.
     #[cycle(sequence)]
-    fn sequence_of(&mut self, cond: &Cond) -> Result<Sequence, AllocError> {
-        let mut made = Sequence {
-            columns: [0; 64],
-            count: 0,
-            weight: 0,
-        };
+    fn sequence_of(&mut self, alloc: Global, cond: &Cond) -> Result<Sequence, AllocError> {
+        let (columns, weight) = (Vec::new(alloc), 0);
+        let mut made = Sequence { columns, weight };
         match cond {
             Cond::Cmp(op, x, y) => self.add(&mut made, *op, *x, *y)?,
             Cond::Between(x, y, z) => {
@@ -173,14 +155,14 @@ impl Compared<'_> {
                     self.add(&mut made, Op::Eq, *x, *item)?;
                 }
             }
-            Cond::IsNull(Operand::Col(column)) => self.append(&mut made, *column),
+            Cond::IsNull(Operand::Col(column)) => self.append(&mut made, *column)?,
             Cond::Always | Cond::IsNull(_) => {}
             Cond::And(parts) | Cond::Or(parts) => {
                 for part in parts {
-                    made = made.join(self.sequence_of(part)?);
+                    made = made.join(self.sequence_of(alloc, part)?)?;
                 }
             }
-            Cond::Not(part) | Cond::Test(part, _) => return self.sequence_of(part),
+            Cond::Not(part) | Cond::Test(part, _) => return self.sequence_of(alloc, part),
         }
         Ok(made)
     }
@@ -188,10 +170,10 @@ impl Compared<'_> {
     /// Appends the columns of a comparison, and adds their pair.
     fn add(&mut self, to: &mut Sequence, op: Op, x: Operand, y: Operand) -> Result<(), AllocError> {
         match compare(self.schema, op, x, y) {
-            Some(Comparison::Literal(column, _)) => self.append(to, column),
+            Some(Comparison::Literal(column, _)) => self.append(to, column)?,
             Some(Comparison::Columns(Order { left, right, .. })) => {
-                self.append(to, left);
-                self.append(to, right);
+                self.append(to, left)?;
+                self.append(to, right)?;
                 if left != right {
                     self.pairs.push(((left % 64) as u8, (right % 64) as u8))?;
                 }
@@ -202,9 +184,9 @@ impl Compared<'_> {
     }
 
     /// Appends a column, whose bits are compared once more.
-    fn append(&self, to: &mut Sequence, column: usize) {
+    fn append(&self, to: &mut Sequence, column: usize) -> Result<(), AllocError> {
         let width = width_of(self.schema, column).unwrap_or(0);
         to.weight = to.weight.saturating_add(u64::from(width));
-        to.push((column % 64) as u8);
+        to.push((column % 64) as u8)
     }
 }

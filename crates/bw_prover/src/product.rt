@@ -1,7 +1,7 @@
 //! Product rows: connectives of nodes, each computed once.
 use crate::emit::NO_LINE;
 use crate::facts::{Cited, Facts};
-use crate::ledger::{Key, Keyed};
+use crate::ledger::Key;
 use crate::unproved::Unproved;
 use bw_cert_text::{NodeLine, ProductLine};
 use bw_diagram::{Connective, Reason};
@@ -11,19 +11,15 @@ pub const MAX_PRODUCTS: u32 = 1_048_576;
 
 /// What a product row computes: a connective of two nodes.
 #[derive(Clone, Copy)]
-struct Question {
+pub(crate) struct Question {
     op: Connective,
     a: u64,
     b: u64,
 }
 
-/// A question that waits for the rows of its cofactors by a variable. The one for 0 may be known.
-#[derive(Clone, Copy)]
-pub(crate) struct Waiting {
-    asked: Question,
-    variable: u64,
-    low: Option<Cited>,
-}
+/// A question that waits for the rows of its cofactors by a variable, and the one for 0, if that is
+/// known.
+pub(crate) type Waiting = (Question, u64, Option<Cited>);
 
 impl Question {
     /// Returns the key of its row.
@@ -34,14 +30,10 @@ impl Question {
     /// Returns the node of a connective that follows from no earlier row, if it is one.
     fn shortcut(self) -> Option<u64> {
         let Question { op, a, b } = self;
+        if a > 1 && b > 1 && a != b {
+            return None;
+        }
         [0, 1, a, b].into_iter().find(|c| op.is_shortcut(a, b, *c))
-    }
-}
-
-impl Keyed for ProductLine {
-    fn key(&self) -> Key {
-        let (op, a, b) = (self.op, self.a, self.b);
-        Question { op, a, b }.key()
     }
 }
 
@@ -69,25 +61,20 @@ impl Facts<'_> {
             return Ok(Some(self.add_row(asked, node, Reason::Shortcut)?));
         }
         let variable = self.first_variable(asked).ok_or(Unproved::NoRule)?;
-        let low = None;
-        self.waiting.push(Waiting {
-            asked,
-            variable,
-            low,
-        })?;
+        self.waiting.push((asked, variable, None))?;
         Ok(None)
     }
 
     /// Returns the row of the question that waited last, if `made` is the second of its cofactors'
     /// rows; else it waits for the next of these.
     fn go_on(&mut self, last: Waiting, made: Option<Cited>) -> Result<Option<Cited>, Unproved> {
-        let (asked, v) = (last.asked, last.variable);
-        if let (Some(low), Some(high)) = (last.low, made) {
+        let (asked, v, low) = last;
+        if let (Some(low), Some(high)) = (low, made) {
             let node = self.choice(v, low.node, high.node)?;
             let (i, j) = (low.number, high.number);
             return Ok(Some(self.add_row(asked, node, Reason::Cofactors { v, i, j })?));
         }
-        self.waiting.push(Waiting { low: made, ..last })?;
+        self.waiting.push((asked, v, made))?;
         let bit = made.is_some();
         self.row_or_wait(Question {
             a: self.cofactor(asked.a, v, bit),
@@ -98,16 +85,16 @@ impl Facts<'_> {
 
     /// Adds a row.
     fn add_row(&mut self, asked: Question, node: u64, reason: Reason) -> Result<Cited, Unproved> {
-        let n = u64::from(self.products.count);
-        let number = self.products.push(ProductLine {
+        let row = ProductLine {
             line: NO_LINE,
-            n,
+            n: u64::from(self.products.count),
             op: asked.op,
             a: asked.a,
             b: asked.b,
             c: node,
             reason,
-        })?;
+        };
+        let number = self.products.push(asked.key(), row)?;
         Ok(Cited { number, node })
     }
 
@@ -118,12 +105,10 @@ impl Facts<'_> {
             (Some(a), Some(b)) => (a, b),
             (one, other) => return Some(one.or(other)?.v),
         };
-        let (is_later, is_open) = self.order.is_later(a.v, b.v)?;
-        let is_later = if is_open {
-            self.leads(b, a) && (is_later || !self.leads(a, b))
-        } else {
-            is_later
-        };
+        let (mut is_later, is_open) = self.order.is_later(a.v, b.v)?;
+        if is_open {
+            is_later = self.leads(b, a) && (is_later || !self.leads(a, b));
+        }
         Some(if is_later { b.v } else { a.v })
     }
 

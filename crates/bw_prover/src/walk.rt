@@ -1,30 +1,30 @@
-//! One walk over a program's instructions, which gives each register its node.
+//! One walk over a program's instructions, which gives each register its node, after one from the
+//! end, which finds the registers that are read later.
 use crate::chain::Link;
-use crate::columns::width_of;
-use crate::join::Loss;
+use crate::columns::{bit_variable, null_variable, width_of};
+use crate::join::Skip;
 use crate::prover::Prover;
-use crate::reads::{read_later, uses};
 use crate::unproved::Unproved;
 use bw_cert_text::{Entry, InstructionEntry};
 use bw_diagram::{ChainKind, Connective};
 use bw_program::{Instr, Program, Register};
+use std::alloc::{AllocError, Global};
 
 /// What is known of a register at a place: nothing, as before it is written, or if it isn't read
-/// later; the node whose value it has in every lane; or how that was lost at a join.
+/// later; the node whose value it has in every lane; or the skip by which its value isn't the one
+/// that falls through. If there is a value by the skip, a node is 1 where the skip's register is 0
+/// and the two values differ.
 #[derive(Clone, Copy)]
 pub(crate) enum Held {
     Nothing,
     Node(u64),
-    Lost(Loss),
+    Lost(Skip, Option<u64>),
 }
 
-/// A skip to a place that the walk hasn't reached: its number and target, the node of its register,
-/// and what is known of all registers there.
+/// A skip to a place that the walk hasn't reached, and what is known of all registers there.
 #[derive(Clone, Copy)]
 pub(crate) struct Edge {
-    pub(crate) skip: usize,
-    pub(crate) target: usize,
-    pub(crate) tested: u64,
+    pub(crate) skip: Skip,
     pub(crate) registers: [Held; 64],
 }
 
@@ -66,12 +66,13 @@ impl Prover<'_> {
         let (entry, node) = self.effect(walk, instr)?;
         self.put(Entry::Instruction(entry))?;
         if let Instr::Skip(_, target) = instr {
-            walk.edges.push(Edge {
-                skip: walk.place,
+            let skip = Skip {
+                number: walk.place,
                 target,
                 tested: node,
-                registers: walk.registers,
-            })?;
+            };
+            let registers = walk.registers;
+            walk.edges.push(Edge { skip, registers })?;
         } else if let Some(register) = uses(instr).1 {
             walk.registers[usize::from(register % 64)] = Held::Node(node);
         }
@@ -83,12 +84,12 @@ impl Prover<'_> {
         let instruction = walk.place;
         match walk.registers.get(usize::from(register)).copied() {
             Some(Held::Node(node)) => Ok(node),
-            Some(Held::Lost(loss)) => Err(Unproved::Unknown {
+            Some(Held::Lost(skip, differs)) => Err(Unproved::Unknown {
                 instruction,
                 register,
-                join: loss.join,
-                skip: loss.skip,
-                witness: self.facts.witness(loss).unwrap_or(None),
+                join: skip.target,
+                skip: skip.number,
+                witness: self.facts.witness(skip, differs),
             }),
             _ => Err(Unproved::Unwritten {
                 instruction,
@@ -105,26 +106,28 @@ impl Prover<'_> {
             Instr::Xor(_, x, y) => (Connective::Xor, self.read(walk, x)?, self.read(walk, y)?),
             Instr::Not(_, x) => (Connective::Diff, 1, self.read(walk, x)?),
             Instr::Skip(x, _) => return Ok((InstructionEntry::Skip, self.read(walk, x)?)),
-            _ => return self.constant(instr),
-        };
-        let row = self.facts.row(op, a, b)?;
-        Ok((InstructionEntry::Op(row.number), row.node))
-    }
-
-    /// Returns the effect of an instruction that reads no register.
-    fn constant(&mut self, instr: Instr) -> Result<Effect, Unproved> {
-        let node = match instr {
-            Instr::Load(_, column, bit) => self.facts.bit(column.into(), bit.into())?,
-            Instr::Nulls(_, column) => self.facts.nulls(column.into())?.ok_or(Unproved::NoRule)?,
             Instr::Fill(_, bit) => return Ok((InstructionEntry::Fill, u64::from(bit))),
+            Instr::Load(_, column, bit) => {
+                let variable = bit_variable(self.facts.schema, column.into(), bit.into());
+                return self.load(variable);
+            }
+            Instr::Nulls(_, column) => {
+                return self.load(null_variable(self.facts.schema, column.into()));
+            }
             Instr::ByteLt(_, column, slice, byte) => {
                 return self.byte(Link::of(ChainKind::Less, column.into(), slice, 0, byte.into()));
             }
             Instr::ByteEq(_, column, slice, byte) => {
                 return self.byte(Link::of(ChainKind::Equal, column.into(), slice, 0, byte.into()));
             }
-            _ => return Err(Unproved::NoRule),
         };
+        let row = self.facts.row(op, a, b)?;
+        Ok((InstructionEntry::Op(row.number), row.node))
+    }
+
+    /// Returns the effect of an instruction that loads the plane of a variable.
+    fn load(&mut self, variable: Option<u64>) -> Result<Effect, Unproved> {
+        let node = self.facts.test(variable.ok_or(Unproved::NoRule)?, 0, 1)?;
         Ok((InstructionEntry::Load(node), node))
     }
 
@@ -139,4 +142,45 @@ impl Prover<'_> {
         let (chain, node) = self.facts.chain_unless(terminal, Link { len, ..link })?;
         Ok((InstructionEntry::Byte(chain), node))
     }
+}
+
+/// A set of registers, one in each bit.
+pub(crate) type RegisterSet = u64;
+
+/// Returns the set of a register.
+pub(crate) fn set_of(register: Register) -> RegisterSet {
+    1 << (register % 64)
+}
+
+/// Returns the registers that an instruction reads, and the one that it writes.
+pub(crate) fn uses(instr: Instr) -> (RegisterSet, Option<Register>) {
+    match instr {
+        Instr::Load(r, ..) | Instr::ByteLt(r, ..) | Instr::ByteEq(r, ..) => (0, Some(r)),
+        Instr::Nulls(r, _) | Instr::Fill(r, _) => (0, Some(r)),
+        Instr::And(r, x, y) | Instr::Or(r, x, y) | Instr::Xor(r, x, y) => {
+            (set_of(x) | set_of(y), Some(r))
+        }
+        Instr::Not(r, x) => (set_of(x), Some(r)),
+        Instr::Skip(x, _) => (set_of(x), None),
+    }
+}
+
+/// Returns for each place of a program, the end included, the registers that are read there or
+/// later on some way, before they are written.
+pub(crate) fn read_later(alloc: Global, program: &Program) -> Result<Vec<RegisterSet>, AllocError> {
+    let mut reads = Vec::new(alloc);
+    let mut last = set_of(program.result());
+    reads.resize(program.len() + 1, last)?;
+    for number in (0..program.len()).rev() {
+        let instr = program.instr(number);
+        let (read, written) = uses(instr);
+        last = last & !written.map_or(0, set_of) | read;
+        if let Instr::Skip(_, target) = instr {
+            last |= reads.get(target).copied().unwrap_or(0);
+        }
+        if let Some(place) = reads.get_mut(number) {
+            *place = last;
+        }
+    }
+    Ok(reads)
 }

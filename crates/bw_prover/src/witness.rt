@@ -2,7 +2,7 @@
 use crate::chain::Link;
 use crate::columns::{null_variable, width_of};
 use crate::facts::Facts;
-use crate::join::Loss;
+use crate::join::Skip;
 use crate::unproved::{Unproved, Witness};
 use bw_diagram::{ChainKind, Connective};
 use bw_model::{Row, Schema};
@@ -22,15 +22,13 @@ impl Facts<'_> {
 
     /// Returns a row on which a register differs by a skip, and one on which the skip isn't taken,
     /// if the schema admits both.
-    pub(crate) fn witness(&mut self, loss: Loss) -> Result<Option<Witness>, Unproved> {
-        let (Some(node), true) = (loss.differs, self.order.is_total) else {
-            return Ok(None);
-        };
-        let Some(through) = self.row_of(loss.tested)? else {
-            return Ok(None);
-        };
-        let taken = self.row_of(node)?;
-        Ok(taken.map(|taken| Witness { taken, through }))
+    pub(crate) fn witness(&mut self, skip: Skip, differs: Option<u64>) -> Option<Witness> {
+        if !self.order.is_total {
+            return None;
+        }
+        let through = self.row_of(skip.tested).ok()??;
+        let taken = self.row_of(differs?).ok()??;
+        Some(Witness { taken, through })
     }
 
     /// Returns a row that the schema admits and on whose bits a node is 1, if there is one.
