@@ -7,7 +7,7 @@ pub(crate) fn index_of(column: usize) -> ColumnIndex {
     (column % 64) as u8
 }
 
-/// Returns how many bits a column's codes have, if the schema has the column.
+/// Returns how many bits a column's codes have: none if the schema lacks the column.
 pub(crate) fn width_of(schema: &Schema, column: usize) -> u32 {
     if column < schema.columns.len() {
         schema.width(column)
@@ -17,9 +17,9 @@ pub(crate) fn width_of(schema: &Schema, column: usize) -> u32 {
 }
 
 /// Returns whether a column may be null.
-pub(crate) fn is_nullable(schema: &Schema, column: usize) -> bool {
+pub(crate) fn is_nullable(schema: &Schema, column: ColumnIndex) -> bool {
     schema
         .columns
-        .get(column)
+        .get(usize::from(column))
         .is_some_and(|column| column.nullable)
 }

@@ -1,9 +1,9 @@
-//! The parts of a condition as instructions compute them: all comparisons of one column with
-//! literals that an AND or OR combines are one set of codes.
-use crate::columns::{index_of, is_nullable, width_of};
-use crate::limits::{MANY_BITS, MAX_CONDITION_ROWS, MAX_CONDITION_ROWS_OF_MANY, MAX_LIST};
+//! The parts of a condition as instructions compute them: comparisons of one column with literals
+//! that an AND or OR combines are one set of codes.
+use crate::columns::{index_of, is_nullable};
+use crate::limits::{MANY_LEVELS, MAX_LIST};
 use crate::reason::Reason;
-use crate::sets::{Set, top_slice};
+use crate::sets::Set;
 use bw_diagram::Order;
 use bw_model::{Cond, Op, Operand, Schema, Truth};
 use bw_program::ColumnIndex;
@@ -18,14 +18,14 @@ pub(crate) enum Formula {
     Codes(Set),
     /// A comparison of two columns.
     Columns(Order),
-    /// Whether a column, which may be null, is null, or isn't if it is negated.
-    Null(ColumnIndex, bool),
-    /// The OR of all parts, or else their AND.
-    All(bool, Vec<Formula>),
-    /// Whether a part has this truth, or another one if it is negated.
-    Test(Box<Formula>, Truth, bool),
-    /// Nothing: an earlier part does what this one did.
-    Done,
+    /// Whether a column, which may be null, is null.
+    Null(ColumnIndex),
+    /// Whether a part has this truth.
+    Test(Box<Formula>, Truth),
+    /// The opposite of a part.
+    Not(Box<Formula>),
+    /// The OR of all parts, or else their AND, and how many levels of parts there are.
+    All(bool, Vec<Formula>, usize),
 }
 
 /// A part, unless it has no program or memory was refused.
@@ -38,169 +38,147 @@ pub(crate) struct Reader<'a> {
     pub(crate) schema: &'a Schema,
     /// How many comparisons of two columns it has read.
     pub(crate) relations: usize,
-    /// The columns that it has read in comparisons, one in each bit.
-    pub(crate) columns: u64,
 }
 
 impl Reader<'_> {
-    /// Returns the most product rows of what it has read.
-    pub(crate) fn max_rows(&self) -> u32 {
-        let mut bits = 0u32;
-        for column in 0..64 {
-            if self.columns >> column & 1 == 1 {
-                bits = bits.saturating_add(width_of(self.schema, column));
-            }
-        }
-        if bits > MANY_BITS {
-            MAX_CONDITION_ROWS_OF_MANY
-        } else {
-            MAX_CONDITION_ROWS
-        }
-    }
-
-    /// Returns a condition as instructions compute it, or its opposite if it is negated. Refuses
-    /// what [`Reader::comparison`] does, and long lists.
+    /// Returns a condition as instructions compute it. Refuses what [`Reader::comparison`] does, and
+    /// long lists.
     #[cycle(part)]
-    pub(crate) fn part_of(&mut self, cond: &Cond, negated: bool) -> FormulaResult {
+    pub(crate) fn part_of(&mut self, cond: &Cond) -> FormulaResult {
         match cond {
-            Cond::Always => Ok(Formula::Fixed(Truth::of(!negated))),
-            Cond::Cmp(op, x, y) => self.comparison(*op, *x, *y, negated),
-            Cond::Between(x, y, z) => self.range(*x, *y, *z, negated),
-            Cond::Among(x, items) => self.list(*x, items, negated),
-            Cond::IsNull(x) => self.null_test(*x, negated),
-            Cond::And(parts) => self.all_of(false, parts, negated),
-            Cond::Or(parts) => self.all_of(true, parts, negated),
-            Cond::Not(part) => self.part_of(part, !negated),
+            Cond::Always => Ok(Formula::Fixed(Truth::Yes)),
+            Cond::Cmp(op, x, y) => self.comparison(*op, *x, *y),
+            Cond::Between(x, y, z) => self.range(*x, *y, *z),
+            Cond::Among(x, items) => self.list(*x, items),
+            Cond::IsNull(x) => Ok(self.null_test(*x)),
+            Cond::And(parts) => self.all_of(false, parts),
+            Cond::Or(parts) => self.all_of(true, parts),
+            Cond::Not(part) => match self.part_of(part)? {
+                Formula::Codes(set) => Ok(Formula::Codes(set.inverse())),
+                part => Ok(Formula::Not(Box::new(self.alloc, part)?)),
+            },
             Cond::Test(part, truth) => {
-                let part = self.part_of(part, false)?;
-                Ok(Formula::Test(Box::new(self.alloc, part)?, *truth, negated))
+                let part = self.part_of(part)?;
+                Ok(Formula::Test(Box::new(self.alloc, part)?, *truth))
             }
         }
     }
 
-    /// Returns the OR of some conditions, or else their AND, or its opposite if it is negated. A
-    /// comparison is left out if it is the same as the one before.
+    /// Returns the OR of some conditions, or else their AND. A condition is left out if it is the
+    /// same as the one before.
     #[cycle(part)]
-    fn all_of(&mut self, any: bool, conds: &[Cond], negated: bool) -> FormulaResult {
-        let mut parts = Vec::new(self.alloc);
-        let mut before = None;
+    fn all_of(&mut self, any: bool, conds: &[Cond]) -> FormulaResult {
+        let mut parts = Parts::new(self.alloc, any);
+        let mut before: Option<&Cond> = None;
         for cond in conds {
-            if !is_same_comparison(before, cond) {
-                parts.push(self.part_of(cond, negated)?)?;
+            if !before.is_some_and(|before| before.is_same(cond)) {
+                parts.add(self.alloc, self.part_of(cond)?, false)?;
             }
             before = Some(cond);
         }
-        self.combine(any != negated, parts, true)
+        parts.formula()
     }
 
-    /// Returns `BETWEEN`, or its opposite if it is negated.
-    fn range(&mut self, x: Operand, y: Operand, z: Operand, negated: bool) -> FormulaResult {
-        let mut parts = Vec::new(self.alloc);
-        parts.push(self.comparison(Op::Ge, x, y, negated)?)?;
-        parts.push(self.comparison(Op::Le, x, z, negated)?)?;
-        self.combine(negated, parts, true)
+    /// Returns `BETWEEN`.
+    fn range(&mut self, x: Operand, y: Operand, z: Operand) -> FormulaResult {
+        let mut parts = Parts::new(self.alloc, false);
+        parts.add(self.alloc, self.comparison(Op::Ge, x, y)?, false)?;
+        parts.add(self.alloc, self.comparison(Op::Le, x, z)?, false)?;
+        parts.formula()
     }
 
-    /// Returns `IN`, or its opposite if it is negated: first the set of the literals, however long
-    /// it is, and then the other items.
-    fn list(&mut self, x: Operand, items: &[Operand], negated: bool) -> FormulaResult {
+    /// Returns `IN`: first the set of the literals, however long it is, and then the other items.
+    fn list(&mut self, x: Operand, items: &[Operand]) -> FormulaResult {
         if items.len() > MAX_LIST {
             return Err(Reason::Limit);
         }
-        let mut parts = Vec::new(self.alloc);
+        let mut parts = Parts::new(self.alloc, true);
         for are_literals in [true, false] {
             for item in items {
                 if matches!(item, Operand::Lit(_)) == are_literals {
-                    parts.push(self.comparison(Op::Eq, x, *item, negated)?)?;
+                    parts.add(self.alloc, self.comparison(Op::Eq, x, *item)?, true)?;
                 }
             }
         }
-        self.combine(!negated, parts, false)
+        parts.formula()
     }
 
-    /// Returns `IS NULL`, or its opposite if it is negated.
-    fn null_test(&self, x: Operand, negated: bool) -> FormulaResult {
-        Ok(match x {
-            Operand::Col(column) if is_nullable(self.schema, column) => {
-                Formula::Null(index_of(column), negated)
+    /// Returns `IS NULL`.
+    fn null_test(&self, x: Operand) -> Formula {
+        match x {
+            Operand::Col(column) if is_nullable(self.schema, index_of(column)) => {
+                Formula::Null(index_of(column))
             }
-            _ => Formula::Fixed(Truth::of((x == Operand::Null) != negated)),
-        })
-    }
-
-    /// Returns the OR of some parts, or else their AND. All sets of one column become one where the
-    /// first of them was. If `only_short`, that isn't done if the set is long: it takes more product
-    /// rows than the sets one after another.
-    fn combine(&self, any: bool, mut parts: Vec<Formula>, only_short: bool) -> FormulaResult {
-        for column in 0..64 {
-            let mut set = self.combined_set(any, &parts, column, only_short)?;
-            let has_set = set.is_some();
-            for part in parts.iter_mut() {
-                if has_set && matches!(part, Formula::Codes(other) if other.column == column) {
-                    *part = set.take().map_or(Formula::Done, Formula::Codes);
-                }
-            }
+            _ => Formula::Fixed(Truth::of(x == Operand::Null)),
         }
-        parts.retain(|part| !matches!(part, Formula::Done));
-        if parts.len() > 1 {
-            return Ok(Formula::All(any, parts));
-        }
-        parts.pop().ok_or(Reason::Limit)
-    }
-
-    /// Returns what all sets of a column are together, if there are several, and if the set isn't
-    /// long or may be.
-    fn combined_set(
-        &self,
-        any: bool,
-        parts: &[Formula],
-        column: ColumnIndex,
-        only_short: bool,
-    ) -> Result<Option<Set>, Reason> {
-        let mut sets = Vec::new(self.alloc);
-        for part in parts {
-            match part {
-                Formula::Codes(set) if set.column == column => sets.push(set)?,
-                _ => {}
-            }
-        }
-        if sets.len() < 2 {
-            return Ok(None);
-        }
-        let set = Set::combine(self.alloc, column, any, &sets)?;
-        let is_long = set.is_long(top_slice(self.schema, column));
-        Ok((!only_short || !is_long).then_some(set))
     }
 }
 
-/// Returns whether a condition is the same comparison as the one before it, if there is one.
-fn is_same_comparison(before: Option<&Cond>, cond: &Cond) -> bool {
-    matches!((before, cond), (Some(Cond::Cmp(op, x, y)), Cond::Cmp(other, z, w))
-        if op == other && x == z && y == w)
+/// The parts of an OR, or else of an AND, so far.
+#[derive(Drop)]
+struct Parts {
+    any: bool,
+    parts: Vec<Formula>,
+    /// How many levels of parts there are.
+    levels: usize,
+    /// Where the last set of each column is.
+    places: [usize; 64],
+}
+
+impl Parts {
+    /// Returns no parts.
+    fn new(alloc: Global, any: bool) -> Self {
+        Parts {
+            any,
+            parts: Vec::new(alloc),
+            levels: 1,
+            places: [usize::MAX; 64],
+        }
+    }
+
+    /// Adds a part. A set is combined with the last one of its column: if the set that they are
+    /// together is long, only if it may be.
+    fn add(&mut self, alloc: Global, part: Formula, may_be_long: bool) -> Result<(), Reason> {
+        self.levels = self.levels.max(part.levels().saturating_add(1));
+        if let Formula::Codes(set) = &part {
+            let column = usize::from(set.column % 64);
+            if let Some(Formula::Codes(last)) = self.parts.get_mut(self.places[column]) {
+                let both = last.joined(alloc, self.any, set)?;
+                if may_be_long || !both.is_long() {
+                    *last = both;
+                    return Ok(());
+                }
+            }
+            self.places[column] = self.parts.len();
+        }
+        self.parts.push(part)?;
+        Ok(())
+    }
+
+    /// Returns the parts as one: first a part of many levels, if there is one, since each level
+    /// keeps a register.
+    fn formula(mut self) -> FormulaResult {
+        let deep = self
+            .parts
+            .iter()
+            .position(|part| part.levels() > MANY_LEVELS);
+        if let Some(deep) = deep {
+            self.parts.swap(0, deep);
+        }
+        if self.parts.len() > 1 {
+            return Ok(Formula::All(self.any, self.parts, self.levels));
+        }
+        self.parts.pop().ok_or(Reason::Limit)
+    }
 }
 
 impl Formula {
     /// Returns how many levels of parts it has.
-    #[cycle(depth)]
-    fn depth(&self) -> u32 {
+    fn levels(&self) -> usize {
         match self {
-            Formula::All(_, parts) => deepest(parts).1.saturating_add(1),
-            Formula::Test(part, ..) => part.depth(),
+            Formula::All(_, _, levels) => *levels,
+            Formula::Test(part, _) | Formula::Not(part) => part.levels(),
             _ => 0,
         }
     }
-}
-
-/// Returns the place of a part that has the most levels, and how many it has.
-#[cycle(depth)]
-pub(crate) fn deepest(parts: &[Formula]) -> (usize, u32) {
-    let (mut place, mut most) = (0, 0);
-    for (number, part) in parts.iter().enumerate() {
-        let depth = part.depth();
-        if depth > most {
-            most = depth;
-            place = number;
-        }
-    }
-    (place, most)
 }

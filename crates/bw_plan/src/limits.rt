@@ -15,23 +15,22 @@ pub(crate) const MAX_LOOKS: usize = 1000;
 /// table that isn't very large. To repeat it: "1,000 in a row" of `bench.py cliffs`.
 pub(crate) const MAX_LIST: usize = 400;
 
-/// A set of codes that takes more instructions is long. Those of an AND or OR aren't combined into
-/// one: it takes more product rows than the sets one after another, as "OR of `x = n`" of
-/// `bench.py cliffs` shows.
-pub(crate) const LONG_SET: usize = 1200;
+/// A set of codes is long if its bounds have more bytes in all: those of 102 scattered numbers of 32
+/// bits have 816. Longer lists are searched row by row in half the time. An AND or OR combines sets
+/// of a column as long as the whole isn't long: each is combined with those so far.
+pub(crate) const LONG_SET: usize = 816;
 
 /// The most product rows of a condition with a list whose set is long. With more, planning the list
-/// and scanning a million rows for it takes longer than looking it up in each of them: 300 numbers
-/// of 20 bits take 66,000 machine instructions a segment by a program, and 58,000 row by row.
+/// and scanning a million rows for it takes longer than looking it up in each of them.
 pub(crate) const MAX_LIST_ROWS: u32 = 4000;
 
 /// The number of first parts of a condition that may have a skip to its end: each takes product
 /// rows for each register that is kept.
 pub(crate) const SKIPPED_PARTS: usize = 16;
 
-/// A condition with more levels of parts begins with the deepest one: 64 registers are too few for
-/// 100 levels, each of which keeps up to two. `test_conditions` has such conditions.
-pub(crate) const MANY_LEVELS: u32 = 12;
+/// An AND or OR begins with a part of more levels, if it has one: 64 registers are too few for 100
+/// levels, each of which keeps up to two. `test_conditions` has such conditions.
+pub(crate) const MANY_LEVELS: usize = 12;
 
 /// All comparisons of two columns from the top down take at most six times as many nodes. One takes
 /// six times the square of the number of its bits.
@@ -43,19 +42,11 @@ pub(crate) const MAX_SQUARES: usize = 1000;
 /// 100,000 rows.
 pub(crate) const MAX_CONDITION_ROWS: u32 = 70_000;
 
-/// The same if the condition's columns have more than `MANY_BITS` bits: the drawn conditions of
-/// `bench.py cliffs` over as many bits have no program, and 24,000 rows show that in 2 to 10 ms.
-/// Without it, the conditions that have none take an eighth longer in sum.
-pub(crate) const MAX_CONDITION_ROWS_OF_MANY: u32 = 24_000;
-
-/// The bits of seven columns of 63 bits, which may be compared with one another in a row.
-pub(crate) const MANY_BITS: u32 = 441;
-
 /// From so many product rows on, an AND or OR has no program if its parts would pass the limit by
 /// as many rows each as those so far. Without it, the conditions of `test_conditions` and of
 /// `bench.py cliffs` that have no program take twice as long in sum, and four more have one that
 /// takes as long to plan as the largest.
-pub(crate) const ROWS_BEFORE_FORECAST: u32 = 3000;
+pub(crate) const FORECAST_FROM: u32 = 3000;
 
 /// The most product rows of a certificate: as many take 20 MB to plan. Seven columns of 63 bits that
 /// are each less than the next take 76,602. To repeat it: count the lines ROW of `bw plan`.
@@ -63,7 +54,7 @@ pub(crate) const MAX_ROWS: u32 = 80_000;
 
 /// The number of top bytes of a number after which a comparison with it may end early. Of 512 rows
 /// hardly one has three bytes by chance; with a skip after each of eight bytes, an OR of 120 `x = n`
-/// takes 97,446 product rows, and not 55,262.
+/// takes half as many product rows again.
 pub(crate) const SKIPPED_BYTES: u8 = 3;
 
 /// A condition whose own lines take as many product rows has no skips from part to part: to prove

@@ -8,7 +8,7 @@ ghost use Rattle.bw_plan.specs.Refusal.{IsRefusal};
 
 use crate::code::Code;
 use crate::formula::{Formula, Reader};
-use crate::limits::{MAX_ROWS, ROWS_BEFORE_FORECAST};
+use crate::limits::{FORECAST_FROM, MAX_CONDITION_ROWS, MAX_ROWS};
 use crate::plan::Plan;
 use crate::reason::Reason;
 use bw_cert_text::Certificate;
@@ -82,13 +82,11 @@ fn try_plans<'a>(
         alloc,
         schema,
         relations: 0,
-        columns: 0,
     };
-    let part = reader.part_of(order, false)?;
+    let part = reader.part_of(order)?;
     let mut tried: Option<Plan> = None;
     for _ in 0..3 {
-        let rows = reader.max_rows();
-        let prover = Prover::new(alloc, schema, cond, rows, ROWS_BEFORE_FORECAST)?;
+        let prover = Prover::new(alloc, schema, cond, MAX_CONDITION_ROWS, FORECAST_FROM)?;
         let plan = match tried {
             None => Plan::new(reader.relations, prover.rows()),
             Some(last) => last.with_fewer_skips(),

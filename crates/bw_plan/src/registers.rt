@@ -7,9 +7,9 @@ use bw_program::{BitIndex, ColumnIndex, Instr, Register, SliceIndex};
 pub(crate) enum Value {
     /// A bit of a column's codes.
     Bit(ColumnIndex, BitIndex),
-    /// 1 if a column is null.
+    /// 1 if a column, which may be null, is null.
     Nulls(ColumnIndex),
-    /// 1 if a column has a value.
+    /// 1 if a column, which may be null, has a value.
     Values(ColumnIndex),
     /// 1 if a byte of a column's codes is less than a number.
     Less(ColumnIndex, SliceIndex, u8),

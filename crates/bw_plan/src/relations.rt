@@ -1,10 +1,10 @@
 //! Instructions that compare the codes of two columns with one another, bit by bit.
-use crate::code::{Code, Connective, Made};
+use crate::code::{Code, Made};
 use crate::columns::{index_of, width_of};
 use crate::reason::Reason;
 use crate::registers::Value;
 use bw_diagram::{ChainKind, Order};
-use bw_program::Register;
+use bw_program::{Instr, Register};
 
 /// The registers of one bit of two columns: that is 1 if the bits differ, and that is 1, if they
 /// differ, if the left one is 0.
@@ -36,20 +36,20 @@ impl Code<'_> {
         let same = same.ok_or(Reason::Limit)?;
         if low > 0 {
             let rest = self.lows(relation, low)?;
-            let Some(less) = less else {
-                return self.join_into(Connective::And, same, rest);
-            };
-            self.join(Connective::And, rest, rest, same)?;
-            self.join_into(Connective::Or, less, rest)?;
+            self.set_from(rest, same, Instr::And(same, same, rest))?;
         }
-        if less.is_some() {
-            self.registers.release(same);
+        let Some(less) = less else {
+            return Ok(same);
+        };
+        if low > 0 {
+            self.set(less, Instr::Or(less, less, same))?;
         }
-        Ok(less.unwrap_or(same))
+        self.registers.release(same);
+        Ok(less)
     }
 
     /// Adds the next bit below to a comparison from the top down. Updates whether the code is less
-    /// by the bits so far, if that is wanted, and returns whether they are equal.
+    /// by the bits so far, if that is wanted, and returns whether they are the same.
     fn next_below(
         &mut self,
         relation: Order,
@@ -58,20 +58,16 @@ impl Code<'_> {
         same: Option<Register>,
     ) -> Made {
         let (differs, below) = self.bits(relation, bit)?;
-        if let (Some(less), Some(mut below)) = (less, below) {
-            if below == differs {
-                below = self.copy(differs)?;
-            } else {
-                self.join(Connective::And, below, below, differs)?;
-            }
+        if let (Some(less), Some(below)) = (less, below) {
+            self.set(below, Instr::And(below, below, differs))?;
             if let Some(same) = same {
-                self.join(Connective::And, below, below, same)?;
+                self.set(below, Instr::And(below, below, same))?;
             }
-            self.join_into(Connective::Or, less, below)?;
+            self.set_from(below, less, Instr::Or(less, less, below))?;
         }
-        self.oppose(differs, differs)?;
+        self.set(differs, Instr::Not(differs, differs))?;
         match same {
-            Some(same) => self.join_into(Connective::And, same, differs),
+            Some(same) => self.set_from(differs, same, Instr::And(same, same, differs)),
             None => Ok(differs),
         }
     }
@@ -84,17 +80,17 @@ impl Code<'_> {
             let (differs, below) = self.bits(relation, bit)?;
             match below {
                 Some(below) if below != differs => {
-                    self.join(Connective::Xor, below, below, made)?;
-                    self.join(Connective::And, below, below, differs)?;
-                    self.join_into(Connective::Xor, made, below)?;
+                    self.set(below, Instr::Xor(below, below, made))?;
+                    self.set(below, Instr::And(below, below, differs))?;
+                    self.set_from(below, made, Instr::Xor(made, made, below))?;
                     self.registers.release(differs);
                 }
                 Some(_) => {
-                    self.join_into(Connective::Or, made, differs)?;
+                    self.set_from(differs, made, Instr::Or(made, made, differs))?;
                 }
                 None => {
-                    self.oppose(differs, differs)?;
-                    self.join_into(Connective::And, made, differs)?;
+                    self.set(differs, Instr::Not(differs, differs))?;
+                    self.set_from(differs, made, Instr::And(made, made, differs))?;
                 }
             }
         }
@@ -116,7 +112,7 @@ impl Code<'_> {
             return Ok((below, is_less.then_some(below)));
         }
         let differs = self.value(bit_of(left))?;
-        self.join(Connective::Xor, differs, differs, below)?;
+        self.set(differs, Instr::Xor(differs, differs, below))?;
         if !is_less {
             self.registers.release(below);
         }

@@ -1,18 +1,18 @@
 //! Instructions that compare a column's codes with numbers, from the most significant byte down.
-use crate::code::{Code, Connective, Made};
+use crate::code::{Code, Made};
 use crate::limits::{MAX_LIST_ROWS, SKIPPED_BYTES};
 use crate::reason::Reason;
 use crate::registers::Value;
-use crate::sets::{Set, bounds_below, byte_of, top_slice};
-use bw_program::{ColumnIndex, Register, SliceIndex};
+use crate::sets::{Set, bounds_below, byte_of};
+use bw_program::{Instr, Register, SliceIndex};
 
 /// What is looked for: the low bytes of a column's codes, from this one down, that have an odd number
 /// of bounds above them. The bounds are sorted and different.
 #[derive(Clone, Copy)]
-struct Search<'b> {
-    column: ColumnIndex,
+struct Search<'s> {
+    set: &'s Set,
     slice: SliceIndex,
-    bounds: &'b [u64],
+    bounds: &'s [u64],
     /// The lanes in which the bytes above are those of the bounds, if they aren't all lanes.
     mask: Option<Register>,
 }
@@ -21,41 +21,16 @@ impl Code<'_> {
     /// Returns a register that is 1 where a column's code has an odd number of a set's bounds above
     /// it. Refuses a long list whose product rows are many.
     pub(crate) fn codes(&mut self, set: &Set) -> Made {
-        let column = set.column;
-        let top = top_slice(self.schema, column);
-        if set.is_long(top) && self.plan.rows > MAX_LIST_ROWS {
+        if set.is_long() && self.plan.rows > MAX_LIST_ROWS {
             return Err(Reason::Limit);
         }
-        match set.bounds.as_slice() {
-            [] => self.fill(false),
-            [code, next] if top > 0 && code.checked_add(1) == Some(*next) => {
-                self.code(column, top, *code)
-            }
-            bounds => {
-                let search = Search {
-                    column,
-                    slice: top,
-                    bounds,
-                    mask: None,
-                };
-                self.within(search, None)
-            }
-        }
-    }
-
-    /// Returns a register that is 1 where a column has this code.
-    fn code(&mut self, column: ColumnIndex, top: SliceIndex, code: u64) -> Made {
-        let first = self.open_skips();
-        let same = self.value(Value::Equal(column, top, byte_of(code, top)))?;
-        for slice in (0..top).rev() {
-            if top - slice <= SKIPPED_BYTES {
-                self.skip(same)?;
-            }
-            let next = self.value(Value::Equal(column, slice, byte_of(code, slice)))?;
-            self.join_into(Connective::And, same, next)?;
-        }
-        self.meet_from(first);
-        Ok(same)
+        let search = Search {
+            set,
+            slice: set.top,
+            bounds: &set.bounds,
+            mask: None,
+        };
+        self.within(search, None)
     }
 
     /// Returns a register, `out` if there is one, with the lanes toggled in which a search finds the
@@ -64,7 +39,7 @@ impl Code<'_> {
     fn within(&mut self, search: Search<'_>, out: Option<Register>) -> Made {
         let Search { slice, bounds, .. } = search;
         let mut out = match self.bytes(search)? {
-            Some(here) => Some(self.toggle_lanes(here, search.mask, out)?),
+            Some(here) => Some(self.toggle(here, search.mask, out)?),
             None => out,
         };
         for group in bounds.chunk_by(|a, b| byte_of(*a, slice) == byte_of(*b, slice)) {
@@ -88,17 +63,23 @@ impl Code<'_> {
         search: Search<'_>,
         out: Option<Register>,
     ) -> Result<Option<Register>, Reason> {
-        let Search { column, slice, .. } = search;
+        let Search { set, slice, .. } = search;
         let inner = bounds_below(search.bounds, slice);
         let (Some(bound), Some(next)) = (inner.first(), slice.checked_sub(1)) else {
             return Ok(out);
         };
         let first = self.open_skips();
-        let same = self.value(Value::Equal(column, slice, byte_of(*bound, slice)))?;
-        if let Some(mask) = search.mask {
-            self.join(Connective::And, same, same, mask)?;
+        let same = self.value(Value::Equal(set.column, slice, byte_of(*bound, slice)))?;
+        // If all bounds have the bytes so far in common, nothing else needs the mask.
+        let is_prefix = out.is_none() && inner.len() == set.bounds.len();
+        let same = match search.mask {
+            Some(mask) if is_prefix => self.set_from(same, mask, Instr::And(mask, mask, same))?,
+            Some(mask) => self.set(same, Instr::And(same, same, mask))?,
+            None => same,
+        };
+        if set.top.saturating_sub(slice) < SKIPPED_BYTES {
+            self.skip(same)?;
         }
-        self.skip(same)?;
         let below = Search {
             slice: next,
             bounds: inner,
@@ -108,8 +89,8 @@ impl Code<'_> {
         let found = self.within(below, out)?;
         if out.is_some() {
             self.registers.release(same);
-        } else {
-            self.join_into(Connective::And, same, found)?;
+        } else if found != same {
+            self.set_from(found, same, Instr::And(same, same, found))?;
         }
         self.meet_from(first);
         Ok(Some(out.map_or(same, |_| found)))
@@ -117,7 +98,7 @@ impl Code<'_> {
 
     /// Returns a register that is 1 where a byte has an odd number of the bounds' bytes above it.
     fn bytes(&mut self, search: Search<'_>) -> Result<Option<Register>, Reason> {
-        let Search { column, slice, .. } = search;
+        let Search { set, slice, .. } = search;
         let groups = search
             .bounds
             .chunk_by(|a, b| byte_of(*a, slice) == byte_of(*b, slice));
@@ -132,29 +113,24 @@ impl Code<'_> {
                 break;
             };
             let value = match bytes.next_if(|next| byte.checked_add(1) == Some(*next)) {
-                Some(_) => Value::Equal(column, slice, byte),
-                None => Value::Less(column, slice, byte),
+                Some(_) => Value::Equal(set.column, slice, byte),
+                None => Value::Less(set.column, slice, byte),
             };
             let next = self.value(value)?;
-            made = Some(self.toggle_lanes(next, None, made)?);
+            made = Some(self.toggle(next, None, made)?);
         }
         Ok(made)
     }
 
     /// Returns a register: another one, or, if there is one, `out` with the lanes toggled that are
     /// 1 in the other and in `mask`.
-    fn toggle_lanes(
-        &mut self,
-        next: Register,
-        mask: Option<Register>,
-        out: Option<Register>,
-    ) -> Made {
+    fn toggle(&mut self, next: Register, mask: Option<Register>, out: Option<Register>) -> Made {
         let Some(out) = out else {
             return Ok(next);
         };
         if let Some(mask) = mask {
-            self.join(Connective::And, next, next, mask)?;
+            self.set(next, Instr::And(next, next, mask))?;
         }
-        self.join_into(Connective::Xor, out, next)
+        self.set_from(next, out, Instr::Xor(out, out, next))
     }
 }

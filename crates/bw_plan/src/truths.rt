@@ -1,14 +1,14 @@
 //! Instructions that compute where a condition is TRUE, and where it is FALSE.
-use crate::code::{Code, Connective, Made};
+use crate::code::{Code, Made};
 use crate::columns::{index_of, is_nullable};
-use crate::formula::{Formula, deepest};
-use crate::limits::{MANY_LEVELS, SKIPPED_PARTS};
+use crate::formula::Formula;
+use crate::limits::{MAX_LOOKS, SKIPPED_PARTS};
 use crate::reason::Reason;
 use crate::registers::Value;
 use crate::sets::Set;
 use bw_diagram::{Order, TruthPair};
 use bw_model::Truth;
-use bw_program::{ColumnIndex, Register};
+use bw_program::{ColumnIndex, Instr, Register};
 
 /// Whether the register of where a condition is TRUE is needed, and that of where it is FALSE.
 type WantedTruths = TruthPair<bool>;
@@ -24,13 +24,16 @@ impl Code<'_> {
     pub(crate) fn whole(&mut self, part: &Formula) -> Made {
         let made = self.truths(part, TruthPair::of(true, false))?;
         let answer = made.yes.ok_or(Reason::Limit)?;
-        let first = self.open_skips();
         if self.skips.count == 0 {
             // A skip at the end lets counts show empty segments.
             self.skip(answer)?;
         }
-        self.meet_from(first);
+        self.meet_from(0);
         self.meet();
+        let looks = self.instrs.iter().filter(|instr| is_look(**instr)).count();
+        if !self.plan.skips && looks > MAX_LOOKS {
+            return Err(Reason::Length);
+        }
         Ok(answer)
     }
 
@@ -41,76 +44,59 @@ impl Code<'_> {
             Formula::Fixed(truth) => self.constant(*truth, wanted),
             Formula::Codes(set) => self.in_set(set, wanted),
             Formula::Columns(order) => self.compare_columns(*order, wanted),
-            Formula::Null(column, negated) => {
-                let made = self.null_test(*column, wanted.opposite_if(*negated))?;
-                Ok(made.opposite_if(*negated))
+            Formula::Null(column) => {
+                let nulls = self.value(Value::Nulls(*column))?;
+                self.sides(nulls, &[], false, wanted)
             }
-            Formula::All(any, parts) => self.all_parts(*any, parts, wanted),
-            Formula::Test(part, truth, negated) => {
+            Formula::Test(part, truth) => {
                 let needed = TruthPair::of(*truth != Truth::No, *truth != Truth::Yes);
                 let made = self.truths(part, needed)?;
-                self.truth_test(*truth, made, *negated, wanted)
+                let held = self.either(made)?;
+                let inverted = *truth == Truth::Unknown;
+                let made = self.sides(held, &[], false, wanted.opposite_if(inverted))?;
+                Ok(made.opposite_if(inverted))
             }
-            Formula::Done => Ok(TruthPair::of(None, None)),
+            Formula::Not(part) => {
+                let made = self.truths(part, wanted.opposite_if(true))?;
+                Ok(made.opposite_if(true))
+            }
+            Formula::All(any, parts, _) => self.all_parts(*any, parts, wanted),
         }
     }
 
-    /// Returns the registers of the OR of all parts, or else of their AND: first of the part that is
-    /// nested most deeply, if many are nested, since each level keeps a register.
+    /// Returns the registers of the OR of all parts, or else of their AND.
     #[cycle(truths)]
     fn all_parts(&mut self, any: bool, parts: &[Formula], wanted: WantedTruths) -> MadeTruths {
         let open = self.open_skips();
-        let (deepest, depth) = deepest(parts);
-        let first = if depth > MANY_LEVELS { deepest } else { 0 };
-        let made = match parts.get(first) {
-            Some(part) => self.truths(part, wanted)?,
-            None => return Err(Reason::Limit),
-        };
-        for (number, part) in parts.iter().enumerate() {
-            if number == first {
-                continue;
-            }
+        let (first, others) = parts.split_first().ok_or(Reason::Limit)?;
+        let made = self.truths(first, wanted)?.opposite_if(any);
+        for (number, part) in others.iter().enumerate() {
             // These take two or three instructions, so that a skip saves nothing.
-            let is_quick = matches!(part, Formula::Null(..) | Formula::Fixed(_));
+            let is_quick = matches!(part, Formula::Null(_) | Formula::Fixed(_));
             if number < SKIPPED_PARTS && self.plan.between_parts && !is_quick {
-                self.skip_if_settled(any, made)?;
+                self.skip_if_settled(made)?;
             }
-            let next = self.truths(part, wanted)?;
-            self.join_parts(any, made, next)?;
+            let next = self.truths(part, wanted)?.opposite_if(any);
+            if let (Some(to), Some(other)) = (made.yes, next.yes) {
+                self.set_from(other, to, Instr::And(to, to, other))?;
+            }
+            if let (Some(to), Some(other)) = (made.no, next.no) {
+                self.set_from(other, to, Instr::Or(to, to, other))?;
+            }
         }
         self.meet_from(open);
-        Ok(made)
+        Ok(made.opposite_if(any))
     }
 
-    /// Skips to the end of the parts if the others can change nothing.
-    fn skip_if_settled(&mut self, any: bool, made: TruthRegisters) -> Result<(), Reason> {
-        let made = made.opposite_if(any);
-        match (made.yes, made.no) {
-            (_, Some(excluded)) => {
-                let left = self.claim()?;
-                self.oppose(left, excluded)?;
-                self.skip(left)?;
-                self.registers.release(left);
-                Ok(())
-            }
-            (Some(selected), None) => self.skip(selected),
-            (None, None) => Ok(()),
-        }
-    }
-
-    /// Combines the registers of one part with those of another, which are released.
-    fn join_parts(
-        &mut self,
-        any: bool,
-        made: TruthRegisters,
-        next: TruthRegisters,
-    ) -> Result<(), Reason> {
-        let (made, next) = (made.opposite_if(any), next.opposite_if(any));
-        if let (Some(to), Some(y)) = (made.yes, next.yes) {
-            self.join_into(Connective::And, to, y)?;
-        }
-        if let (Some(to), Some(y)) = (made.no, next.no) {
-            self.join_into(Connective::Or, to, y)?;
+    /// Skips to the end of an AND if its other parts can change nothing.
+    fn skip_if_settled(&mut self, made: TruthRegisters) -> Result<(), Reason> {
+        if let Some(excluded) = made.no {
+            let left = self.claim()?;
+            self.set(left, Instr::Not(left, excluded))?;
+            self.skip(left)?;
+            self.registers.release(left);
+        } else if let Some(selected) = made.yes {
+            self.skip(selected)?;
         }
         Ok(())
     }
@@ -127,33 +113,11 @@ impl Code<'_> {
         Ok(made)
     }
 
-    /// Returns the registers of `IS TRUE`, `IS FALSE` or `IS UNKNOWN`, or of its opposite if it is
-    /// negated.
-    fn truth_test(
-        &mut self,
-        truth: Truth,
-        made: TruthRegisters,
-        negated: bool,
-        wanted: WantedTruths,
-    ) -> MadeTruths {
-        let (held, inverted) = match (truth, made.yes, made.no) {
-            (Truth::Yes, Some(held), _) | (Truth::No, _, Some(held)) => (held, negated),
-            (Truth::Unknown, Some(held), Some(other)) => {
-                self.join_into(Connective::Or, held, other)?;
-                (held, !negated)
-            }
-            _ => return Err(Reason::Limit),
-        };
-        self.sides(held, &[], false, inverted, wanted)
-    }
-
-    /// Returns the registers of `IS NULL`, of a column that may be null.
-    fn null_test(&mut self, column: ColumnIndex, wanted: WantedTruths) -> MadeTruths {
-        if wanted.yes {
-            let nulls = self.value(Value::Nulls(column))?;
-            self.sides(nulls, &[], false, false, wanted)
-        } else {
-            Ok(TruthPair::of(None, Some(self.values(column)?)))
+    /// Returns a register that is 1 where one of a part's registers is.
+    fn either(&mut self, made: TruthRegisters) -> Made {
+        match (made.yes, made.no) {
+            (Some(yes), Some(no)) => self.set_from(no, yes, Instr::Or(yes, yes, no)),
+            (yes, no) => yes.or(no).ok_or(Reason::Limit),
         }
     }
 
@@ -161,69 +125,68 @@ impl Code<'_> {
     fn in_set(&mut self, set: &Set, wanted: WantedTruths) -> MadeTruths {
         let first = self.open_skips();
         let skips = self.skips.count;
-        let inside = self.codes(set)?;
+        let held = self.codes(set)?;
         let early = self.skips.count > skips;
-        let made = self.sides(inside, &[set.column], early, set.inverted, wanted)?;
+        let wanted = wanted.opposite_if(set.inverted);
+        let made = self.sides(held, &[set.column], early, wanted)?;
         self.meet_from(first);
-        Ok(made)
+        Ok(made.opposite_if(set.inverted))
     }
 
     /// Returns the registers of a comparison of two columns. Its skips meet right after its own
     /// instructions: after a NOT or a null plane, "less so far" would differ by them.
     fn compare_columns(&mut self, order: Order, wanted: WantedTruths) -> MadeTruths {
         let first = self.open_skips();
-        let terminal = order.terminal();
-        let held = match terminal {
-            Some(terminal) => self.fill(terminal == 1)?,
-            None => self.relation(order)?,
-        };
+        let held = self.relation(order)?;
         self.meet_from(first);
         self.meet();
         let columns = [index_of(order.left), index_of(order.right)];
-        let columns = &columns[usize::from(terminal.is_some())..];
-        let made = self.sides(held, columns, true, order.negated, wanted)?;
+        let wanted = wanted.opposite_if(order.negated);
+        let made = self.sides(held, &columns, true, wanted)?;
         self.meet_from(first);
-        self.meet();
-        Ok(made)
+        Ok(made.opposite_if(order.negated))
     }
 
     /// Returns the registers that are 1 where all of some columns have values and a register is 1,
-    /// and where they have values and it is 0; the other way round if `negated`. With `early`, a
-    /// skip omits the null planes if no lane is left.
+    /// and where they have values and it is 0. With `early`, a skip omits the null planes if no lane
+    /// is left.
     fn sides(
         &mut self,
         held: Register,
         columns: &[ColumnIndex],
         early: bool,
-        negated: bool,
         wanted: WantedTruths,
     ) -> MadeTruths {
-        let wanted = wanted.opposite_if(negated);
         let mut made = TruthPair::of(None, None);
         if wanted.no {
-            let outside = if wanted.yes { self.copy(held)? } else { held };
+            let other = if wanted.yes { self.copy(held)? } else { held };
             for column in columns {
-                if is_nullable(self.schema, usize::from(*column)) {
+                if is_nullable(self.schema, *column) {
                     let nulls = self.value(Value::Nulls(*column))?;
-                    self.join_into(Connective::Or, outside, nulls)?;
+                    self.set_from(nulls, other, Instr::Or(other, other, nulls))?;
                 }
             }
-            made.no = Some(self.oppose(outside, outside)?);
+            made.no = Some(self.set(other, Instr::Not(other, other))?);
         }
         if wanted.yes {
             for column in columns {
-                if is_nullable(self.schema, usize::from(*column)) {
+                if is_nullable(self.schema, *column) {
                     if early && !wanted.no {
                         self.skip(held)?;
                     }
-                    let values = self.values(*column)?;
-                    self.join_into(Connective::And, held, values)?;
+                    let values = self.value(Value::Values(*column))?;
+                    self.set_from(values, held, Instr::And(held, held, values))?;
                 }
             }
             made.yes = Some(held);
         } else if !wanted.no {
             self.registers.release(held);
         }
-        Ok(made.opposite_if(negated))
+        Ok(made)
     }
+}
+
+/// Returns whether an instruction compares a byte.
+fn is_look(instr: Instr) -> bool {
+    matches!(instr, Instr::ByteLt(..) | Instr::ByteEq(..))
 }
