@@ -158,5 +158,5 @@ fn the_longest_lists_are_served(rt: HostRuntime) -> Result<(), Fail> {
 
 #[test]
 fn the_longest_scattered_lists_are_served(rt: HostRuntime) -> Result<(), Fail> {
-    assert_longest(&rt, rt.alloc(), "d", 26, 129)
+    assert_longest(&rt, rt.alloc(), "d", 26, 133)
 }

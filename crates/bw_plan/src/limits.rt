@@ -15,10 +15,11 @@ pub(crate) const MAX_LOOKS: usize = 1000;
 /// table that isn't very large. To repeat it: "1,000 in a row" of `bench.py cliffs`.
 pub(crate) const MAX_LIST: usize = 400;
 
-/// A set of codes is long if its bounds have more bytes in all: those of 102 scattered numbers of 32
-/// bits have 816. Longer lists are searched row by row in half the time. An AND or OR combines sets
-/// of a column as long as the whole isn't long: each is combined with those so far.
-pub(crate) const LONG_SET: usize = 816;
+/// A set of codes is long if its bounds have more bytes in all, besides their top ones: those of 200
+/// scattered numbers of 17 to 24 bits have 800. Longer lists are searched row by row in half the
+/// time. An AND or OR combines sets of a column as long as the whole isn't long: each is combined
+/// with those so far.
+pub(crate) const LONG_SET: usize = 800;
 
 /// The most product rows of a condition with a list whose set is long. With more, planning the list
 /// and scanning a million rows for it takes longer than looking it up in each of them.

@@ -54,8 +54,7 @@ impl Set {
 
     /// Returns whether it takes many instructions to test for its codes.
     pub(crate) fn is_long(&self) -> bool {
-        let slices = usize::from(self.top).saturating_add(1);
-        self.bounds.len().saturating_mul(slices) > LONG_SET
+        self.bounds.len().saturating_mul(usize::from(self.top)) > LONG_SET
     }
 
     /// Returns whether it has the codes between a bound, by its number, and the one before.
