@@ -10,7 +10,7 @@ from typing import Callable, Iterator
 from .asking import Asking, statements_in
 from .formats import FORMATS
 from .naming import is_name
-from .sql.table import Table
+from ._sql.tables import Table
 from .telling import counted
 
 PROMPT, MORE = "bw> ", "...> "

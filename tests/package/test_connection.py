@@ -15,7 +15,8 @@ import unittest
 from unittest import mock
 
 import bwtools
-from bwtools.sql import by_sqlite, counted
+from bwtools._sql import by_sqlite
+from bwtools.sql import counted
 
 from tests.support import Imported, imported
 

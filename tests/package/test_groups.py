@@ -9,10 +9,11 @@ from unittest import mock
 import bwtools
 from bwtools import kinds
 from bwtools.failed import Failed
-from bwtools.sql import counted, grammar, groups, rows
+from bwtools._sql import plan
+from bwtools._sql.statement import Statement
+from bwtools.sql import counted, groups, rows
 from bwtools.sql.exact import float_sum
 from bwtools.sql.limits import Limits
-from bwtools.sql.statement import Statement
 from bwtools.sql.wanted import Wanted
 from bwtools.telling import Refused
 from tests.support import Imported
@@ -48,7 +49,7 @@ class Asked(Imported):
         self.engine = self.connection.engine(self.connection.catalog.only)
 
     def answer(self, sql):
-        answer = grammar.answer(Statement(sql, self.connection.catalog), self.connection.engine)
+        answer = plan.answer(Statement(sql, self.connection.catalog), self.connection.engine)
         self.assertIsNotNone(answer, sql)
         return answer
 
@@ -336,7 +337,7 @@ class InOrder(Asked):
     def test_too_many_rows_to_sort_are_left_to_sqlite(self):
         with mock.patch.object(rows, "MOST_ROWS", 100):
             statement = Statement("SELECT n FROM t ORDER BY n", self.connection.catalog)
-            self.assertIsNone(grammar.answer(statement, self.connection.engine))
+            self.assertIsNone(plan.answer(statement, self.connection.engine))
             with mock.patch.object(rows, "MANY_ROWS", 10):
                 self.rows("SELECT wide FROM t ORDER BY wide DESC LIMIT 5")
 

@@ -7,10 +7,11 @@ from unittest import mock
 
 import bwtools
 from bwtools.failed import Failed
-from bwtools.sql import by_sqlite
-from bwtools.sql.aggregates import for_sqlite
-from bwtools.sql.by_sqlite import pushed
-from bwtools.sql.statement import Statement
+from bwtools._sql import by_sqlite
+from bwtools._sql.exactness import sum_text
+from bwtools._sql.pushdown import pushed
+from bwtools._sql.render import Renderer
+from bwtools._sql.statement import Statement
 from bwtools.sql.sum import summed
 from bwtools.telling import Refused
 
@@ -112,7 +113,7 @@ class Listed(Listings):
                  "id BETWEEN 1 AND 3"),
                 ("SELECT id FROM trips WHERE id + 0 BETWEEN 1 AND 3 AND id < 5", "id < 5"),
                 ("SELECT id FROM trips WHERE CASE WHEN id > 1 AND id < 5 THEN 1 END AND id < 5",
-                 ""),
+                 "id < 5"),
                 ("SELECT t.name FROM stations t LEFT JOIN trips ON t.city = trips.city WHERE id IS "
                  "NULL", ""),
                 ("SELECT id FROM trips WHERE id > 1 UNION SELECT id FROM trips", ""),
@@ -121,10 +122,11 @@ class Listed(Listings):
                 ("WITH x AS (SELECT 1) SELECT id FROM trips WHERE id > 1", ""),
                 ("SELECT id FROM trips a WHERE a.id > 1 AND a.id * 2 > 3", "id > 1"),
                 ("SELECT id FROM trips", ""),
-                ("SELECT id FROM trips WHERE cents > 1.00000000000000001 AND id + 1 > 1", ""),
+                ("SELECT id FROM trips WHERE cents > 1.00000000000000001 AND id + 1 > 1",
+                 "cents > 100"),
                 ("SELECT max(id) FROM trips HAVING max(id) > 1", "")]:
             with self.subTest(sql):
-                self.assertEqual(pushed(self.statement(sql)), wanted)
+                self.assertEqual(pushed(self.statement(sql).tree), wanted)
 
     def test_what_is_pushed_down_changes_no_answer(self):
         for sql, wanted in [
@@ -179,7 +181,7 @@ class Listed(Listings):
                          [(4, "BOSTON"), (5, "BERGEN")])
 
     def test_interrupt_undoes_what_was_listed(self):
-        with mock.patch("bwtools.sql.listing.NumberRows.values", side_effect=KeyboardInterrupt), \
+        with mock.patch("bwtools._sql.listing.NumberRows.values", side_effect=KeyboardInterrupt), \
                 self.assertRaises(KeyboardInterrupt):
             self.rows("SELECT abs(id) FROM trips")
         self.assertEqual(len(self.rows("SELECT abs(id) FROM trips")), 5)
@@ -262,8 +264,9 @@ class Values(Listings):
         self.assertEqual(self.rows("SELECT id, sum(cents) OVER (ORDER BY id), avg(id) FILTER "
                                    "(WHERE id > 1) OVER () FROM trips WHERE id < 3"),
                          [(1, 12.5, 2.0), (2, 15.6, 2.0)])
+        statement = self.statement("SELECT sum(cents) OVER () FROM trips")
         self.assertIn("sum(cents) OVER",
-                      for_sqlite(self.statement("SELECT sum(cents) OVER () FROM trips")))
+                      Renderer(statement.written, sum_text).text(statement.tree))
 
     def test_sums_outside_64_bits_are_refused(self):
         self.refused("SELECT sum(n), sum(n + 0) FROM big", "outside the range of 64 bits")

@@ -18,13 +18,13 @@ print(*sorted(set(sys.modules) - before), file=sys.stderr)
 sys.exit(status)
 """
 OWN = set("""
-    answer_options asking column command csv_lines failed formats kind kinds kinds.styled
-    kinds.texts kinds.whole listed naming pairs programs programs.ask query regular sql
-    sql.adding sql.aggregate sql.aggregate_values sql.answer sql.blocks sql.bracketed sql.catalog
-    sql.checking sql.clauses sql.condition sql.connection sql.engine sql.errors sql.grammar
-    sql.items sql.local sql.operands sql.outside sql.output sql.predicates sql.reader sql.refusals
-    sql.scopes sql.selects sql.statement sql.structure sql.table sql.tokens sql.totals_question
-    sql.value_rows sql.values store stored_list telling valued waiting""".split())
+    _sql _sql.lexer _sql.literals _sql.operators _sql.parser _sql.plan _sql.predicates _sql.prepare
+    _sql.pushdown _sql.render _sql.resolve _sql.statement _sql.syntax _sql.tables _sql.totals
+    _sql.validate _sql.words answer_options asking column command csv_lines failed formats kind
+    kinds kinds.styled kinds.texts kinds.whole listed naming pairs programs programs.ask query
+    regular sql sql.adding sql.aggregate sql.aggregate_values sql.answer sql.blocks sql.connection
+    sql.engine sql.errors sql.local sql.outside sql.selects sql.value_rows sql.values store
+    stored_list telling valued waiting""".split())
 # what takes long to import, and what nobody needs who counts
 SLOW = set("argparse csv dataclasses decimal distributed fractions gettext hashlib inspect json "
            "locale numpy pandas pathlib random shutil statistics subprocess tempfile threading "

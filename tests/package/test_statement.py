@@ -90,7 +90,8 @@ class Conditions(Statements):
 
     def test_a_word_is_reserved_only_if_it_is(self):
         self.refused("SELECT price_ FROM trips",
-                     "there is no column price_ at character 7 of the statement: did you mean price")
+                     "there is no column price_ at character 7 of the statement: did you mean "
+                     "price")
         self.refused("SELECT count FROM trips", "the word is reserved: use count_")
 
 

@@ -34,7 +34,7 @@ class Constant:
     blob; and whether SQLite reads it as an integer."""
     __slots__ = ("node", "value", "is_integer", "is_float", "text")
 
-    def __init__(self, node: Node, value: Union[None, str, Fraction, bytes],
+    def __init__(self, node: Node | None, value: Union[None, str, Fraction, bytes],
                  is_integer: bool = False, is_float: bool = False, text: str = "") -> None:
         self.node, self.value = node, value
         self.is_integer, self.is_float, self.text = is_integer, is_float, text

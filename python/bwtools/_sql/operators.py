@@ -5,9 +5,9 @@ from typing import Callable, Optional, Sequence
 
 from ..telling import Refused
 from .lexer import BLOB, END, NUMBER, PARAMETER, QUOTED, TEXT, WORD, Token
-from .syntax import (IN, Between, Call, Case, Cast, Collate, ColumnName, Comparison, InList, InQuery,
-                     Like, Literal, Name, Node, NullTest, Operation, OrderTerm, Query, Row, Subquery,
-                     TableSource, Unary, When, Window, children)
+from .syntax import (IN, Between, Call, Case, Cast, Collate, ColumnName, Comparison, InList,
+                     InQuery, Like, Literal, Name, Node, NullTest, Operation, OrderTerm, Query,
+                     Row, Subquery, TableSource, Unary, When, Window, children)
 from .words import COMPARE, JOINS, MOMENTS, QUERY, RESERVED
 
 # the levels of operators: those of a higher one bind tighter

@@ -224,4 +224,3 @@ class Parser(ExpressionParser):
         clause = "LIMIT" if found.limit else "ORDER BY"
         return self.refused(f"{clause} clause should come after {self.token.text.upper()} not "
                             "before")
-

@@ -3,6 +3,7 @@ it refuses is refused, with its message and the place. Its authorizer says what 
 and which columns it reads."""
 from __future__ import annotations
 
+import re
 import sqlite3
 from typing import Any, Iterator, Sequence
 
@@ -12,7 +13,7 @@ from ..telling import Refused
 from .lexer import Token, quoted_name
 from .words import MOMENTS
 from .resolve import HIDDEN
-from .syntax import Call, ColumnName, Node, Query, walk
+from .syntax import Call, ColumnName, Node, Query, Row, Select, Window, walk
 from .tables import Catalog, missing
 
 # actions of SQLite that Python's module doesn't name
@@ -83,16 +84,17 @@ class Emptied:
     def close(self) -> None:
         self.database.close()
 
-    def prepare(self, tree: Query, sql: str) -> None:
-        """Has SQLite read a statement. Raises Refused with its message if it refuses it."""
-        try:
-            explain(self.database, self.guard, sql)
-        except (sqlite3.Error, sqlite3.Warning) as error:
-            raise Refused(self.guard.denied or told(tree, str(error))) from None
+    def prepare(self, tree: Query, sql: str, tokens: Sequence[Token], written: str) -> None:
+        """Has SQLite read the text of a statement. Raises Refused with its message if it refuses
+        it."""
+        message = self.message(sql)
+        if message:
+            refused = Refused(self.guard.denied or told(tree, message))
+            raise self.refusal(tokens, written, refused) if is_of_syntax(message) else refused
 
     def refusal(self, tokens: Sequence[Token], written: str, ours: Refused) -> Refused:
-        """Returns the refusal of a statement that the parser doesn't know: SQLite's, or ours if it
-        has none."""
+        """Returns the refusal of a statement that SQLite can't parse: with its message and the
+        place, or `ours` if it has none."""
         parts = list[str]()
         for at, token in enumerate(tokens[:-1]):
             # SQLite doesn't know the words before a literal of a date or a time
@@ -102,7 +104,7 @@ class Emptied:
         for token, part in zip(tokens, parts):
             sql = sql[:token.start] + part + sql[token.end:] if part != token.text else sql
         message = self.message(sql)
-        if not message.startswith('near "') and message != "incomplete input":
+        if not is_of_syntax(message):
             return Refused(self.guard.denied) if self.guard.denied else ours
         place = self.place(tokens, sql)
         near = message.replace('near ""', "near the end")
@@ -126,6 +128,10 @@ class Emptied:
             is_wrong = self.message(sql[:tokens[middle].end]).startswith('near "')
             low, high = (low, middle) if is_wrong else (middle + 1, high)
         return tokens[low].start
+
+
+def is_of_syntax(message: str) -> bool:
+    return message.startswith('near "') or message == "incomplete input"
 
 
 def declare(database: sqlite3.Connection, catalog: Catalog) -> None:
@@ -182,7 +188,7 @@ def told(tree: Query, message: str) -> str:
         return missing_column(tree, name)
     if what == "no such function":
         return missing_function(tree, name)
-    return f"{message}{at_name(tree, name.split(' ')[0])}"
+    return f"{message}{at_name(tree, name.split(' ')[0]) or at_term(tree, message)}"
 
 
 def missing_column(tree: Query, name: str) -> str:
@@ -194,8 +200,8 @@ def missing_column(tree: Query, name: str) -> str:
             names, where = node.scope.names(), f" at character {node.name.start} of the statement"
             near = [each for each in names if each.lower() == f"{last.lower()}_"]
             if near and last.upper() in RESERVED:
-                return f"there is no column {last}{where}: the word is reserved: use {near[0]} or " \
-                       f'"{last}"'
+                return f"there is no column {last}{where}: the word is reserved: use {near[0]} " \
+                       f'or "{last}"'
             return str(missing("column", last, names, where))
     return f"there is no column {name}"
 
@@ -207,6 +213,28 @@ def missing_function(tree: Query, name: str) -> str:
         return f"this SQLite, {sqlite3.sqlite_version}, has no function {name}{where}"
     known = [each for each in FUNCTIONS if each.isidentifier() and not each.startswith(OURS)]
     return f"{missing('function', name, known)}{where}"
+
+
+def at_term(tree: Query, message: str) -> str:
+    """Returns the place of what a message of SQLite is about, or nothing: of a function, of a term
+    of ORDER BY or GROUP BY, or of a clause."""
+    found = re.search(r"([0-9]+)(?:st|nd|rd|th) (ORDER|GROUP) BY term", message)
+    named = re.search(r"(\w+)\(\)", message)
+    nodes = list[Node]()
+    for node in walk(tree):
+        if found and found[2] == "ORDER" and isinstance(node, (Query, Window)):
+            nodes += node.orders[int(found[1]) - 1:int(found[1])]
+        elif found and isinstance(node, Select):
+            nodes += node.groups[int(found[1]) - 1:int(found[1])]
+        elif named and isinstance(node, Call) and node.name == named[1].upper():
+            nodes.append(node)
+        elif "GROUP BY clause" in message and isinstance(node, Select):
+            nodes += node.groups
+        elif "HAVING" in message and isinstance(node, Select) and node.having:
+            nodes.append(node.having)
+        elif "row value" in message and isinstance(node, Row):
+            nodes.append(node)
+    return f" (at character {nodes[0].start} of the statement)" if nodes else ""
 
 
 def at_name(tree: Query, name: str) -> str:

@@ -69,4 +69,3 @@ class Renderer:
         terms = [self.text(each) if place_of(each, count) is not None
                  else f"+({self.text(each)})" for each in select.groups]
         self.ties[query.orders[-1]] = f", {', '.join(terms)}"
-

@@ -307,10 +307,10 @@ class Resolver:
         schema = source.schema.text if source.schema else ""
         if not schema and name.lower() in commons and source.arguments is None:
             return self.common(commons[name.lower()])
-        if source.arguments is not None:
+        table = self.catalog.get(name) or self.catalog.only
+        if source.arguments is not None and not name.lower().startswith(HIDDEN):
             raise Refused(f"{name} at character {source.start} of the statement: functions that "
                           "return a table can't be used")
-        table = self.catalog.get(name) or self.catalog.only
         if table is None or name.lower().startswith(HIDDEN) or schema.lower() not in ("", "main"):
             raise missing("table", f"{schema}.{name}" if schema else name,
                           [*self.catalog.names(), *(each.node.name.text

@@ -35,7 +35,7 @@ class Statement:
             if isinstance(node, Literal) and not node.mark:
                 evaluate(node)
         resolve(self.tree, catalog, written)
-        empty.prepare(self.tree, self.sql())
+        empty.prepare(self.tree, self.sql(), tokens, written)
         validate(self.tree, written)
 
     @property

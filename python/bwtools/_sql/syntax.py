@@ -44,8 +44,8 @@ class Name(Node):
 
 
 class Literal(Node):
-    """A literal: the kind of its token (WORD for NULL), its text, and its value. A parameter is one,
-    whose `mark` is what was written: `is_float` says that its value is a double."""
+    """A literal: the kind of its token (WORD for NULL), its text, and its value. A parameter is
+    one, whose `mark` is what was written: `is_float` says that its value is a double."""
     __slots__ = ("kind", "text", "value", "mark", "is_float")
 
     def __init__(self, start: int, end: int, kind: str, text: str) -> None:

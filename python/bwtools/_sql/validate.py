@@ -146,6 +146,7 @@ class Checks:
 
     def literal(self, column: Column, constant: Constant, sign: str) -> None:
         """Rejects a literal of another kind than the column's, and gives it SQLite's form."""
+        assert constant.node
         shown, value = self.shown(constant.node), constant.beside(column)
         if isinstance(value, bytes) or value is None:
             raise Refused(f"{shown} can't be compared with {column.name}: {held(column)}")

@@ -43,9 +43,8 @@ from .. import asking, command
 from ..answer_options import AnswerOptions, add_options, options_of
 from ..naming import is_name
 from ..failed import Failed
-from ..sql.catalog import open_catalog
+from .._sql.tables import name_of, open_catalog
 from ..sql.connection import Connection, Settings
-from ..sql.table import name_of
 from ..telling import Refused
 from ..waiting import Waiting
 

@@ -25,7 +25,7 @@ from typing import Callable
 
 from .. import command, importing, options
 from ..answer_options import add_options, options_of
-from ..sql.table import name_of
+from .._sql.tables import name_of
 from . import ask
 
 NAME = "bw-shards"

@@ -3,9 +3,6 @@ from __future__ import annotations
 
 from ..column import Column
 from ..valued import Valued
-from . import tokens
-from .outside import Outside
-from .reader import TokenReader
 from .selects import COUNT
 
 AGGREGATES = ("COUNT", "SUM", "MIN", "MAX", "AVG")
@@ -38,23 +35,3 @@ class Aggregate(Valued):
     def is_of_bw(self) -> bool:
         """Whether totals of bw make it."""
         return not self.is_distinct and not self.is_float_sum
-
-
-def aggregate_of(reader: TokenReader) -> Aggregate:
-    """Consumes an aggregate over a column, or COUNT(*), as which COUNT(1) is."""
-    function = reader.take().key
-    reader.wants_mark("(")
-    column, is_distinct = None, False
-    is_of_rows = reader.next().is_mark("*") or \
-        reader.next().kind in (tokens.NUMBER, tokens.TEXT) and reader.next(1).is_mark(")")
-    if function == "COUNT" and is_of_rows:
-        reader.take()
-    else:
-        is_distinct = function == "COUNT" and reader.takes("DISTINCT")
-        column = reader.takes_column()
-        if not column:
-            raise Outside
-    reader.wants_mark(")")
-    if reader.next().key in ("FILTER", "OVER"):
-        raise Outside
-    return Aggregate(function, column, is_distinct)

@@ -8,17 +8,17 @@ import sqlite3
 from typing import TYPE_CHECKING, Any, Callable, Sequence
 
 from ..waiting import Waiting
-from . import errors, grammar
+from .._sql import plan
+from .._sql.statement import Statement
+from .._sql.tables import Catalog, Table, name_of, open_catalog
+from . import errors
 from .answer import Answer
-from .catalog import Catalog, open_catalog
 from .engine import Asker, Engine
 from .errors import translated
 from .local import Local
-from .statement import Statement
-from .table import Table, name_of
 
 if TYPE_CHECKING:
-    from .by_sqlite import BySqlite
+    from .._sql.by_sqlite import BySqlite
     from .cursor import Cursor
 
 # the SQLite of Debian 11
@@ -77,12 +77,12 @@ class Connection:
         statement = Statement(sql, self.catalog, parameters)
         for engine in self.engines.values():
             engine.asked.clear()
-        return grammar.answer(statement, self.engine) or self.by_sqlite.answer(statement)
+        return plan.answer(statement, self.engine) or self.by_sqlite.answer(statement)
 
     @functools.cached_property
     def by_sqlite(self) -> BySqlite:
         """SQLite over listed columns, which most statements don't need."""
-        from .by_sqlite import BySqlite
+        from .._sql.by_sqlite import BySqlite
         found = BySqlite(self.catalog, self.engine, self.settings.list_all, self.settings.waiting)
         self.stack.callback(found.close)
         return found

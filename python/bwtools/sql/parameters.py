@@ -9,7 +9,7 @@ from typing import Any
 
 from ..kind import GREATEST, LEAST
 from ..telling import Refused
-from .tokens import NUMBER, TEXT, WORD, Token, text_literal
+from .._sql.lexer import NUMBER, TEXT, WORD, Token, text_literal
 
 
 def literal(value: Any, start: int, number: int) -> Token:

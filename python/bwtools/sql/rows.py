@@ -9,7 +9,7 @@ from .engine import Engine
 from .limits import Limits
 from .number_rows import NumberRows
 from .outside import Outside
-from .predicates import placed
+from .._sql.predicates import placed
 from .selects import COUNT, both, names_of, select
 
 NULL, HEADING, AT_ONCE = b"NULL", b"\n", 1 << 20

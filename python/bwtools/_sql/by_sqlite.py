@@ -2,28 +2,23 @@
 from __future__ import annotations
 
 import collections
-import re
 import sqlite3
 from typing import Callable, Iterable, Mapping
 
+from ..sql.answer import Answer
+from ..sql.engine import Engine
+from ..sql.value_rows import ValueRows
+from ..sql.values import EXACT_DIGITS
 from ..telling import Refused
 from ..waiting import Waiting
-from .aggregates import for_sqlite
-from .answer import Answer
-from .catalog import Catalog
-from .clauses import Clauses, clauses_of
-from .condition import MOST_BYTES, Condition
-from .engine import Engine
+from .exactness import sum_text
 from .listing import Listing
-from .outside import Outside
 from .predicates import is_long
-from .reader import TokenReader
-from .reading import reads_of, told
+from .prepare import reads_of, told
+from .pushdown import pushed
+from .render import Renderer
 from .statement import Statement
-from .table import Table
-from .tokens import NUMBER
-from .value_rows import ValueRows
-from .values import EXACT_DIGITS
+from .tables import Catalog, Table
 
 # so many rows are listed without being asked for, and so many conditions' rows are kept
 MOST_ROWS, MOST_CONDITIONS = 4_000_000, 8
@@ -50,9 +45,9 @@ class BySqlite:
     def answer(self, statement: Statement) -> Answer:
         """Returns the answer to a statement. Raises Refused for one that can't run, Failed if bw
         can't list a column, and KeyboardInterrupt when it is interrupted."""
-        sql = for_sqlite(statement)
+        sql = Renderer(statement.written, sum_text).text(statement.tree)
         with self.whole.watched():
-            reads = reads_of(self.whole.database, self.whole.guard, statement, sql)
+            reads = reads_of(self.whole.database, self.whole.guard, statement.tree, sql)
         refuse_long_decimals(self.catalog, reads)
         listing, asked = self.listing(statement, reads), list[str]()
         tables = [self.tables()[name] for name in reads]
@@ -87,7 +82,7 @@ class BySqlite:
         if all(table in self.whole.listed and not self.whole.missing(tables[table], columns)
                for table, columns in reads.items()):
             return self.whole
-        condition = pushed(statement)
+        condition = pushed(statement.tree)
         if not condition:
             return self.whole
         found = self.parts.pop(condition, None) or Listing(self.catalog, condition)
@@ -121,7 +116,7 @@ class BySqlite:
         """Returns what to print for SQLite's message, while it ran a statement."""
         if message == "integer overflow":
             return "a SUM is outside the range of 64 bits"
-        return listing.guard.denied or told(listing.database, listing.guard, statement, message)
+        return listing.guard.denied or told(statement.tree, message)
 
 
 def refuse_long_decimals(catalog: Catalog, reads: Mapping[str, set[str]]) -> None:
@@ -132,49 +127,3 @@ def refuse_long_decimals(catalog: Catalog, reads: Mapping[str, set[str]]) -> Non
                 raise Refused(f"{column.name} has decimals of more than {EXACT_DIGITS} digits, "
                               "which SQLite doesn't compute with: ask for COUNT, MIN, MAX, or "
                               "compare the column with a number")
-
-
-def pushed(statement: Statement) -> str:
-    """Returns the condition of bw that each row of the answer fulfils: those among the operands of
-    AND in WHERE that have one, if the statement is one SELECT over one table; or nothing."""
-    try:
-        clauses = clauses_of(statement)
-    except Outside:
-        return ""
-    found = list[str]()
-    for first, end in terms(statement, clauses.span("WHERE")):
-        condition = condition_of(statement, clauses, first, end)
-        found += [condition] if condition else []
-    condition = " AND ".join(f"({each})" for each in found) if len(found) > 1 else "".join(found)
-    return condition if len(condition) <= MOST_BYTES else ""
-
-
-def condition_of(statement: Statement, clauses: Clauses, first: int, end: int) -> str:
-    """Returns the condition of bw for these tokens, or nothing."""
-    if any(is_long_number(token.text) for token in statement.tokens[first:end]
-           if token.kind == NUMBER):
-        return ""
-    try:
-        return Condition(TokenReader(statement, clauses.table, clauses.called, first, end)).whole()
-    except Outside:
-        return ""
-
-
-def is_long_number(text: str) -> bool:
-    """Returns whether a number may differ from its double."""
-    return len(re.sub("[^0-9]", "", text.lower().partition("e")[0]).strip("0")) > EXACT_DIGITS
-
-
-def terms(statement: Statement, span: range) -> list[tuple[int, int]]:
-    """Returns the first and the end of each operand of AND in a condition."""
-    line = statement.structure.line
-    places = list(line.places(span.start, span.stop))
-    keys = [line.key(at) for at in places]
-    if not places or "OR" in keys or "CASE" in keys:
-        return [(span.start, span.stop)] if places else []
-    ands, is_between = list[int](), False
-    for at, key in zip(places, keys):
-        if key == "AND" and not is_between:
-            ands.append(at)
-        is_between = key == "BETWEEN" or is_between and key != "AND"
-    return list(zip([span.start, *(at + 1 for at in ands)], [*ands, span.stop]))

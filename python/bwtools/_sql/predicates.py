@@ -12,8 +12,9 @@ from typing import TYPE_CHECKING, Any, Callable, Iterable, Sequence, Union
 from ..column import Column
 from ..kind import GREATEST, LEAST
 from ..stored_list import StoredList
-from . import values
-from .outside import Outside
+from ..sql import values
+from ..sql.outside import Outside
+from .literals import Constant
 
 if TYPE_CHECKING:
     from fractions import Fraction
@@ -31,12 +32,17 @@ MOST_RUNS, SHORT, MOST_VALUES, MOST_MOMENTS = 200, 3, 100, 50_000
 
 
 class Comparand:
-    """An operand of a comparison: a column, or the value of a literal, or neither, which is
-    NULL."""
+    """An operand of a comparison: a column, or a literal, or neither, which is NULL."""
 
-    def __init__(self, column: Column | None = None,
-                 value: Union[str, Fraction, None] = None) -> None:
-        self.column, self.value = column, value
+    def __init__(self, column: Column | None = None, constant: Constant | None = None) -> None:
+        self.column, self.constant = column, constant
+
+    @property
+    def value(self) -> Union[str, Fraction, None]:
+        """The value of a literal, or None."""
+        value = self.constant.value if self.constant else None
+        assert not isinstance(value, bytes)
+        return value
 
     @property
     def is_null(self) -> bool:
@@ -52,12 +58,20 @@ def always(column: Column) -> str:
 
 
 def place_of(column: Column, literal: Comparand) -> tuple[int, bool]:
-    """Returns the place of a literal among the numbers of a column."""
-    assert literal.value is not None, "a comparison with NULL is UNKNOWN"
-    place = values.place(column.kind, literal.value)
-    if place is None or values.affinity(column.kind) == values.REAL and \
-            not is_long(column) and not is_spelled(literal.value):
+    """Returns the place of a literal among the numbers of a column: the greatest number whose value
+    is at most the literal's, and whether they are equal."""
+    constant = literal.constant
+    value = constant.beside(column) if constant else None
+    assert constant and value is not None and not isinstance(value, bytes)
+    place = column.kind.place(value)
+    if place is None:
         raise Outside
+    if constant.is_integer and column.kind.plural == "floats":
+        # an integer is compared with doubles as it is
+        from fractions import Fraction
+        double = Fraction(float(value))
+        if isinstance(value, Fraction) and double != value:
+            return place[0] - (place[1] and double > value), False
     return place
 
 
@@ -67,16 +81,6 @@ def is_long(column: Column) -> bool:
         return False
     numbers = [column.kind.number(end) for end in column.ends]
     return any(number is None or len(str(abs(number))) > values.EXACT_DIGITS for number in numbers)
-
-
-def is_spelled(value: Union[str, Fraction]) -> bool:
-    """Returns whether a number is the shortest spelling of its double, by which SQLite compares it,
-    or is beyond all doubles. Only such numbers are compared with doubles as they are written."""
-    from fractions import Fraction
-    try:
-        return isinstance(value, str) or Fraction(repr(float(value))) == value
-    except OverflowError:
-        return True
 
 
 def compared(left: Comparand, sign: str, right: Comparand) -> str:
@@ -122,11 +126,11 @@ def columns_compared(left: Column, sign: str, right: Column) -> str:
         raise Outside
     from fractions import Fraction
 
-    from .conversions import stored
+    from ..sql.conversions import stored
     terms = [never(left), never(right)]
     for number, value in zip(range_of(few), stored(few.kind, range_of(few))):
-        literal = Comparand(None, Fraction(repr(value)))
-        part = placed(other, SWAPPED[sign], *place_of(other, literal))
+        constant = Constant(None, Fraction(repr(value)))
+        part = placed(other, SWAPPED[sign], *place_of(other, Comparand(None, constant)))
         terms.append(f"{few.name} = {number} AND {part}")
     return f"({' OR '.join(terms)})"
 
@@ -198,7 +202,7 @@ def like(column: Column, sign: str, pattern: str, escape: str | None) -> str:
 
 def matching(column: Column, numbers: range, words: str, wanted: tuple[str, ...]) -> list[int]:
     """Returns the numbers of a column whose values fulfil an SQL condition."""
-    from .conversions import stored
+    from ..sql.conversions import stored
     database = sqlite3.connect(":memory:")
     try:
         database.execute("CREATE TABLE listed (code INTEGER PRIMARY KEY, value TEXT)")

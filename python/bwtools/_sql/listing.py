@@ -8,16 +8,15 @@ from typing import Callable, Iterator, Sequence
 
 from ..column import Column
 from ..failed import Failed
-from .blocks import Block
-from .catalog import Catalog
-from .engine import Engine
-from .functions import Functions
-from .number_rows import NumberRows
-from .reading import Guard, declare
-from .table import Table
-from .tokens import quoted_name
-from .values import affinity
-from .watching import watch
+from ..sql.blocks import Block
+from ..sql.engine import Engine
+from ..sql.functions import Functions
+from ..sql.number_rows import NumberRows
+from ..sql.values import affinity
+from ..sql.watching import watch
+from .lexer import quoted_name
+from .prepare import Guard, declare
+from .tables import Catalog, Table
 
 # so many variables has a statement that inserts rows; any SQLite takes 999
 MOST_VARIABLES = 500
@@ -33,7 +32,8 @@ class Listing:
 
     def __init__(self, catalog: Catalog, condition: str = "") -> None:
         self.condition = condition
-        self.database = sqlite3.connect(":memory:", isolation_level=None)
+        self.database = sqlite3.connect(":memory:", isolation_level=None,
+                                        check_same_thread=False)
         self.guard, self.functions = Guard(catalog), Functions(self.database)
         self.database.set_authorizer(self.guard)
         declare(self.database, catalog)
