@@ -29,6 +29,8 @@ from tests.drawn_select import LONG, TABLES, TYPES, Pair
 
 # so many statements are asked of one connection, and over the same rows
 A_CONNECTION, A_TABLE = 40, 200
+# the digits of a double that are compared: all
+SURE = 16
 # what pages say is refused that SQLite answers
 OURS = re.compile(
     "can't be compared|is null in|is no condition|which have no|which can't be summed|has no order|"
@@ -107,11 +109,8 @@ class Compared:
 
     def differs(self, pair: Pair) -> str:
         """Returns how an answer differs from that of sqlite3, or nothing."""
-        database = self.base.plain if re.search(r"\bover\b", pair.theirs) or \
-            " OVER " in pair.theirs else self.base.exact
         try:
-            cursor = database.execute(pair.theirs)
-            wanted, headings = cursor.fetchall(), [each[0] for each in cursor.description]
+            wanted, headings, places = self.rows(pair.theirs)
         except sqlite3.Error as error:
             return self.is_refused(pair.ours, str(error))
         try:
@@ -119,11 +118,23 @@ class Compared:
                 found = list(answer.python_rows())
                 if list(answer.headings) != [ours_of(each) for each in headings]:
                     return f"way {answer.way}: headings {answer.headings}, expected {headings}"
-                if not is_same(found, wanted, " ORDER BY " in pair.ours):
+                if not is_same(found, wanted, " ORDER BY " in pair.ours, places):
                     return f"way {answer.way}: {found[:9]}\n  expected {wanted[:9]}"
         except Refused as refused:
             return "" if OURS.search(str(refused)) and is_long(pair) else f"refused: {refused}"
         return ""
+
+    def rows(self, sql: str) -> tuple[list[Any], list[str], int]:
+        """Returns the rows of sqlite3, their headings, and how many digits of doubles are sure:
+        those of all, but before OVER its own sums must be used, in subqueries too."""
+        for database, places in ((self.base.exact, SURE), (self.base.plain, SURE - 4)):
+            try:
+                cursor = database.execute(sql)
+                return cursor.fetchall(), [each[0] for each in cursor.description], places
+            except sqlite3.Error as error:
+                if "window function" not in str(error) or places < SURE:
+                    raise
+        raise AssertionError
 
     def is_refused(self, sql: str, message: str) -> str:
         try:
@@ -166,23 +177,22 @@ def is_long(pair: Pair) -> bool:
         any(f".{quote}g" in pair.ours for quote in ("", '"', "`", "["))
 
 
-def is_same(found: Sequence[Any], wanted: Sequence[Any], is_ordered: bool) -> bool:
+def is_same(found: Sequence[Any], wanted: Sequence[Any], is_ordered: bool,
+            places: int = SURE) -> bool:
     """Returns whether rows are equal: in order, if they have one."""
     if len(found) != len(wanted):
         return False
-    if all(map(are_equal, found, wanted)):
-        return True
-    keyed = [sorted(map(key_of, rows)) for rows in (found, wanted)]
-    return not is_ordered and (keyed[0] == keyed[1] or all(
-        map(are_equal, sorted(found, key=key_of), sorted(wanted, key=key_of))))
+    pairs = [zip(found, wanted)]
+    if not is_ordered:
+        pairs.append(zip(sorted(found, key=key_of), sorted(wanted, key=key_of)))
+    return any(all(len(row) == len(other) and all(map(is_equal, row, other, [places] * len(row)))
+                   for row, other in each) for each in pairs)
 
 
-def are_equal(row: Sequence[Any], other: Sequence[Any]) -> bool:
-    return len(row) == len(other) and all(map(is_equal, row, other))
-
-
-def is_equal(found: Any, wanted: Any) -> bool:
+def is_equal(found: Any, wanted: Any, places: int = SURE) -> bool:
     """Returns whether a value of Python is one of sqlite3."""
+    if places < SURE and isinstance(found, float) and isinstance(wanted, float) and wanted:
+        return abs(found / wanted - 1) < 10.0 ** -places
     if isinstance(found, decimal.Decimal):
         if isinstance(wanted, str):
             return f"sum {Fraction(found)}" == wanted
