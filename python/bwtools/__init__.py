@@ -22,23 +22,15 @@ from __future__ import annotations
 import importlib
 from typing import TYPE_CHECKING, Any
 
+__version__ = "0.3.0"
 apilevel, threadsafety, paramstyle = "2.0", 1, "qmark"
-# where each name is, which is imported when it is used: programs that need none begin sooner
-ERRORS = ("Warning", "Error", "InterfaceError", "DatabaseError", "DataError", "OperationalError",
-          "IntegrityError", "InternalError", "ProgrammingError", "NotSupportedError")
-TYPES = ("STRING", "BINARY", "NUMBER", "DATETIME", "ROWID", "Date", "Time", "Timestamp", "Binary",
-         "DateFromTicks", "TimeFromTicks", "TimestampFromTicks")
-PLACES = {"connect": "connection", "Connection": "connection", "Cursor": "cursor",
-          **dict.fromkeys(ERRORS, "errors"), **dict.fromkeys(TYPES, "types")}
 
 if TYPE_CHECKING:
-    from .sql.connection import Connection, connect
-    from .sql.cursor import Cursor
-    from .sql.errors import (DatabaseError, DataError, Error, IntegrityError, InterfaceError,
-                             InternalError, NotSupportedError, OperationalError, ProgrammingError,
-                             Warning)
-    from .sql.types import (BINARY, DATETIME, NUMBER, ROWID, STRING, Binary, Date, DateFromTicks,
-                            Time, TimeFromTicks, Timestamp, TimestampFromTicks)
+    from ._dbapi import (BINARY, DATETIME, NUMBER, ROWID, STRING, Binary, Connection, Cursor,
+                         DatabaseError, DataError, Date, DateFromTicks, Error, IntegrityError,
+                         InterfaceError, InternalError, NotSupportedError, OperationalError,
+                         ProgrammingError, Time, TimeFromTicks, Timestamp, TimestampFromTicks,
+                         Warning, connect)
 
 __all__ = ["apilevel", "threadsafety", "paramstyle", "connect", "Connection", "Cursor", "Warning",
            "Error", "InterfaceError", "DatabaseError", "DataError", "OperationalError",
@@ -48,10 +40,11 @@ __all__ = ["apilevel", "threadsafety", "paramstyle", "connect", "Connection", "C
 
 
 def __getattr__(name: str) -> Any:
-    if name not in PLACES:
+    # when one is used: programs that need none begin sooner
+    if name not in __all__:
         raise AttributeError(f"module {__name__!r} has no attribute {name!r}")
-    return getattr(importlib.import_module(f".sql.{PLACES[name]}", __name__), name)
+    return getattr(importlib.import_module("._dbapi", __name__), name)
 
 
 def __dir__() -> list[str]:
-    return sorted({*globals(), *PLACES})
+    return sorted({*globals(), *__all__})

@@ -313,7 +313,7 @@ class Statements(OverTable):
         self.assertEqual(answer.headings, ["unit price", "N2", "MIN(day)", "COUNT( * )",
                                            "max(city) + 1", "SUM(price)"])
         self.assertEqual([kind and kind.name for kind in answer.kinds],
-                         ["decimals", "whole", "dates", None, None, None])
+                         ["decimals", "whole", "dates", None, None, "decimals"])
         self.assertEqual((answer.way, list(answer.rows())), (1, []))
 
     def test_statements_of_bw(self):

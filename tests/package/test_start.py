@@ -12,19 +12,19 @@ PROGRAM = """
 import sys
 sys.path.insert(0, sys.argv.pop(1))
 before = set(sys.modules)
-from bwtools.programs import ask
+from bwtools._cli import ask
 status = ask.main()
 print(*sorted(set(sys.modules) - before), file=sys.stderr)
 sys.exit(status)
 """
 OWN = set("""
-    answer_options asking column command csv_lines failed formats kind kinds kinds.styled
-    kinds.texts kinds.whole listed naming pairs programs programs.ask query regular sql
-    sql.adding sql.aggregate sql.aggregate_values sql.answer sql.blocks sql.bracketed sql.catalog
-    sql.checking sql.clauses sql.condition sql.connection sql.engine sql.errors sql.grammar
-    sql.items sql.local sql.operands sql.outside sql.output sql.predicates sql.reader sql.refusals
-    sql.scopes sql.selects sql.statement sql.structure sql.table sql.tokens sql.totals_question
-    sql.value_rows sql.values store stored_list telling valued waiting""".split())
+    _aggregation _cli _cli.ask _cli.asking _cli.options _database _engine _engine.executor
+    _engine.process _output _result codes column command failed kind kinds kinds.styled
+    kinds.texts kinds.whole listed naming pairs regular sql sql.aggregate sql.bracketed
+    sql.catalog sql.checking sql.clauses sql.condition sql.grammar sql.items sql.operands
+    sql.outside sql.output sql.predicates sql.reader sql.refusals sql.scopes sql.selects
+    sql.statement sql.structure sql.table sql.tokens sql.totals_question store stored_list telling
+    valued waiting""".split())
 # what takes long to import, and what nobody needs who counts
 SLOW = set("argparse csv dataclasses decimal distributed fractions gettext hashlib inspect json "
            "locale numpy pandas pathlib random shutil statistics subprocess tempfile threading "

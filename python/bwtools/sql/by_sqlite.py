@@ -6,24 +6,22 @@ import re
 import sqlite3
 from typing import Callable, Iterable, Mapping
 
+from .._aggregation import NeedsExact
+from .._engine.executor import Engine
+from .._result import EXACT_DIGITS, Result, ValueRows, is_long
 from ..telling import Refused
 from ..waiting import Waiting
 from .aggregates import for_sqlite
-from .answer import Answer
 from .catalog import Catalog
 from .clauses import Clauses, clauses_of
 from .condition import MOST_BYTES, Condition
-from .engine import Engine
 from .listing import Listing
 from .outside import Outside
-from .predicates import is_long
 from .reader import TokenReader
 from .reading import reads_of, told
 from .statement import Statement
 from .table import Table
 from .tokens import NUMBER
-from .value_rows import ValueRows
-from .values import EXACT_DIGITS
 
 # so many rows are listed without being asked for, and so many conditions' rows are kept
 MOST_ROWS, MOST_CONDITIONS = 4_000_000, 8
@@ -47,7 +45,7 @@ class BySqlite:
         for listing in (self.whole, *self.parts.values()):
             listing.close()
 
-    def answer(self, statement: Statement) -> Answer:
+    def answer(self, statement: Statement) -> Result:
         """Returns the answer to a statement. Raises Refused for one that can't run, Failed if bw
         can't list a column, and KeyboardInterrupt when it is interrupted."""
         sql = for_sqlite(statement)
@@ -65,7 +63,11 @@ class BySqlite:
                 listing.add(table, reads[table.name], engines[table.name], self.waiting.add)
         for name, engine in engines.items():
             asked += engine.asked[before[name]:]
-        return self.run(listing, statement, sql, asked)
+        try:
+            return self.run(listing, statement, sql, asked)
+        except NeedsExact:
+            refuse_uses(statement)
+        return self.run(listing, statement, for_sqlite(statement, True), asked, True)
 
     def tables(self) -> Mapping[str, Table]:
         return {table.name: table for table in self.catalog.tables.values()}
@@ -96,8 +98,10 @@ class BySqlite:
             self.parts.popitem(last=False)[1].close()
         return found
 
-    def run(self, listing: Listing, statement: Statement, sql: str, asked: list[str]) -> Answer:
-        """Runs a statement over what is listed."""
+    def run(self, listing: Listing, statement: Statement, sql: str, asked: list[str],
+            is_exact: bool = False) -> Result:
+        """Runs a statement over what is listed. Raises NeedsExact if a double isn't a sum of
+        decimals."""
         guard = listing.guard
         self.waiting.begin("SQLite computes")
         guard.denied, guard.read, guard.is_off = "", {}, False
@@ -113,15 +117,28 @@ class BySqlite:
         names = [each[0] for each in cursor.description]
         outputs = statement.outputs
         if len(outputs) != len(names):
-            return Answer(names, [None] * len(names), ValueRows(rows), 2, asked)
-        kinds = [each.plain.kind if each.plain else None for each in outputs]
-        return Answer([each.heading for each in outputs], kinds, ValueRows(rows), 2, asked)
+            return Result(names, [None] * len(names), ValueRows(rows), 2, asked)
+        kinds = [each.kind for each in outputs]
+        exact = [place for place, each in enumerate(outputs) if is_exact and each.is_total
+                 and each.kind]
+        return Result([each.heading for each in outputs], kinds, ValueRows(rows, exact), 2, asked)
 
     def failure(self, listing: Listing, statement: Statement, message: str) -> str:
         """Returns what to print for SQLite's message, while it ran a statement."""
         if message == "integer overflow":
             return "a SUM is outside the range of 64 bits"
         return listing.guard.denied or told(listing.database, listing.guard, statement, message)
+
+
+def refuse_uses(statement: Statement) -> None:
+    """Rejects a statement that may have a sum of decimals of many digits in an expression."""
+    sums = [each for each in statement.outputs if each.is_total and each.kind]
+    line, structure = statement.structure.line, statement.structure
+    keys = [line.key(at) for at in range(line.end)]
+    calls = sum(key == "SUM" and line.is_mark(at + 1, "(") for at, key in enumerate(keys))
+    if calls > len(sums) or structure.nested or {"HAVING", "WITH", "UNION"} & set(keys):
+        raise Refused("a SUM of decimals has more than 15 digits: an expression computes with "
+                      "doubles, which have fewer")
 
 
 def refuse_long_decimals(catalog: Catalog, reads: Mapping[str, set[str]]) -> None:

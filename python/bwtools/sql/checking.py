@@ -9,6 +9,8 @@ from typing import Callable
 from ..column import Column
 from ..kind import Literal
 from ..kinds import Styled
+from .._result import MOMENTS, affinity, plain_of
+from .._result import TEXT as AS_TEXT
 from ..telling import Refused
 from . import refusals
 from .bracketed import Bracketed
@@ -16,8 +18,6 @@ from .operands import EQUAL, Comparison, Operand, Operands
 from .scopes import Scope
 from .structure import Structure
 from .tokens import NUMBER, QUOTED, TEXT, Token, quoted_name, text_literal
-from .values import MOMENTS, affinity, plain_of
-from .values import TEXT as AS_TEXT
 
 ROWIDS = ("rowid", "oid", "_rowid_")
 ARITHMETIC = ("+", "-", "*", "/", "%")
@@ -261,7 +261,7 @@ def sqlite_form(column: Column, literal: Literal) -> tuple[str, str] | None:
         return None
     if kind.name in MOMENTS:
         # few statements need it
-        from .iso import iso_text
+        from .._result import iso_text
         return TEXT, text_literal(iso_text(kind, literal))
     place = kind.place(literal) if kind.name == "truths" or isinstance(kind, Styled) else None
     if place is None:

@@ -19,7 +19,8 @@ from __future__ import annotations
 
 from typing import Callable
 
-from . import tokens, values
+from .. import _result as values
+from . import tokens
 from .outside import Outside
 from .predicates import Comparand, among, between, compared, like
 from .reader import TokenReader

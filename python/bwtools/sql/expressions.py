@@ -4,9 +4,10 @@ from __future__ import annotations
 
 from typing import Iterable, NamedTuple, Sequence
 
+from .._aggregation import Aggregate
 from ..column import Column
 from . import tokens
-from .aggregate import AGGREGATES, PREFIX, Aggregate, aggregate_of
+from .aggregate import AGGREGATES, PREFIX, aggregate_of
 from .clauses import Clauses
 from .outside import Outside
 from .reader import TokenReader, reader_of

@@ -16,10 +16,10 @@ from __future__ import annotations
 
 from typing import TYPE_CHECKING, Callable
 
+from .._engine.executor import Engine
+from .._result import Result
 from .aggregate import AGGREGATES, PREFIX
-from .answer import Answer
 from .clauses import Clauses, clauses_of
-from .engine import Engine
 from .items import plain_column
 from .outside import Outside
 from .statement import Statement
@@ -31,7 +31,7 @@ if TYPE_CHECKING:
     from .rows_question import RowsQuestion
 
 
-def answer(statement: Statement, engine_of: Callable[[Table], Engine]) -> Answer | None:
+def answer(statement: Statement, engine_of: Callable[[Table], Engine]) -> Result | None:
     """Returns the answer to a statement by statements of bw, or None if it is outside the grammar,
     or bw would have to list too much. Raises Refused if a result is refused, and session.Failed if
     bw ends by itself."""
@@ -43,8 +43,8 @@ def answer(statement: Statement, engine_of: Callable[[Table], Engine]) -> Answer
     except Outside:
         return None
     outputs = statement.outputs
-    kinds = [output.plain.kind if output.plain else None for output in outputs]
-    return Answer([output.heading for output in outputs], kinds, body, 1, engine.asked[before:])
+    kinds = [kind or output.kind for kind, output in zip(question.kinds(), outputs)]
+    return Result([output.heading for output in outputs], kinds, body, 1, engine.asked[before:])
 
 
 def question_of(statement: Statement) -> TotalsQuestion | RowsQuestion | GroupsQuestion:

@@ -6,14 +6,15 @@ import itertools
 import sqlite3
 from typing import Iterator, Sequence
 
+from .._aggregation import TooMany
+from .._engine.executor import Engine
+from .._result import Value, ValueRows, affinity
+from ..kind import Kind
 from ..telling import Refused
 from .aggregate import PREFIX
-from .blocks import Value
 from .clauses import Clauses
-from .counted import TooMany
-from .engine import Engine
 from .expressions import Expressions, Group, words_of
-from .groups import groups_of
+from .groups import NO_DOUBLE, groups_of
 from .items import columns_of, is_star, named_item, plain_column, where_of
 from .limits import Limits, limits_of
 from .ordering import terms_of
@@ -21,8 +22,6 @@ from .outside import Outside
 from .statement import Statement
 from .structure import Item
 from .tokens import NUMBER, quoted_name
-from .value_rows import ValueRows
-from .values import affinity
 from .wanted import Wanted
 
 # the small table of groups
@@ -42,6 +41,7 @@ class GroupsQuestion:
         self.expressions.are_free = clauses.is_distinct and not clauses.span("GROUP")
         self.limits = limits_of(statement.tokens, clauses.span("LIMIT"))
         self.is_in_rows_order = False
+        self.having = ""
         self.sql = self.select()
         self.refuse_mixed()
         explain(types_of(self.expressions), self.sql)
@@ -112,14 +112,17 @@ class GroupsQuestion:
         clauses, made = self.clauses, self.expressions
         aliases = [alias for alias in clauses.aliases if alias]
         found = [self.items(item) for item in clauses.items]
+        self.shown = [item for each in found for item in each]
         shown = [f"{item} AS {quoted_name(alias)}" if alias else item
                  for each, alias in zip(found, clauses.aliases) for item in each]
         sql = f"SELECT {'DISTINCT ' if clauses.is_distinct else ''}{', '.join(shown)} FROM {TABLE}"
         having = clauses.span("HAVING")
         if having:
-            sql += f" WHERE ({made.expression(having.start, having.stop, aliases)})"
+            self.having = made.expression(having.start, having.stop, aliases)
+            sql += f" WHERE ({self.having})"
         terms = terms_of(self.statement.structure.line, clauses.span("ORDER"))
         orders = [made.expression(term.span.start, term.span.stop, aliases) for term in terms]
+        self.orders = orders
         if made.are_free:
             items = list(itertools.chain.from_iterable(found))
             keys = {f"({made.name(place)})" for place in range(len(made.groups))}
@@ -168,7 +171,38 @@ class GroupsQuestion:
             if self.is_coarse:
                 raise Outside from None
             raise
-        return ValueRows(rows_of(types_of(made), [*groups.columns, *groups.values], self.sql)[0])
+        names = [made.name(place) for place in range(len(made.groups))] + \
+            [quoted_name(f"{PREFIX}{place}") for place in range(len(made.aggregates))]
+        exact = [names[place] for place in groups.exact]
+        self.refuse_doubles(exact)
+        places = [place for place, item in enumerate(self.shown) if item[1:-1] in exact]
+        rows = rows_of(types_of(made, exact), [*groups.columns, *groups.values], self.sql)[0]
+        return ValueRows(rows, places)
+
+    def refuse_doubles(self, exact: Sequence[str]) -> None:
+        """Rejects a statement that has one of these columns in an expression, or its alias."""
+        texts = [self.having, *(each for each in (*self.shown, *self.orders)
+                                if each not in exact and each[1:-1] not in exact)]
+        for name in exact:
+            aliases = {quoted_name(alias) for item, alias
+                       in zip(self.shown, self.clauses.aliases) if alias and item[1:-1] == name}
+            names = {name, *aliases, *(alias[1:-1] for alias in aliases)}
+            if any(each in text.lower() for text in texts for each in names
+                   if text.lower() not in names):
+                place = name[1 + len(PREFIX):-1]
+                made = self.expressions.aggregates
+                raise Refused(NO_DOUBLE.format(made[int(place)].totals[0] if place.isdecimal()
+                                               else place))
+
+    def kinds(self) -> list[Kind | None]:
+        """Returns the kinds of the columns: those of items that are columns or aggregates."""
+        made = self.expressions
+        known = {made.name(place): group.column.kind for place, group in enumerate(made.groups)
+                 if group.column}
+        kinds: dict[str, Kind | None] = {**known, **{
+            quoted_name(f"{PREFIX}{place}"): each.kind
+            for place, each in enumerate(made.aggregates)}}
+        return [kinds.get(item[1:-1]) for item in self.shown]
 
     def coarse(self, columns: Sequence[Sequence[Value]]
                ) -> tuple[Sequence[Sequence[Value]], Sequence[int]]:
@@ -183,10 +217,11 @@ class GroupsQuestion:
                                                                          for row in rows]
 
 
-def types_of(expressions: Expressions) -> list[str]:
+def types_of(expressions: Expressions, exact: Sequence[str] = ()) -> list[str]:
     """Returns the columns of the table of groups: those that make them, with the type that SQLite
-    compares them by; expressions and aggregates have none."""
-    groups = [f"{expressions.name(place)} {affinity(group.column.kind)}" if group.column
+    compares them by; expressions, aggregates and those of `exact` integers have none."""
+    groups = [f"{expressions.name(place)} {affinity(group.column.kind)}"
+              if group.column and expressions.name(place) not in exact
               else expressions.name(place) for place, group in enumerate(expressions.groups)]
     return groups + [quoted_name(f"{PREFIX}{place}")
                      for place in range(len(expressions.aggregates))]

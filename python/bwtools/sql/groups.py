@@ -10,31 +10,34 @@ import math
 from collections import Counter
 from typing import Any, Callable, Mapping, NamedTuple, Optional, Sequence, Tuple
 
+from .. import _aggregation as counted
+from .._aggregation import (COUNT, NULL_NUMBER, Found, Key, float_total, values_for_sqlite,
+                            values_of)
+from .._engine.executor import Engine, Totals, added
+from .._result import Value
 from ..column import Column
 from ..failed import Failed
-from . import counted
-from .adding import total
-from .aggregate_values import NULL_NUMBER, stored_of, values_of
-from .blocks import Value
-from .engine import Engine, Totals
-from .exact import float_sum
-from .found_groups import Found, Key
-from .selects import COUNT, names_of, select
+from ..kind import Kind
+from ..telling import Refused
+from .selects import names_of, select
 from .wanted import Wanted
 
 # so many groups are counted by statements at most, and only if the rows that those scan are no more
 # than so many times the rows that would be listed: which takes as long
 MOST_STATEMENTS, LISTED_COST, LONG = 1000, 2000, 200
+NO_DOUBLE = ("{} has decimals of more than 15 digits: an expression over groups, and HAVING, "
+             "compute with doubles, which have fewer")
 # the totals of all rows by their names
 WholeTotals = Mapping[str, Optional[int]]
 
 
 class Groups(NamedTuple):
-    """Groups in order: SQLite's values of what makes them, and of each aggregate, for all
-    groups."""
+    """Groups in order: SQLite's values of what makes them, and of each aggregate, for all groups;
+    and which of these columns, one after another, are decimals as their integers."""
 
     columns: Sequence[Sequence[Value]]
     values: Sequence[Sequence[Value]]
+    exact: Sequence[int] = ()
 
 
 # gets SQLite's values of the columns that make groups, and returns those of what makes fewer
@@ -50,9 +53,12 @@ def groups_of(engine: Engine, wanted: Wanted, coarse: Coarse | None = None) -> G
     if not wanted.is_in_rows_order:
         found = found.ascending()
     keys, columns = found.keys, found.columns
-    made: Sequence[Sequence[Any]] = [stored_of(column.kind, numbers)
-                                     for column, numbers in zip(wanted.keys, columns)]
+    exact = list[int]()
+    made: Sequence[Sequence[Any]] = [of_column(place, column.kind, numbers, exact) for place,
+                                     (column, numbers) in enumerate(zip(wanted.keys, columns))]
     places: Sequence[int] = range(len(keys))
+    if coarse and exact:
+        raise Refused(NO_DOUBLE.format(wanted.keys[exact[0]].name))
     if coarse:
         made, places = coarse(made)
         found = found.coarser(places, len(made[0]))
@@ -73,8 +79,20 @@ def groups_of(engine: Engine, wanted: Wanted, coarse: Coarse | None = None) -> G
             results.append([float_total(each.function, part)
                             for part in doubles[each.column.name]])
         else:
-            results.append(values_of(each, found.totals))
-    return Groups(made, results)
+            results.append(of_column(len(made) + len(results), each.kind,
+                                     values_of(each, found.totals), exact,
+                                     each.function == "SUM"))
+    return Groups(made, results, exact)
+
+
+def of_column(place: int, kind: Kind | None, numbers: Sequence[Any], exact: list[int],
+              is_sum: bool = False) -> Sequence[Value]:
+    """Returns SQLite's values of a column of groups, and notes its place if it is exact."""
+    if kind is None:
+        return numbers
+    found, is_exact = values_for_sqlite(kind, numbers, is_sum)
+    exact += [place] * is_exact
+    return found
 
 
 def together(doubles: Mapping[Key, Sequence[float]], keys: Sequence[Key], places: Sequence[int],
@@ -98,7 +116,7 @@ def totals_of(engine: Engine, wanted: Wanted) -> Found:
     choices = [] if wanted.is_in_rows_order else choices_of(engine, wanted, whole)
     found = by_statements(engine, wanted, choices) if choices else by_rows(engine, wanted)
     for name in wanted.totals:
-        if total(name.partition("(")[0], found.totals[name]) != whole[name]:
+        if added(name.partition("(")[0], found.totals[name]) != whole[name]:
             raise Failed(f"the groups' {name} don't add up to that of all rows, {whole[name]}")
     return found
 
@@ -191,11 +209,3 @@ def doubles_of(engine: Engine, wanted: Wanted, column: Column) -> Mapping[Key, S
     columns = [*wanted.keys, column]
     parts = engine.rows(wanted.select(names_of(columns), f"{column.name} IS NOT NULL"))
     return counted.doubles(parts, len(wanted.keys), column.kind)
-
-
-def float_total(function: str, doubles: Sequence[float]) -> float | None:
-    """Returns the sum or the mean of doubles, rounded once; None if there are none."""
-    if not doubles:
-        return None
-    found = float_sum(doubles)
-    return found if function == "SUM" else found / len(doubles)

@@ -6,17 +6,15 @@ import itertools
 import sqlite3
 from typing import Callable, Iterator, Sequence
 
+from .._aggregation import Functions
+from .._engine.executor import Engine
+from .._result import NumberRows, Result, Value, affinity
 from ..column import Column
 from ..failed import Failed
-from .blocks import Block
 from .catalog import Catalog
-from .engine import Engine
-from .functions import Functions
-from .number_rows import NumberRows
 from .reading import Guard, declare
 from .table import Table
 from .tokens import quoted_name
-from .values import affinity
 from .watching import watch
 
 # so many variables has a statement that inserts rows; any SQLite takes 999
@@ -33,7 +31,8 @@ class Listing:
 
     def __init__(self, catalog: Catalog, condition: str = "") -> None:
         self.condition = condition
-        self.database = sqlite3.connect(":memory:", isolation_level=None)
+        self.database = sqlite3.connect(":memory:", isolation_level=None,
+                                        check_same_thread=False)
         self.guard, self.functions = Guard(catalog), Functions(self.database)
         self.database.set_authorizer(self.guard)
         declare(self.database, catalog)
@@ -125,12 +124,14 @@ class Listing:
             self.database.execute(EACH_ROW.format(quoted_name(target), quoted_name(
                 table.columns[0].name)), (self.rows[table.name], self.rows[table.name]))
             return self.rows[table.name]
-        names = ", ".join(each.name for each in columns)
-        parts = engine.rows(f"SELECT {names} FROM {table.bw_name}{self.where()}")
+        names = [each.name for each in columns]
+        parts = engine.rows(f"SELECT {', '.join(names)} FROM {table.bw_name}{self.where()}")
         quoted = ", ".join(quoted_name(each.name) for each in columns)
         count = 0
         try:
-            for block in NumberRows(parts).values([each.kind for each in columns]):
+            result = Result(names, [each.kind for each in columns], NumberRows(parts), 2)
+            for found in result.blocks():
+                block = [column.values() for column in found]
                 self.insert(f"INSERT INTO {quoted_name(target)} ({quoted})", block)
                 count += len(block[0])
                 progress(len(block[0]))
@@ -139,7 +140,7 @@ class Listing:
                 part.close()
         return count
 
-    def insert(self, into: str, block: Block) -> None:
+    def insert(self, into: str, block: Sequence[Sequence[Value]]) -> None:
         """Inserts rows, many by one statement, which takes half of the time."""
         marks = f"({', '.join('?' * len(block))})"
         width = len(block)

@@ -2,6 +2,7 @@
 from __future__ import annotations
 
 from ..column import Column
+from ..kind import Kind
 
 
 class Output:
@@ -17,6 +18,13 @@ class Output:
     def plain(self) -> Column | None:
         """The table's column of which it has values."""
         return None if self.is_total else self.column
+
+    @property
+    def kind(self) -> Kind | None:
+        """The kind of its values in a result: a column's, or decimals of a sum of them."""
+        if self.column and (not self.is_total or self.column.kind.name == "decimals"):
+            return self.column.kind
+        return None
 
 
 def output_of(column: Column) -> Output:

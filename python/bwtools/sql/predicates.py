@@ -12,7 +12,8 @@ from typing import TYPE_CHECKING, Any, Callable, Iterable, Sequence, Union
 from ..column import Column
 from ..kind import GREATEST, LEAST
 from ..stored_list import StoredList
-from . import values
+from .. import _result as values
+from .._result import is_long
 from .outside import Outside
 
 if TYPE_CHECKING:
@@ -59,14 +60,6 @@ def place_of(column: Column, literal: Comparand) -> tuple[int, bool]:
             not is_long(column) and not is_spelled(literal.value):
         raise Outside
     return place
-
-
-def is_long(column: Column) -> bool:
-    """Returns whether a column has decimals of too many digits for a double."""
-    if column.kind.name != "decimals":
-        return False
-    numbers = [column.kind.number(end) for end in column.ends]
-    return any(number is None or len(str(abs(number))) > values.EXACT_DIGITS for number in numbers)
 
 
 def is_spelled(value: Union[str, Fraction]) -> bool:
@@ -122,7 +115,7 @@ def columns_compared(left: Column, sign: str, right: Column) -> str:
         raise Outside
     from fractions import Fraction
 
-    from .conversions import stored
+    from .._result import stored
     terms = [never(left), never(right)]
     for number, value in zip(range_of(few), stored(few.kind, range_of(few))):
         literal = Comparand(None, Fraction(repr(value)))
@@ -198,7 +191,7 @@ def like(column: Column, sign: str, pattern: str, escape: str | None) -> str:
 
 def matching(column: Column, numbers: range, words: str, wanted: tuple[str, ...]) -> list[int]:
     """Returns the numbers of a column whose values fulfil an SQL condition."""
-    from .conversions import stored
+    from .._result import stored
     database = sqlite3.connect(":memory:")
     try:
         database.execute("CREATE TABLE listed (code INTEGER PRIMARY KEY, value TEXT)")

@@ -5,12 +5,13 @@ import sqlite3
 from typing import Any, Iterable, Iterator, Sequence
 
 from ..naming import RESERVED
+from .. import _aggregation
+from .._result import affinity
 from ..telling import Refused
 from .catalog import Catalog, missing
 from .statement import Statement
 from .structure import HIDDEN
 from .tokens import quoted_name
-from .values import affinity
 
 # actions of SQLite that Python's module doesn't name
 RECURSIVE = 33
@@ -26,8 +27,8 @@ FUNCTIONS = set(
     "atanh ceil ceiling cos cosh degrees exp floor ln log log10 log2 mod pi pow power radians sin "
     "sinh sqrt tan tanh trunc json json_array json_array_length json_extract json_insert "
     "json_object json_patch json_remove json_replace json_set json_type json_valid json_quote "
-    "json_group_array json_group_object json_error_position json_pretty -> ->> bw_sum bw_avg "
-    "bw_total bw_mean".split())
+    "json_group_array json_group_object json_error_position json_pretty -> ->>".split()) | \
+    set(_aggregation.FUNCTIONS)
 
 
 class Guard:

@@ -2,17 +2,17 @@
 from __future__ import annotations
 
 import itertools
-from typing import BinaryIO, Iterator, NamedTuple, Sequence
+from typing import Iterator, NamedTuple, Sequence
 
+from .._engine.executor import Engine, Part
+from .._result import NumberRows
 from ..column import Column
-from .engine import Engine
 from .limits import Limits
-from .number_rows import NumberRows
 from .outside import Outside
 from .predicates import placed
 from .selects import COUNT, both, names_of, select
 
-NULL, HEADING, AT_ONCE = b"NULL", b"\n", 1 << 20
+NULL, HEADING = b"NULL", b"\n"
 # more rows than these aren't sorted here
 MOST_ROWS = 1_000_000
 # a limit is used to list fewer rows if there are more, and to read no others if it is less
@@ -44,13 +44,13 @@ class WantedRows:
         statement = select(names_of([*self.columns, *sorting]), self.table, where)
         most = self.limits.end
         if not self.keys and most is not None and most <= MANY_ROWS:
-            return NumberRows([limited(engine.beginning(statement, most), self.limits)])
+            return NumberRows([Part(limited(engine.beginning(statement, most), self.limits))])
         parts = engine.rows(statement)
         if self.keys:
-            return NumberRows([self.sorted(parts)])
+            return NumberRows([Part(self.sorted(parts))])
         if self.limits.most is None and not self.limits.offset:
             return NumberRows(parts)
-        return NumberRows([limited(parts, self.limits)])
+        return NumberRows([Part(limited(parts, self.limits))])
 
     def narrowed(self, engine: Engine) -> str:
         """Returns a condition on which all rows that are wanted are, and few others: if there is a
@@ -91,7 +91,7 @@ class WantedRows:
         """Returns how many rows fulfil a condition."""
         return engine.totals([select(COUNT, self.table, where)])[0][0] or 0
 
-    def sorted(self, parts: Sequence[BinaryIO]) -> bytes:
+    def sorted(self, parts: Sequence[Part]) -> bytes:
         """Returns the rows of a result in order, within the limits, after an empty heading."""
         fields = [line.rsplit(b",", len(self.keys)) for line in lines_of(parts)]
         order: Sequence[int] = range(len(fields))
@@ -111,16 +111,15 @@ def ordered(key: SortKey, order: Sequence[int], fields: Sequence[bytes]) -> list
     return [*nulls, *present] if key.are_nulls_first else [*present, *nulls]
 
 
-def limited(parts: Sequence[BinaryIO], limits: Limits) -> bytes:
+def limited(parts: Sequence[Part], limits: Limits) -> bytes:
     """Returns the rows of a result within limits, after an empty heading."""
     found = itertools.islice(lines_of(parts), limits.offset, limits.end)
     return HEADING + b"".join([line + b"\n" for line in found])
 
 
-def lines_of(parts: Sequence[BinaryIO]) -> Iterator[bytes]:
+def lines_of(parts: Sequence[Part]) -> Iterator[bytes]:
     """Yields the lines of a result after its heading, without their ends, a part at a time."""
     for part in parts:
-        with part:
-            part.readline()
-            while block := part.read(AT_ONCE):
-                yield from (block + part.readline()).split(b"\n")[:-1]
+        for block in part.blocks():
+            yield from block.split(b"\n")[:-1]
+        part.close()

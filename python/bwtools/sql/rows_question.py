@@ -3,12 +3,13 @@ from __future__ import annotations
 
 from typing import Sequence
 
+from .._engine.executor import Engine
+from .._result import NumberRows
 from ..column import Column
+from ..kind import Kind
 from .clauses import Clauses
-from .engine import Engine
 from .items import column_of, columns_of, where_of
 from .limits import limits_of
-from .number_rows import NumberRows
 from .ordering import Term, terms_of
 from .rows import SortKey, WantedRows
 from .statement import Statement
@@ -31,6 +32,10 @@ class RowsQuestion:
         limits = limits_of(tokens, clauses.span("LIMIT"))
         where = where_of(self.statement, clauses)
         return WantedRows(clauses.table.bw_name, columns, where, keys, limits).body(engine)
+
+    def kinds(self) -> list[Kind | None]:
+        """Returns no kinds: the statement's outputs have them."""
+        return [None] * len(self.statement.outputs)
 
     def key(self, term: Term, columns: Sequence[Column]) -> SortKey:
         """Returns the column of a term of ORDER BY: by its alias, its name, or its place."""

@@ -3,10 +3,11 @@ from __future__ import annotations
 
 from typing import Sequence
 
+from .._aggregation import COUNT
 from ..column import Column
 from .outside import Outside
 
-COUNT = "COUNT(*)"
+__all__ = ["COUNT", "both", "names_of", "select"]
 # the bytes of a statement that bw takes, without its end
 MOST_BYTES = 65_530
 

@@ -1,7 +1,7 @@
 """A statement over tables, checked before anything runs."""
 from __future__ import annotations
 
-from typing import Any, Mapping, Sequence, Tuple
+from typing import Any, Mapping, Sequence, Tuple, Union
 
 from ..telling import Refused
 from .bracketed import Bracketed
@@ -17,6 +17,8 @@ BEFORE_LITERAL = ("BETWEEN", "AND", "OR", "NOT", "WHERE", "ON", "HAVING", "WHEN"
 
 # of tokens from a place on: their end, and the text that replaces them
 Edits = Mapping[int, Tuple[int, str]]
+# values for `?` in order, or for names
+Parameters = Union[Sequence[Any], Mapping[str, Any]]
 NO_EDITS: Edits = {}
 
 
@@ -27,7 +29,7 @@ class Statement:
     token as it was written for each of them. The last token is the end; a semicolon is left
     out."""
 
-    def __init__(self, written: str, catalog: Catalog, parameters: Sequence[Any] = ()) -> None:
+    def __init__(self, written: str, catalog: Catalog, parameters: Parameters = ()) -> None:
         self.written, self.catalog = written, catalog
         self.originals = merged(one_statement(tokens_of(written)), written)
         self.tokens = placed(self.originals, parameters)
@@ -115,26 +117,16 @@ def is_type(tokens: Sequence[Token], at: int) -> bool:
     return tokens[before].is_mark(*COMPARE) or tokens[before].key in BEFORE_LITERAL
 
 
-def placed(tokens: Sequence[Token], parameters: Sequence[Any]) -> list[Token]:
+def placed(tokens: Sequence[Token], parameters: Parameters) -> list[Token]:
     """Returns the tokens with literals in place of parameters."""
+    # without the word before it
+    found = [Token(TEXT, token.text[token.text.index("'"):], token.start)
+             if token.kind == TEXT else token for token in tokens]
     marks = [token for token in tokens if token.kind == PARAMETER]
-    for token in marks:
-        if token.text != "?":
-            raise Refused(f"{token.text} at character {token.start} of the statement: write ? for "
-                          "each parameter")
-    if len(marks) != len(parameters):
-        raise Refused(f"the statement has {len(marks)} parameters, and {len(parameters)} values "
-                      "were given")
-    values = iter(enumerate(parameters, 1))
-    found = list[Token]()
-    for token in tokens:
-        if token.kind == PARAMETER:
-            # most statements have none
-            from .parameters import literal
-            number, value = next(values)
-            token = literal(value, token.start, number)
-        elif token.kind == TEXT:
-            # without the word before it
-            token = Token(TEXT, token.text[token.text.index("'"):], token.start)
-        found.append(token)
-    return found
+    if not marks and isinstance(parameters, (tuple, list, dict)) and \
+            (not parameters or isinstance(parameters, dict)):
+        # most statements have none
+        return found
+    from .parameters import literals
+    values = iter(literals(marks, parameters))
+    return [next(values) if token.kind == PARAMETER else token for token in found]

@@ -6,6 +6,7 @@ from __future__ import annotations
 from typing import Sequence
 
 from .. import kinds
+from .._aggregation import kind_of_sum
 from ..column import Column
 from ..kind import Kind
 from .bracketed import JOINS, RESERVED, Bracketed
@@ -219,7 +220,10 @@ class Structure:
         key = tokens[first].name.upper()
         if key in TOTALS:
             name = self.line.text(first, end)
-            return Output(name, name, Column(name, name, kind_of_total(key)), True)
+            inner = first + 2 + (self.line.key(first + 2) in ("DISTINCT", "ALL"))
+            found_in = self.meaning(inner, end - 1, scope) if key == "SUM" else None
+            kind = kind_of_sum(found_in.plain.kind) if found_in and found_in.plain else None
+            return Output(name, name, Column(name, name, kind or kind_of_total(key)), True)
         inner = first + 2 + (self.line.key(first + 2) == "DISTINCT")
         return self.meaning(inner, end - 1, scope) if key in ("MIN", "MAX") else None
 

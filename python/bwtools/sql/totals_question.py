@@ -3,16 +3,17 @@ from __future__ import annotations
 
 from typing import Sequence
 
-from .aggregate import AGGREGATES, Aggregate, aggregate_of
-from .aggregate_values import values_of
+from .._aggregation import Aggregate, values_of
+from .._engine.executor import Engine
+from .._result import ValueRows
+from ..kind import Kind
+from .aggregate import AGGREGATES, aggregate_of
 from .clauses import Clauses
-from .engine import Engine
 from .items import where_of
 from .outside import Outside
 from .reader import reader_of
 from .selects import select
 from .statement import Statement
-from .value_rows import ValueRows
 
 
 class TotalsQuestion:
@@ -29,7 +30,12 @@ class TotalsQuestion:
         where = where_of(self.statement, self.clauses)
         asked = select(", ".join(names), self.clauses.table.bw_name, where)
         found = {name: [value] for name, value in zip(names, engine.once(asked))}
-        return ValueRows([tuple(values_of(each, found)[0] for each in self.aggregates)])
+        exact = [place for place, each in enumerate(self.aggregates) if each.kind]
+        return ValueRows([tuple(values_of(each, found)[0] for each in self.aggregates)], exact)
+
+    def kinds(self) -> list[Kind | None]:
+        """Returns the kinds of the columns."""
+        return [each.kind for each in self.aggregates]
 
 
 def totals_of(statement: Statement, clauses: Clauses) -> list[Aggregate]:

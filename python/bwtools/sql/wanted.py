@@ -3,8 +3,8 @@ from __future__ import annotations
 
 from typing import NamedTuple, Sequence
 
+from .._aggregation import Aggregate
 from ..column import Column
-from .aggregate import Aggregate
 from .selects import COUNT, both, select
 
 

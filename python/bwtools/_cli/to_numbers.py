@@ -16,6 +16,7 @@ import pathlib
 import sys
 
 from .. import command, inputs, options, placing, store, writing
+from .options import new_parser
 
 NAME = "bw-to-numbers"
 
@@ -38,8 +39,7 @@ def work(given: argparse.Namespace) -> None:
 
 def parser_of() -> argparse.ArgumentParser:
     """Returns the parser of the command line."""
-    parser = argparse.ArgumentParser(prog=NAME, description=__doc__,
-                                     formatter_class=argparse.RawDescriptionHelpFormatter)
+    parser = new_parser(NAME, str(__doc__))
     parser.add_argument("csv", metavar="IN.csv", help=options.RAW)
     parser.add_argument("out", metavar="OUT.csv", help="the file of whole numbers to write")
     options.add_options(parser)

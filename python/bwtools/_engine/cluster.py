@@ -1,5 +1,6 @@
-"""Queries shards on the workers of Dask's distributed scheduler. If a worker dies, the scheduler
-gives its shard to another one."""
+"""Asks bw about the rows of a table on the workers of Dask's distributed scheduler, which have the
+table files at the same paths. If a worker dies, the scheduler gives its shard to another one. What
+it returns is whole: a shard that fails is an exception."""
 from __future__ import annotations
 
 import contextlib
@@ -8,10 +9,14 @@ import importlib.util
 import logging
 import pickle
 import sys
-from typing import Any, Iterator
+from typing import Any, Callable, Iterator, Sequence
 
-from .shards import Reply, ask_shard
-from .telling import Refused
+from .. import command
+from ..failed import Failed
+from ..shards import Reply, ask_shard, is_of_statement
+from ..store import TableFile
+from ..telling import Refused
+from .executor import Part
 
 MISSING = "Dask's distributed isn't installed for {} (python3-distributed of Debian)"
 # how long a scheduler, and the first worker, is waited for
@@ -35,7 +40,7 @@ class Cluster:
         import cloudpickle
         distributed: Any = importlib.import_module("distributed")
         # workers on other machines don't have this package: its functions are sent to them
-        cloudpickle.register_pickle_by_value(sys.modules[__package__])
+        cloudpickle.register_pickle_by_value(sys.modules[__name__.partition(".")[0]])
         logging.getLogger("distributed").setLevel(logging.CRITICAL)
         try:
             client = self.stack.enter_context(distributed.Client(self.scheduler, timeout=SECONDS))
@@ -83,3 +88,49 @@ class Cluster:
 def is_installed() -> bool:
     """Returns whether this Python has Dask's distributed scheduler."""
     return all(importlib.util.find_spec(name) for name in ("distributed", "cloudpickle"))
+
+
+class Scheduled:
+    """Runs statements by a cluster: each statement on each file by itself."""
+
+    def __init__(self, cluster: Any, files: Sequence[tuple[str, TableFile]], columns: str,
+                 options: Sequence[str] = (),
+                 tell: Callable[[str], None] = lambda told: None) -> None:
+        self.cluster, self.files, self.columns = cluster, files, columns
+        self.options, self.tell = options, tell
+
+    def once(self, statement: str) -> list[bytes]:
+        return list(self.answers([statement]))
+
+    def totals(self, statements: Sequence[str]) -> list[list[bytes]]:
+        answers = list(self.answers(statements))
+        count = len(self.files)
+        return [answers[place::count] for place in range(count)]
+
+    def rows(self, statement: str) -> list[Part]:
+        return list(map(Part, self.answers([statement])))
+
+    def beginnings(self, statement: str, rows: int) -> list[Part]:
+        return self.rows(statement)
+
+    def answers(self, statements: Sequence[str]) -> Iterator[bytes]:
+        """Yields the result of each statement on each file, statement by statement."""
+        program = command.whole_path()
+        calls = [(program, path, record, self.columns, self.options, statement)
+                 for statement in statements for path, record in self.files]
+        for call, reply in zip(calls, self.cluster.replies(calls)):
+            yield self.answer(call[1], reply)
+
+    def answer(self, path: str, reply: Reply) -> bytes:
+        """Returns the result of a reply. Raises what it reports."""
+        status, told, answer = reply
+        if is_of_statement(reply):
+            raise Refused(told.rstrip("\n"))
+        lines = "\n".join(f"{path}: {line}" for line in told.splitlines())
+        if status:
+            raise Failed(lines, status=status)
+        self.tell(lines)
+        return answer
+
+    def close(self) -> None:
+        self.cluster.close()

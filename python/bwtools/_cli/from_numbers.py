@@ -17,9 +17,11 @@ import io
 import os
 import sys
 
-from .. import answers, command, options, pairs
+from .. import command, options, pairs
+from .._translation import turn_back
 from ..regular import open_regular
 from ..store import Store
+from .options import new_parser
 
 NAME = "bw-from-numbers"
 
@@ -34,13 +36,12 @@ def work(given: argparse.Namespace) -> None:
         with open_regular(table) as file:
             if not pairs.is_of(found.files[0], file):
                 raise pairs.foreign(given.columns, table)
-    answers.turn_back(found.columns, answer, sys.stdout)
+    turn_back(found.columns, answer, sys.stdout)
 
 
 def parser_of() -> argparse.ArgumentParser:
     """Returns the parser of the command line."""
-    parser = argparse.ArgumentParser(prog=NAME, description=__doc__,
-                                     formatter_class=argparse.RawDescriptionHelpFormatter)
+    parser = new_parser(NAME, str(__doc__))
     parser.add_argument("columns", metavar="COLUMNS",
                         help="the columns file, which says what the numbers mean")
     return parser

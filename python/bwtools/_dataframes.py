@@ -1,20 +1,16 @@
-"""Answers as data frames of pandas and as arrays of numpy, by columns: without an object of Python
-for each row."""
+"""Results as data frames of pandas and as arrays of numpy, by columns: without an object of Python
+for each row of a listing."""
 from __future__ import annotations
 
 import collections
-import decimal
 import importlib
 from typing import Any, Callable, NamedTuple, Sequence
 
-from ..kind import GREATEST, LEAST, Kind
-from ..kinds import (Clocks, Dates, Decimals, Floats, Nulls, Ranked, Texts, Times, Truths, Whole,
-                     undressed)
-from ..numerals import power_of_ten
-from ..telling import Refused
-from .answer import Answer
-from .conversions import foreign, number_of
-from .number_rows import NumberRows
+from ._result import NumberRows, Numbers, Result, ResultColumn, foreign, objects_of
+from .kind import GREATEST, LEAST, Kind
+from .kinds import Clocks, Dates, Decimals, Floats, Ranked, Texts, Times, Truths, undressed
+from .numerals import power_of_ten
+from .telling import Refused
 
 # numbers up to this one are doubles
 MOST_EXACT = 1 << 53
@@ -40,7 +36,7 @@ def module(name: str, package: str) -> Any:
                       f"pip install {name}") from None
 
 
-def arrays_of(answer: Answer) -> dict[str, Any]:
+def arrays_of(answer: Result) -> dict[str, Any]:
     """Returns masked arrays by headings: int64, bool, float64 (decimals too), datetime64 in days
     or nanoseconds, timedelta64 for times of day, and objects for texts."""
     numpy = module("numpy", "python3-numpy")
@@ -61,7 +57,7 @@ def refuse_twins(headings: Sequence[str]) -> None:
             raise Refused(f"{count} columns have the heading {heading}: give them aliases")
 
 
-def frame_of(answer: Answer, decimals: bool) -> Any:
+def frame_of(answer: Result, decimals: bool) -> Any:
     """Returns a data frame of pandas."""
     numpy, pandas = module("numpy", "python3-numpy"), module("pandas", "python3-pandas")
     series = [series_of(numpy, pandas, kind, column, decimals)
@@ -77,9 +73,9 @@ def series_of(numpy: Any, pandas: Any, kind: Kind | None, column: Array, decimal
     if column.categories is not None:
         return pandas.Categorical.from_codes(column.values, column.categories)
     if isinstance(plain, Decimals) and decimals:
-        unit = decimal.Decimal(1).scaleb(-plain.digits)
-        return numpy.array([None if is_null else decimal.Decimal(number) * unit for number, is_null
-                            in zip(column.values.tolist(), column.mask.tolist())], dtype=object)
+        found = numpy.array([*objects_of(plain, column.values.tolist()), None], dtype=object)[:-1]
+        found[column.mask] = None
+        return found
     values = converted(numpy, kind, column)
     if values.dtype.kind == "i":
         return pandas.arrays.IntegerArray(values, column.mask)
@@ -115,11 +111,11 @@ def converted(numpy: Any, kind: Kind | None, column: Array) -> Any:
         return numbers.astype(bool)
     if isinstance(plain, Decimals):
         power = power_of_ten(plain.digits)
-        if len(numbers) and max(abs(int(numbers.min())), abs(int(numbers.max()))) > MOST_EXACT:
+        if len(numbers) and max(abs(int(min(numbers))), abs(int(max(numbers)))) > MOST_EXACT:
             return numpy.array([number / power for number in numbers.tolist()], dtype=float)
         return numbers / power
     if isinstance(plain, Floats):
-        return doubles_of(numpy, plain, numbers)
+        return doubles_of(numpy, plain, numbers) if numbers.dtype.kind == "i" else numbers
     if isinstance(plain, Dates):
         return numbers.astype("datetime64[D]")
     if isinstance(plain, (Times, Clocks)):
@@ -138,18 +134,18 @@ def doubles_of(numpy: Any, kind: Floats, numbers: Any) -> Any:
     return numpy.where(numbers < 0, -found, found)
 
 
-def columns_of(answer: Answer, numpy: Any) -> list[Array]:
+def columns_of(answer: Result, numpy: Any) -> list[Array]:
     """Returns the columns of an answer."""
     body = answer.body
     if isinstance(body, NumberRows):
-        parts = [parsed(numpy, data, len(answer.kinds)) for data in body.contents()]
+        parts = [parsed(numpy, part.rows(), len(answer.kinds))
+                 for part in body.parts] or [parsed(numpy, b"", len(answer.kinds))]
         numbers = numpy.concatenate([values for values, _ in parts])
         masks = numpy.concatenate([mask for _, mask in parts])
         return [with_categories(numpy, kind, numpy.ascontiguousarray(numbers[:, place]),
                                 numpy.ascontiguousarray(masks[:, place]))
                 for place, kind in enumerate(answer.kinds)]
-    columns = list(zip(*body.rows)) if body.rows else [()] * len(answer.kinds)
-    return [of_values(numpy, kind, column) for kind, column in zip(answer.kinds, columns)]
+    return [of_column(numpy, column) for column in body.whole(answer.kinds)]
 
 
 def parsed(numpy: Any, data: bytes, width: int) -> tuple[Any, Any]:
@@ -196,22 +192,26 @@ def distinct(numpy: Any, codes: Any) -> tuple[Any, Any]:
     return numpy.flatnonzero(occurs), (numpy.cumsum(occurs) - 1)[codes]
 
 
-def of_values(numpy: Any, kind: Kind | None, values: Sequence[Any]) -> Array:
-    """Returns a column of SQLite's values."""
+def of_column(numpy: Any, column: ResultColumn) -> Array:
+    """Returns a column of what SQLite computed."""
+    if isinstance(column, Numbers):
+        numbers = column.integers()
+        mask = numpy.array([number is None for number in numbers], dtype=bool)
+        found = [number or 0 for number in numbers]
+        is_wide = any(not LEAST <= number <= GREATEST for number in found)
+        if isinstance(undressed(column.kind), (Texts, Ranked)):
+            return with_categories(numpy, column.kind, numpy.array(found, dtype=numpy.int64), mask)
+        return Array(numpy.array(found, dtype=object if is_wide else numpy.int64), mask)
+    values = column.items
     mask = numpy.array([value is None for value in values], dtype=bool)
-    plain = None if kind is None else undressed(kind)
-    if isinstance(plain, Texts):
-        known = sorted({value for value in values if value is not None})
+    types = {type(value) for value in values if value is not None}
+    if column.kind is not None and column.kind.name == "texts" and types <= {str}:
+        known = sorted({value for value in values if isinstance(value, str)})
         places: dict[Any, int] = {value: place for place, value in enumerate(known)}
         codes = [places.get(value, -1) for value in values]
-        return Array(numpy.array(codes, dtype=numpy.int64), mask, known)
-    if kind is not None and not isinstance(plain, (Whole, Nulls, Ranked)):
-        numbers: dict[Any, int] = {value: number_of(kind, value) for value in set(values)
-                                   if value is not None}
-        found = [numbers.get(value, 0) for value in values]
-        return Array(numpy.array(found, dtype=numpy.int64), mask)
-    types = {type(value) for value in values if value is not None}
+        return Array(numpy.array(codes, dtype=numpy.int64), mask, list(known))
     if types <= {int, float}:
-        dtype: Callable[..., Any] = float if float in types else numpy.int64
+        is_float = float in types or column.kind is not None
+        dtype: Callable[..., Any] = float if is_float else numpy.int64
         return Array(numpy.array([value or 0 for value in values], dtype=dtype), mask)
     return Array(numpy.array([*values, None], dtype=object)[:-1], mask)

@@ -28,6 +28,7 @@ import argparse
 import sys
 
 from .. import command, importing, options
+from .options import add_import, new_parser
 
 NAME = "bw-import"
 
@@ -43,22 +44,8 @@ def work(given: argparse.Namespace) -> None:
 
 def parser_of() -> argparse.ArgumentParser:
     """Returns the parser of the command line."""
-    parser = argparse.ArgumentParser(prog=NAME, description=__doc__,
-                                     formatter_class=argparse.RawDescriptionHelpFormatter)
-    parser.add_argument("csv", metavar="RAW.csv", help=options.RAW)
-    parser.add_argument("table", metavar="TABLE.bw", nargs="?",
-                        help="the table file to write (optional with --dry-run)")
-    parser.add_argument("--table", metavar="NAME", dest="name",
-                        help="the table's name (default: that of TABLE.bw)")
-    parser.add_argument("--shards", metavar="N", type=importing.number_of_shards,
-                        help="write a folder of N shards; auto: one for each processor, if there "
-                             "are a million rows")
-    parser.add_argument("--dry-run", action="store_true",
-                        help="print the kind of each column, and write nothing")
-    parser.add_argument("--verify", action="store_true",
-                        help="read all of TABLE.bw, which is the only name then, and of its "
-                             "columns file, and say if it is whole")
-    options.add_options(parser)
+    parser = new_parser(NAME, str(__doc__))
+    add_import(parser)
     return parser
 
 
