@@ -15,9 +15,10 @@ from collections import Counter
 from typing import (TYPE_CHECKING, Any, Callable, Iterable, Iterator, Mapping, NamedTuple, Optional,
                     Sequence, Tuple)
 
-from ._engine.executor import added
+from ._engine.executor import COUNT, added
 from ._result import (MOST_EXACT, NULL, Value, blob_of, columns_of, foreign, is_double,
                       stored)
+from ._result import doubles as decoded
 from .codes import Codes
 from .column import Column
 from .kind import GREATEST, LEAST, Kind
@@ -28,7 +29,6 @@ from .valued import Valued
 if TYPE_CHECKING:
     from ._engine.executor import Part
 
-COUNT = "COUNT(*)"
 AGGREGATES = ("COUNT", "SUM", "MIN", "MAX", "AVG")
 # of a group whose number is null: less than each number, all of which are within 64 bits
 NULL_NUMBER = -1 << 64
@@ -286,8 +286,21 @@ def totals(parts: Sequence[Part], keys: int, functions: Mapping[str, Sequence[st
                                             **found})
 
 
+def doubles_in(parts: Sequence[Part], kind: Kind) -> array[float]:
+    """Returns the doubles of a column, which is the only one and has no nulls."""
+    found, plain = array("d"), undressed(kind)
+    gap: int | None = getattr(plain, "gap", None)
+    for lines in lines_of(parts):
+        numbers = list(map(int, columns_of(lines, 1)[0]))
+        found.extend(stored(kind, numbers) if gap is None else decoded(gap, numbers))
+    return found
+
+
 def doubles(parts: Sequence[Part], keys: int, kind: Kind) -> dict[Key, array[float]]:
     """Returns the doubles of a column, which is the last one and has no nulls, in each group."""
+    if not keys:
+        own = doubles_in(parts, kind)
+        return {(): own} if own else {}
     found: dict[str, array[float]] = {}
     for fields, (column,) in blocks_of(parts, keys, 1):
         for key, double in zip(fields, stored(kind, list(map(int, column)))):
@@ -450,19 +463,22 @@ class Sum:
 
     def __init__(self, kept: Callable[[], contextlib.AbstractContextManager[None]]) -> None:
         self.kept, self.values = kept, list[Any]()
+        # no function of Python is called for a row: that takes five times as long
+        self.step = self.values.append
 
-    def step(self, value: Any) -> None:
-        """Adds a value, unless it is null."""
-        if isinstance(value, (str, bytes)):
-            with self.kept():
-                raise Refused(f"{self.name} of texts, which can't be summed")
-        if value is not None:
-            self.values.append(value)
+    def present(self) -> list[Any]:
+        """Returns the values that aren't null, which must be numbers."""
+        types = set(map(type, self.values))
+        if not types <= {int, float, type(None)}:
+            raise Refused(f"{self.name} of texts, which can't be summed")
+        return [value for value in self.values if value is not None] if type(None) in types \
+            else self.values
 
     def finalize(self) -> Any:
         """Returns the sum, or None if there was no value."""
         with self.kept():
-            found = summed(self.values) if self.values else None
+            values = self.present()
+            found = summed(values) if values else None
             return in_64_bits(found) if isinstance(found, int) else found
 
 
@@ -478,17 +494,19 @@ class Mean(Sum):
 
     def finalize(self) -> Any:
         """Returns the double nearest to the mean of integers; of others the sum divided."""
-        found, count = summed(self.values), len(self.values)
-        if isinstance(found, int):
-            return mean_of(found, count, self.digits)
-        return None if found is None else found / count
+        with self.kept():
+            values = self.present()
+            found, count = summed(values), len(values)
+            if isinstance(found, int):
+                return mean_of(found, count, self.digits)
+            return None if found is None else found / count
 
 
 def summed(values: Sequence[Any]) -> int | float | None:
     """Returns the sum of numbers: of integers the exact one; else the double nearest to the exact
     one, which is infinite if that is too large, or None if it is none."""
     import math
-    if all(type(value) is int for value in values):
+    if set(map(type, values)) <= {int}:
         found: int = sum(values)
         return found
     if all(map(math.isfinite, values)):

@@ -9,6 +9,7 @@ from __future__ import annotations
 
 import itertools
 import operator
+from array import array
 from typing import TYPE_CHECKING, Any, Callable, Iterator, Sequence, Tuple, Union
 
 from .failed import Failed
@@ -103,7 +104,7 @@ def stored(kind: Kind, numbers: Sequence[int]) -> list[Any]:
     if plain.name == "decimals":
         return list(map(operator.truediv, numbers, itertools.repeat(10 ** plain.digits)))
     if plain.name == "floats":
-        return doubles(plain.gap, numbers)
+        return doubles(plain.gap, numbers).tolist()
     if plain.name == "ranked":
         return list(plain.listed.values(numbers))
     if plain.name == "times":
@@ -114,11 +115,17 @@ def stored(kind: Kind, numbers: Sequence[int]) -> list[Any]:
     return list(numbers) if affinity(plain) == INTEGER else list(plain.spell(numbers))
 
 
-def doubles(gap: int, numbers: Sequence[int]) -> list[float]:
-    """Returns the doubles of the numbers of a column of floats."""
-    from .kinds.doubles import double_of
-    return [double_of(number + gap if number > 0 else number and number - gap)
-            for number in numbers]
+def doubles(gap: int, numbers: Sequence[int]) -> array[float]:
+    """Returns the doubles of the numbers of a column of floats. Raises OverflowError or ValueError
+    for a number that none has."""
+    from math import isfinite
+    # a double of a sign has the sign's bit, which is the least number of 64 bits
+    bits = array("q", [number + gap if number > 0 else number and -number + gap - (1 << 63)
+                       for number in numbers])
+    found = array("d", bits.tobytes())
+    if not all(map(isfinite, found)):
+        raise ValueError
+    return found
 
 
 def number_of(kind: Kind, value: Value) -> int:
@@ -150,8 +157,10 @@ def numbers_of(kind: Kind, values: Sequence[Value]) -> list[int | None] | None:
 def read_values(plain: Any, values: Sequence[Any]) -> list[int]:
     """Returns numbers of values, which must be compared with the values of these."""
     if plain.name == "decimals":
-        power = 10 ** plain.digits
-        return [round(value * power) for value in values]
+        # of a longer one the shortest spelling is the decimal (`is_double`), and no product
+        power, most = 10 ** plain.digits, MOST_EXACT / 10 ** plain.digits
+        return [round(value * power) if -most < value < most else plain.number(repr(value))
+                for value in values]
     if plain.name == "dates":
         import datetime
         from .moments import FIRST_DAY

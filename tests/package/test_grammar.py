@@ -13,8 +13,9 @@ from bwtools.sorted_list import SortedList
 from bwtools.sql import condition as conditions
 from bwtools.sql import grammar, items, predicates
 from bwtools.sql.catalog import Catalog
-from bwtools.sql.limits import Limits, limits_of
-from bwtools.sql.outside import Outside
+from bwtools._rows import Limits
+from bwtools.sql.limits import limits_of
+from bwtools._engine.executor import Outside
 from bwtools.sql.predicates import Comparand
 from bwtools.sql.statement import Statement
 from bwtools.sql.table import Table

@@ -12,8 +12,9 @@ from bwtools import _aggregation as counted
 from bwtools._aggregation import float_sum
 from bwtools._engine import executor
 from bwtools._engine.executor import Part
-from bwtools.sql import grammar, groups, rows
-from bwtools.sql.limits import Limits
+from bwtools import _rows as rows
+from bwtools._rows import Limits
+from bwtools.sql import grammar, groups
 from bwtools.sql.statement import Statement
 from bwtools.sql.wanted import Wanted
 from bwtools.telling import Refused

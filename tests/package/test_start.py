@@ -22,7 +22,7 @@ OWN = set("""
     _engine.process _output _result codes column command failed kind kinds kinds.styled
     kinds.texts kinds.whole listed naming pairs regular sql sql.aggregate sql.bracketed
     sql.catalog sql.checking sql.clauses sql.condition sql.grammar sql.items sql.operands
-    sql.outside sql.output sql.predicates sql.reader sql.refusals sql.scopes sql.selects
+    sql.output sql.predicates sql.reader sql.refusals sql.scopes
     sql.statement sql.structure sql.table sql.tokens sql.totals_question store stored_list telling
     valued waiting""".split())
 # what takes long to import, and what nobody needs who counts

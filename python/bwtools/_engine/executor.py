@@ -6,12 +6,19 @@ from __future__ import annotations
 import functools
 import io
 import os
-from typing import Any, BinaryIO, Callable, Iterable, Iterator, Protocol, Sequence, TypeVar, Union
+from typing import (TYPE_CHECKING, Any, BinaryIO, Callable, Iterable, Iterator, Protocol, Sequence,
+                    TypeVar, Union)
 
 from ..failed import Failed
 from ..telling import Refused
 from .process import AT_ONCE, Query, Session
 
+if TYPE_CHECKING:
+    from ..column import Column
+
+COUNT = "COUNT(*)"
+# the bytes of a statement that bw takes, without its end
+MOST_BYTES = 65_530
 # the totals of a statement, of which None is null
 Totals = Sequence[Union[int, None]]
 Tell = Callable[[str], None]
@@ -24,6 +31,29 @@ MOST_IN_MEMORY, BLOCK = 1 << 26, 1 << 18
 # so many sessions are kept at most; if there are more files, or memory has no room for their
 # tables, so many work at a time
 MOST_SESSIONS, IN_TURN = 64, 4
+
+
+class Outside(Exception):
+    """What bw doesn't answer by itself: it isn't in the grammar of statements of bw, or has no
+    condition over numbers. So SQLite answers it over listed columns."""
+
+
+def select(items: str, table: str, where: str) -> str:
+    """Returns a statement of bw. Raises Outside if it is too long for it."""
+    statement = f"SELECT {items} FROM {table}{f' WHERE {where}' if where else ''}"
+    if len(statement) > MOST_BYTES:
+        raise Outside
+    return statement
+
+
+def both(one: str, other: str) -> str:
+    """Returns the conditions of both, of which either may be empty."""
+    return f"({one}) AND ({other})" if one and other else one or other
+
+
+def names_of(columns: Sequence[Column]) -> str:
+    """Returns the names of columns, as a statement has them."""
+    return ", ".join(column.name for column in columns)
 
 
 class Part:

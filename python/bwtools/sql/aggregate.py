@@ -1,9 +1,9 @@
 """Reads an aggregate over the rows of a group."""
 from __future__ import annotations
 
+from .._engine.executor import Outside
 from .._aggregation import AGGREGATES, Aggregate
 from . import tokens
-from .outside import Outside
 from .reader import TokenReader
 
 __all__ = ["AGGREGATES", "PREFIX", "aggregate_of"]

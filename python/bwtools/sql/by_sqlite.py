@@ -7,7 +7,7 @@ import sqlite3
 from typing import Callable, Iterable, Mapping
 
 from .._aggregation import NeedsExact
-from .._engine.executor import Engine
+from .._engine.executor import Engine, Outside
 from .._result import EXACT_DIGITS, Result, ValueRows, is_long
 from ..telling import Refused
 from ..waiting import Waiting
@@ -16,7 +16,6 @@ from .catalog import Catalog
 from .clauses import Clauses, clauses_of
 from .condition import MOST_BYTES, Condition
 from .listing import Listing
-from .outside import Outside
 from .reader import TokenReader
 from .reading import reads_of, told
 from .statement import Statement

@@ -1,7 +1,7 @@
 """The clauses of a statement that is one SELECT over one table."""
 from __future__ import annotations
 
-from .outside import Outside
+from .._engine.executor import Outside
 from .statement import Statement
 from .structure import CLAUSES, COMPOUND, Item
 from .table import Table

@@ -19,9 +19,9 @@ from __future__ import annotations
 
 from typing import Callable
 
+from .._engine.executor import Outside
 from .. import _result as values
 from . import tokens
-from .outside import Outside
 from .predicates import Comparand, among, between, compared, like
 from .reader import TokenReader
 

@@ -4,12 +4,12 @@ from __future__ import annotations
 
 from typing import Iterable, NamedTuple, Sequence
 
+from .._engine.executor import Outside
 from .._aggregation import Aggregate
 from ..column import Column
 from . import tokens
 from .aggregate import AGGREGATES, PREFIX, aggregate_of
 from .clauses import Clauses
-from .outside import Outside
 from .reader import TokenReader, reader_of
 from .statement import Statement
 from .tokens import quoted_name

@@ -16,12 +16,11 @@ from __future__ import annotations
 
 from typing import TYPE_CHECKING, Callable
 
-from .._engine.executor import Engine
+from .._engine.executor import Engine, Outside
 from .._result import Result
 from .aggregate import AGGREGATES, PREFIX
 from .clauses import Clauses, clauses_of
 from .items import plain_column
-from .outside import Outside
 from .statement import Statement
 from .table import Table
 from .totals_question import TotalsQuestion, totals_of

@@ -7,8 +7,9 @@ import sqlite3
 from typing import Iterator, Sequence
 
 from .._aggregation import TooMany
-from .._engine.executor import Engine
+from .._engine.executor import Engine, Outside
 from .._result import Value, ValueRows, affinity
+from .._rows import Limits
 from ..kind import Kind
 from ..telling import Refused
 from .aggregate import PREFIX
@@ -16,9 +17,8 @@ from .clauses import Clauses
 from .expressions import Expressions, Group, words_of
 from .groups import NO_DOUBLE, groups_of
 from .items import columns_of, is_star, named_item, plain_column, where_of
-from .limits import Limits, limits_of
+from .limits import limits_of
 from .ordering import terms_of
-from .outside import Outside
 from .statement import Statement
 from .structure import Item
 from .tokens import NUMBER, quoted_name

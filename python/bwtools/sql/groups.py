@@ -11,15 +11,14 @@ from collections import Counter
 from typing import Any, Callable, Mapping, NamedTuple, Optional, Sequence, Tuple
 
 from .. import _aggregation as counted
-from .._aggregation import (COUNT, NULL_NUMBER, Found, Key, float_total, values_for_sqlite,
+from .._aggregation import (NULL_NUMBER, Found, Key, float_total, values_for_sqlite,
                             values_of)
-from .._engine.executor import Engine, Totals, added
+from .._engine.executor import COUNT, Engine, Totals, added, names_of, select
 from .._result import Value
 from ..column import Column
 from ..failed import Failed
 from ..kind import Kind
 from ..telling import Refused
-from .selects import names_of, select
 from .wanted import Wanted
 
 # so many groups are counted by statements at most, and only if the rows that those scan are no more

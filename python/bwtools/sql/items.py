@@ -4,10 +4,10 @@ from __future__ import annotations
 
 from typing import Sequence
 
+from .._engine.executor import Outside
 from ..column import Column
 from .clauses import Clauses
 from .condition import Condition
-from .outside import Outside
 from .reader import reader_of
 from .statement import Statement
 from .structure import Item

@@ -4,7 +4,7 @@ from __future__ import annotations
 import math
 from fractions import Fraction
 
-from .outside import Outside
+from .._engine.executor import Outside
 
 # a number of more digits, or of a greater power of ten, is beyond all columns
 MOST_DIGITS = 400

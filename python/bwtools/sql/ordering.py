@@ -3,8 +3,8 @@ from __future__ import annotations
 
 from typing import NamedTuple, Sequence
 
+from .._engine.executor import Outside
 from .bracketed import Bracketed
-from .outside import Outside
 from .tokens import Token
 
 DIRECTIONS = ("ASC", "DESC")

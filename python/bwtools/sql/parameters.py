@@ -20,12 +20,19 @@ MISSING = ("NAType", "NaTType")
 
 
 def literals(marks: Sequence[Token], parameters: Any) -> list[Token]:
-    """Returns the literals of a statement's parameters, of which a mapping has those of names, and
-    any sequence those of numbers. Raises Refused if a value is missing or surplus."""
+    """Returns the literals of a statement's parameters. Raises Refused as `values_of` does, and for
+    a value of a type that has none."""
+    return [literal(value, mark, number) for mark, (value, number)
+            in zip(marks, values_of(marks, parameters))]
+
+
+def values_of(marks: Sequence[Token], parameters: Any) -> list[tuple[Any, int]]:
+    """Returns the values of a statement's parameters, and their numbers. A mapping has those of
+    names, and any sequence those of numbers. Raises Refused if a value is missing or surplus."""
     numbers = numbers_of(marks)
     most = max(numbers, default=0)
     if isinstance(parameters, Mapping):
-        return [literal(named(parameters, mark), mark) for mark in marks]
+        return [(named(parameters, mark), number) for mark, number in zip(marks, numbers)]
     if isinstance(parameters, (str, bytes)) or not hasattr(parameters, "__getitem__"):
         raise Refused("parameters must be a sequence of values, one for each ?, or a mapping with "
                       "one for each name")
@@ -35,7 +42,7 @@ def literals(marks: Sequence[Token], parameters: Any) -> list[Token]:
         raise Refused("parameters must be a sequence of values, or a mapping") from None
     if most != len(values):
         raise Refused(f"the statement has {most} parameters, and {len(values)} values were given")
-    return [literal(values[number - 1], mark, number) for number, mark in zip(numbers, marks)]
+    return [(values[number - 1], number) for number in numbers]
 
 
 def numbers_of(marks: Sequence[Token]) -> list[int]:
@@ -65,7 +72,7 @@ def named(parameters: Mapping[str, Any], mark: Token) -> Any:
         raise Refused(f"{where}: the parameters have no {mark.text[1:]}") from None
 
 
-def literal(value: Any, mark: Token, number: int = 0) -> Token:
+def literal(value: Any, mark: Token, number: int) -> Token:
     """Returns the literal of a parameter. Integers and floats of any library are converted, and
     decimals exactly; other types are refused: SQLite would compare their bytes, and find
     nothing."""

@@ -9,12 +9,12 @@ import operator
 import sqlite3
 from typing import TYPE_CHECKING, Any, Callable, Iterable, Sequence, Union
 
+from .._engine.executor import Outside
 from ..column import Column
 from ..kind import GREATEST, LEAST
 from ..stored_list import StoredList
 from .. import _result as values
 from .._result import is_long
-from .outside import Outside
 
 if TYPE_CHECKING:
     from fractions import Fraction

@@ -3,10 +3,10 @@ from __future__ import annotations
 
 from typing import Sequence
 
+from .._engine.executor import Outside
 from ..column import Column
 from . import tokens
 from .clauses import Clauses
-from .outside import Outside
 from .predicates import Comparand
 from .statement import Statement
 from .table import Table

@@ -80,10 +80,15 @@ def explain(database: sqlite3.Connection, guard: Guard, sql: str) -> list[tuple[
     guard.read, guard.denied, guard.is_off = {}, "", False
     # Python keeps statements by their text, and SQLite doesn't authorize one again that was kept
     guard.explained += 1
+    texts = database.text_factory
+    # a literal of bytes is a text there
+    database.text_factory = bytes
     try:
-        return database.execute(f"EXPLAIN /* {guard.explained} */ {sql}").fetchall()
+        return [tuple(each.decode("utf-8", "replace") if isinstance(each, bytes) else each
+                      for each in row)
+                for row in database.execute(f"EXPLAIN /* {guard.explained} */ {sql}")]
     finally:
-        guard.is_off = True
+        database.text_factory, guard.is_off = texts, True
 
 
 def reads_of(database: sqlite3.Connection, guard: Guard, statement: Statement, sql: str

@@ -5,13 +5,13 @@ from typing import Sequence
 
 from .._engine.executor import Engine
 from .._result import NumberRows
+from .._rows import SortKey, WantedRows
 from ..column import Column
 from ..kind import Kind
 from .clauses import Clauses
 from .items import column_of, columns_of, where_of
 from .limits import limits_of
 from .ordering import Term, terms_of
-from .rows import SortKey, WantedRows
 from .statement import Statement
 from .tokens import NUMBER
 

@@ -4,15 +4,13 @@ from __future__ import annotations
 from typing import Sequence
 
 from .._aggregation import Aggregate, values_of
-from .._engine.executor import Engine
+from .._engine.executor import Engine, Outside, select
 from .._result import ValueRows
 from ..kind import Kind
 from .aggregate import AGGREGATES, aggregate_of
 from .clauses import Clauses
 from .items import where_of
-from .outside import Outside
 from .reader import reader_of
-from .selects import select
 from .statement import Statement
 
 

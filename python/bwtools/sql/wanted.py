@@ -3,9 +3,9 @@ from __future__ import annotations
 
 from typing import NamedTuple, Sequence
 
+from .._engine.executor import COUNT, both, select
 from .._aggregation import Aggregate
 from ..column import Column
-from .selects import COUNT, both, select
 
 
 class Wanted(NamedTuple):

@@ -4,19 +4,28 @@ from __future__ import annotations
 import itertools
 from typing import Iterator, NamedTuple, Sequence
 
-from .._engine.executor import Engine, Part
-from .._result import NumberRows
-from ..column import Column
-from .limits import Limits
-from .outside import Outside
-from .predicates import placed
-from .selects import COUNT, both, names_of, select
+from ._engine.executor import COUNT, Engine, Outside, Part, both, names_of, select
+from ._result import NumberRows
+from .column import Column
 
 NULL, HEADING = b"NULL", b"\n"
 # more rows than these aren't sorted here
 MOST_ROWS = 1_000_000
 # a limit is used to list fewer rows if there are more, and to read no others if it is less
 MANY_ROWS = 100_000
+
+
+class Limits(NamedTuple):
+    """How many rows an answer has at most, if that is limited, and how many are left out before
+    them."""
+
+    most: int | None = None
+    offset: int = 0
+
+    @property
+    def end(self) -> int | None:
+        """How many rows are needed to have these."""
+        return None if self.most is None else self.offset + self.most
 
 
 class SortKey(NamedTuple):
@@ -82,10 +91,10 @@ class WantedRows:
         low, high = sorted((turn * least, turn * greatest))
         while low < high:
             middle = (low + high) // 2
-            near = both(self.where, placed(key.column, sign, turn * middle, True))
+            near = both(self.where, f"{key.column.name} {sign} {turn * middle}")
             is_enough = self.count(engine, near) >= wanted
             low, high = (low, middle) if is_enough else (middle + 1, high)
-        return placed(key.column, sign, turn * high, True)
+        return f"{key.column.name} {sign} {turn * high}"
 
     def count(self, engine: Engine, where: str) -> int:
         """Returns how many rows fulfil a condition."""
