@@ -160,7 +160,7 @@ def process(name: str, words: Words, runs: int, compared: bool = False) -> Figur
 
 def answer(connection: Any, sql: str) -> Callable[[], Any]:
     """Returns the function that asks a connection."""
-    return lambda: list(connection.answer(sql).rows())
+    return lambda: list(connection._database.answer(sql).rows())
 
 
 def show_figures(title: str, figures: Sequence[Figure], drawn: Drawn) -> None:
@@ -242,7 +242,7 @@ def time_groups_of(folder: pathlib.Path, size: int, drawn: Drawn) -> None:
 
 def time_border(folder: pathlib.Path) -> None:
     """Times groups by statements and by listed rows, for the border between few and many."""
-    groups: Any = importlib.import_module("bwtools.sql.groups")
+    groups: Any = importlib.import_module("bwtools._sql.groups")
     border = groups.MOST_STATEMENTS
 
     def lines() -> Iterator[Sequence[str]]:
@@ -257,7 +257,7 @@ def time_border(folder: pathlib.Path) -> None:
                 yield cells
     with connect(folder / "numbers.bw") as connection:
         clock = Clock(connection)
-        connection.answer("SELECT COUNT(*) FROM numbers")
+        connection._database.answer("SELECT COUNT(*) FROM numbers")
         show("Groups by statements and by listed rows, ms",
              ["Question", "by statements", "processor", "by listed rows", "processor"], lines())
 
@@ -275,7 +275,7 @@ def time_way_2(folder: pathlib.Path, drawn: Drawn) -> None:
         return database.execute(WAY_2).fetchall()
     with connect(folder / "texts.bw") as connection:
         clock = Clock(connection)
-        connection.answer("SELECT COUNT(*) FROM texts")
+        connection._database.answer("SELECT COUNT(*) FROM texts")
         first = clock.time("bw and SQLite, first time", answer(connection, WAY_2), 1)
         again = clock.time("bw", answer(connection, WAY_2), 3)
     database = sqlite3.connect(folder / "texts.db")

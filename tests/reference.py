@@ -123,10 +123,10 @@ class Asked(Compared):
 
     def answers(self, sql: str) -> Iterator[Any]:
         """Yields the answer of each way that serves a statement, or what refuses it."""
-        statement = Statement(sql, self.connection.catalog)
+        statement = Statement(sql, self.connection._database.catalog)
         ways: list[Callable[[], Any]] = [
-            lambda: plan.answer(statement, self.connection.engine),
-            lambda: self.connection.by_sqlite.answer(statement)]
+            lambda: plan.answer(statement, self.connection._database.engine),
+            lambda: self.connection._database.by_sqlite.answer(statement)]
         for ask in ways:
             try:
                 answer = ask()

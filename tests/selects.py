@@ -101,11 +101,11 @@ class Compared:
 
     def answers(self, sql: str) -> Iterator[Any]:
         """Yields the answer of each way that serves a statement."""
-        statement = Statement(sql, self.connection.catalog)
-        first = plan.answer(statement, self.connection.engine)
+        statement = Statement(sql, self.connection._database.catalog)
+        first = plan.answer(statement, self.connection._database.engine)
         if first:
             yield first
-        yield self.connection.by_sqlite.answer(statement)
+        yield self.connection._database.by_sqlite.answer(statement)
 
     def differs(self, pair: Pair) -> str:
         """Returns how an answer differs from that of sqlite3, or nothing."""
@@ -155,7 +155,7 @@ class Compared:
         except (sqlite3.Error, sqlite3.Warning) as error:
             message = str(error)
         try:
-            Statement(sql, self.connection.catalog)
+            Statement(sql, self.connection._database.catalog)
             refused = ""
         except Refused as error:
             refused = str(error)

@@ -26,7 +26,7 @@ from typing import Any, Callable, Iterable, NamedTuple, Sequence, TypeVar
 import bwtools
 from bwtools import importing, kinds, writing
 from bwtools.options import add_options, parsed
-from bwtools.programs import import_
+from bwtools._cli import import_
 from bwtools.sorted_list import SortedList
 from bwtools.source import Source
 from bwtools.telling import Refused
@@ -122,7 +122,7 @@ def import_package() -> None:
                                                   "-2,,2024-05-02,12:31,false,1e5\n")
         with bwtools.connect(table) as connection:
             for sql in ("SELECT * FROM t WHERE a = 1 OR f = 'x'", "SELECT upper(f) FROM t"):
-                list(connection.answer(sql).fields())
+                list(connection._database.answer(sql).fields())
     # the programs, which are short, turn it off
     gc.enable()
     # what forks share stays shared
@@ -211,7 +211,7 @@ def run_tool(name: str, words: list[str], cwd: Any, names: dict[str, str]) -> An
     sys.stderr = open(2, "w", 1, "utf-8", "backslashreplace", closefd=False)
     status: Any = 1
     try:
-        status = importlib.import_module(f"bwtools.programs.{TOOLS[name]}").main()
+        status = importlib.import_module(f"bwtools._cli.{TOOLS[name]}").main()
     except SystemExit as ended:
         status = ended.code
     except BaseException:

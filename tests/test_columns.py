@@ -10,9 +10,10 @@ import os
 import random
 import sqlite3
 
-from bwtools import answers, store
+from bwtools import store
+from bwtools._cli import to_numbers
+from bwtools._translation import turn_back
 from bwtools.options import parsed
-from bwtools.programs import to_numbers
 
 from tests import drawn, support
 from tests.support import bw, tool
@@ -37,7 +38,7 @@ class Columns(support.TestCase):
         self.assertEqual(loaded, (0, "", ""))
         out, columns = io.StringIO(newline=""), store.Store(folder / "out.columns").columns
         done = bw("query", folder / "t.bw", "SELECT * FROM t")
-        answers.turn_back(columns, io.StringIO(done.out, newline=""), out)
+        turn_back(columns, io.StringIO(done.out, newline=""), out)
         return records_of(out.getvalue())
 
 
@@ -325,7 +326,7 @@ ASKED = [
      "name,fare\nBoston,12.50\nO'Hare,-0.50\n", ""),
     ("SELECT name, n FROM t WHERE n IS NULL", [], 0, "name,n\n,\n", ""),
     ("select Sum(fare), sum(part), MIN(day), MAX(at), SUM(ok), SUM(none) from T", [], 0,
-     "Sum(fare),sum(part),MIN(day),MAX(at),SUM(ok),SUM(none)\n12.0,3.5,2024-05-01,2024-05-02 "
+     "Sum(fare),sum(part),MIN(day),MAX(at),SUM(ok),SUM(none)\n12.00,3.5,2024-05-01,2024-05-02 "
      "12:30:00,1,\n", ""),
     ('SELECT MAX("2nd"), COUNT("2nd"), COUNT(*) FROM t', [], 0,
      '"MAX(""2nd"")","COUNT(""2nd"")",COUNT(*)\ny,2,3\n', ""),
@@ -495,7 +496,10 @@ def totals(rows):
         return [row[place] for row in rows if row[place]]
 
     fares, rates = ([decimal.Decimal(text) for text in held(name)] for name in ("fare", "rate"))
-    return [str(len(rows)), *(repr(float(sum(each))) if each else "" for each in (fares, rates)),
+    # fares all have two digits after the point, rates none that is 0 at the end
+    rate = f"{sum(rates):f}"
+    return [str(len(rows)), f"{sum(fares):.2f}" if fares else "",
+            (rate.rstrip("0").rstrip(".") if "." in rate else rate) if rates else "",
             max(held("city"), default=""), min(held("day"), default=""),
             max(held("at"), default=""), str(min(fares)) if fares else "", str(len(held("n"))),
             str(held("ok").count("true")) if held("ok") else ""]

@@ -49,7 +49,7 @@ class Tools(support.TestCase):
 # What is tested, a file, the options of import, a statement, and its result
 ANSWERS = [
     ("floats as pandas writes them", b"a\n1.25\n2.0\n13.5\n9.75\n", [],
-     "SELECT MAX(a), SUM(a) FROM t", "MAX(a),SUM(a)/13.50,26.5/"),
+     "SELECT MAX(a), SUM(a) FROM t", "MAX(a),SUM(a)/13.50,26.50/"),
     ("NA among texts is a text", SHOP, [], "SELECT COUNT(*) FROM t WHERE land <> 'DE'",
      "COUNT(*)/2/"),
     ("NA among texts may be asked for", SHOP, [], "SELECT id FROM t WHERE land = 'NA'", "id/2/"),
@@ -68,7 +68,7 @@ ANSWERS = [
     ("thousands by points", b"a;b\n1,5;1.234\n2,5;12.500\n", [], "SELECT b FROM t WHERE b > 1234",
      "b/12.500/"),
     ("dollars", b"a\n$9.50\n$10.00\n", [], "SELECT MAX(a), SUM(a) FROM t WHERE a >= '$9.50'",
-     "MAX(a),SUM(a)/$10.00,19.5/"),
+     "MAX(a),SUM(a)/$10.00,19.50/"),
     ("decimal commas", b"a;b\n1,5;x\n-0,25;y\n", [],
      "SELECT SUM(a), MIN(a) FROM t WHERE a < 1.50001",
      'SUM(a),MIN(a)/1.25,"-0,25"/'),
@@ -488,7 +488,7 @@ class Statements(Asking):
         self.assertRegex(log.read_text(), r"\Asession /dev/fd/.*\n\Z")
 
     def test_ends_of_statements(self):
-        for given in (f"{FIRST};{SECOND};", f"{FIRST}\n\n{SECOND}\n\n\n", f"{FIRST};\n\n;{SECOND}",
+        for given in (f"{FIRST};{SECOND};", f"{FIRST}\n\n;{SECOND}\n\n\n", f"{FIRST};\n\n;{SECOND}",
                       f"{FIRST}\r\n;\r\n{SECOND}\r\n",
                       f"-- it's; 'one'\n{FIRST} -- or; two\n; {SECOND}\n-- end"):
             with self.subTest(given):
@@ -564,7 +564,8 @@ ENDED = [
     ("as if all were well", "exit 0", "\n\n",
      "bw-ask: bw session ended with status 0 before a result\n" * 2, 5),
     ("by a signal", "kill -9 $$", "\n\n", "bw-ask: bw session was ended by signal 9\n" * 2, 137),
-    ("after an answer", 'read line; printf "id\\n1\\n\\n"; exit 7', "id\n1\n\n\n",
+    ("after an answer",
+     'read line; printf "id\\n1\\n\\n"; read line; read line; exit 7', "id\n1\n\n\n",
      "bw-ask: bw session ended with status 7 before a result\n", 7),
     ("in an answer", 'read line; printf "id\\n1\\n"; kill -TERM $$', "\n\n",
      "bw-ask: bw session was ended by signal 15\n" * 2, 143),

@@ -53,7 +53,7 @@ IN_TURN = """
 import json, os, sys
 sys.path.insert(0, sys.argv[1])
 import distributed
-from bwtools.programs import shards
+from bwtools._cli import shards
 for number, words in enumerate(json.load(sys.stdin)):
     if not os.fork():
         for place, name in ((1, "out"), (2, "err")):

@@ -2,7 +2,8 @@
 import io
 import unittest
 
-from bwtools import answers, kinds
+from bwtools import _translation as answers
+from bwtools import kinds
 from bwtools.column import Column
 from bwtools.telling import Refused
 from tests.support import texts

@@ -13,12 +13,10 @@ import tempfile
 import time
 import unittest
 
-from bwtools import aligned, formats
-from bwtools.asking import statements_in
+from bwtools import _output
+from bwtools._cli.asking import split, statements_in
+from bwtools._result import Result, ValueRows
 from bwtools.kinds import Dates, Decimals, Styled, Truths, Whole
-from bwtools.programs.ask import split
-from bwtools.sql.answer import Answer
-from bwtools.sql.value_rows import ValueRows
 from bwtools.style import Style
 from bwtools.telling import Refused
 
@@ -34,7 +32,8 @@ class Statements(unittest.TestCase):
     def test_statements(self):
         for text, wanted in (
                 ("", []), (" ;; \n\n;-- nothing\n", []), ("a", ["a"]), ("a;b;", ["a", "b"]),
-                ("a\nb\n\nc\n", ["a\nb\n", "c\n"]), ("  a ; b", ["a ", "b"]),
+                ("a\nb\n\nc\n", ["a\nb\n\nc\n"]), ("a\n\n;b\n", ["a\n\n", "b\n"]),
+                ("  a ; b", ["a ", "b"]),
                 ("'a;\n\nb'; c", ["'a;\n\nb'", "c"]), ('"a;b" c', ['"a;b" c']),
                 ("[a;b]; `c;d`", ["[a;b]", "`c;d`"]), ("'it''s; '; b", ["'it''s; '", "b"]),
                 ("a -- b; '\n; c", ["a -- b; '\n", "c"]),
@@ -70,12 +69,12 @@ class Words(unittest.TestCase):
 
 
 def answer(headings, kinds, rows):
-    return Answer(headings, kinds, ValueRows(rows), 2)
+    return Result(headings, kinds, ValueRows(rows), 2)
 
 
 def printed(form, found, width=None):
     out = io.StringIO()
-    count = formats.writer_of(form)(found, out, width)
+    count = _output.writer_of(form)(found, out, width)
     return out.getvalue(), count
 
 
@@ -134,8 +133,8 @@ class Forms(unittest.TestCase):
 
     def test_many_columns_stay_readable(self):
         widths = [50] * 20
-        aligned.narrow(widths, 80)
-        self.assertEqual(widths, [aligned.LEAST] * 20)
+        _output.narrow(widths, 80)
+        self.assertEqual(widths, [_output.LEAST] * 20)
 
 
 class Programs(Imported):

@@ -15,8 +15,9 @@ import unittest
 from unittest import mock
 
 import bwtools
+from bwtools import _aggregation as counted
+from bwtools._engine.process import Session
 from bwtools._sql import by_sqlite
-from bwtools.sql import counted
 
 from tests.support import Imported, imported
 
@@ -224,7 +225,7 @@ class Tables(Connections):
         data = "id,city\n" + "".join(f"{n},{'abc'[n % 3]}\n" for n in range(100))
         imported(self.folder / "shards", data, "--shards", "3")
         connection = self.connect("shards")
-        self.assertEqual(len(connection.catalog.only.parts), 3)
+        self.assertEqual(len(connection._database.catalog.only.parts), 3)
         self.assertEqual(
             connection.execute(
                 "SELECT city, count(*), sum(id) FROM shards GROUP BY city").fetchall(),
@@ -234,7 +235,7 @@ class Tables(Connections):
         self.assertEqual(
             connection.execute("SELECT id, upper(city) FROM shards WHERE id > 97").fetchall(),
             [(98, "C"), (99, "A")])
-        shutil.copy(self.folder / "trips.bw", connection.catalog.only.parts[1].path)
+        shutil.copy(self.folder / "trips.bw", connection._database.catalog.only.parts[1].path)
         with self.assertRaisesRegex(bwtools.ProgrammingError, "has changed or was replaced"):
             bwtools.connect(self.folder / "shards")
 
@@ -257,11 +258,12 @@ class Tables(Connections):
 
 class Failures(Connections):
     def kill(self, connection):
-        for session in connection.engine(connection.catalog.only).asker.sessions.sessions:
-            session.process.send_signal(signal.SIGKILL)
-            session.process.wait()
+        database = connection._database
+        for session in database.engine(database.catalog.only).asker.sessions.sessions:
+            os.kill(session.number, signal.SIGKILL)
+            os.waitid(os.P_PID, session.number, os.WEXITED | os.WNOWAIT)
 
-    def test_session_that_dies_is_an_error(self):
+    def test_session_that_died_idle_is_started_again(self):
         for sql in ("SELECT count(*) FROM trips", "SELECT city FROM trips",
                     "SELECT upper(city) FROM trips",
                     "SELECT city, count(*) FROM trips GROUP BY city"):
@@ -269,11 +271,25 @@ class Failures(Connections):
             cursor = connection.execute("SELECT id FROM trips")
             self.kill(connection)
             with self.subTest(sql):
+                self.assertEqual(cursor.execute(sql).fetchall(),
+                                 self.connect().execute(sql).fetchall())
+                self.assertEqual(len(cursor.execute("SELECT id FROM trips").fetchall()), 3)
+
+    def test_session_that_dies_is_an_error(self):
+        for sql in ("SELECT count(*), 1 FROM trips", "SELECT city FROM trips",
+                    "SELECT upper(city) FROM trips",
+                    "SELECT city, count(*) FROM trips GROUP BY city"):
+            connection = self.connect()
+            cursor = connection.execute("SELECT id FROM trips")
+            # it dies once it was found to run
+            with mock.patch.object(Session, "is_running", lambda _: True), \
+                    self.subTest(sql):
+                self.kill(connection)
                 with self.assertRaisesRegex(bwtools.OperationalError, "ended by signal 9"):
                     cursor.execute(sql)
                 with self.assertRaisesRegex(bwtools.ProgrammingError, "no statement was run"):
                     cursor.fetchall()
-                self.assertEqual(len(cursor.execute("SELECT id FROM trips").fetchall()), 3)
+            self.assertEqual(len(cursor.execute("SELECT id FROM trips").fetchall()), 3)
 
     def test_session_that_dies_in_the_middle_leaves_no_part(self):
         """A program that writes a part of its answer and dies."""
@@ -292,7 +308,7 @@ class Failures(Connections):
 
     def test_too_many_groups_are_refused_with_their_number(self):
         with mock.patch.object(counted, "MOST_GROUPS", 2), \
-                mock.patch("bwtools.sql.groups.MOST_STATEMENTS", 1), \
+                mock.patch("bwtools._sql.groups.MOST_STATEMENTS", 1), \
                 self.assertRaisesRegex(bwtools.ProgrammingError, "more than 2 groups"):
             self.connect().execute("SELECT id, count(*) FROM trips GROUP BY id")
 
@@ -329,13 +345,15 @@ class Failures(Connections):
                 with self.assertRaisesRegex(bwtools.ProgrammingError, "cursor is closed"):
                     use()
             other = connection.execute("SELECT count(*) FROM trips")
-            asker = connection.engine(connection.catalog.only).asker
-            processes = [session.process for session in asker.sessions.sessions]
+            asker = connection._database.engine(connection._database.catalog.only).asker
+            processes = [session.number for session in asker.sessions.sessions]
         for use in (other.fetchall, connection.cursor, connection.commit, connection.rollback,
                     lambda: other.execute("SELECT 1")):
             with self.assertRaisesRegex(bwtools.ProgrammingError, "connection is closed"):
                 use()
-        self.assertTrue(processes and all(process.poll() is not None for process in processes))
+        self.assertTrue(processes)
+        for number in processes:
+            self.assertRaises(ProcessLookupError, os.kill, number, 0)
         connection.close()
 
     def test_interrupt_is_noticed_at_once(self):

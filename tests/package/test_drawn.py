@@ -32,11 +32,11 @@ class Joins(Compared):
                 self.addCleanup(connection.close)
             statement = chance.statement()
             with self.subTest(number=number, statement=statement):
-                answer = connection.answer(statement)
+                answer = connection._database.answer(statement)
                 rows = list(answer.rows())
                 ways[answer.way] += 1
                 self.compare(rows, base.rows(drawn.with_iso_dates(statement)))
-                self.assertEqual(len(list(answer.python_rows())), len(rows))
+                self.assertEqual(len(list(answer.objects())), len(rows))
                 self.assertEqual(sum(len(block[0]) for block in answer.fields()), len(rows))
         self.assertGreater(ways[2], 300)
 

@@ -10,8 +10,8 @@ from unittest import mock
 
 from bwtools import command
 from bwtools.failed import Failed
-from bwtools.session import MOST_AHEAD, SURPLUS
-from bwtools.sql import engine, scheduled, sessions
+from bwtools._engine import cluster, executor
+from bwtools._engine.process import MOST_AHEAD, SURPLUS
 from bwtools.telling import Refused
 
 COUNTS = "read a; read b; printf 'COUNT(*),MAX(x)\\n%s\\n\\n' "
@@ -31,7 +31,7 @@ class Temporary(unittest.TestCase):
 
     def asker_of(self, *args, **named):
         """Returns sessions that end with the test."""
-        asker = sessions.Sessions(*args, **named)
+        asker = executor.Sessions(*args, **named)
         self.addCleanup(asker.close)
         return asker
 
@@ -56,7 +56,7 @@ class Tables(Temporary):
     def engine_of(self, *rows, **named):
         """Returns an engine over files of these rows."""
         files = [self.table(f"t{place}", *each) for place, each in enumerate(rows)]
-        return engine.Engine(self.asker_of(files, **named))
+        return executor.Engine(self.asker_of(files, **named))
 
     def test_totals_of_files_are_added(self):
         asked = self.engine_of(["1,2", "1,-3"], ["2,", "1,5"], ["3,"])
@@ -70,30 +70,30 @@ class Tables(Temporary):
     def test_rows_are_those_of_each_file_in_order(self):
         asked = self.engine_of(["1,2", "1,-3"], ["2,", "1,5"])
         for _ in range(2):
-            self.assertEqual([file.read() for file in asked.rows("SELECT b FROM t")],
-                             [b"b\n2\n-3\n", b"b\nNULL\n5\n"])
+            self.assertEqual([file.rows() for file in asked.rows("SELECT b FROM t")],
+                             [b"2\n-3\n", b"NULL\n5\n"])
 
     def test_more_files_than_memory_has_room_for_are_asked_in_turn(self):
         for name, value in (("memory", lambda: 100), ("MOST_SESSIONS", 4)):
-            with mock.patch.object(sessions, name, value), \
-                    mock.patch.object(sessions, "IN_TURN", 2):
+            with mock.patch.object(executor, name, value), \
+                    mock.patch.object(executor, "IN_TURN", 2):
                 asked = self.engine_of(["1,2"], ["2,3"], ["3,4"], ["4,5"], ["5,6"])
                 statements = ["SELECT COUNT(*), SUM(b) FROM t", "SELECT MAX(a) FROM t"]
                 self.assertEqual([list(each) for each in asked.totals(statements)], [[5, 20], [5]])
                 self.assertEqual(asked.asker.sessions, [])
-                found = [file.read() for file in asked.rows("SELECT a FROM t")]
-                self.assertEqual(found, [f"a\n{place}\n".encode() for place in range(1, 6)])
+                found = [file.rows() for file in asked.rows("SELECT a FROM t")]
+                self.assertEqual(found, [f"{place}\n".encode() for place in range(1, 6)])
                 with self.assertRaisesRegex(Refused, "^bw: 404 "):
                     asked.rows("SELECT c FROM t")
                 self.assertEqual(asked.asker.sessions, [])
 
     def test_a_long_result_is_in_a_file(self):
         asked = self.engine_of([f"{place % 10},{place % 7}" for place in range(5000)])
-        with mock.patch.object(sessions, "MOST_IN_MEMORY", 1000):
+        with mock.patch.object(executor, "MOST_IN_MEMORY", 1000):
             file, = asked.rows("SELECT a, b FROM t")
-        self.assertEqual(file.read().decode(), "a,b\n" + "".join(
+        self.assertEqual(file.rows().decode(), "".join(
             f"{place % 10},{place % 7}\n" for place in range(5000)))
-        self.assertTrue(file.fileno())
+        self.assertTrue(file.file.fileno())
         file.close()
 
     def test_a_refused_statement_leaves_the_sessions(self):
@@ -142,7 +142,7 @@ class Failing(Temporary):
         return self.asker_of(files)
 
     def refuse(self, asker, regex, statements=("one", "two", "three")):
-        asked = engine.Engine(asker)
+        asked = executor.Engine(asker)
         with self.assertRaisesRegex(Failed, regex) as failed:
             asked.totals(statements)
         # the next statement begins with other sessions
@@ -164,7 +164,7 @@ class Failing(Temporary):
         for script in ("read a; read b; printf 'a\\n1\\n'", "printf 'a\\n1'; kill -9 $$"):
             asker = self.asker("read a; read b; printf 'a\\n1\\n\\n'; cat >/dev/null", script)
             with self.subTest(script), self.assertRaises(Failed):
-                engine.Engine(asker).rows("SELECT a FROM t")
+                executor.Engine(asker).rows("SELECT a FROM t")
             self.assertEqual(asker.sessions, [])
 
     def test_results_that_are_not_the_statements_own(self):
@@ -176,13 +176,13 @@ class Failing(Temporary):
             with self.subTest(script):
                 asker = self.asker(script)
                 with self.assertRaisesRegex(Failed, why):
-                    engine.Engine(asker).totals(["one", "two", "three"])
+                    executor.Engine(asker).totals(["one", "two", "three"])
 
     def test_shards_that_disagree(self):
         one = "read a; read b; printf 'COUNT(*)\\n1\\n\\n'; cat"
         two = "read a; read b; printf 'SUM(x)\\n1\\n\\n'; cat"
         with self.assertRaisesRegex(Failed, "no totals"):
-            engine.Engine(self.asker(one, two)).totals(["one"])
+            executor.Engine(self.asker(one, two)).totals(["one"])
 
     def test_an_interrupt_ends_the_sessions(self):
         # a shell has background jobs ignore interrupts
@@ -208,7 +208,7 @@ class Failing(Temporary):
         path.write_text(program, encoding="utf-8")
         asker = self.asker(f"exec python3 {path}")
         statements = [f"SELECT COUNT(*) FROM t WHERE a = {place}" for place in range(60)]
-        self.assertEqual(engine.Engine(asker).totals(statements), [[1]] * 60)
+        self.assertEqual(executor.Engine(asker).totals(statements), [[1]] * 60)
         session = asker.sessions[0]
         self.assertEqual(session.end(), 0)
         self.assertLessEqual(int(session.said()), 50 * MOST_AHEAD)
@@ -223,7 +223,7 @@ class SideBySide(unittest.TestCase):
             return place
 
         works = [lambda place=place: work(place) for place in range(3)]
-        self.assertEqual(sessions.side_by_side(works, mock.Mock()), [0, 1, 2])
+        self.assertEqual(executor.side_by_side(works, mock.Mock()), [0, 1, 2])
 
     def test_the_first_error_is_raised_once_all_have_ended(self):
         done, ready = [], threading.Event()
@@ -236,7 +236,7 @@ class SideBySide(unittest.TestCase):
             raise ValueError(why)
 
         with self.assertRaisesRegex(ValueError, "first"):
-            sessions.side_by_side([lambda: None, lambda: fail("first", True),
+            executor.side_by_side([lambda: None, lambda: fail("first", True),
                                  lambda: fail("second", False)], mock.Mock())
         self.assertEqual(done, ["second", "first"])
 
@@ -247,20 +247,20 @@ class SideBySide(unittest.TestCase):
             raise KeyboardInterrupt
 
         with self.assertRaises(KeyboardInterrupt):
-            sessions.side_by_side([interrupted, lambda: ended.wait(20)], ended.set)
+            executor.side_by_side([interrupted, lambda: ended.wait(20)], ended.set)
         self.assertTrue(ended.is_set())
 
 
 class Scheduled(unittest.TestCase):
     def asker(self, *replies):
-        cluster = mock.Mock()
-        cluster.replies.side_effect = lambda calls: iter(replies)
-        return scheduled.Scheduled(cluster, [("one", None), ("two", None)], "columns")
+        joined = mock.Mock()
+        joined.replies.side_effect = lambda calls: iter(replies)
+        return cluster.Scheduled(joined, [("one", None), ("two", None)], "columns")
 
     def test_totals_are_added(self):
         asker = self.asker((0, "", b"COUNT(*)\n1\n"), (0, "", b"COUNT(*)\n2\n"),
                            (0, "", b"SUM(a)\n5\n"), (0, "", b"SUM(a)\nNULL\n"))
-        self.assertEqual(engine.Engine(asker).totals(["one", "two"]), [[3], [5]])
+        self.assertEqual(executor.Engine(asker).totals(["one", "two"]), [[3], [5]])
         call = asker.cluster.replies.call_args[0][0][1]
         self.assertEqual((call[1:4], call[5]), (("two", None, "columns"), "one"))
 
@@ -270,4 +270,4 @@ class Scheduled(unittest.TestCase):
                                   ((5, "gone", b""), Failed, "^two: gone$")]:
             asker = self.asker((0, "", b"COUNT(*)\n1\n"), reply)
             with self.subTest(why), self.assertRaisesRegex(error, why):
-                engine.Engine(asker).totals(["one"])
+                executor.Engine(asker).totals(["one"])

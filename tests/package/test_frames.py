@@ -10,7 +10,6 @@ from typing import Any
 from unittest import mock
 
 import bwtools
-import bwtools.sql.cursor
 
 from tests.support import Imported
 
@@ -123,7 +122,7 @@ class Arrays(Frames):
 
     def test_the_type_hint_is_that_of_numpy(self):
         import numpy
-        hint = bwtools.sql.cursor.Cursor.columns.__annotations__["return"]
+        hint = bwtools.Cursor.columns.__annotations__["return"]
         self.assertIn("MaskedArray", str(eval(hint, {"numpy": numpy, "Any": Any})))
 
     def test_rows_are_still_fetched(self):

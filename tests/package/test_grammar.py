@@ -10,6 +10,8 @@ from unittest import mock
 from bwtools import kinds, store
 from bwtools.column import Column
 from bwtools.sorted_list import SortedList
+from bwtools._engine.executor import Outside
+from bwtools._rows import Limits
 from bwtools._sql import plan, predicates, pushdown, selection
 from bwtools._sql.lexer import tokens_of
 from bwtools._sql.literals import Constant, evaluate
@@ -18,8 +20,6 @@ from bwtools._sql.predicates import Comparand
 from bwtools._sql.statement import Statement
 from bwtools._sql.syntax import Literal, walk
 from bwtools._sql.tables import Catalog, Table
-from bwtools.sql.limits import Limits
-from bwtools.sql.outside import Outside
 from bwtools.telling import Refused
 from tests.support import texts
 
@@ -327,7 +327,7 @@ class Statements(OverTable):
         self.assertEqual(answer.headings, ["unit price", "N2", "MIN(day)", "COUNT( * )",
                                            "max(city) + 1", "SUM(price)"])
         self.assertEqual([kind and kind.name for kind in answer.kinds],
-                         ["decimals", "whole", "dates", None, None, None])
+                         ["decimals", "whole", "dates", None, None, "decimals"])
         self.assertEqual((answer.way, list(answer.rows())), (1, []))
 
     def test_statements_of_bw(self):

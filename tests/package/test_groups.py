@@ -1,6 +1,5 @@
 """Groups and their totals: by statements of bw that must add up, and of rows that bw listed; rows
 in order, within limits."""
-import io
 import math
 import random
 import unittest
@@ -9,12 +8,15 @@ from unittest import mock
 import bwtools
 from bwtools import kinds
 from bwtools.failed import Failed
-from bwtools._sql import plan
+from bwtools import _aggregation as counted
+from bwtools import _rows as rows
+from bwtools._aggregation import float_sum
+from bwtools._engine import executor
+from bwtools._engine.executor import Part
+from bwtools._rows import Limits
+from bwtools._sql import groups, plan
+from bwtools._sql.groups import Wanted
 from bwtools._sql.statement import Statement
-from bwtools.sql import counted, groups, rows
-from bwtools.sql.exact import float_sum
-from bwtools.sql.limits import Limits
-from bwtools.sql.wanted import Wanted
 from bwtools.telling import Refused
 from tests.support import Imported
 
@@ -46,10 +48,11 @@ class Asked(Imported):
         cls.addClassCleanup(cls.connection.close)
 
     def setUp(self):
-        self.engine = self.connection.engine(self.connection.catalog.only)
+        self.engine = self.connection._database.engine(self.connection._database.catalog.only)
 
     def answer(self, sql):
-        answer = plan.answer(Statement(sql, self.connection.catalog), self.connection.engine)
+        database = self.connection._database
+        answer = plan.answer(Statement(sql, database.catalog), database.engine)
         self.assertIsNotNone(answer, sql)
         return answer
 
@@ -57,8 +60,8 @@ class Asked(Imported):
         return list(self.answer(sql).rows())
 
     def by_sqlite(self, sql):
-        return list(self.connection.by_sqlite.answer(Statement(sql,
-                                                               self.connection.catalog)).rows())
+        database = self.connection._database
+        return list(database.by_sqlite.answer(Statement(sql, database.catalog)).rows())
 
 
 class Groups(Asked):
@@ -123,7 +126,8 @@ class Groups(Asked):
         listed = self.engine.rows
 
         def shorter(statement):
-            return [io.BytesIO(b"".join(part.readlines()[:-1])) for part in listed(statement)]
+            return [Part(part.data[:part.data.rindex(b"\n", 0, -1) + 1])
+                    for part in listed(statement)]
 
         for items in ("COUNT(*)", "SUM(n)", "MAX(wide)"):
             with self.subTest(items), mock.patch.object(self.engine, "rows", shorter), \
@@ -146,7 +150,7 @@ class Groups(Asked):
                 self.assertLess(len(many.asked), 6)
 
     def test_the_border_is_the_number_of_choices(self):
-        column, other = self.connection.catalog.only.columns[:2]
+        column, other = self.connection._database.catalog.only.columns[:2]
         whole = {"COUNT(*)": 9, "COUNT(city)": 9, "MIN(city)": 0, "MAX(city)": 19, "COUNT(n)": 8,
                  "MIN(n)": -1, "MAX(n)": 17}
         for most, keys, wanted in [(20, [column], True), (19, [column], False), (20, [other], True),
@@ -159,7 +163,7 @@ class Groups(Asked):
         self.assertEqual(groups.choices_of(mock.Mock(), Wanted("t", "", [other]), far), [])
 
     def test_few_rows_of_many_are_listed(self):
-        column = self.connection.catalog.only.columns[0]
+        column = self.connection._database.catalog.only.columns[0]
         whole = {"COUNT(*)": 10, "COUNT(city)": 10, "MIN(city)": 0, "MAX(city)": 19}
         for rows_of_table, wanted in [(1000, True), (1001, False)]:
             engine = mock.Mock(**{"totals.return_value": [[rows_of_table]]})
@@ -181,7 +185,7 @@ class Groups(Asked):
                     "SELECT SUM(wide) FROM t GROUP BY n > 0 "):
             with self.subTest(sql), \
                     self.assertRaisesRegex(Refused, "SUM.* is outside the range of 64 bits"):
-                list(self.connection.answer(sql).rows())
+                list(self.connection._database.answer(sql).rows())
         with mock.patch.object(groups, "MOST_STATEMENTS", 0), \
                 self.assertRaisesRegex(Refused, "64 bits: 9,"):
             self.rows("SELECT ok, SUM(wide) FROM t GROUP BY ok")
@@ -213,7 +217,7 @@ class Groups(Asked):
                     self.assertEqual(self.rows(sql), self.by_sqlite(sql))
         with mock.patch.object(counted, "MOST_GROUPS", 300):
             sql = "SELECT wide % 2, COUNT(*) FROM t GROUP BY wide % 2"
-            self.assertEqual(self.connection.answer(sql).way, 2)
+            self.assertEqual(self.connection._database.answer(sql).way, 2)
 
     def test_distinct_rows_keep_the_order_of_the_file(self):
         for sql in ("SELECT DISTINCT city, ok FROM t", "SELECT DISTINCT n FROM t WHERE n > 3",
@@ -237,7 +241,7 @@ class Counted(unittest.TestCase):
     """Listed rows, counted and added."""
 
     def parts(self, *texts):
-        return [io.BytesIO(f"heading\n{text}".encode()) for text in texts]
+        return [Part(f"heading\n{text}".encode()) for text in texts]
 
     def test_counts_are_in_the_order_of_rows(self):
         found = counted.counts(self.parts("2,1\nNULL,1\n2,1\n", "", "0,NULL\n2,1\n"))
@@ -256,7 +260,7 @@ class Counted(unittest.TestCase):
 
     def test_totals(self):
         functions = {"a": ["SUM", "MIN", "MAX", "COUNT"], "b": ["SUM"]}
-        with mock.patch.object(counted, "AT_ONCE", 4):
+        with mock.patch.object(executor, "BLOCK", 4):
             found = counted.totals(self.parts("1,5,1\n2,NULL,1\n1,-7,NULL\n", "1,6,3\nNULL,0,0\n"),
                                    1, functions)
         self.assertEqual(found.columns, [[1, 2, counted.NULL_NUMBER]])
@@ -288,7 +292,7 @@ class Counted(unittest.TestCase):
                                 ([1e308] * 2, math.inf),
                                 ([-1e308] * 2, -math.inf), ([1e100, 1.0, -1e100], 1.0)]:
             self.assertEqual(float_sum(doubles), wanted)
-        self.assertIsNone(groups.float_total("AVG", []))
+        self.assertIsNone(counted.float_total("AVG", []))
 
 
 class InOrder(Asked):
@@ -321,9 +325,7 @@ class InOrder(Asked):
 
         def noted(statement):
             parts = ask(statement)
-            listed.append(sum(len(part.readlines()) - 1 for part in parts))
-            for part in parts:
-                part.seek(0)
+            listed.append(sum(part.count for part in parts))
             return parts
 
         for sql, most in [("SELECT wide FROM t ORDER BY wide LIMIT 60", 60),
@@ -336,13 +338,13 @@ class InOrder(Asked):
 
     def test_too_many_rows_to_sort_are_left_to_sqlite(self):
         with mock.patch.object(rows, "MOST_ROWS", 100):
-            statement = Statement("SELECT n FROM t ORDER BY n", self.connection.catalog)
-            self.assertIsNone(plan.answer(statement, self.connection.engine))
+            statement = Statement("SELECT n FROM t ORDER BY n", self.connection._database.catalog)
+            self.assertIsNone(plan.answer(statement, self.connection._database.engine))
             with mock.patch.object(rows, "MANY_ROWS", 10):
                 self.rows("SELECT wide FROM t ORDER BY wide DESC LIMIT 5")
 
     def test_limits_without_an_order_are_of_all_files(self):
-        parts = [io.BytesIO(b"a\n1\n2\n"), io.BytesIO(b"a\n"), io.BytesIO(b"a\n3\n4\n")]
+        parts = [Part(b"a\n1\n2\n"), Part(b"a\n"), Part(b"a\n3\n4\n")]
         self.assertEqual(rows.limited(parts, Limits(2, 1)), b"\n2\n3\n")
 
 
@@ -361,8 +363,8 @@ class Files(Imported):
                         "SELECT price, SUM(n) FROM t GROUP BY price",
                         "SELECT wide FROM t ORDER BY wide DESC LIMIT 9"):
                 with self.subTest(sql):
-                    found = several.answer(sql)
+                    found = several._database.answer(sql)
                     self.assertEqual(found.way, 1)
-                    self.assertEqual(list(found.rows()), list(one.answer(sql).rows()))
-            asker = several.engine(several.catalog.only).asker
+                    self.assertEqual(list(found.rows()), list(one._database.answer(sql).rows()))
+            asker = several._database.engine(several._database.catalog.only).asker
             self.assertEqual(len(asker.sessions.sessions), 3)

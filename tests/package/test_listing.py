@@ -1,18 +1,19 @@
 """SQLite over columns that bw listed: what is listed, once, and what SQLite computes."""
-import io
 import math
 import signal
 import sqlite3
 from unittest import mock
 
 import bwtools
+from bwtools._aggregation import NeedsExact, summed
+from bwtools._engine.executor import Part
+from bwtools._result import number_in
 from bwtools.failed import Failed
 from bwtools._sql import by_sqlite
 from bwtools._sql.exactness import sum_text
 from bwtools._sql.pushdown import pushed
 from bwtools._sql.render import Renderer
 from bwtools._sql.statement import Statement
-from bwtools.sql.sum import summed
 from bwtools.telling import Refused
 
 from tests.support import Imported, imported
@@ -37,11 +38,11 @@ class Listings(Imported):
         self.addCleanup(self.connection.close)
 
     def statement(self, sql):
-        return Statement(sql, self.connection.catalog)
+        return Statement(sql, self.connection._database.catalog)
 
     def answer(self, sql):
         """Returns the answer by SQLite, even if bw has it."""
-        return self.connection.by_sqlite.answer(self.statement(sql))
+        return self.connection._database.by_sqlite.answer(self.statement(sql))
 
     def rows(self, sql):
         return list(self.answer(sql).rows())
@@ -154,7 +155,7 @@ class Listed(Listings):
     def test_rows_of_few_conditions_are_kept(self):
         for number in range(by_sqlite.MOST_CONDITIONS + 3):
             self.rows(f"SELECT id + 0 FROM trips WHERE id > {number} AND id + 0 > 0")
-        self.assertEqual(len(self.connection.by_sqlite.parts), by_sqlite.MOST_CONDITIONS)
+        self.assertEqual(len(self.connection._database.by_sqlite.parts), by_sqlite.MOST_CONDITIONS)
         self.assertEqual(self.answer("SELECT id + 0 FROM trips WHERE id > 10 AND id + 0 > 0").asked,
                          [])
 
@@ -166,22 +167,22 @@ class Listed(Listings):
             self.assertEqual(
                 self.rows("SELECT length(city) FROM trips WHERE id > 4 AND id + 0 > 0"), [(6,)])
             self.assertEqual(self.rows("SELECT length(city) FROM stations"), [(6,), (6,), (6,)])
-            self.connection.by_sqlite.is_all = True
+            self.connection._database.by_sqlite.is_all = True
             self.assertEqual(len(self.rows("SELECT length(city) FROM trips")), 5)
 
     def test_what_fails_leaves_no_part(self):
-        engine = self.connection.engine(self.connection.catalog.get("trips"))
+        engine = self.connection._database.engine(self.connection._database.catalog.get("trips"))
         self.rows("SELECT abs(id) FROM trips")
         for kept in ([b"city\n1\n2\n"], [b"city\n1\nx\nNULL\n1\n0\n"], [b"city\n77\n1\n1\n1\n1\n"]):
             with self.subTest(kept), \
-                    mock.patch.object(engine, "rows", return_value=list(map(io.BytesIO, kept))), \
+                    mock.patch.object(engine, "rows", return_value=list(map(Part, kept))), \
                     self.assertRaises((Failed, Refused)):
                 self.rows("SELECT id, city || '' FROM trips")
         self.assertEqual(self.rows("SELECT id, upper(city) FROM trips WHERE id > 3"),
                          [(4, "BOSTON"), (5, "BERGEN")])
 
     def test_interrupt_undoes_what_was_listed(self):
-        with mock.patch("bwtools._sql.listing.NumberRows.values", side_effect=KeyboardInterrupt), \
+        with mock.patch("bwtools._result.Numbers.values", side_effect=KeyboardInterrupt), \
                 self.assertRaises(KeyboardInterrupt):
             self.rows("SELECT abs(id) FROM trips")
         self.assertEqual(len(self.rows("SELECT abs(id) FROM trips")), 5)
@@ -221,7 +222,7 @@ class Listed(Listings):
     def test_what_a_signal_left_is_undone(self):
         """An interrupt between the end of a transaction and the note of what was listed lists no
         row twice."""
-        listing = self.connection.by_sqlite.whole
+        listing = self.connection._database.by_sqlite.whole
         self.rows("SELECT abs(id) FROM trips")
         del listing.listed["trips"]
         listing.database.execute("BEGIN")
@@ -242,8 +243,21 @@ class Values(Listings):
 
     def test_decimals_of_many_digits_are_refused(self):
         self.refused("SELECT length(long) FROM trips", "long has decimals of more than 15 digits")
-        self.refused("SELECT s.name FROM trips t, stations s WHERE t.long > 5",
-                     "ask for COUNT, MIN, MAX")
+        for sql in ("t.long + 1 > 5", "t.long > t.cents", "round(t.long) = 1", "t.long IN (id)"):
+            self.refused(f"SELECT s.name FROM trips t, stations s WHERE {sql}",
+                         "long has decimals of more than 15 digits")
+        self.refused("SELECT long FROM trips UNION SELECT cents FROM trips", "more than 15 digits")
+        self.refused("SELECT max(long) OVER () FROM trips", "more than 15 digits")
+
+    def test_decimals_of_many_digits_are_compared_and_grouped(self):
+        for sql, wanted in [
+                ("SELECT id FROM trips WHERE long > 1234567890123456.77 AND id + 0 > 0", [(1,)]),
+                ("SELECT id FROM trips WHERE long = 1234567890123456.7800 AND id + 0 > 0", [(1,)]),
+                ("SELECT id FROM trips WHERE long < 1.005 AND id + 0 > 0", [(2,)]),
+                ("SELECT count(*), city FROM trips GROUP BY long, city HAVING long IN (1, 2.5) AND "
+                 "length(max(city)) > 1", [(1, 'a, "b"')])]:
+            with self.subTest(sql):
+                self.assertEqual(self.rows(sql), wanted)
 
     def test_sums_are_exact(self):
         for sql, wanted in [("sum(cents + 0), avg(cents + 0)", (14.65, 3.6625)),
@@ -278,13 +292,15 @@ class Values(Listings):
         self.refused("SELECT sum(city || '') FROM trips", "SUM of texts, which can't be summed")
         self.refused("SELECT avg(upper(city)) FROM trips", "AVG of texts")
 
-    def test_sums_that_doubles_do_not_spell_are_refused(self):
-        functions = self.connection.by_sqlite.whole.functions
-        self.assertEqual(functions.total(123456, 2, "a"), 1234.56)
-        with self.assertRaisesRegex(Refused,
-                                    "SUM.a. is 12345678901234567.89, which has more digits than a "
-                                    "double"):
-            functions.total(1234567890123456789, 2, "a")
+    def test_sums_that_doubles_do_not_spell_are_integers(self):
+        functions = self.connection._database.by_sqlite.whole.functions
+        self.assertEqual(functions.total(0, 123456, 2, 0), 1234.56)
+        self.assertEqual(functions.total(-1, 1 << 31, 1, 0), -(1 << 31) / 10)
+        for number in (1234567890123456789, -12345678901234567890123):
+            halves = number >> 32, number & (1 << 32) - 1
+            with self.assertRaises(NeedsExact):
+                functions.total(*halves, 2, 0)
+            self.assertEqual(number_in(functions.total(*halves, 2, 1)), number)
 
     def test_sums_of_doubles(self):
         for values, wanted in [([0.1] * 10, 1.0), ([1e308, 1e308, -1e308], 1e308),
@@ -336,7 +352,7 @@ class Guarded(Listings):
             self.refused(sql, "there is no table")
 
     def test_guard_is_on_while_a_statement_runs(self):
-        listing = self.connection.by_sqlite.whole
+        listing = self.connection._database.by_sqlite.whole
         listing.guard.is_off = False
         for sql in ("ATTACH ':memory:' AS x", "PRAGMA user_version", "SELECT * FROM sqlite_master",
                     "DROP TABLE trips",

@@ -10,8 +10,7 @@ from unittest import mock
 
 import bwtools
 from bwtools.failed import Failed
-from bwtools.sql.engine import Engine
-from bwtools.sql.local import Local
+from bwtools._engine.executor import Engine, Local
 from bwtools.telling import Refused
 from tests.support import Imported
 
@@ -66,7 +65,7 @@ class Failing(unittest.TestCase):
                                      ("printf 'a\\n1\\n2\\n'", 5, "a\n1\n2\n")):
             begun = time.monotonic()
             found = self.engine(script, script).beginning("SELECT a FROM t", rows)
-            self.assertEqual([each.read() for each in found], [wanted.encode()] * 2)
+            self.assertEqual([each.data for each in found], [wanted.encode()] * 2)
             self.assertLess(time.monotonic() - begun, 20)
         for script, error in (("printf 'a\\n1\\n'; exit 5", Failed), ("exit 0", Failed),
                               ("printf 'a\\n1\\n'; kill -9 $$", Failed),
@@ -103,7 +102,7 @@ class First(Imported):
     def test_sessions_begin_with_the_second_statement(self):
         for name in ("t.bw", "shards"):
             with bwtools.connect(t=self.folder / name) as connection:
-                asker = connection.engine(connection.catalog.only).asker
+                asker = connection._database.engine(connection._database.catalog.only).asker
                 for count in (0, 1 if name == "t.bw" else 3):
                     found = connection.execute("SELECT COUNT(*), MAX(word) FROM t WHERE n > 4")
                     self.assertEqual(found.fetchall(), [(2995, "w6")])
@@ -113,7 +112,7 @@ class First(Imported):
     def test_few_rows_are_read_without_a_session(self):
         for name in ("t.bw", "shards"):
             with bwtools.connect(t=self.folder / name) as connection:
-                asker = connection.engine(connection.catalog.only).asker
+                asker = connection._database.engine(connection._database.catalog.only).asker
                 for sql, wanted in (
                         ("SELECT n, word FROM t LIMIT 3", [(0, "w0"), (1, "w1"), (2, "w2")]),
                         ("SELECT n FROM t LIMIT 2 OFFSET 998", [(998,), (999,)]),
@@ -121,6 +120,6 @@ class First(Imported):
                         ("SELECT n FROM t WHERE n > 2996 LIMIT 5", [(2997,), (2998,), (2999,)]),
                         ("SELECT n FROM t LIMIT 5 OFFSET 3000", [])):
                     with self.subTest(sql, name=name):
-                        answer = connection.answer(sql)
+                        answer = connection._database.answer(sql)
                         self.assertEqual((answer.way, list(answer.rows())), (1, wanted))
                 self.assertNotIn("sessions", vars(asker))

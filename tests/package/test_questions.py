@@ -115,11 +115,11 @@ class Questions(Imported, reference.Compared):
 
     def by(self, way, asked):
         """Returns the rows of an answer by one of the ways, or None if it doesn't serve it."""
-        statement = Statement(asked, self.connection.catalog)
+        statement = Statement(asked, self.connection._database.catalog)
         if way == 1:
-            answer = plan.answer(statement, self.connection.engine)
+            answer = plan.answer(statement, self.connection._database.engine)
         else:
-            answer = self.connection.by_sqlite.answer(statement)
+            answer = self.connection._database.by_sqlite.answer(statement)
         return answer and list(answer.rows())
 
     def test_each_way_has_the_rows_of_sqlite(self):
@@ -134,7 +134,7 @@ class Questions(Imported, reference.Compared):
                         counts[way] += 1
                         self.compare(rows, wanted)
             with self.subTest(place, asked=asked):
-                self.compare(list(self.connection.answer(asked).rows()), wanted)
+                self.compare(list(self.connection._database.answer(asked).rows()), wanted)
         self.assertGreaterEqual(counts[1], 50)
         self.assertGreaterEqual(counts[2], 80)
 
@@ -144,9 +144,10 @@ class Questions(Imported, reference.Compared):
                 records = list(csv.reader(io.StringIO(data, newline="")))
                 for way in (1, 2):
                     statement = Statement(f"SELECT * FROM {name.removesuffix('.bw')}",
-                                          self.connection.catalog)
-                    answer = plan.answer(statement, self.connection.engine) if way == 1 else \
-                        self.connection.by_sqlite.answer(statement)
+                                          self.connection._database.catalog)
+                    database = self.connection._database
+                    answer = plan.answer(statement, database.engine) if way == 1 else \
+                        database.by_sqlite.answer(statement)
                     self.assertEqual(answer.headings, records[0])
                     rows = [list(row) for block in answer.fields() for row in zip(*block)]
                     self.assertEqual([self.same_doubles(name, row) for row in rows],

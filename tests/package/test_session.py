@@ -1,4 +1,5 @@
 """A session's answers, each to the empty line that ends it, and how a session fails."""
+import contextlib
 import io
 import os
 import pathlib
@@ -7,7 +8,8 @@ import unittest
 from unittest import mock
 
 from bwtools.failed import Failed
-from bwtools.session import AT_ONCE, SURPLUS, Result, Session, one_statement
+from bwtools._engine.process import (AT_ONCE, SURPLUS, Session, SessionOutput,
+                                     one_statement)
 
 
 class Parts(io.RawIOBase):
@@ -31,7 +33,7 @@ def answer_of(*parts: bytes) -> bytes:
     session = mock.Mock()
     session.stdout = Parts(*parts)
     session.fail.side_effect = Failed("ended")
-    return io.BufferedReader(Result(session), AT_ONCE).read()
+    return io.BufferedReader(SessionOutput(session), AT_ONCE).read()
 
 
 class Answers(unittest.TestCase):
@@ -77,7 +79,7 @@ class Sessions(unittest.TestCase):
     def test_what_is_said_belongs_to_its_answer(self):
         script = ('for each in 1 2; do read a; read b; echo "$each: $a" >&2; printf "a\\n$each\\n'
                   '\\n"; done; cat')
-        with self.session_of(script) as session:
+        with contextlib.closing(self.session_of(script)) as session:
             first = session.result_of("one")
             self.assertEqual((first.read(), session.told(), session.told()),
                              (b"a\n1\n", "1: one;\n", ""))
@@ -87,19 +89,19 @@ class Sessions(unittest.TestCase):
     def test_answer_that_is_not_read_is_dropped(self):
         script = ("read a; read b; seq 100000; echo old >&2; echo; read a; echo new >&2; echo; cat "
                   ">/dev/null; exit 3")
-        with self.session_of(script) as session:
+        with contextlib.closing(self.session_of(script)) as session:
             self.assertEqual(session.result_of("one").readline(), b"1\n")
             self.assertIsNone(session.result_of("two"))
             self.assertEqual((session.told(), session.end()), ("new\n", 3))
 
     def test_status_without_a_refused_statement_fails(self):
-        with self.session_of("echo broken >&2; exit 3") as session, \
+        with contextlib.closing(self.session_of("echo broken >&2; exit 3")) as session, \
                 self.assertRaises(Failed) as failed:
             session.end()
         self.assertEqual((str(failed.exception), failed.exception.told, failed.exception.status),
                          ("", "broken\n", 3))
 
     def test_answers_at_the_end_fail(self):
-        with self.session_of("cat >/dev/null; echo more") as session, \
+        with contextlib.closing(self.session_of("cat >/dev/null; echo more")) as session, \
                 self.assertRaisesRegex(Failed, SURPLUS):
             session.end()

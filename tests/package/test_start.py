@@ -12,19 +12,18 @@ PROGRAM = """
 import sys
 sys.path.insert(0, sys.argv.pop(1))
 before = set(sys.modules)
-from bwtools.programs import ask
+from bwtools._cli import ask
 status = ask.main()
 print(*sorted(set(sys.modules) - before), file=sys.stderr)
 sys.exit(status)
 """
 OWN = set("""
-    _sql _sql.lexer _sql.literals _sql.operators _sql.parser _sql.plan _sql.predicates _sql.prepare
-    _sql.pushdown _sql.render _sql.resolve _sql.statement _sql.syntax _sql.tables _sql.totals
-    _sql.validate _sql.words answer_options asking column command csv_lines failed formats kind
-    kinds kinds.styled kinds.texts kinds.whole listed naming pairs programs programs.ask query
-    regular sql sql.adding sql.aggregate sql.aggregate_values sql.answer sql.blocks sql.connection
-    sql.engine sql.errors sql.local sql.outside sql.selects sql.value_rows sql.values store
-    stored_list telling valued waiting""".split())
+    _aggregation _cli _cli.ask _cli.asking _cli.options _database _engine _engine.executor
+    _engine.process _output _result _sql _sql.lexer _sql.literals _sql.operators _sql.parser
+    _sql.plan _sql.predicates _sql.prepare _sql.pushdown _sql.render _sql.resolve _sql.statement
+    _sql.syntax _sql.tables _sql.totals _sql.validate _sql.words codes column command failed kind
+    kinds kinds.styled kinds.texts kinds.whole listed naming pairs regular store stored_list telling
+    valued waiting""".split())
 # what takes long to import, and what nobody needs who counts
 SLOW = set("argparse csv dataclasses decimal distributed fractions gettext hashlib inspect json "
            "locale numpy pandas pathlib random shutil statistics subprocess tempfile threading "

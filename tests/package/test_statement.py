@@ -1,4 +1,6 @@
 """Statements that are checked before anything runs."""
+import array
+import collections
 import datetime
 import decimal
 import importlib.util
@@ -401,7 +403,7 @@ class Parameters(Statements):
                 self.assertEqual(self.sql("SELECT ?", value), f"SELECT {wanted}")
 
     def test_other_types_are_refused(self):
-        for value in (b"x", [1], object(), 1j, {"a": 1}):
+        for value in ([1], object(), 1j, {"a": 1}):
             self.refused("SELECT ?", "parameter 1 is of type", value)
         for value in (float("nan"), float("inf"), decimal.Decimal("NaN"), 1 << 63, "a\0b"):
             self.refused("SELECT ?", "parameter 1 ", value)
@@ -418,8 +420,31 @@ class Parameters(Statements):
     def test_each_mark_needs_a_value(self):
         self.refused("SELECT ?", "has 1 parameters, and 0 values were given")
         self.refused("SELECT 1", "has 0 parameters, and 1 values were given", 5)
-        for mark in ("?1", ":a", "@a", "$a"):
-            self.refused(f"SELECT {mark}", "write [?] for each parameter", 5)
+        for mark in ("?2", "?1, ?", ":a, :b"):
+            self.refused(f"SELECT {mark}", "has 2 parameters, and 1 values were given", 5)
+        for mark in ("?0", "?32767", "?99999999999"):
+            self.refused(f"SELECT {mark}", "number is from 1 to 32766", 5)
+        for given, message in [({"b": 5}, "the parameters have no a"), ({}, "have no a")]:
+            with self.assertRaisesRegex(Refused, message):
+                Statement("SELECT :a", self.both, given)
+        with self.assertRaisesRegex(Refused, "[?] at character 7 of the statement has no name"):
+            Statement("SELECT ?", self.both, {"a": 5})
+
+    def test_numbers_and_names(self):
+        for sql, given, wanted in [("SELECT ?2, ?1", (5, 6), "6, 5"),
+                                   ("SELECT ?2, ?", (5, 6, 7), "6, 7"),
+                                   ("SELECT :a, @b, $a, :a",
+                                    {"a": 5, "b": "x", "c": 1}, "5, 'x', 5, 5"),
+                                   ("SELECT :a, ?, :a", (5, 6), "5, 6, 5"),
+                                   ("SELECT ?, ?", range(2), "0, 1"),
+                                   ("SELECT ?, ?", collections.deque([0, 1]), "0, 1"),
+                                   ("SELECT ?", array.array("d", [.5]), "0.5")]:
+            with self.subTest(sql):
+                found = Statement(sql, self.both, given).sql()
+                self.assertEqual(" ".join(found.split()).replace(" ,", ","), f"SELECT {wanted}")
+        for given in ("5", b"5", {5}, iter([5]), 5, object()):
+            with self.assertRaisesRegex(Refused, "parameters must be a sequence"):
+                Statement("SELECT ?", self.both, given)
 
     def test_text_in_a_parameter_is_no_sql(self):
         self.assertEqual(self.sql("SELECT ? FROM trips", "' OR 1=1 --"),
@@ -433,6 +458,10 @@ class Parameters(Statements):
                               (numpy.float32(0.5), "0.5"), (numpy.str_("a"), "'a'")]:
             with self.subTest(type(value)):
                 self.assertEqual(self.sql("SELECT ?", value), f"SELECT {wanted}")
-        for value in (numpy.datetime64("2024-02-01"), numpy.array([1, 2]), numpy.float64("nan"),
-                      numpy.complex128(1)):
+        for value, wanted in [("2024-02-01", "'2024-02-01'"), ("2024-02", "'2024-02-01'"),
+                              ("2024-02-01T12:30", "'2024-02-01 12:30:00'"), ("NaT", "NULL"),
+                              ("2024-02-01T12:30:00.250", "'2024-02-01 12:30:00.250'")]:
+            self.assertEqual(self.sql("SELECT ?", numpy.datetime64(value)), f"SELECT {wanted}")
+        for value in (numpy.array([1, 2]), numpy.float64("nan"), numpy.complex128(1),
+                      numpy.timedelta64(1, "s")):
             self.refused("SELECT ?", "parameter 1 ", value)

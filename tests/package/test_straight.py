@@ -12,7 +12,7 @@ from unittest import mock
 
 from bwtools import command, feeding, importing_straight, loaded, pairs, straight
 from bwtools.shards import Folder
-from bwtools.programs import import_
+from bwtools._cli import import_
 from bwtools.ranges import Range, range_of
 from bwtools.straight import Straight, Unfit, is_plain
 from bwtools.telling import Refused

@@ -5,19 +5,18 @@ import collections
 import sqlite3
 from typing import Callable, Iterable, Mapping
 
-from ..sql.answer import Answer
-from ..sql.engine import Engine
-from ..sql.value_rows import ValueRows
-from ..sql.values import EXACT_DIGITS
+from .._aggregation import NeedsExact
+from .._engine.executor import Engine
+from .._result import Result, ValueRows
 from ..telling import Refused
 from ..waiting import Waiting
-from .exactness import sum_text
+from .exactness import is_exact, refuse_doubles, refuse_sums, sum_text
 from .listing import Listing
-from .predicates import is_long
 from .prepare import reads_of, told
 from .pushdown import pushed
 from .render import Renderer
 from .statement import Statement
+from .syntax import Call, Node
 from .tables import Catalog, Table
 
 # so many rows are listed without being asked for, and so many conditions' rows are kept
@@ -42,13 +41,13 @@ class BySqlite:
         for listing in (self.whole, *self.parts.values()):
             listing.close()
 
-    def answer(self, statement: Statement) -> Answer:
+    def answer(self, statement: Statement) -> Result:
         """Returns the answer to a statement. Raises Refused for one that can't run, Failed if bw
         can't list a column, and KeyboardInterrupt when it is interrupted."""
-        sql = Renderer(statement.written, sum_text).text(statement.tree)
+        refuse_doubles(statement.tree)
+        sql = text_of(statement)
         with self.whole.watched():
             reads = reads_of(self.whole.database, self.whole.guard, statement.tree, sql)
-        refuse_long_decimals(self.catalog, reads)
         listing, asked = self.listing(statement, reads), list[str]()
         tables = [self.tables()[name] for name in reads]
         engines = {table.name: self.engine_of(table) for table in tables}
@@ -60,7 +59,11 @@ class BySqlite:
                 listing.add(table, reads[table.name], engines[table.name], self.waiting.add)
         for name, engine in engines.items():
             asked += engine.asked[before[name]:]
-        return self.run(listing, statement, sql, asked)
+        try:
+            return self.run(listing, statement, sql, asked)
+        except NeedsExact:
+            refuse_sums(statement.tree)
+        return self.run(listing, statement, text_of(statement, True), asked, True)
 
     def tables(self) -> Mapping[str, Table]:
         return {table.name: table for table in self.catalog.tables.values()}
@@ -91,8 +94,10 @@ class BySqlite:
             self.parts.popitem(last=False)[1].close()
         return found
 
-    def run(self, listing: Listing, statement: Statement, sql: str, asked: list[str]) -> Answer:
-        """Runs a statement over what is listed."""
+    def run(self, listing: Listing, statement: Statement, sql: str, asked: list[str],
+            are_blobs: bool = False) -> Result:
+        """Runs a statement over what is listed. Raises NeedsExact if a double isn't a sum of
+        decimals, unless these are integers as `blob_of` has them."""
         guard = listing.guard
         self.waiting.begin("SQLite computes")
         guard.denied, guard.read, guard.is_off = "", {}, False
@@ -108,9 +113,11 @@ class BySqlite:
         names = [each[0] for each in cursor.description]
         outputs = statement.outputs
         if len(outputs) != len(names):
-            return Answer(names, [None] * len(names), ValueRows(rows), 2, asked)
-        kinds = [each.plain.kind if each.plain else None for each in outputs]
-        return Answer([each.heading for each in outputs], kinds, ValueRows(rows), 2, asked)
+            return Result(names, [None] * len(names), ValueRows(rows), 2, asked)
+        exact = [place for place, each in enumerate(outputs)
+                 if is_exact(each) or are_blobs and each.is_total and each.kind]
+        return Result([each.heading for each in outputs], [each.kind for each in outputs],
+                      ValueRows(rows, exact), 2, asked)
 
     def failure(self, listing: Listing, statement: Statement, message: str) -> str:
         """Returns what to print for SQLite's message, while it ran a statement."""
@@ -119,11 +126,10 @@ class BySqlite:
         return listing.guard.denied or told(statement.tree, message)
 
 
-def refuse_long_decimals(catalog: Catalog, reads: Mapping[str, set[str]]) -> None:
-    """Rejects to read decimals whose digits a double doesn't hold."""
-    for table in catalog.tables.values():
-        for column in table.columns:
-            if column.name.lower() in reads.get(table.name, ()) and is_long(column):
-                raise Refused(f"{column.name} has decimals of more than {EXACT_DIGITS} digits, "
-                              "which SQLite doesn't compute with: ask for COUNT, MIN, MAX, or "
-                              "compare the column with a number")
+def text_of(statement: Statement, are_blobs: bool = False) -> str:
+    """Returns a statement's text for SQLite, with exact sums; those of decimals may be as `blob_of`
+    has them."""
+    def sums(call: Call, text: Callable[[Node], str]) -> str | None:
+        return sum_text(call, text, are_blobs)
+
+    return Renderer(statement.written, sums).text(statement.tree)

@@ -6,18 +6,15 @@ import contextlib
 import sqlite3
 from typing import Iterable, Iterator, Sequence
 
+from .._aggregation import AGGREGATES, Aggregate, TooMany
+from .._engine.executor import Engine, Outside
+from .._result import Value, ValueRows, affinity, is_long
+from .._rows import Limits
 from ..column import Column
-from ..sql.aggregate import AGGREGATES, PREFIX, Aggregate
-from ..sql.blocks import Value
-from ..sql.counted import TooMany
-from ..sql.engine import Engine
-from ..sql.groups import groups_of
-from ..sql.limits import Limits
-from ..sql.outside import Outside
-from ..sql.value_rows import ValueRows
-from ..sql.values import affinity
-from ..sql.wanted import Wanted
+from ..kind import Kind
 from ..telling import Refused
+from .exactness import NO_DOUBLE, refuse_doubles
+from .groups import Wanted, groups_of
 from .lexer import quoted_name
 from .pushdown import condition_of, direct_column
 from .resolve import place_of
@@ -33,7 +30,8 @@ FUNCTIONS = frozenset(
     "PRINTF QUOTE REPLACE ROUND RTRIM SIGN STRFTIME SUBSTR SUBSTRING TIME TRIM TYPEOF UNICODE "
     "UPPER".split())
 TYPES = ("INTEGER", "INT", "REAL", "TEXT", "NUMERIC")
-# the small table of groups
+# what names in the table of groups begin with, and the table
+PREFIX = "bw:"
 TABLE = quoted_name(f"{PREFIX}groups")
 
 
@@ -64,13 +62,27 @@ class GroupText:
         return [group.column for group in self.groups if group.column]
 
     @property
+    def names(self) -> list[str]:
+        """The names of the columns of the table of groups: of what makes them, and of aggregates.
+        """
+        return [*map(self.name, range(len(self.groups))),
+                *(quoted_name(f"{PREFIX}{place}") for place in range(len(self.aggregates)))]
+
+    @property
+    def kinds(self) -> dict[str, Kind | None]:
+        """The kinds of these columns, by their names."""
+        kinds = [group.column.kind if group.column else None for group in self.groups]
+        return dict(zip(self.names, [*kinds, *(each.kind for each in self.aggregates)]))
+
+    @property
     def types(self) -> list[str]:
         """The columns of the table of groups: those that make them, with the type that SQLite
         compares them by; expressions and aggregates have none."""
-        groups = [f"{self.name(place)} "
-                  f"{affinity(group.column.kind) if group.column else group.type}"
-                  for place, group in enumerate(self.groups)]
-        return groups + [quoted_name(f"{PREFIX}{place}") for place in range(len(self.aggregates))]
+        types = [group.type if not group.column else
+                 "INTEGER" if is_long(group.column) else affinity(group.column.kind)
+                 for group in self.groups]
+        return [f"{name} {typed}" for name, typed
+                in zip(self.names, [*types, *[""] * len(self.aggregates)])]
 
     def name(self, place: int) -> str:
         """Returns the name of what makes groups, by its place."""
@@ -200,8 +212,13 @@ class GroupsPlan:
         are_free = select.quantifier == "DISTINCT" and not select.groups
         self.over = GroupText(table, self.groups(), are_free)
         self.is_in_rows_order = False
+        # the texts of the items, of the terms of ORDER BY, and of HAVING
+        self.shown: list[str] = []
+        self.orders: list[str] = []
+        self.having = ""
         self.sql = self.statement()
         self.refuse_mixed()
+        refuse_doubles(query)
 
     @property
     def is_coarse(self) -> bool:
@@ -265,11 +282,12 @@ class GroupsPlan:
     def statement(self) -> str:
         """Returns the statement over the table of groups."""
         made, is_distinct = self.over, self.select.quantifier == "DISTINCT"
-        items = [text for item in self.select.items for text in self.items(item)]
+        items = self.shown = [text for item in self.select.items for text in self.items(item)]
         sql = f"SELECT {'DISTINCT ' if is_distinct else ''}{', '.join(items)} FROM {TABLE}"
         if self.select.having:
-            sql += f" WHERE {made.text(self.select.having)}"
-        orders = list[str]()
+            self.having = made.text(self.select.having)
+            sql += f" WHERE {self.having}"
+        orders = self.orders
         for term in self.query.orders:
             place = place_of(term.expression, len(items))
             # not a literal, which would be a place
@@ -319,7 +337,25 @@ class Groups:
             if self.plan.is_coarse:
                 raise Outside from None
             raise
-        return ValueRows(rows_of(made.types, [*groups.columns, *groups.values], self.sql)[0])
+        exact = [made.names[place] for place in groups.exact]
+        self.refuse_sums(exact)
+        places = [place for place, item in enumerate(self.plan.shown) if item in exact]
+        rows = rows_of(made.types, [*groups.columns, *groups.values], self.sql)[0]
+        return ValueRows(rows, places)
+
+    def kinds(self) -> list[Kind | None]:
+        """Returns the kinds of the columns: those of items that are columns or aggregates."""
+        kinds = self.plan.over.kinds
+        return [kinds.get(item) for item in self.plan.shown]
+
+    def refuse_sums(self, exact: Sequence[str]) -> None:
+        """Rejects a statement that has one of these sums in an expression."""
+        made = self.plan.over
+        texts = [self.plan.having, *(each for each in (*self.plan.shown, *self.plan.orders)
+                                     if each not in exact)]
+        for name, each in zip(made.names[len(made.groups):], made.aggregates):
+            if each.function == "SUM" and name in exact and any(name in text for text in texts):
+                raise Refused(NO_DOUBLE.format(each.totals[0]))
 
     def coarse(self, columns: Sequence[Sequence[Value]]
                ) -> tuple[Sequence[Sequence[Value]], Sequence[int]]:

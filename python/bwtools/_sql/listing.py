@@ -6,17 +6,15 @@ import itertools
 import sqlite3
 from typing import Callable, Iterator, Sequence
 
+from .._aggregation import Functions
+from .._engine.executor import Engine
+from .._result import NumberRows, Numbers, Result, Value, is_long
 from ..column import Column
 from ..failed import Failed
-from ..sql.blocks import Block
-from ..sql.engine import Engine
-from ..sql.functions import Functions
-from ..sql.number_rows import NumberRows
-from ..sql.values import affinity
-from ..sql.watching import watch
 from .lexer import quoted_name
-from .prepare import Guard, declare
+from .prepare import Guard, declare, declared
 from .tables import Catalog, Table
+from .watching import watch
 
 # so many variables has a statement that inserts rows; any SQLite takes 999
 MOST_VARIABLES = 500
@@ -114,8 +112,8 @@ class Listing:
         self.database.execute("COMMIT")
 
     def create(self, name: str, columns: Sequence[Column]) -> None:
-        typed = [f"{quoted_name(each.name)} {affinity(each.kind)}" for each in columns]
-        self.database.execute(f"CREATE TABLE {quoted_name(name)} ({', '.join(typed)})")
+        typed = ", ".join(map(declared, columns))
+        self.database.execute(f"CREATE TABLE {quoted_name(name)} ({typed})")
 
     def fill(self, target: str, table: Table, columns: Sequence[Column], engine: Engine,
              progress: Callable[[int], None]) -> int:
@@ -125,12 +123,15 @@ class Listing:
             self.database.execute(EACH_ROW.format(quoted_name(target), quoted_name(
                 table.columns[0].name)), (self.rows[table.name], self.rows[table.name]))
             return self.rows[table.name]
-        names = ", ".join(each.name for each in columns)
-        parts = engine.rows(f"SELECT {names} FROM {table.bw_name}{self.where()}")
+        names = [each.name for each in columns]
+        parts = engine.rows(f"SELECT {', '.join(names)} FROM {table.bw_name}{self.where()}")
         quoted = ", ".join(quoted_name(each.name) for each in columns)
         count = 0
         try:
-            for block in NumberRows(parts).values([each.kind for each in columns]):
+            result = Result(names, [each.kind for each in columns], NumberRows(parts), 2)
+            for found in result.blocks():
+                block = [each.integers() if is_long(column) and isinstance(each, Numbers)
+                         else each.values() for column, each in zip(columns, found)]
                 self.insert(f"INSERT INTO {quoted_name(target)} ({quoted})", block)
                 count += len(block[0])
                 progress(len(block[0]))
@@ -139,7 +140,7 @@ class Listing:
                 part.close()
         return count
 
-    def insert(self, into: str, block: Block) -> None:
+    def insert(self, into: str, block: Sequence[Sequence[Value]]) -> None:
         """Inserts rows, many by one statement, which takes half of the time."""
         marks = f"({', '.join('?' * len(block))})"
         width = len(block)

@@ -9,10 +9,10 @@ from __future__ import annotations
 import math
 from typing import TYPE_CHECKING, Any, Sequence, Union
 
+from .._result import INTEGER, MOMENTS, affinity, is_long
 from ..column import Column
 from ..kind import GREATEST, LEAST
 from ..kinds import Styled, undressed
-from ..sql.values import INTEGER, MOMENTS, affinity
 from ..telling import Refused
 from .lexer import BLOB, NUMBER, TEXT, text_literal
 from .syntax import ColumnName, Literal, Node, Unary
@@ -117,20 +117,19 @@ def exact(text: str) -> Fraction:
 def bind(parameters: Sequence[Literal], given: Any) -> None:
     """Gives the parameters of a statement their values. Raises Refused if there are too few or too
     many, or for a value of another type."""
-    if not parameters and not given:
+    if not parameters and isinstance(given, (tuple, list, dict)) and (
+            not given or isinstance(given, dict)):
         return
     # most statements have none
-    from .parameters import Binder
-    binder = Binder(given)
-    for literal in parameters:
-        value, number = binder.value(literal.mark, literal.start)
-        literal.kind, literal.text, literal.is_float = binder.literal(value, number)
+    from .parameters import is_of_numpy, literal_of, values_of
+    for literal, (value, number) in zip(parameters, values_of(parameters, given)):
+        literal.kind, literal.text = literal_of(value, literal, number)
+        literal.is_float = isinstance(value, float) or is_of_numpy(value, "f")
         if literal.is_float:
             from fractions import Fraction
             literal.value = Fraction(float(value))
         else:
             evaluate(literal)
-    binder.finish()
 
 
 def form_of(column: Column, constant: Constant, sign: str) -> str:
@@ -142,7 +141,10 @@ def form_of(column: Column, constant: Constant, sign: str) -> str:
         return text_form(column, value)
     if value is None or isinstance(value, bytes):
         return ""
-    plain = undressed(kind)
+    plain: Any = undressed(kind)
+    if is_long(column):
+        scaled = Constant(None, value * 10 ** plain.digits, False, False, "." * (MOST_SURE + 1))
+        return integer_form(scaled, value * 10 ** plain.digits, sign)
     if affinity(kind) == INTEGER:
         return integer_form(constant, value, sign)
     if plain.name == "decimals":
@@ -156,7 +158,7 @@ def text_form(column: Column, value: str) -> str:
     kind = column.kind
     if kind.name in MOMENTS:
         # few statements need it
-        from ..sql.iso import iso_text
+        from .._result import iso_text
         return text_literal(iso_text(kind, value))
     place = kind.place(value) if kind.name == "truths" or isinstance(kind, Styled) else None
     if place is None:

@@ -4,10 +4,9 @@ from __future__ import annotations
 
 from typing import TYPE_CHECKING, Callable
 
-from ..sql.aggregate import AGGREGATES
-from ..sql.answer import Answer
-from ..sql.engine import Engine
-from ..sql.outside import Outside
+from .._aggregation import AGGREGATES
+from .._engine.executor import Engine, Outside
+from .._result import Result
 from .pushdown import single
 from .statement import Statement
 from .syntax import Call, walk
@@ -21,7 +20,7 @@ if TYPE_CHECKING:
 EngineOf = Callable[[Table], Engine]
 
 
-def answer(statement: Statement, engine_of: EngineOf) -> Answer | None:
+def answer(statement: Statement, engine_of: EngineOf) -> Result | None:
     """Returns the answer to a statement by statements of bw, or None if it is outside of what they
     answer, or bw would have to list too much. Raises Refused if a result is refused, and
     session.Failed if bw ends by itself."""
@@ -32,9 +31,8 @@ def answer(statement: Statement, engine_of: EngineOf) -> Answer | None:
         body = question.body(engine)
     except Outside:
         return None
-    outputs = statement.outputs
-    kinds = [output.plain.kind if output.plain else None for output in outputs]
-    return Answer([output.heading for output in outputs], kinds, body, 1, engine.asked[before:])
+    return Result([output.heading for output in statement.outputs], question.kinds(), body, 1,
+                  engine.asked[before:])
 
 
 def question_of(statement: Statement) -> Totals | Rows | Groups:

@@ -9,11 +9,11 @@ import operator
 import sqlite3
 from typing import TYPE_CHECKING, Any, Callable, Iterable, Sequence, Union
 
+from .. import _result as values
+from .._engine.executor import Outside
 from ..column import Column
 from ..kind import GREATEST, LEAST
 from ..stored_list import StoredList
-from ..sql import values
-from ..sql.outside import Outside
 from .literals import Constant
 
 if TYPE_CHECKING:
@@ -75,14 +75,6 @@ def place_of(column: Column, literal: Comparand) -> tuple[int, bool]:
     return place
 
 
-def is_long(column: Column) -> bool:
-    """Returns whether a column has decimals of too many digits for a double."""
-    if column.kind.name != "decimals":
-        return False
-    numbers = [column.kind.number(end) for end in column.ends]
-    return any(number is None or len(str(abs(number))) > values.EXACT_DIGITS for number in numbers)
-
-
 def compared(left: Comparand, sign: str, right: Comparand) -> str:
     """Returns a comparison over numbers."""
     if left.is_null or right.is_null:
@@ -126,7 +118,7 @@ def columns_compared(left: Column, sign: str, right: Column) -> str:
         raise Outside
     from fractions import Fraction
 
-    from ..sql.conversions import stored
+    from .._result import stored
     terms = [never(left), never(right)]
     for number, value in zip(range_of(few), stored(few.kind, range_of(few))):
         constant = Constant(None, Fraction(repr(value)))
@@ -202,7 +194,7 @@ def like(column: Column, sign: str, pattern: str, escape: str | None) -> str:
 
 def matching(column: Column, numbers: range, words: str, wanted: tuple[str, ...]) -> list[int]:
     """Returns the numbers of a column whose values fulfil an SQL condition."""
-    from ..sql.conversions import stored
+    from .._result import stored
     database = sqlite3.connect(":memory:")
     try:
         database.execute("CREATE TABLE listed (code INTEGER PRIMARY KEY, value TEXT)")

@@ -7,8 +7,10 @@ import re
 import sqlite3
 from typing import Any, Iterator, Sequence
 
+from .. import _aggregation
+from .._result import INTEGER, affinity, is_long
+from ..column import Column
 from ..naming import RESERVED
-from ..sql.values import affinity
 from ..telling import Refused
 from .lexer import Token, quoted_name
 from .words import MOMENTS
@@ -30,8 +32,8 @@ FUNCTIONS = frozenset(
     "atanh ceil ceiling cos cosh degrees exp floor ln log log10 log2 mod pi pow power radians sin "
     "sinh sqrt tan tanh trunc json json_array json_array_length json_extract json_insert "
     "json_object json_patch json_remove json_replace json_set json_type json_valid json_quote "
-    "json_group_array json_group_object json_error_position json_pretty -> ->> bw_sum bw_avg "
-    "bw_total bw_mean".split())
+    "json_group_array json_group_object json_error_position json_pretty -> ->>".split()) | \
+    frozenset(_aggregation.FUNCTIONS)
 OURS = "bw_"
 
 
@@ -137,8 +139,13 @@ def is_of_syntax(message: str) -> bool:
 def declare(database: sqlite3.Connection, catalog: Catalog) -> None:
     """Makes the tables of a catalog, without rows."""
     for table in catalog.tables.values():
-        columns = [f"{quoted_name(each.name)} {affinity(each.kind)}" for each in table.columns]
-        database.execute(f"CREATE TABLE {quoted_name(table.name)} ({', '.join(columns)})")
+        columns = ", ".join(map(declared, table.columns))
+        database.execute(f"CREATE TABLE {quoted_name(table.name)} ({columns})")
+
+
+def declared(column: Column) -> str:
+    """Returns a column's name and type in SQLite: decimals of many digits are integers."""
+    return f"{quoted_name(column.name)} {INTEGER if is_long(column) else affinity(column.kind)}"
 
 
 def explain(database: sqlite3.Connection, guard: Guard, sql: str) -> list[tuple[Any, ...]]:
@@ -146,10 +153,15 @@ def explain(database: sqlite3.Connection, guard: Guard, sql: str) -> list[tuple[
     guard.read, guard.denied, guard.is_off = {}, "", False
     # Python keeps statements by their text, and SQLite doesn't authorize one again that was kept
     guard.explained += 1
+    texts = database.text_factory
+    # a literal of bytes is a text there
+    database.text_factory = bytes
     try:
-        return database.execute(f"EXPLAIN /* {guard.explained} */ {sql}").fetchall()
+        return [tuple(each.decode("utf-8", "replace") if isinstance(each, bytes) else each
+                      for each in row)
+                for row in database.execute(f"EXPLAIN /* {guard.explained} */ {sql}")]
     finally:
-        guard.is_off = True
+        database.text_factory, guard.is_off = texts, True
 
 
 def reads_of(database: sqlite3.Connection, guard: Guard, tree: Query, sql: str

@@ -4,9 +4,9 @@ tests of nulls and truths; and columns of numbers or booleans, and numbers, whic
 aren't 0. All else is outside."""
 from __future__ import annotations
 
+from .. import _result as values
+from .._engine.executor import Outside
 from ..column import Column
-from ..sql import values
-from ..sql.outside import Outside
 from .lexer import TEXT
 from .literals import Constant, constant_of
 from .predicates import Comparand, among, between, compared, like

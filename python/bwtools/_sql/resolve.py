@@ -6,6 +6,7 @@ from __future__ import annotations
 from typing import Iterable, Iterator, Sequence
 
 from .. import kinds
+from .._aggregation import kind_of_sum
 from ..column import Column
 from ..kind import Kind
 from ..telling import Refused
@@ -27,6 +28,13 @@ class Output:
     def __init__(self, name: str, heading: str, column: Column | None,
                  is_total: bool = False) -> None:
         self.name, self.heading, self.column, self.is_total = name, heading, column, is_total
+
+    @property
+    def kind(self) -> Kind | None:
+        """The kind of its values in a result: a column's, or decimals of a sum of them."""
+        if self.column and (not self.is_total or self.column.kind.name == "decimals"):
+            return self.column.kind
+        return None
 
     @property
     def plain(self) -> Column | None:
@@ -67,8 +75,9 @@ class Scope:
         self.outer, self.commons, self.sources = outer, commons, list(sources)
         # by their names in lower case; items themselves can't name them
         self.aliases: dict[str, tuple[Output, Item]] = {}
-        # columns of USING that several sources have values of
+        # columns of USING that several sources have values of, and the pairs that are compared
         self.joined: dict[str, Output] = {}
+        self.pairs: list[tuple[Output, Output]] = []
 
     def each(self, qualifier: str) -> Iterator[FromItem]:
         """Yields the sources of a name, or all."""
@@ -287,10 +296,11 @@ class Resolver:
         if "NATURAL" in source.joined:
             last.merged |= {name for each in before for name in each.named} & last.named.keys()
         last.merged |= {name.text.lower() for name in source.using}
-        if "RIGHT" in source.joined or "FULL" in source.joined:
-            for name in last.merged & last.named.keys():
-                first = next((each.named[name] for each in before if name in each.named), None)
-                if first:
+        for name in last.merged & last.named.keys():
+            first = next((each.named[name] for each in before if name in each.named), None)
+            if first:
+                scope.pairs.append((first, last.named[name]))
+                if "RIGHT" in source.joined or "FULL" in source.joined:
                     scope.joined[name] = union(scope.joined.get(name, first), last.named[name])
 
     def conditions(self, source: Source, scope: Scope) -> None:
@@ -356,18 +366,18 @@ def meaning(node: Node) -> Output | None:
     if not isinstance(node, Call) or node.over or node.filter or node.is_bare:
         return None
     if node.name in TOTALS:
-        return Output(node.name, node.name, Column(node.name, node.name, kind_of_total(node.name)),
-                      True)
+        return Output(node.name, node.name, Column(node.name, node.name, kind_of_total(node)), True)
     if node.name in ("MIN", "MAX") and len(node.arguments) == 1:
         return meaning(node.arguments[0])
     return None
 
 
-def kind_of_total(function: str) -> Kind:
-    """Returns the kind with which a total is compared."""
-    if function == "COUNT":
+def kind_of_total(call: Call) -> Kind:
+    """Returns the kind with which a total is compared: a sum of decimals is one of decimals."""
+    if call.name == "COUNT":
         return kinds.Whole()
-    return kinds.Floats(0)
+    column = column_of(call.arguments[0]) if call.name == "SUM" and call.arguments else None
+    return column and kind_of_sum(column.kind) or kinds.Floats(0)
 
 
 def column_of(node: Node) -> Column | None:

@@ -1,12 +1,11 @@
 """Rows of columns, in order and within limits, which bw lists."""
 from __future__ import annotations
 
+from .._engine.executor import Engine, Outside
+from .._result import NumberRows
+from .._rows import Limits, SortKey, WantedRows
 from ..column import Column
-from ..sql.engine import Engine
-from ..sql.limits import Limits
-from ..sql.number_rows import NumberRows
-from ..sql.outside import Outside
-from ..sql.rows import SortKey, WantedRows
+from ..kind import Kind
 from .pushdown import condition_of, direct_column
 from .resolve import place_of
 from .syntax import Literal, Node, OrderTerm, Query, Select, Unary
@@ -23,6 +22,10 @@ class Rows:
         self.keys = [self.key(term) for term in tree.orders]
         self.limits = limits_of(tree)
         self.where = condition_of(select.where)
+
+    def kinds(self) -> list[Kind | None]:
+        """Returns the kinds of the columns."""
+        return [column.kind for column in self.columns]
 
     def key(self, term: OrderTerm) -> SortKey:
         """Returns the column of a term of ORDER BY: by its place, its name or its alias."""

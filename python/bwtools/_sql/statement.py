@@ -1,7 +1,7 @@
 """A statement over tables: its tree, bound and checked before anything runs."""
 from __future__ import annotations
 
-from typing import Any, Sequence
+from typing import Any, Mapping, Sequence, Union
 
 from ..telling import Refused
 from .lexer import END, Token, tokens_of
@@ -16,11 +16,15 @@ from .tables import Catalog
 from .validate import validate
 
 
+# values for `?` in order, or for names
+Parameters = Union[Sequence[Any], Mapping[str, Any]]
+
+
 class Statement:
     """A SELECT over the tables of a catalog. `parameters` are the values of those in it. Raises
     Refused for one that SQLite refuses, or that pages say is refused."""
 
-    def __init__(self, written: str, catalog: Catalog, parameters: Any = ()) -> None:
+    def __init__(self, written: str, catalog: Catalog, parameters: Parameters = ()) -> None:
         self.written, self.catalog = written, catalog
         tokens = one_statement(tokens_of(written))
         match_brackets(tokens)

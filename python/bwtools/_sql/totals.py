@@ -3,11 +3,11 @@ from __future__ import annotations
 
 from typing import Sequence
 
-from ..sql.aggregate import AGGREGATES, Aggregate
-from ..sql.engine import Engine
-from ..sql.outside import Outside
-from ..sql.selects import select as select_text
-from ..sql.value_rows import ValueRows
+from .._aggregation import AGGREGATES, Aggregate, values_of
+from .._engine.executor import Engine, Outside
+from .._engine.executor import select as select_text
+from .._result import ValueRows
+from ..kind import Kind
 from .lexer import NUMBER, TEXT
 from .pushdown import condition_of, direct_column
 from .syntax import Call, Literal, Query, Select
@@ -39,13 +39,17 @@ class Totals:
         self.select, self.table, self.aggregates = select, table, aggregates
         self.where = condition_of(select.where)
 
+    def kinds(self) -> list[Kind | None]:
+        """Returns the kinds of the columns."""
+        return [each.kind for each in self.aggregates]
+
     def body(self, engine: Engine) -> ValueRows:
         """Returns the row."""
-        from ..sql.aggregate_values import values_of
         names = list(dict.fromkeys(name for each in self.aggregates for name in each.totals))
         asked = select_text(", ".join(names), self.table.bw_name, self.where)
         found = {name: [value] for name, value in zip(names, engine.once(asked))}
-        return ValueRows([tuple(values_of(each, found)[0] for each in self.aggregates)])
+        exact = [place for place, kind in enumerate(self.kinds()) if kind]
+        return ValueRows([tuple(values_of(each, found)[0] for each in self.aggregates)], exact)
 
 
 def aggregate_of(call: Call) -> Aggregate:

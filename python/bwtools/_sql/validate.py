@@ -7,10 +7,10 @@ from __future__ import annotations
 
 from typing import Iterator, Sequence
 
+from .._result import MOMENTS, TEXT, affinity, plain_of
 from ..column import Column
 from ..kind import Literal as Value
 from ..naming import option
-from ..sql.values import MOMENTS, TEXT, affinity, plain_of
 from ..telling import Refused
 from .lexer import TEXT as TEXT_TOKEN
 from .literals import Constant, constant_of, form_of

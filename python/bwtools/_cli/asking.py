@@ -1,0 +1,211 @@
+"""Asks statements, one after another, and prints their answers."""
+from __future__ import annotations
+
+import contextlib
+import io
+import os
+import sys
+import time
+from typing import Iterable, Iterator, Sequence
+
+from .. import command
+from .._database import Database, Settings
+from .._output import writer_of
+from .._result import Result
+from ..failed import Failed
+from ..naming import is_name
+from .._sql.tables import name_of, open_catalog
+from ..telling import Refused, counted
+from ..waiting import Waiting
+from .options import AnswerOptions
+
+WAYS = {1: "by statements of bw", 2: "by SQLite, over what bw listed"}
+# what ends a text that begins with these characters
+QUOTES = {"'": "'", '"': '"', "`": "`", "[": "]"}
+
+
+class Asking:
+    """How answers are printed: in which format; whether numbers lose their signs; whether it is
+    told which way served an answer; whether a table is followed by the time that it took; and to
+    which file the next one goes, if it doesn't go to standard output."""
+
+    def __init__(self, database: Database, form: str, is_plain: bool = False,
+                 is_told: bool = False, is_timed: bool = False) -> None:
+        self.database, self.form = database, form
+        self.is_plain, self.is_told, self.is_timed = is_plain, is_told, is_timed
+        self.once = ""
+
+    def ask(self, sql: str) -> None:
+        """Runs a statement, and writes its answer. Raises Refused or Failed."""
+        begun, path, self.once = time.monotonic(), self.once, ""
+        waiting = self.database.settings.waiting
+        with waiting.shown("bw answers"):
+            result = self.database.answer(sql)
+        if self.is_told:
+            tell_way(result)
+        if self.is_plain:
+            result.drop_styles()
+        if path:
+            with open(path, "w", encoding="utf-8", newline="") as file:
+                writer_of(self.form)(result, file, None)
+            return
+        write, width = writer_of(self.form), width_of_terminal()
+        # rows at a terminal show themselves that they come
+        with contextlib.nullcontext() if width else waiting.shown("the answer is written"):
+            count = write(result, sys.stdout, width)
+        took = f", {time.monotonic() - begun:.2f} s" if self.is_timed else ""
+        if self.form == "table" or took:
+            where = sys.stdout if self.form == "table" else sys.stderr
+            print(f"{counted(count, 'row')}{took}", file=where)
+        sys.stdout.flush()
+
+    def ask_all(self, lines: Iterable[str]) -> int:
+        """Runs the statements in these lines. Each answer is followed by an empty line; one that is
+        rejected has the empty line alone. Returns the status of the first one that failed."""
+        first = 0
+        for statement in statements_in(lines):
+            status = self.status_of(statement)
+            first = first or status
+            sys.stdout.write("\n")
+            sys.stdout.flush()
+        return first
+
+    def status_of(self, statement: str) -> int:
+        """Runs a statement. Returns its status, and prints why it failed."""
+        try:
+            self.ask(statement)
+            return 0
+        except Refused as refused:
+            print(f"{command.own_name()}: {refused}", file=sys.stderr)
+            return 3
+        except Failed as failed:
+            return failed.report()
+
+
+def width_of_terminal() -> int | None:
+    """Returns the width of the terminal that standard output is, or None."""
+    if not os.isatty(sys.stdout.fileno()):
+        return None
+    import shutil
+    return shutil.get_terminal_size().columns
+
+
+def tell_way(result: Result) -> None:
+    """Prints which way served an answer, and the statements that bw ran."""
+    print(f"{WAYS[result.way]}:", file=sys.stderr)
+    for statement in result.asked:
+        print(f"  {statement}", file=sys.stderr)
+
+
+class Splitter:
+    """Splits lines into statements, each of which ends with a semicolon that isn't within a text or
+    a comment. Empty ones are left out."""
+
+    def __init__(self) -> None:
+        self.parts, self.end, self.is_empty = list[str](), "", True
+
+    @property
+    def is_within(self) -> bool:
+        """Whether a statement, or a comment, has begun and not ended."""
+        return not self.is_empty or self.end != ""
+
+    def feed(self, line: str) -> Iterator[str]:
+        """Yields the statements that a line ends."""
+        at = 0
+        while at < len(line):
+            size, self.end, is_blank = piece(line, at, self.end)
+            part, at = line[at:at + size], at + size
+            if part == ";" and not self.end:
+                yield from self.rest()
+            else:
+                self.parts.append(part)
+                self.is_empty = self.is_empty and is_blank
+
+    def rest(self) -> Iterator[str]:
+        """Yields the statement that has begun, if one has, and begins another."""
+        found = "" if self.is_empty else "".join(self.parts).lstrip()
+        self.parts, self.end, self.is_empty = [], "", True
+        if found:
+            yield found
+
+
+def statements_in(lines: Iterable[str]) -> Iterator[str]:
+    """Yields the statements in these lines, of which the last one may end with the last line."""
+    splitter = Splitter()
+    for line in lines:
+        yield from splitter.feed(line)
+    yield from splitter.rest()
+
+
+def piece(line: str, at: int, end: str) -> tuple[int, str, bool]:
+    """Returns the size of the next piece of a line, what ends the text or comment in which it
+    leaves off, or nothing, and whether it is a blank or a part of a comment. `end` is what ends the
+    one in which it begins."""
+    if end:
+        place = line.find(end, at)
+        if place < 0:
+            return len(line) - at, end, end == "*/"
+        return place + len(end) - at, "", end == "*/"
+    if line.startswith("--", at):
+        return len(line) - at, "", True
+    if line.startswith("/*", at):
+        return 2, "*/", True
+    character = line[at]
+    return 1, QUOTES.get(character, ""), character.isspace()
+
+
+def table_of(word: str) -> tuple[str, str] | None:
+    """Returns the name and the path of a table that a word names, or None."""
+    name, sign, path = word.partition("=")
+    if sign and is_name(name) and not os.path.lexists(word):
+        return name, path
+    return (name_of(word), word) if os.path.lexists(word) or looks_like_path(word) else None
+
+
+def looks_like_path(word: str) -> bool:
+    """Returns whether a word is rather a file that isn't there than a statement."""
+    return bool(word) and not any(each.isspace() for each in word) and \
+        (word.endswith(".bw") or os.sep in word)
+
+
+def split(words: Sequence[str]) -> tuple[list[tuple[str, str]], str | None]:
+    """Returns the tables that the words of the command line name, and the statement, if the last
+    word is one."""
+    statement = None if table_of(words[-1]) else words[-1]
+    names = words if statement is None else words[:-1]
+    if not names:
+        raise Refused(f"there is no file {words[-1]}: expected a table that bw-import wrote")
+    return [table_of(word) or (name_of(word), word) for word in names], statement
+
+
+def tell(told: str) -> None:
+    """Passes on what bw prints beside an answer."""
+    if told:
+        print(told.rstrip("\n"), file=sys.stderr)
+
+
+def ask(given: AnswerOptions, tables: Iterable[tuple[str, str]], statement: str | None,
+        scheduler: str | None = None) -> int:
+    """Runs a statement, or those on standard input. Returns the status."""
+    command.write_utf8()
+    is_terminal = os.isatty(sys.stdout.fileno())
+    form = given.form or ("table" if is_terminal else "csv")
+    # bw's statistics come while it answers
+    waiting, options = Waiting(not given.has_stats), ["--stats"] if given.has_stats else []
+    settings = Settings(scheduler, options, tell, given.is_all, waiting)
+    with Database(open_catalog(tables, scheduler is None), settings) as database:
+        asking = Asking(database, form, given.is_plain, given.is_told,
+                        is_terminal and form == "table")
+        if statement is not None:
+            try:
+                asking.ask(statement)
+                return 0
+            except Failed as failed:
+                sys.stdout.flush()
+                return failed.report()
+        if sys.stdin and os.isatty(sys.stdin.fileno()) and is_terminal:
+            from .shell import Shell
+            return Shell(asking).run()
+        lines: Iterable[str] = io.TextIOWrapper(sys.stdin.buffer, encoding="utf-8",
+                                                newline="") if sys.stdin else ()
+        return asking.ask_all(lines)

@@ -1,0 +1,122 @@
+"""Has statements answered over the tables of a catalog: by statements of bw, or by SQLite over
+columns that bw lists."""
+from __future__ import annotations
+
+import functools
+import os
+from typing import TYPE_CHECKING, Any, Callable, Sequence
+
+from ._engine.executor import Asker, Engine, Local
+from ._result import Result
+from ._sql import plan
+from ._sql.statement import Parameters, Statement
+from ._sql.tables import Catalog, Table
+from .telling import Refused
+from .waiting import Waiting
+
+if TYPE_CHECKING:
+    from ._sql.by_sqlite import BySqlite
+
+
+def nothing(told: str) -> None:
+    """Drops what bw prints beside an answer."""
+
+
+class Settings:
+    """How a connection asks: the scheduler of a cluster, or None for sessions on this machine; bw's
+    options; what gets that which bw prints beside its answers; whether SQLite may get any number of
+    rows; and what shows what an answer waits for."""
+
+    def __init__(self, scheduler: str | None = None, options: Sequence[str] = (),
+                 tell: Callable[[str], None] = nothing, list_all: bool = False,
+                 waiting: Waiting | None = None) -> None:
+        self.scheduler, self.options, self.tell = scheduler, options, tell
+        self.list_all, self.waiting = list_all, waiting or Waiting(False)
+
+
+class Engines:
+    """The engines of the tables that were asked, by the tables' names."""
+
+    def __init__(self, settings: Settings) -> None:
+        self.settings, self.found = settings, dict[str, Engine]()
+
+    def of(self, table: Table) -> Engine:
+        """Returns the engine that asks bw about a table, whose sessions begin when they are
+        needed."""
+        if table.name not in self.found:
+            self.found[table.name] = Engine(self.asker(table))
+        return self.found[table.name]
+
+    def asker(self, table: Table) -> Asker:
+        settings = self.settings
+        if settings.scheduler is None:
+            files = [part.file for part in table.parts if part.file]
+            return Local(files, settings.options, settings.tell,
+                         [part.path for part in table.parts])
+        # it needs Dask
+        from ._engine.cluster import Cluster, Scheduled
+        files_there = [(os.path.abspath(part.path), part.record) for part in table.parts]
+        return Scheduled(Cluster(settings.scheduler), files_there, table.parts[0].columns,
+                         settings.options, settings.tell)
+
+    def close(self) -> None:
+        """Ends the sessions."""
+        for engine in self.found.values():
+            engine.close()
+
+
+class Database:
+    """Some tables, which are read only, and what answers statements over them, from the files that
+    were opened, also if these are replaced meanwhile. Any thread may use it, one at a time. It is
+    closed when it is dropped."""
+
+    def __init__(self, catalog: Catalog, settings: Settings | None = None) -> None:
+        self.catalog, self.settings = catalog, settings or Settings()
+        self.engines = Engines(self.settings)
+        # the call that is under way
+        self.calls = dict[str, object]()
+
+    def __enter__(self) -> Database:
+        return self
+
+    def __exit__(self, *_: Any) -> None:
+        self.close()
+
+    def __del__(self) -> None:
+        if "engines" in vars(self):
+            self.close()
+
+    def answer(self, sql: str, parameters: Parameters = ()) -> Result:
+        """Returns the result of a statement. Raises Refused for a statement that is rejected, and
+        Failed if bw fails."""
+        own = object()
+        try:
+            if self.calls.setdefault("now", own) is not own:
+                raise Refused("another statement is under way: one thread at a time may use a "
+                              "connection")
+            statement = Statement(sql, self.catalog, parameters)
+            for engine in self.engines.found.values():
+                engine.asked.clear()
+            return plan.answer(statement, self.engine) or self.by_sqlite.answer(statement)
+        finally:
+            if self.calls.get("now") is own:
+                del self.calls["now"]
+
+    def engine(self, table: Table) -> Engine:
+        """Returns the engine that asks bw about a table."""
+        return self.engines.of(table)
+
+    @functools.cached_property
+    def by_sqlite(self) -> BySqlite:
+        """SQLite over listed columns, which most statements don't need. It has no reference to this
+        object, which could not be dropped with one."""
+        from ._sql.by_sqlite import BySqlite
+        return BySqlite(self.catalog, self.engines.of, self.settings.list_all,
+                        self.settings.waiting)
+
+    def close(self) -> None:
+        """Ends the sessions, and closes the files."""
+        if "by_sqlite" in vars(self):
+            self.by_sqlite.close()
+        self.engines.close()
+        self.catalog.close()
