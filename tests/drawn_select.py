@@ -149,8 +149,8 @@ class Selects:
 
     def spaced(self, sql: str) -> str:
         """Returns a statement with other spaces and comments between some words."""
-        return sql.replace(" WHERE ", self.some(" WHERE ", " where ", "\n/* c ' */ WHERE ")).replace(
-            " FROM ", self.some(" FROM ", "\nfrom\t", " FROM -- it's\n"))
+        sql = sql.replace(" WHERE ", self.some(" WHERE ", " where ", "\n/* c ' */ WHERE "))
+        return sql.replace(" FROM ", self.some(" FROM ", "\nfrom\t", " FROM -- it's\n"))
 
     def with_queries(self) -> str:
         """Returns a WITH."""
@@ -335,7 +335,7 @@ class Selects:
         if kind == "decimal":
             return f"{chance.randrange(-300, 2000) / 100:.2f}"
         if kind == "long":
-            number = self.some(123456789012345678 + chance.randrange(3), 0, 10 ** 17)
+            number = self.some(123456789012345678 + chance.randrange(3), 0, 10 ** 18)
             return f"{{{number // LONG}.{number % LONG:02}|{number}}}"
         if kind == "float":
             return repr(chance.choice(FLOATS))
@@ -436,7 +436,8 @@ class Selects:
         part_by = f"PARTITION BY {part[0]} " if part and self.is_drawn(.7) else ""
         order = f"ORDER BY {', '.join(every)}"
         frame = self.some("", "", " ROWS BETWEEN 1 PRECEDING AND CURRENT ROW",
-                          " ROWS 2 PRECEDING", " GROUPS BETWEEN UNBOUNDED PRECEDING AND 1 FOLLOWING",
+                          " ROWS 2 PRECEDING",
+                          " GROUPS BETWEEN UNBOUNDED PRECEDING AND 1 FOLLOWING",
                           " RANGE UNBOUNDED PRECEDING EXCLUDE NO OTHERS")
         number = self.number(0)
         function = self.some("count(*)", f"sum({number})", f"max({number})", "rank()",

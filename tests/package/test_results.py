@@ -12,7 +12,6 @@ import pathlib
 import pty
 import re
 import select
-import signal
 import subprocess
 import sys
 import threading
