@@ -52,13 +52,15 @@ def open_catalog(paths: Iterable[tuple[str, str]], is_local: bool = True) -> Cat
 
 
 def missing(what: str, name: str, names: Iterable[str]) -> Refused:
-    """Returns the refusal of a name that isn't there, with the nearest ones."""
+    """Returns the refusal of a name that isn't there, with the nearest ones, of which it is
+    none."""
     import difflib
-    known = sorted(set(names), key=str.lower)
+    known = sorted({each for each in names if each.lower() != name.lower()}, key=str.lower)
     lower = {each.lower(): each for each in known}
     near = difflib.get_close_matches(name.lower(), lower, 3, 0.6)
     if near:
         hint = f"did you mean {' or '.join(lower[each] for each in near)}?"
     else:
-        hint = f"there are {', '.join(known[:20])}{', ...' if len(known) > 20 else ''}"
+        hint = f"there are {', '.join(known[:20])}{', ...' if len(known) > 20 else ''}" \
+            if known else "there is no other"
     return Refused(f"there is no {what} {shown(name)[1:-1]}: {hint}")

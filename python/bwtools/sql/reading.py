@@ -127,13 +127,24 @@ def told(database: sqlite3.Connection, guard: Guard, statement: Statement, messa
     if what == "no such column" and name:
         return missing_column(statement, name)
     if what == "no such function":
-        return str(missing("function", name, [each for each in FUNCTIONS if each.isalpha()])) + \
-            at_name(statement, name)
+        return missing_function(database, guard, name) + at_name(statement, name)
     if message.startswith('near "') or message == "incomplete input":
         place = place_of_error(database, guard, statement)
         near = message.replace('near ""', "near the end")
         return f"{near} at character {place} of the statement{hint(statement, place)}"
     return f"{message}{at_name(statement, name.split(' ')[0])}"
+
+
+def missing_function(database: sqlite3.Connection, guard: Guard, name: str) -> str:
+    """Returns what to print for a name that is no function: the nearest ones that this SQLite has,
+    or that another one has it."""
+    guard.is_off = True
+    present = {row[0] for row in database.execute("PRAGMA function_list")}
+    if name.lower() in FUNCTIONS:
+        return f"the function {name} isn't in this SQLite ({sqlite3.sqlite_version}): it needs a " \
+               "later one, or one that was built with it"
+    return str(missing("function", name, [each for each in FUNCTIONS & present
+                                          if each.isalpha()]))
 
 
 def missing_column(statement: Statement, name: str) -> str:
