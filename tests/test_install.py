@@ -13,6 +13,8 @@ import subprocess
 import sys
 import time
 
+import bwtools
+
 from tests import support
 from tests.support import BW, LONGEST, PYTHON, ROOT, TOOLS, copy_python
 
@@ -87,7 +89,7 @@ class Installed(support.TestCase):
 def copy_tree(folder):
     """Copies what ./install needs, with one module, so that it compiles no more."""
     for path in [ROOT / "install", ROOT / "LICENSE", *(ROOT / "docs").glob("bw*.1"),
-                 PYTHON / "bwtools" / "__init__.py",
+                 PYTHON / "bwtools" / "__init__.py", PYTHON / "bwtools" / "py.typed",
                  *(PYTHON / "bin").glob("bw-*"), *(PYTHON / "completions").iterdir()]:
         target = folder / path.relative_to(ROOT)
         target.parent.mkdir(parents=True, exist_ok=True)
@@ -298,9 +300,11 @@ class ManPages(support.TestCase):
 
 def completed_by_bash(*words):
     """Returns what bash's completion offers for the last of these words."""
-    script = ('. "$1"; shift; COMP_WORDS=("$@"); COMP_CWORD=$(($# - 1)); _bw; '
+    name = "bw" if words[0] == "bw" else "bw_python"
+    script = (f'. "$1"; shift; COMP_WORDS=("$@"); COMP_CWORD=$(($# - 1)); _{name}; '
               'printf "%s\\n" "${COMPREPLY[@]}"')
-    done = run(["bash", "-c", script, "bash", PYTHON / "completions" / "bw.bash", *words])
+    file = "bw.bash" if words[0] == "bw" else "bw-ask.bash"
+    done = run(["bash", "-c", script, "bash", PYTHON / "completions" / file, *words])
     return set(done.out.split("\n")) - {""} if done.status == 0 else done
 
 
@@ -318,6 +322,29 @@ class Completions(support.TestCase):
         table.touch()
         self.assertEqual(completed_by_bash("bw", "query", str(table)[:-9]), {str(table)})
 
+    def test_python_programs(self):
+        for words in ([name] for name in TOOLS if name != "bw-shards"):
+            told = run([PYTHON / "bin" / words[0], "--help"]).out.partition("\noptions:")[2]
+            options = set(re.findall(r"^  (?:-h, )?(--[a-z-]+)", told, re.M))
+            self.assertGreaterEqual(options, {"--help", "--version"})
+            self.assertEqual(completed_by_bash(*words, "--"), options, words)
+            line = re.search(rf"^ +{words[0]}\) _arguments (.*)$",
+                             (PYTHON / "completions" / "_bw-ask").read_text(encoding="utf-8"),
+                             re.M)[1]
+            self.assertEqual(set(re.findall(r"'\*?(--[a-z-]+)\[", line)), options, words)
+        self.assertEqual(completed_by_bash("bw-shards", "a"), {"ask"})
+        self.assertIn("--scheduler", completed_by_bash("bw-shards", "ask", "--s"))
+        self.assertEqual(completed_by_bash("bw-ask", "--format", "v"), {"vertical"})
+        self.assertEqual(completed_by_bash("bw-import", "--date", "x"), set())
+        table = self.new_folder() / "some table.bw"
+        table.touch()
+        self.assertEqual(completed_by_bash("bw-ask", str(table)[:-9]), {str(table)})
+
+    def test_each_program_has_a_version(self):
+        for name in TOOLS:
+            done = run([PYTHON / "bin" / name, "--version"])
+            self.assertEqual((done.status, done.out), (0, f"{name} {bwtools.__version__}\n"))
+
     def test_zsh(self):
         text = (PYTHON / "completions" / "_bw").read_text(encoding="utf-8")
         commands, _ = help_of()
@@ -332,4 +359,5 @@ class Completions(support.TestCase):
     def test_zsh_reads_its_completion(self):
         if not shutil.which("zsh"):
             self.skipTest("the completion of zsh: install zsh")
-        self.assertEqual(run(["zsh", "-n", PYTHON / "completions" / "_bw"]), (0, "", ""))
+        for name in ("_bw", "_bw-ask"):
+            self.assertEqual(run(["zsh", "-n", PYTHON / "completions" / name]), (0, "", ""))

@@ -163,7 +163,8 @@ class Connection:
         return self
 
     def __exit__(self, *_: Any) -> None:
-        self.close()
+        if not self._is_closed:
+            self.close()
 
     def _refuse_closed(self) -> None:
         if self._is_closed:
@@ -187,7 +188,9 @@ class Connection:
         self._refuse_closed()
 
     def close(self) -> None:
-        """Ends the sessions, and closes the files."""
+        """Ends the sessions, and closes the files. Any later use fails, and so does closing it
+        again."""
+        self._refuse_closed()
         self._is_closed = True
         self._database.close()
 

@@ -91,6 +91,9 @@ class Forms(unittest.TestCase):
                 ("markdown", "| a | b\\|c | d | e |\n| ---: | --- | --- | --- |\n"
                              '| 1 | x\ty<br> | yes | 01.05.2024 |\n| 2.5 |  |  |  |\n'
                              '|  | q"\\|\\* | no | 02.05.2024 |\n'),
+                ("vertical", "  a = 1\nb|c = x\\ty\\n\n  d = yes\n  e = 01.05.2024\n\n  a = 2.5\n"
+                             "b|c = \n  d = \n  e = \n\n  a = \nb|c = q\"|*\n  d = no\n"
+                             "  e = 02.05.2024\n"),
                 ("table", "  a  b|c     d    e\n---  ------  ---  ----------\n"
                           "  1  x\\ty\\n  yes  01.05.2024\n2.5\n"
                           '     q"|*    no   02.05.2024\n')):
@@ -255,6 +258,26 @@ class Programs(Imported):
             break
         return shown
 
+    def test_files_at_the_prompt(self):
+        (self.folder / "one.sql").write_text(
+            ".format tsv\nSELECT city,\n\n n FROM t -- it's; one\n WHERE n > 1;\n.read two.sql\n"
+            ".read none.sql\nSELECT x FROM t; SELECT 'last' AS z")
+        (self.folder / "two.sql").write_text(".once 'out.csv'\n.once out.tsv\n"
+                                             "SELECT day FROM t; SELECT 5 AS five;")
+        shown, status = self.at_terminal([
+            ".read one.sql\n", ".once\n", ".once no/such/folder\n", "SELECT 7 AS seven;\n",
+            ".format vertical\n", "SELECT city, n FROM t LIMIT 2\n", "\n", "SELECT 'a\n", "\n",
+            "b' AS c;\n", ".quit\n"])
+        self.assertEqual(status, 0)
+        for part in ("city\tn\nUlm\t20\n", "five\n5\n", "none.sql: No such file or directory\n",
+                     "there is no column x", "z\nlast\n", "use .once FILE", "no/such/folder: ",
+                     "city = Bern\n   n = 1\n\ncity = Ulm\n   n = 20\n", "c = a\\n\\nb\n"):
+            with self.subTest(part):
+                self.assertIn(part, shown)
+        self.assertEqual((self.folder / "out.tsv").read_text(),
+                         "day\n2024-05-01\n2024-05-02\n\n")
+        self.assertFalse((self.folder / "out.csv").exists())
+
     def test_prompt(self):
         shown, status = self.at_terminal([
             ".tables\n", ".schema\n", "SELECT city,\n", "n FROM t WHERE n > 1;\n", ".format csv\n",
@@ -264,7 +287,8 @@ class Programs(Imported):
         for part in ("cities  3 rows\n", "  price  decimals, $0.75 to $12.00\n",
                      "city   n\n----  --\nUlm   20\n1 row, ", "there is no column x",
                      "city\nBern\n",
-                     "there is no format odd: use csv, table, json, markdown, tsv",
+                     "there is no format odd: use csv, table, json, markdown, tsv, "
+                     "vertical",
                      "there is no command .nothing", ".schema [TABLE]"):
             with self.subTest(part):
                 self.assertIn(part, shown)

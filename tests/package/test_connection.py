@@ -348,13 +348,12 @@ class Failures(Connections):
             asker = connection._database.engine(connection._database.catalog.only).asker
             processes = [session.number for session in asker.sessions.sessions]
         for use in (other.fetchall, connection.cursor, connection.commit, connection.rollback,
-                    lambda: other.execute("SELECT 1")):
+                    lambda: other.execute("SELECT 1"), connection.close):
             with self.assertRaisesRegex(bwtools.ProgrammingError, "connection is closed"):
                 use()
         self.assertTrue(processes)
         for number in processes:
             self.assertRaises(ProcessLookupError, os.kill, number, 0)
-        connection.close()
 
     def test_interrupt_is_noticed_at_once(self):
         """Ctrl-C ends a statement of SQLite that would take minutes; the connection answers the

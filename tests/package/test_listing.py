@@ -11,6 +11,7 @@ from bwtools._result import number_in
 from bwtools.failed import Failed
 from bwtools._sql import by_sqlite
 from bwtools._sql.exactness import sum_text
+from bwtools._sql.prepare import FUNCTIONS
 from bwtools._sql.pushdown import pushed
 from bwtools._sql.render import Renderer
 from bwtools._sql.statement import Statement
@@ -376,12 +377,27 @@ class Guarded(Listings):
                 ("SELECT id FROM trips WHERE", "incomplete input at character 26|near the end"),
                 ("SELECT foo(id) FROM trips", "there is no function foo"),
                 ("SELECT cuont(id) FROM trips", "did you mean count"),
+                ("SELECT thirdpercentile(id) FROM trips", "no function thirdpercentile"),
                 ("SELECT id FROM trips GROUP BY", "incomplete input"),
                 ("SELECT abs(1, 2)", "wrong number of arguments to function abs"),
                 ("SELECT city FROM trips, stations",
                  "ambiguous column name: city .at character 7 of the statement"),
                 ("SELECT max(count(*)) FROM trips", "misuse of aggregate")]:
             self.refused(sql, message)
+
+    def test_functions_that_this_sqlite_lacks_are_called_that(self):
+        with mock.patch("bwtools._sql.prepare.FUNCTIONS", FUNCTIONS | {"newest"}):
+            self.refused("SELECT newest(id) FROM trips",
+                         r"the function newest isn't in this SQLite \(3[0-9.]+\)")
+            self.refused("SELECT newset(id) FROM trips",
+                         "there is no function newset: (?!.*newest)")
+
+    def test_what_was_typed_is_not_proposed(self):
+        for sql in ("SELECT stations.id FROM trips, stations", "SELECT t.id FROM stations t",
+                    "SELECT x.city FROM trips t"):
+            with self.subTest(sql), self.assertRaises(Refused) as refused:
+                self.rows(sql)
+            self.assertNotRegex(str(refused.exception), "did you mean (id|city)[ ?]")
 
     def test_words_of_sql_need_quotes(self):
         imported(self.folder / "words.bw", "order,count,to\n1,2,3\n")

@@ -34,7 +34,8 @@ from tests.support import PYTHON, Imported, imported, texts
 LONG = ("id,n,g\n1,1234567890.12345678,a\n2,1234567890.12345679,a\n3,1234567890.12345680,b\n"
         "4,-0.00000001,b\n5,,b\n")
 # fifteen of these leave 64 bits, and a double
-BIG = "id,n,w\n" + "".join(f"{row},{row % 7}.25,999999999999999.{row:03}\n" for row in range(20)) + \
+BIG = "id,n,w\n" + "".join(f"{row},{row % 7}.25,999999999999999.{row:03}\n"
+                           for row in range(20)) + \
     "20,,9223372036854775.807\n"
 # sums of its first rows leave 64 bits, that of all doesn't
 WHOLE = "id,n\n" + "".join(f"{row},{'' if row % 5 == 4 else (1 if row < 20 else -1) << 61}\n"
@@ -164,7 +165,8 @@ class Kinds(unittest.TestCase):
             self.assertEqual(numbers_of(kind, [*values, None]), [*numbers, None], kind)
 
     def test_values_of_another_kind_stay(self):
-        for kind, value in ((kinds.Whole(), 1.5), (kinds.Whole(), "a"), (kinds.Decimals(2, 0), .125),
+        for kind, value in ((kinds.Whole(), 1.5), (kinds.Whole(), "a"),
+                            (kinds.Decimals(2, 0), .125),
                             (kinds.Decimals(2, 0), math.inf), (kinds.Decimals(2, 0), "2.50"),
                             (kinds.Truths("no", "yes"), 2), (kinds.Dates(), "2024-1-1"),
                             (kinds.Dates(), "20240101"), (kinds.Dates(), "2024-02-30"),
@@ -251,7 +253,8 @@ class Readers(Results):
         self.assertEqual([row[0] for row in cursor.fetchall()], list(range(10, ROWS)))
 
     def test_sizes_and_codes_as_sqlite3_has_them(self):
-        cursor = self.connection.execute("SELECT day, NULL, NULL + 1, price FROM shop WHERE price + 0 IS NULL")
+        cursor = self.connection.execute("SELECT day, NULL, NULL + 1, price FROM shop "
+                                         "WHERE price + 0 IS NULL")
         self.assertEqual([each[1] for each in cursor.description],
                          ["dates", None, None, "decimals"])
         cursor.execute("SELECT id FROM long")

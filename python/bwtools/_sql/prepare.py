@@ -3,6 +3,7 @@ it refuses is refused, with its message and the place. Its authorizer says what 
 and which columns it reads."""
 from __future__ import annotations
 
+import contextlib
 import re
 import sqlite3
 from typing import Any, Iterator, Sequence
@@ -34,7 +35,6 @@ FUNCTIONS = frozenset(
     "json_object json_patch json_remove json_replace json_set json_type json_valid json_quote "
     "json_group_array json_group_object json_error_position json_pretty -> ->>".split()) | \
     frozenset(_aggregation.FUNCTIONS)
-OURS = "bw_"
 
 
 class Guard:
@@ -221,9 +221,12 @@ def missing_column(tree: Query, name: str) -> str:
 def missing_function(tree: Query, name: str) -> str:
     """Returns what to print for a function that isn't there, or that this SQLite lacks."""
     where = at_name(tree, name)
-    if name.lower() in FUNCTIONS and not name.lower().startswith(OURS):
-        return f"this SQLite, {sqlite3.sqlite_version}, has no function {name}{where}"
-    known = [each for each in FUNCTIONS if each.isidentifier() and not each.startswith(OURS)]
+    if name.lower() in FUNCTIONS:
+        return f"the function {name} isn't in this SQLite ({sqlite3.sqlite_version}): it needs a " \
+               f"later one, or one that was built with it{where}"
+    with contextlib.closing(sqlite3.connect(":memory:")) as database:
+        present = {row[0] for row in database.execute("PRAGMA function_list")}
+    known = [each for each in FUNCTIONS & present if each.isalpha()]
     return f"{missing('function', name, known)}{where}"
 
 
