@@ -16,7 +16,7 @@ from typing import (TYPE_CHECKING, Any, Callable, Iterable, Iterator, Mapping, N
                     Sequence, Tuple)
 
 from ._engine.executor import COUNT, added
-from ._result import (NULL, Value, blob_of, columns_of, foreign, is_double,
+from ._result import (NULL, Value, blob_of, columns_of, foreign, integers_of, is_double,
                       stored)
 from ._result import doubles as decoded
 from .codes import Codes
@@ -291,7 +291,7 @@ def doubles_in(parts: Sequence[Part], kind: Kind) -> array[float]:
     found, plain = array("d"), undressed(kind)
     gap: int | None = getattr(plain, "gap", None)
     for lines in lines_of(parts):
-        numbers = list(map(int, columns_of(lines, 1)[0]))
+        numbers = integers_of(lines)
         found.extend(stored(kind, numbers) if gap is None else decoded(gap, numbers))
     return found
 

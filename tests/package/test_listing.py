@@ -183,7 +183,7 @@ class Listed(Listings):
                          [(4, "BOSTON"), (5, "BERGEN")])
 
     def test_interrupt_undoes_what_was_listed(self):
-        with mock.patch("bwtools._result.Numbers.values", side_effect=KeyboardInterrupt), \
+        with mock.patch("bwtools._sql.filling.integers_of", side_effect=KeyboardInterrupt), \
                 self.assertRaises(KeyboardInterrupt):
             self.rows("SELECT abs(id) FROM trips")
         self.assertEqual(len(self.rows("SELECT abs(id) FROM trips")), 5)

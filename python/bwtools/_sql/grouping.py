@@ -14,7 +14,7 @@ from ..column import Column
 from ..kind import Kind
 from ..telling import Refused
 from .exactness import NO_DOUBLE, refuse_doubles
-from .groups import Wanted, groups_of
+from .groups import Missing, Wanted, groups_of
 from .lexer import quoted_name
 from .pushdown import condition_of, direct_column
 from .resolve import place_of
@@ -324,13 +324,14 @@ class Groups:
         if self.plan.is_coarse:
             explain(self.plan.fine.types, f"SELECT {', '.join(self.plan.made)} FROM {TABLE}")
 
-    def body(self, engine: Engine) -> ValueRows:
-        """Returns the rows that SQLite makes of the groups."""
+    def body(self, engine: Engine, missing: Missing | None = None) -> ValueRows:
+        """Returns the rows that SQLite makes of the groups. Raises Outside if it is quicker over
+        all rows."""
         made = self.plan.over
         if self.limits.most == 0:
             return ValueRows([])
         wanted = Wanted(self.table.bw_name, self.where, self.plan.columns, made.aggregates,
-                        self.plan.is_in_rows_order)
+                        self.plan.is_in_rows_order, self.plan.is_coarse, missing)
         try:
             groups = groups_of(engine, wanted, self.coarse if self.plan.is_coarse else None)
         except TooMany:

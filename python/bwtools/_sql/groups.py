@@ -13,28 +13,38 @@ from typing import Any, Callable, Mapping, NamedTuple, Optional, Sequence, Tuple
 from .. import _aggregation as counted
 from .._aggregation import (NULL_NUMBER, Aggregate, Found, Key, float_total, values_for_sqlite,
                             values_of)
-from .._engine.executor import COUNT, Engine, Totals, added, both, names_of, select
+from .._engine.executor import COUNT, Engine, Outside, Totals, added, both, names_of, select
 from .._result import Value, is_long
 from ..column import Column
 from ..failed import Failed
 from ..kind import Kind
+from .cost import groups_at_most, is_sqlite_quicker
 
 # so many groups are counted by statements at most, and only if the rows that those scan are no more
 # than so many times the rows that would be listed: which takes as long
 MOST_STATEMENTS, LISTED_COST, LONG = 1000, 2000, 200
+# the doubles of so many columns of all rows, or of those of a condition, are kept
+MOST_KEPT = 8
 # the totals of all rows by their names
 WholeTotals = Mapping[str, Optional[int]]
 
 
+# returns how many of some columns SQLite hasn't got yet, or None if it may not get so many rows
+Missing = Callable[[Sequence[Column], int], Optional[int]]
+
+
 class Wanted(NamedTuple):
     """Which rows make groups, by which columns, and the aggregates of each group. Groups ascend,
-    nulls first, or have the order of their first rows."""
+    nulls first, or have the order of their first rows. Without `missing` SQLite isn't asked."""
 
     table: str
     where: str
     keys: Sequence[Column]
     aggregates: Sequence[Aggregate] = ()
     is_in_rows_order: bool = False
+    # whether expressions make fewer groups of these
+    is_coarse: bool = False
+    missing: Optional[Missing] = None
 
     @property
     def totals(self) -> list[str]:
@@ -133,11 +143,24 @@ def totals_of(engine: Engine, wanted: Wanted) -> Found:
     if not whole[COUNT]:
         return Found([[] for _ in wanted.keys], {name: [] for name in wanted.totals})
     choices = [] if wanted.is_in_rows_order else choices_of(engine, wanted, whole)
+    if not choices:
+        refuse_slower(wanted, whole)
     found = by_statements(engine, wanted, choices) if choices else by_rows(engine, wanted)
     for name in wanted.totals:
         if added(name.partition("(")[0], found.totals[name]) != whole[name]:
             raise Failed(f"the groups' {name} don't add up to that of all rows, {whole[name]}")
     return found
+
+
+def refuse_slower(wanted: Wanted, whole: WholeTotals) -> None:
+    """Raises Outside if SQLite is quicker."""
+    rows = whole[COUNT] or 0
+    columns = [*wanted.keys, *(each.column for each in wanted.aggregates if each.column)]
+    missing = wanted.missing(columns, rows) if wanted.missing else None
+    groups = groups_at_most(wanted.keys, whole, rows)
+    if is_sqlite_quicker(rows, groups, len(wanted.keys), wanted.aggregates, missing,
+                         wanted.is_coarse):
+        raise Outside
 
 
 def names_of_ends(wanted: Wanted) -> list[str]:
@@ -224,7 +247,15 @@ def distinct_of(engine: Engine, wanted: Wanted, column: Column) -> Mapping[Key, 
 
 
 def doubles_of(engine: Engine, wanted: Wanted, column: Column) -> Mapping[Key, Sequence[float]]:
-    """Returns the doubles of a column in each group, which bw lists."""
+    """Returns the doubles of a column in each group, which bw lists. Those of all rows are kept."""
     columns = [*wanted.keys, column]
-    parts = engine.rows(wanted.select(names_of(columns), f"{column.name} IS NOT NULL"))
-    return counted.doubles(parts, len(wanted.keys), column.kind)
+    statement = wanted.select(names_of(columns), f"{column.name} IS NOT NULL")
+    if wanted.keys:
+        return counted.doubles(engine.rows(statement), len(wanted.keys), column.kind)
+    found = engine.kept.pop(statement, None)
+    if found is None:
+        found = counted.doubles_in(engine.rows(statement), column.kind)
+    engine.kept[statement] = found
+    while len(engine.kept) > MOST_KEPT:
+        del engine.kept[next(iter(engine.kept))]
+    return {(): found} if found else {}

@@ -8,16 +8,14 @@ from typing import Callable, Iterator, Sequence
 
 from .._aggregation import Functions
 from .._engine.executor import Engine
-from .._result import NumberRows, Numbers, Result, Value, is_long
 from ..column import Column
 from ..failed import Failed
+from .filling import Filler
 from .lexer import quoted_name
 from .prepare import Guard, declare, declared
 from .tables import Catalog, Table
 from .watching import watch
 
-# so many variables has a statement that inserts rows; any SQLite takes 999
-MOST_VARIABLES = 500
 ROWIDS = ("rowid", "oid", "_rowid_")
 FRESH = "bw:fresh"
 EACH_ROW = ("WITH RECURSIVE n(i) AS (SELECT 1 WHERE ? > 0 UNION ALL SELECT i + 1 FROM n "
@@ -123,34 +121,19 @@ class Listing:
             self.database.execute(EACH_ROW.format(quoted_name(target), quoted_name(
                 table.columns[0].name)), (self.rows[table.name], self.rows[table.name]))
             return self.rows[table.name]
-        names = [each.name for each in columns]
-        parts = engine.rows(f"SELECT {', '.join(names)} FROM {table.bw_name}{self.where()}")
-        quoted = ", ".join(quoted_name(each.name) for each in columns)
-        count = 0
+        names = ", ".join(each.name for each in columns)
+        parts = engine.rows(f"SELECT {names} FROM {table.bw_name}{self.where()}")
+        filler, count = Filler(self.database, target, columns), 0
         try:
-            result = Result(names, [each.kind for each in columns], NumberRows(parts), 2)
-            for found in result.blocks():
-                block = [each.integers() if is_long(column) and isinstance(each, Numbers)
-                         else each.values() for column, each in zip(columns, found)]
-                self.insert(f"INSERT INTO {quoted_name(target)} ({quoted})", block)
-                count += len(block[0])
-                progress(len(block[0]))
+            for part in parts:
+                for lines in part.blocks():
+                    found = filler.insert(lines)
+                    count += found
+                    progress(found)
         finally:
             for part in parts:
                 part.close()
         return count
-
-    def insert(self, into: str, block: Sequence[Sequence[Value]]) -> None:
-        """Inserts rows, many by one statement, which takes half of the time."""
-        marks = f"({', '.join('?' * len(block))})"
-        width = len(block)
-        at_once = max(1, MOST_VARIABLES // width)
-        whole = len(block[0]) // at_once * at_once
-        values = itertools.islice(itertools.chain.from_iterable(zip(*block)), whole * width)
-        self.database.executemany(f"{into} VALUES {', '.join([marks] * at_once)}",
-                                  zip(*[values] * (at_once * width)))
-        self.database.executemany(f"{into} VALUES {marks}",
-                                  zip(*(column[whole:] for column in block)))
 
     def join(self, table: Table, fresh: Sequence[Column]) -> None:
         """Makes the table of its rows with the fresh columns beside those listed before."""

@@ -2,11 +2,13 @@
 for groups of one table; or by SQLite over the columns that it reads, which bw lists."""
 from __future__ import annotations
 
-from typing import TYPE_CHECKING, Callable
+import functools
+from typing import TYPE_CHECKING, Callable, Optional, Sequence
 
 from .._aggregation import AGGREGATES
 from .._engine.executor import Engine, Outside
 from .._result import Result
+from ..column import Column
 from .pushdown import single
 from .statement import Statement
 from .syntax import Call, walk
@@ -18,17 +20,21 @@ if TYPE_CHECKING:
     from .selection import Rows
 
 EngineOf = Callable[[Table], Engine]
+MissingOf = Callable[[Table, Sequence[Column], int], Optional[int]]
 
 
-def answer(statement: Statement, engine_of: EngineOf) -> Result | None:
+def answer(statement: Statement, engine_of: EngineOf, missing: MissingOf | None = None
+           ) -> Result | None:
     """Returns the answer to a statement by statements of bw, or None if it is outside of what they
-    answer, or bw would have to list too much. Raises Refused if a result is refused, and
-    session.Failed if bw ends by itself."""
+    answer, bw would have to list too much, or SQLite is quicker: `missing` returns how many of a
+    table's columns SQLite hasn't got yet, or None if it may not get so many rows. Raises Refused if
+    a result is refused, and Failed if bw ends by itself."""
     try:
         question = question_of(statement)
         engine = engine_of(question.table)
         before = len(engine.asked)
-        body = question.body(engine)
+        body = question.body(engine, functools.partial(missing, question.table) if missing
+                             else None)
     except Outside:
         return None
     return Result([output.heading for output in statement.outputs], question.kinds(), body, 1,

@@ -33,7 +33,7 @@ class Rows:
         column = wanted_column(term.expression) if place is None else self.columns[place]
         return SortKey(column, term.is_descending, term.are_nulls_first)
 
-    def body(self, engine: Engine) -> NumberRows:
+    def body(self, engine: Engine, _: object = None) -> NumberRows:
         """Returns the rows that bw lists."""
         return WantedRows(self.table.bw_name, self.columns, self.where, self.keys,
                           self.limits).body(engine)

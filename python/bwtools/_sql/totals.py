@@ -43,7 +43,7 @@ class Totals:
         """Returns the kinds of the columns."""
         return [each.kind for each in self.aggregates]
 
-    def body(self, engine: Engine) -> ValueRows:
+    def body(self, engine: Engine, _: object = None) -> ValueRows:
         """Returns the row."""
         names = list(dict.fromkeys(name for each in self.aggregates for name in each.totals))
         asked = select_text(", ".join(names), self.table.bw_name, self.where)
