@@ -55,7 +55,8 @@ class Listing:
             if self.functions.raised:
                 raise self.functions.raised from None
             # a signal's exception ends the function of ours that it finds
-            if "interrupted" in str(error) or "user-defined" in str(error):
+            if "interrupted" in str(error) or "user-defined" in str(error) or \
+                    self.guard.is_lost(error):
                 raise KeyboardInterrupt from None
             raise
 

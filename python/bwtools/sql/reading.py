@@ -67,6 +67,11 @@ class Guard:
             self.denied = self.denied or "the statement isn't one that reads tables"
         return sqlite3.SQLITE_DENY
 
+    def is_lost(self, error: Exception) -> bool:
+        """Returns whether a signal's exception ended the guard: it denied, and noted no reason."""
+        is_denied = "not authorized" in str(error) or str(error).endswith("is prohibited")
+        return is_denied and not self.denied
+
 
 def declare(database: sqlite3.Connection, catalog: Catalog) -> None:
     """Makes the tables of a catalog, without rows."""
@@ -100,7 +105,7 @@ def reads_of(database: sqlite3.Connection, guard: Guard, statement: Statement, s
     try:
         program = explain(database, guard, sql)
     except (sqlite3.Error, sqlite3.Warning) as error:
-        if str(error) == "interrupted":
+        if str(error) == "interrupted" or guard.is_lost(error):
             raise
         raise Refused(guard.denied or told(database, guard, statement, str(error))) from None
     found = {name: set(columns) for name, columns in guard.read.items()}
