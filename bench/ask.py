@@ -242,7 +242,7 @@ def time_groups_of(folder: pathlib.Path, size: int, drawn: Drawn) -> None:
 
 def time_border(folder: pathlib.Path) -> None:
     """Times groups by statements and by listed rows, for the border between few and many."""
-    groups: Any = importlib.import_module("bwtools.sql.groups")
+    groups: Any = importlib.import_module("bwtools._sql.groups")
     border = groups.MOST_STATEMENTS
 
     def lines() -> Iterator[Sequence[str]]:

@@ -12,8 +12,8 @@ from fractions import Fraction
 from typing import Any, Callable, Iterable, Iterator, Sequence
 
 import bwtools
-from bwtools.sql import grammar
-from bwtools.sql.statement import Statement
+from bwtools._sql import plan
+from bwtools._sql.statement import Statement
 from bwtools.telling import Refused
 
 from tests import support
@@ -125,7 +125,7 @@ class Asked(Compared):
         """Yields the answer of each way that serves a statement, or what refuses it."""
         statement = Statement(sql, self.connection._database.catalog)
         ways: list[Callable[[], Any]] = [
-            lambda: grammar.answer(statement, self.connection._database.engine),
+            lambda: plan.answer(statement, self.connection._database.engine),
             lambda: self.connection._database.by_sqlite.answer(statement)]
         for ask in ways:
             try:

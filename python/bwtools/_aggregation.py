@@ -16,7 +16,7 @@ from typing import (TYPE_CHECKING, Any, Callable, Iterable, Iterator, Mapping, N
                     Sequence, Tuple)
 
 from ._engine.executor import COUNT, added
-from ._result import (MOST_EXACT, NULL, Value, blob_of, columns_of, foreign, is_double,
+from ._result import (NULL, Value, blob_of, columns_of, foreign, integers_of, is_double,
                       stored)
 from ._result import doubles as decoded
 from .codes import Codes
@@ -42,7 +42,7 @@ SMALL = 1 << 23
 # decimals have so many digits after the point
 MOST_DIGITS = 18
 # the functions of `Functions`
-FUNCTIONS = ("bw_sum", "bw_avg", "bw_total", "bw_whole", "bw_mean",
+FUNCTIONS = ("bw_sum", "bw_avg", "bw_total", "bw_mean",
              *(f"bw_avg_{digits}" for digits in range(MOST_DIGITS + 1)))
 
 
@@ -291,7 +291,7 @@ def doubles_in(parts: Sequence[Part], kind: Kind) -> array[float]:
     found, plain = array("d"), undressed(kind)
     gap: int | None = getattr(plain, "gap", None)
     for lines in lines_of(parts):
-        numbers = list(map(int, columns_of(lines, 1)[0]))
+        numbers = integers_of(lines)
         found.extend(stored(kind, numbers) if gap is None else decoded(gap, numbers))
     return found
 
@@ -346,33 +346,24 @@ def refuse_groups(count: int) -> None:
 
 # --- SUM and AVG in SQLite
 
+# the forms of a sum of decimals: the double that it is, bytes, or the nearest double
+BLOB, NEAREST = 1, 2
+
+
 class NeedsExact(Exception):
     """A double isn't the sum of decimals that an expression has: SQLite must compare the sums'
     integers."""
 
 
-class NotWhole(Exception):
-    """A sum that was taken for one of whole numbers isn't one: it needs our aggregate."""
-
-
-def sum_text(name: str, argument: str, kind: Kind | None, most: int | None = None,
-             is_distinct: bool = False, only: str = "", is_exact: bool = False,
-             is_whole: bool = False) -> str:
+def sum_text(name: str, numbers: str, is_exact: bool, digits: int = 0, most: int | None = None,
+             is_distinct: bool = False, only: str = "", form: int = 0) -> str:
     """Returns the text of SUM or AVG, the `name`, for SQLite, with the functions of `Functions`.
-    `kind` is that of the argument if that is a column, of which `most` is the greatest magnitude of
-    a number if it is known; `only` is the clause FILTER. A sum of decimals becomes a double, and
-    NeedsExact is raised if that isn't the sum; with `is_exact` it is the sum's integer, as
-    `blob_of` has it. `is_whole`
-    tries that an argument without a kind has whole numbers: else NotWhole is raised, or SQLite's
-    integer overflow."""
-    if kind is None or kind.name not in ("decimals", "whole", "truths"):
-        if is_whole and not is_distinct:
-            found = f"bw_whole(SUM({argument}) {only})"
-            return found if name == "SUM" else f"bw_mean(0, {found}, COUNT({argument}) {only}, 0)"
-        return f"bw_{name.lower()}({'DISTINCT ' * is_distinct}{argument}) {only}"
-    digits, numbers = digits_of(kind), argument
-    if digits and not is_exact_column(kind, most):
-        numbers = f"CAST(ROUND(({argument}) * 1e{digits}) AS INTEGER)"
+    `is_exact` says that `numbers` are integers: decimals multiplied by ten to `digits`, of which
+    `most` is the greatest magnitude; `only` is the clause FILTER. A sum of decimals becomes a
+    double, and NeedsExact is raised if that isn't the sum; of the form BLOB it is the sum's
+    integer, as `blob_of` has it, and of the form NEAREST the double nearest to the sum."""
+    if not is_exact:
+        return f"bw_{name.lower()}({'DISTINCT ' * is_distinct}{numbers}) {only}"
     if is_distinct:
         if name == "AVG":
             return f"bw_avg_{digits}(DISTINCT {numbers}) {only}"
@@ -383,15 +374,10 @@ def sum_text(name: str, argument: str, kind: Kind | None, most: int | None = Non
         high = f"SUM(({numbers}) >> 32) {only}"
         low = f"SUM(({numbers}) & 4294967295) {only}"
     if name == "AVG":
-        return f"bw_mean({high}, {low}, COUNT({argument}) {only}, {digits})"
+        return f"bw_mean({high}, {low}, COUNT({numbers}) {only}, {digits})"
     if high == "0" and not digits:
         return low
-    return f"bw_total({high}, {low}, {digits}, {int(is_exact)})"
-
-
-def is_exact_column(kind: Kind, most: int | None) -> bool:
-    """Returns whether SQLite has a column's decimals as their integers."""
-    return kind.name == "decimals" and most is not None and most >= MOST_EXACT
+    return f"bw_total({high}, {low}, {digits}, {form})"
 
 
 class Functions:
@@ -406,7 +392,6 @@ class Functions:
             database.create_aggregate(f"bw_avg_{digits}", 1,
                                       functools.partial(Mean, self.kept, digits))
         database.create_function("bw_total", 4, self.total, deterministic=True)
-        database.create_function("bw_whole", 1, self.whole, deterministic=True)
         database.create_function("bw_mean", 4, mean_of_halves, deterministic=True)
 
     def keep(self, raised: BaseException) -> None:
@@ -422,26 +407,19 @@ class Functions:
             self.keep(error)
             raise
 
-    def total(self, high: int | None, low: int | None, digits: int, is_exact: int
+    def total(self, high: int | None, low: int | None, digits: int, form: int
               ) -> int | float | bytes | None:
         """Returns the sum of which these are the halves, of 32 bits: of decimals the double, or
-        with `is_exact` the integer as `blob_of` has it."""
+        the integer as `blob_of` has it, or the nearest double, by the form."""
         if high is None or low is None:
             return None
         number = (high << 32) + low
-        if digits and is_exact:
+        if digits and form == BLOB:
             return blob_of(number)
         with self.kept():
-            if digits and not is_double(number, digits):
+            if digits and form != NEAREST and not is_double(number, digits):
                 raise NeedsExact
             return number / int(10 ** digits) if digits else in_64_bits(number)
-
-    def whole(self, found: int | float | None) -> int | None:
-        """Returns a sum that must be whole."""
-        with self.kept():
-            if isinstance(found, float):
-                raise NotWhole
-        return found
 
 
 def mean_of_halves(high: int | None, low: int | None, count: int, digits: int) -> float | None:

@@ -8,15 +8,15 @@ from typing import TYPE_CHECKING, Any, Callable, Sequence
 
 from ._engine.executor import Asker, Engine, Local
 from ._result import Result
-from .sql import grammar
-from .sql.catalog import Catalog
-from .sql.statement import Parameters, Statement
-from .sql.table import Table
+from ._sql import plan
+from ._sql.statement import Parameters, Statement
+from ._sql.tables import Catalog, Table
+from .column import Column
 from .telling import Refused
 from .waiting import Waiting
 
 if TYPE_CHECKING:
-    from .sql.by_sqlite import BySqlite
+    from ._sql.by_sqlite import BySqlite
 
 
 def nothing(told: str) -> None:
@@ -98,10 +98,22 @@ class Database:
             statement = Statement(sql, self.catalog, parameters)
             for engine in self.engines.found.values():
                 engine.asked.clear()
-            return grammar.answer(statement, self.engine) or self.by_sqlite.answer(statement)
+            return plan.answer(statement, self.engine, self.missing) or \
+                self.by_sqlite.answer(statement)
         finally:
             if self.calls.get("now") is own:
                 del self.calls["now"]
+
+    def missing(self, table: Table, columns: Sequence[Column], rows: int) -> int | None:
+        """Returns how many of a table's columns SQLite hasn't got yet, or None if it may not get so
+        many rows."""
+        from ._sql.by_sqlite import MOST_ROWS
+        names = {column.name.lower() for column in columns}
+        if "by_sqlite" in vars(self):
+            listing = self.by_sqlite.whole
+            if table.name in listing.listed and not listing.missing(table, names):
+                return 0
+        return None if rows > MOST_ROWS and not self.settings.list_all else len(names)
 
     def engine(self, table: Table) -> Engine:
         """Returns the engine that asks bw about a table."""
@@ -111,7 +123,7 @@ class Database:
     def by_sqlite(self) -> BySqlite:
         """SQLite over listed columns, which most statements don't need. It has no reference to this
         object, which could not be dropped with one."""
-        from .sql.by_sqlite import BySqlite
+        from ._sql.by_sqlite import BySqlite
         return BySqlite(self.catalog, self.engines.of, self.settings.list_all,
                         self.settings.waiting)
 

@@ -10,9 +10,8 @@ from typing import TYPE_CHECKING, Any, Iterator, Optional, Sequence, Tuple
 from ._database import Database, Settings
 from ._result import Position, Result, Values
 from .failed import Failed
-from .sql.catalog import open_catalog
-from .sql.statement import Parameters
-from .sql.table import name_of
+from ._sql.statement import Parameters
+from ._sql.tables import name_of, open_catalog
 from .telling import Refused
 
 if TYPE_CHECKING:

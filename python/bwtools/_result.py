@@ -352,6 +352,20 @@ def columns_of(lines: bytes, width: int) -> list[list[str]]:
     return [fields[place:-1:width] for place in range(width)]
 
 
+def integers_of(lines: bytes) -> list[Any]:
+    """Returns the integers of lines of bw, one after another; None is null. The module json takes
+    half as long as `int` for each field."""
+    import json
+    text = lines[:-1].replace(b"\n", b",").replace(b"NULL", b"null")
+    try:
+        found: list[Any] = json.loads(b"[%b]" % text)
+    except ValueError:
+        found = [""]
+    if not set(map(type, found)) <= {int, type(None)}:
+        raise Failed("bw listed lines that aren't of whole numbers")
+    return found
+
+
 class NumberRows:
     """Rows of whole numbers as bw listed them, one part for each file of the table."""
 

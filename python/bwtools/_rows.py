@@ -1,7 +1,6 @@
 """Rows of plain columns: listed by bw, then put in order and limited here, by their numbers."""
 from __future__ import annotations
 
-import itertools
 from typing import Iterator, NamedTuple, Sequence
 
 from ._engine.executor import COUNT, Engine, Outside, Part, both, names_of, select
@@ -122,7 +121,20 @@ def ordered(key: SortKey, order: Sequence[int], fields: Sequence[bytes]) -> list
 
 def limited(parts: Sequence[Part], limits: Limits) -> bytes:
     """Returns the rows of a result within limits, after an empty heading."""
-    found = itertools.islice(lines_of(parts), limits.offset, limits.end)
+    found, left, most = list[bytes](), limits.offset, limits.most
+    for part in parts:
+        for block in part.blocks():
+            count = block.count(b"\n")
+            if left >= count:
+                # rows that are left out are counted alone
+                left -= count
+                continue
+            lines = block.split(b"\n")[left:-1]
+            found += lines if most is None else lines[:most - len(found)]
+            left = 0
+            if most is not None and len(found) == most:
+                break
+        part.close()
     return HEADING + b"".join([line + b"\n" for line in found])
 
 

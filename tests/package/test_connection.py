@@ -17,7 +17,7 @@ from unittest import mock
 import bwtools
 from bwtools import _aggregation as counted
 from bwtools._engine.process import Session
-from bwtools.sql import by_sqlite
+from bwtools._sql import by_sqlite
 
 from tests.support import Imported, imported
 
@@ -308,7 +308,7 @@ class Failures(Connections):
 
     def test_too_many_groups_are_refused_with_their_number(self):
         with mock.patch.object(counted, "MOST_GROUPS", 2), \
-                mock.patch("bwtools.sql.groups.MOST_STATEMENTS", 1), \
+                mock.patch("bwtools._sql.groups.MOST_STATEMENTS", 1), \
                 self.assertRaisesRegex(bwtools.ProgrammingError, "more than 2 groups"):
             self.connect().execute("SELECT id, count(*) FROM trips GROUP BY id")
 

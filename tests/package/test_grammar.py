@@ -10,16 +10,17 @@ from unittest import mock
 from bwtools import kinds, store
 from bwtools.column import Column
 from bwtools.sorted_list import SortedList
-from bwtools.sql import condition as conditions
-from bwtools.sql import grammar, items, predicates
-from bwtools.sql.catalog import Catalog
-from bwtools._rows import Limits
-from bwtools.sql.limits import limits_of
 from bwtools._engine.executor import Outside
-from bwtools.sql.predicates import Comparand
-from bwtools.sql.statement import Statement
-from bwtools.sql.table import Table
-from bwtools.sql.tokens import tokens_of
+from bwtools._rows import Limits
+from bwtools._sql import plan, predicates, pushdown, selection
+from bwtools._sql.lexer import tokens_of
+from bwtools._sql.literals import Constant, evaluate
+from bwtools._sql.parser import parse
+from bwtools._sql.predicates import Comparand
+from bwtools._sql.statement import Statement
+from bwtools._sql.syntax import Literal, walk
+from bwtools._sql.tables import Catalog, Table
+from bwtools.telling import Refused
 from tests.support import texts
 
 CITIES = ("Bern", "Genf", "O'Hare", "Zug", "bern", "x_y", "ärger")
@@ -61,12 +62,11 @@ class OverTable(unittest.TestCase):
         cls.catalog = Catalog([cls.table])
 
     def question(self, statement, *parameters):
-        return grammar.question_of(Statement(statement, self.catalog, parameters))
+        return plan.question_of(Statement(statement, self.catalog, parameters))
 
     def where(self, condition, *parameters):
         """Returns the condition over numbers."""
-        question = self.question(f"SELECT n FROM t WHERE {condition}", *parameters)
-        return items.where_of(question.statement, question.clauses)
+        return self.question(f"SELECT n FROM t WHERE {condition}", *parameters).where
 
     def check(self, pairs):
         for condition, wanted in pairs:
@@ -102,7 +102,7 @@ class Conditions(OverTable):
             ("n < 99999999999999999999", "n = n"), ("n > 99999999999999999999", "n <> n"),
             ("n < -99999999999999999999", "n <> n"), ("day < '2024-05-01 12:00'", "day <= 19844")])
 
-    def test_numbers_of_many_digits_are_compared_as_doubles_by_sqlite(self):
+    def test_numbers_of_many_digits_mean_their_exact_values(self):
         self.check([("price < 12.10000000000001", "price <= 1210"),
                     ("price < 1e300", "price = price"),
                     ("f = 0.30000000000000004", "f = 4599075939470750516"),
@@ -110,8 +110,12 @@ class Conditions(OverTable):
                     ("n < 12.10000000000000000001", "n <= 12"),
                     ("long = 1234567890123456.1", "long = 12345678901234561"),
                     ("long = 1234567890123456.10000000000000001", "long <> long")])
-        self.refuse(["price = 12.1000000000000000001", "f = 9007199254740993",
-                     "f < 0.1000000000000000055"])
+        self.check([("price = 12.1000000000000000001", "price <> price"),
+                    ("price > 12.1000000000000000001", "price > 1210"),
+                    ("f = 9007199254740993", "f <> f"),
+                    ("f < 9007199254740993", "f <= 4845873199050653696"),
+                    ("f < 0.1000000000000000055", "f < 4591870180066957722"),
+                    ("n = 1e999999", "n <> n"), ("n > 1e-999999", "n > 0")])
 
     def test_truth(self):
         self.check([
@@ -165,7 +169,7 @@ class Conditions(OverTable):
             self.assertEqual(self.where("name GLOB 'n?5?'").count("BETWEEN"), 10)
         with mock.patch.object(predicates, "MOST_RUNS", 9):
             self.refuse(["name GLOB 'n?5?'"])
-        with mock.patch.object(conditions, "MOST_BYTES", 400):
+        with mock.patch.object(pushdown, "MOST_BYTES", 400):
             self.refuse(["name LIKE '%0'"])
 
     def test_columns_of_several_scales_are_compared_by_value(self):
@@ -183,15 +187,18 @@ class Conditions(OverTable):
 
     def test_what_is_left_to_sqlite(self):
         self.refuse([
-            "n + 1 = 2", "n = 1 + 1", "n = 1 = 1", "n < 2 < 3", "abs(n) = 1", "(n) = 1",
+            "n + 1 = 2", "n = 1 + 1", "n = 1 = 1", "n < 2 < 3", "abs(n) = 1",
             "n IN ()", "n IN (1 + 1)", "5 IN (n, 5)", "(n, n) = (1, 2)", "n IS 5", "n IS NOT 5",
             "city || 'x' = 'y'", "city = 'x' COLLATE NOCASE", "n LIKE 5", "city LIKE city",
-            "city LIKE 'a' || 'b'", "n LIKE '1%'", "city REGEXP 'x'", "'x'", "NULL",
-            "n BETWEEN 1 AND 2 IS NULL", "city LIKE 'x' IS NULL", "n IN (1) IS NULL", "-n = 1",
-            "CASE WHEN n THEN 1 END", "CAST(n AS TEXT) = '5'", "n = 1e999999",
-            "n = (SELECT 1)", "EXISTS (SELECT 1)", "n IN (SELECT 1)", "NOT " * 40 + "n = 1",
-            "(" * 40 + "n = 1" + ")" * 40])
-        with mock.patch.object(conditions, "MOST_BYTES", 40):
+            "city LIKE 'a' || 'b'", "n LIKE '1%'", "'x'", "NULL", "-n = 1",
+            "CASE WHEN n THEN 1 END", "CAST(n AS TEXT) = '5'",
+            "n = (SELECT 1)", "EXISTS (SELECT 1)", "n IN (SELECT 1)", "NOT " * 40 + "n = 1"])
+        self.check([("(n) = 1", "n = 1"),
+                    ("n BETWEEN 1 AND 2 IS NULL", "n BETWEEN 1 AND 2 IS UNKNOWN"),
+                    ("city LIKE 'bern' IS NULL", "city IN (0, 4) IS UNKNOWN"),
+                    ("n NOT IN (1) IS NULL", "(NOT n IN (1)) IS UNKNOWN"),
+                    ("(" * 40 + "n = 1" + ")" * 40, "n = 1")])
+        with mock.patch.object(pushdown, "MOST_BYTES", 40):
             self.refuse(["n = 5 OR " * 5 + "n = 7"])
             self.assertEqual(self.where("n = 5 AND n = 7"), "n = 5 AND n = 7")
 
@@ -215,7 +222,7 @@ class Runs(unittest.TestCase):
         self.assertEqual(predicates.like(column, "LIKE", "A", None), "c IN (0)")
 
     def test_literals_are_compared_with_each_other(self):
-        one, text = Comparand(None, Fraction(1)), Comparand(None, "1")
+        one, text = (Comparand(None, Constant(None, value)) for value in (Fraction(1), "1"))
         self.assertEqual(predicates.compared(one, ">", one), "1 = 0")
         with self.assertRaises(Outside):
             predicates.compared(one, "=", text)
@@ -249,43 +256,44 @@ TAKEN = [
     "SELECT DISTINCT SUM(n) FROM t",
     "SELECT city AS city, COUNT(*) FROM t GROUP BY city",
     "SELECT city, COUNT(*) FROM t GROUP BY 1 ORDER BY 2 DESC, 1",
-    "SELECT COUNT(*), upper(city) u, paid FROM t GROUP BY 2, 3 HAVING COUNT(*) > 1 ORDER BY u"]
+    "SELECT COUNT(*), upper(city) u, paid FROM t GROUP BY 2, 3 HAVING COUNT(*) > 1 ORDER BY u",
+    "SELECT n a, city a FROM t", "SELECT n AS x FROM t WHERE x = 1",
+    "SELECT city, COUNT(*) FROM t GROUP BY (1)", "SELECT COUNT(*) FROM t GROUP BY CAST(n AS TEXT)",
+    "SELECT n % 7 + 1, COUNT(*) FROM t GROUP BY n % 7", "SELECT COUNT(*) FROM t GROUP BY (city)",
+    "SELECT COUNT(*) `bw:0` FROM t"]
 LEFT = [
     "SELECT 1", "SELECT 1 FROM t", "SELECT n + 1 FROM t", "SELECT n FROM t ORDER BY n + 1",
-    "SELECT n FROM t ORDER BY 2", "SELECT n FROM t ORDER BY 'x'", "SELECT upper(city) FROM t",
-    "SELECT city, MAX(n) FROM t", "SELECT city, n, COUNT(*) FROM t GROUP BY city",
-    "SELECT max(n, big) FROM t", "SELECT COUNT(*) FILTER (WHERE n > 1) FROM t",
-    "SELECT SUM(DISTINCT n) FROM t", "SELECT SUM(n) OVER () FROM t", "SELECT TOTAL(n) FROM t",
-    "SELECT group_concat(city) FROM t", "SELECT SUM(n + 1) FROM t", "SELECT COUNT(NULL) FROM t",
-    "SELECT COUNT() FROM t",
+    "SELECT n FROM t ORDER BY 'x'", "SELECT upper(city) FROM t", "SELECT city, MAX(n) FROM t",
+    "SELECT city, n, COUNT(*) FROM t GROUP BY city", "SELECT max(n, big) FROM t",
+    "SELECT COUNT(*) FILTER (WHERE n > 1) FROM t", "SELECT SUM(DISTINCT n) FROM t",
+    "SELECT SUM(n) OVER () FROM t", "SELECT TOTAL(n) FROM t", "SELECT group_concat(city) FROM t",
+    "SELECT SUM(n + 1) FROM t", "SELECT COUNT(NULL) FROM t", "SELECT COUNT() FROM t",
     "SELECT COUNT(1 + 1) FROM t", "SELECT SUM(1) FROM t", "SELECT COUNT(DISTINCT 1) FROM t",
     "SELECT city FROM t ORDER BY city COLLATE NOCASE",
-    "SELECT COUNT(*) FROM t GROUP BY 1", "SELECT city, COUNT(*) FROM t GROUP BY upper(city)",
-    "SELECT COUNT(*) FROM t GROUP BY -1", "SELECT COUNT(*) FROM t GROUP BY 'x'",
-    "SELECT COUNT(*) FROM t GROUP BY 1 + 1", "SELECT city, COUNT(*) FROM t GROUP BY 2",
-    "SELECT city, COUNT(*) FROM t GROUP BY (1)", "SELECT city FROM t GROUP BY 0",
-    "SELECT *, COUNT(*) FROM t GROUP BY 1", "SELECT n % 7 + 1, 1, city FROM t GROUP BY 2, city",
+    "SELECT city, COUNT(*) FROM t GROUP BY upper(city)", "SELECT COUNT(*) FROM t GROUP BY 'x'",
+    "SELECT COUNT(*) FROM t GROUP BY 1 + 1", "SELECT *, COUNT(*) FROM t GROUP BY 1",
+    "SELECT n % 7 + 1, 1, city FROM t GROUP BY 2, city",
     "SELECT COUNT(DISTINCT n) FROM t GROUP BY upper(city)",
-    "SELECT COUNT(*) FROM t GROUP BY CAST(n AS TEXT)",
-    "SELECT n + 1, COUNT(*) FROM t GROUP BY n % 7",
-    "SELECT n % 7 + 1, COUNT(*) FROM t GROUP BY n % 7",
-    "SELECT COUNT(*) FROM t GROUP BY (city)", "SELECT COUNT(*) FROM t GROUP BY random() + n",
+    "SELECT n + 1, COUNT(*) FROM t GROUP BY n % 7", "SELECT COUNT(*) FROM t GROUP BY random() + n",
     "SELECT COUNT(*) FROM t GROUP BY date(day, 'NOW')", "SELECT date(), COUNT(*) FROM t GROUP BY n",
-    "SELECT COUNT(*) FROM t GROUP BY MAX(n) + 1",
     "SELECT strftime('%Y', day), COUNT(*) FROM t GROUP BY strftime('%m', day)",
-    "SELECT n AS city, COUNT(*) FROM t GROUP BY city", "SELECT n a, city a FROM t",
-    "SELECT n FROM t UNION SELECT n FROM t", "WITH x AS (SELECT n FROM t) SELECT n FROM x",
-    "SELECT a.n FROM t a, t b", "SELECT n FROM t JOIN t b USING (n)", "SELECT DISTINCT 1 FROM t",
+    "SELECT n AS city, COUNT(*) FROM t GROUP BY city", "SELECT n FROM t UNION SELECT n FROM t",
+    "WITH x AS (SELECT n FROM t) SELECT n FROM x", "SELECT a.n FROM t a, t b",
+    "SELECT n FROM t JOIN t b USING (n)", "SELECT DISTINCT 1 FROM t",
     "SELECT n FROM (SELECT n FROM t)", "SELECT (SELECT MAX(n) FROM t) FROM t",
     "SELECT n FROM t LIMIT 1 + 1", "SELECT n FROM t LIMIT 2.5", "SELECT random() FROM t GROUP BY n",
+    "SELECT n FROM t GROUP BY n HAVING city = 'Zug'", "SELECT * FROM t GROUP BY city",
+    "SELECT DISTINCT city, SUM(n) FROM t", "SELECT ALL n FROM t", "SELECT date(day, 'now') FROM t"]
+# what the installed SQLite refuses
+REFUSED = [
+    "SELECT n FROM t ORDER BY 2", "SELECT COUNT(*) FROM t GROUP BY 1",
+    "SELECT COUNT(*) FROM t GROUP BY -1", "SELECT city, COUNT(*) FROM t GROUP BY 2",
+    "SELECT city FROM t GROUP BY 0", "SELECT COUNT(*) FROM t GROUP BY MAX(n) + 1",
     "SELECT n FROM t HAVING n > 1", "SELECT DISTINCT n FROM t HAVING n > 1",
-    "SELECT n FROM t GROUP BY n HAVING city = 'Zug'",
-    "SELECT * FROM t GROUP BY city", "SELECT COUNT(*) * FROM t", "SELECT COUNT(*) COUNT(*) FROM t",
-    "SELECT n AS x FROM t WHERE x = 1", "SELECT SUM(n) s, s + 1 FROM t", "SELECT n, FROM t",
-    "SELECT DISTINCT city, SUM(n) FROM t", "SELECT COUNT(*) `bw:0` FROM t", "SELECT ALL n FROM t",
-    "SELECT n FROM t ORDER BY n LIMIT 5 OFFSET", "SELECT city FROM t GROUP BY city ORDER BY 7",
-    "SELECT n FROM t ORDER BY COUNT(*)", "SELECT n FROM t WHERE COUNT(*) > 1",
-    "SELECT date(day, 'now') FROM t", "SELECT n n m FROM t"]
+    "SELECT COUNT(*) * FROM t", "SELECT COUNT(*) COUNT(*) FROM t", "SELECT SUM(n) s, s + 1 FROM t",
+    "SELECT n, FROM t", "SELECT n FROM t ORDER BY n LIMIT 5 OFFSET",
+    "SELECT city FROM t GROUP BY city ORDER BY 7", "SELECT n FROM t ORDER BY COUNT(*)",
+    "SELECT n FROM t WHERE COUNT(*) > 1", "SELECT n n m FROM t"]
 
 
 class Statements(OverTable):
@@ -301,16 +309,21 @@ class Statements(OverTable):
                 # what is asked of bw may show it
                 question.body(mock.Mock(rows=mock.Mock(side_effect=AssertionError)))
 
+    def test_what_sqlite_refuses(self):
+        for statement in REFUSED:
+            with self.subTest(statement), self.assertRaises(Refused):
+                self.question(statement)
+
     def test_the_answer_is_none(self):
         statement = Statement("SELECT n + 1 FROM t", self.catalog)
-        self.assertIsNone(grammar.answer(statement, lambda table: mock.Mock(asked=[])))
+        self.assertIsNone(plan.answer(statement, lambda table: mock.Mock(asked=[])))
 
     def test_headings_and_kinds(self):
         question = Statement('SELECT "unit price", n AS N2, MIN(day), COUNT( * ), max(city) + 1, '
                              "SUM(price) FROM t GROUP BY price, n", self.catalog)
         engine = mock.Mock(asked=[])
         engine.totals.return_value = [[0] * 20]
-        answer = grammar.answer(question, lambda table: engine)
+        answer = plan.answer(question, lambda table: engine)
         self.assertEqual(answer.headings, ["unit price", "N2", "MIN(day)", "COUNT( * )",
                                            "max(city) + 1", "SUM(price)"])
         self.assertEqual([kind and kind.name for kind in answer.kinds],
@@ -324,23 +337,31 @@ class Statements(OverTable):
                                                                      "WHERE paid <> 0")]:
             engine = mock.Mock(asked=[])
             engine.rows.return_value = [io.BytesIO(b"a\n")]
-            grammar.answer(Statement(statement, self.catalog), lambda table: engine)
+            plan.answer(Statement(statement, self.catalog), lambda table: engine)
             names = ", ".join(column.name for column in self.table.columns)
             wanted = wanted or f"SELECT {names} FROM t WHERE n = 1"
             engine.rows.assert_called_once_with(wanted)
 
 
 class Limited(unittest.TestCase):
+    def limits(self, text):
+        """Returns the limits of a LIMIT."""
+        tree = parse(tokens_of(f"SELECT 1 LIMIT {text}")).tree
+        for node in walk(tree):
+            if isinstance(node, Literal):
+                evaluate(node)
+        return selection.limits_of(tree)
+
     def test_limits(self):
         for text, wanted in [("5", (5, 0)), ("5 OFFSET 2", (5, 2)), ("2, 5", (5, 2)),
                              ("-1", (None, 0)), ("-1 OFFSET -3", (None, 0)), ("+3", (3, 0)),
                              ("0", (0, 0))]:
-            tokens = tokens_of(text)
             with self.subTest(text):
-                self.assertEqual(limits_of(tokens, range(len(tokens) - 1)), Limits(*wanted))
-        for text in ("x", "1 2", "1, 2, 3", "1 OFFSET 2 OFFSET 3", "2.5", "'5'", "- - 1",
-                     "1, 2 OFFSET 3",
-                     "9" * 19, "OFFSET 2", "1 OFFSET"):
-            tokens = tokens_of(text)
+                self.assertEqual(self.limits(text), Limits(*wanted))
+        for text in ("x", "2.5", "'5'", "- - 1", "9" * 19, "1 + 1", "5 OFFSET x"):
             with self.subTest(text), self.assertRaises(Outside):
-                limits_of(tokens, range(len(tokens) - 1))
+                self.limits(text)
+        for text in ("1 2", "1, 2, 3", "1 OFFSET 2 OFFSET 3", "1, 2 OFFSET 3", "OFFSET 2",
+                     "1 OFFSET"):
+            with self.subTest(text), self.assertRaisesRegex(Refused, "syntax|incomplete"):
+                self.limits(text)

@@ -9,14 +9,14 @@ import bwtools
 from bwtools import kinds
 from bwtools.failed import Failed
 from bwtools import _aggregation as counted
+from bwtools import _rows as rows
 from bwtools._aggregation import float_sum
 from bwtools._engine import executor
 from bwtools._engine.executor import Part
-from bwtools import _rows as rows
 from bwtools._rows import Limits
-from bwtools.sql import grammar, groups
-from bwtools.sql.statement import Statement
-from bwtools.sql.wanted import Wanted
+from bwtools._sql import groups, plan
+from bwtools._sql.groups import Wanted
+from bwtools._sql.statement import Statement
 from bwtools.telling import Refused
 from tests.support import Imported
 
@@ -52,7 +52,7 @@ class Asked(Imported):
 
     def answer(self, sql):
         database = self.connection._database
-        answer = grammar.answer(Statement(sql, database.catalog), database.engine)
+        answer = plan.answer(Statement(sql, database.catalog), database.engine)
         self.assertIsNotNone(answer, sql)
         return answer
 
@@ -339,7 +339,7 @@ class InOrder(Asked):
     def test_too_many_rows_to_sort_are_left_to_sqlite(self):
         with mock.patch.object(rows, "MOST_ROWS", 100):
             statement = Statement("SELECT n FROM t ORDER BY n", self.connection._database.catalog)
-            self.assertIsNone(grammar.answer(statement, self.connection._database.engine))
+            self.assertIsNone(plan.answer(statement, self.connection._database.engine))
             with mock.patch.object(rows, "MANY_ROWS", 10):
                 self.rows("SELECT wide FROM t ORDER BY wide DESC LIMIT 5")
 

@@ -9,11 +9,12 @@ from bwtools._aggregation import NeedsExact, summed
 from bwtools._engine.executor import Part
 from bwtools._result import number_in
 from bwtools.failed import Failed
-from bwtools.sql import by_sqlite
-from bwtools.sql.aggregates import for_sqlite
-from bwtools.sql.by_sqlite import pushed
-from bwtools.sql.reading import FUNCTIONS
-from bwtools.sql.statement import Statement
+from bwtools._sql import by_sqlite
+from bwtools._sql.exactness import sum_text
+from bwtools._sql.prepare import FUNCTIONS
+from bwtools._sql.pushdown import pushed
+from bwtools._sql.render import Renderer
+from bwtools._sql.statement import Statement
 from bwtools.telling import Refused
 
 from tests.support import Imported, imported
@@ -114,7 +115,7 @@ class Listed(Listings):
                  "id BETWEEN 1 AND 3"),
                 ("SELECT id FROM trips WHERE id + 0 BETWEEN 1 AND 3 AND id < 5", "id < 5"),
                 ("SELECT id FROM trips WHERE CASE WHEN id > 1 AND id < 5 THEN 1 END AND id < 5",
-                 ""),
+                 "id < 5"),
                 ("SELECT t.name FROM stations t LEFT JOIN trips ON t.city = trips.city WHERE id IS "
                  "NULL", ""),
                 ("SELECT id FROM trips WHERE id > 1 UNION SELECT id FROM trips", ""),
@@ -123,10 +124,11 @@ class Listed(Listings):
                 ("WITH x AS (SELECT 1) SELECT id FROM trips WHERE id > 1", ""),
                 ("SELECT id FROM trips a WHERE a.id > 1 AND a.id * 2 > 3", "id > 1"),
                 ("SELECT id FROM trips", ""),
-                ("SELECT id FROM trips WHERE cents > 1.00000000000000001 AND id + 1 > 1", ""),
+                ("SELECT id FROM trips WHERE cents > 1.00000000000000001 AND id + 1 > 1",
+                 "cents > 100"),
                 ("SELECT max(id) FROM trips HAVING max(id) > 1", "")]:
             with self.subTest(sql):
-                self.assertEqual(pushed(self.statement(sql)), wanted)
+                self.assertEqual(pushed(self.statement(sql).tree), wanted)
 
     def test_what_is_pushed_down_changes_no_answer(self):
         for sql, wanted in [
@@ -181,7 +183,7 @@ class Listed(Listings):
                          [(4, "BOSTON"), (5, "BERGEN")])
 
     def test_interrupt_undoes_what_was_listed(self):
-        with mock.patch("bwtools._result.Numbers.values", side_effect=KeyboardInterrupt), \
+        with mock.patch("bwtools._sql.filling.integers_of", side_effect=KeyboardInterrupt), \
                 self.assertRaises(KeyboardInterrupt):
             self.rows("SELECT abs(id) FROM trips")
         self.assertEqual(len(self.rows("SELECT abs(id) FROM trips")), 5)
@@ -242,8 +244,21 @@ class Values(Listings):
 
     def test_decimals_of_many_digits_are_refused(self):
         self.refused("SELECT length(long) FROM trips", "long has decimals of more than 15 digits")
-        self.refused("SELECT s.name FROM trips t, stations s WHERE t.long > 5",
-                     "ask for COUNT, MIN, MAX")
+        for sql in ("t.long + 1 > 5", "t.long > t.cents", "round(t.long) = 1", "t.long IN (id)"):
+            self.refused(f"SELECT s.name FROM trips t, stations s WHERE {sql}",
+                         "long has decimals of more than 15 digits")
+        self.refused("SELECT long FROM trips UNION SELECT cents FROM trips", "more than 15 digits")
+        self.refused("SELECT max(long) OVER () FROM trips", "more than 15 digits")
+
+    def test_decimals_of_many_digits_are_compared_and_grouped(self):
+        for sql, wanted in [
+                ("SELECT id FROM trips WHERE long > 1234567890123456.77 AND id + 0 > 0", [(1,)]),
+                ("SELECT id FROM trips WHERE long = 1234567890123456.7800 AND id + 0 > 0", [(1,)]),
+                ("SELECT id FROM trips WHERE long < 1.005 AND id + 0 > 0", [(2,)]),
+                ("SELECT count(*), city FROM trips GROUP BY long, city HAVING long IN (1, 2.5) AND "
+                 "length(max(city)) > 1", [(1, 'a, "b"')])]:
+            with self.subTest(sql):
+                self.assertEqual(self.rows(sql), wanted)
 
     def test_sums_are_exact(self):
         for sql, wanted in [("sum(cents + 0), avg(cents + 0)", (14.65, 3.6625)),
@@ -264,8 +279,9 @@ class Values(Listings):
         self.assertEqual(self.rows("SELECT id, sum(cents) OVER (ORDER BY id), avg(id) FILTER "
                                    "(WHERE id > 1) OVER () FROM trips WHERE id < 3"),
                          [(1, 12.5, 2.0), (2, 15.6, 2.0)])
+        statement = self.statement("SELECT sum(cents) OVER () FROM trips")
         self.assertIn("sum(cents) OVER",
-                      for_sqlite(self.statement("SELECT sum(cents) OVER () FROM trips")))
+                      Renderer(statement.written, sum_text).text(statement.tree))
 
     def test_sums_outside_64_bits_are_refused(self):
         self.refused("SELECT sum(n), sum(n + 0) FROM big", "outside the range of 64 bits")
@@ -370,7 +386,7 @@ class Guarded(Listings):
             self.refused(sql, message)
 
     def test_functions_that_this_sqlite_lacks_are_called_that(self):
-        with mock.patch("bwtools.sql.reading.FUNCTIONS", FUNCTIONS | {"newest"}):
+        with mock.patch("bwtools._sql.prepare.FUNCTIONS", FUNCTIONS | {"newest"}):
             self.refused("SELECT newest(id) FROM trips",
                          r"the function newest isn't in this SQLite \(3[0-9.]+\)")
             self.refused("SELECT newset(id) FROM trips",

@@ -8,8 +8,8 @@ import re
 import sqlite3
 
 import bwtools
-from bwtools.sql import grammar
-from bwtools.sql.statement import Statement
+from bwtools._sql import plan
+from bwtools._sql.statement import Statement
 
 from tests import reference
 from tests.support import ROOT, Imported
@@ -117,7 +117,7 @@ class Questions(Imported, reference.Compared):
         """Returns the rows of an answer by one of the ways, or None if it doesn't serve it."""
         statement = Statement(asked, self.connection._database.catalog)
         if way == 1:
-            answer = grammar.answer(statement, self.connection._database.engine)
+            answer = plan.answer(statement, self.connection._database.engine)
         else:
             answer = self.connection._database.by_sqlite.answer(statement)
         return answer and list(answer.rows())
@@ -146,7 +146,7 @@ class Questions(Imported, reference.Compared):
                     statement = Statement(f"SELECT * FROM {name.removesuffix('.bw')}",
                                           self.connection._database.catalog)
                     database = self.connection._database
-                    answer = grammar.answer(statement, database.engine) if way == 1 else \
+                    answer = plan.answer(statement, database.engine) if way == 1 else \
                         database.by_sqlite.answer(statement)
                     self.assertEqual(answer.headings, records[0])
                     rows = [list(row) for block in answer.fields() for row in zip(*block)]

@@ -6,8 +6,9 @@ import decimal
 import importlib.util
 import unittest
 
-from bwtools.sql.catalog import open_catalog
-from bwtools.sql.statement import Statement
+from bwtools._sql.lexer import tokens_of
+from bwtools._sql.statement import Statement
+from bwtools._sql.tables import open_catalog
 from bwtools.telling import Refused
 
 from tests.support import Imported
@@ -39,7 +40,9 @@ class Statements(Imported):
     def sql(self, written, *parameters):
         """Returns the text that SQLite gets, with one blank between tokens."""
         statement = Statement(written, self.both, parameters)
-        return " ".join(token.text for token in statement.tokens[:-1])
+        tokens = tokens_of(statement.sql())
+        return "".join(token.text + " " * (token.text != "-" or token.end < following.start)
+                       for token, following in zip(tokens, tokens[1:])).rstrip()
 
     def refused(self, written, message, *parameters):
         with self.subTest(written), self.assertRaisesRegex(Refused, message):
@@ -88,9 +91,10 @@ class Conditions(Statements):
                 self.sql(f"SELECT COUNT(*) FROM trips WHERE {written}")
 
     def test_a_word_is_reserved_only_if_it_is(self):
-        from bwtools.sql.reading import missing_column
-        statement = Statement("SELECT price_ FROM trips", self.both, ())
-        self.assertNotIn("reserved", missing_column(statement, "price_"))
+        self.refused("SELECT price_ FROM trips",
+                     "there is no column price_ at character 7 of the statement: did you mean "
+                     "price")
+        self.refused("SELECT count FROM trips", "the word is reserved: use count_")
 
 
 class Literals(Statements):
@@ -242,15 +246,18 @@ class Names(Statements):
                          "`Trip_Distance`")
         self.assertEqual(self.sql('SELECT "Trip Distance" FROM (SELECT * FROM trips)'),
                          "SELECT `Trip_Distance` FROM ( SELECT * FROM `trips` )")
-        self.assertEqual(self.sql('SELECT "count", "id", "x""y" AS "z" FROM trips'),
-                         'SELECT `count_` , `id` , `x"y` AS `z` FROM `trips`')
+        self.assertEqual(self.sql('SELECT "count", "id", id AS "x""z" FROM trips'),
+                         'SELECT `count_` , `id` , id AS `x"z` FROM `trips`')
 
     def test_no_word_is_in_double_quotes(self):
         """SQLite reads a word that it doesn't know as a text only if it is in double quotes."""
-        for written in ('SELECT "Amuont" FROM trips',
-                        'SELECT "trips"."city", "a" b FROM "trips" "c"',
+        for written in ('SELECT "Amuont" FROM trips', 'SELECT "a" b FROM "trips" "c"',
                         'WITH "x" AS (SELECT 1) SELECT "y" FROM "x"',
                         'SELECT count(*) "n" FROM trips HAVING "n" > "q"'):
+            self.refused(written, "there is no column")
+        for written in ('SELECT "trips"."city", 1 "b" FROM "trips"',
+                        'WITH "x"("y") AS (SELECT 1) SELECT "y" AS [c d] FROM "x" AS `z`',
+                        'SELECT count(*) "n" FROM trips HAVING "n" > 1'):
             self.assertNotIn('"', self.sql(written))
 
     def test_alias_that_is_a_heading_of_another_column_is_refused(self):
@@ -283,7 +290,7 @@ class Names(Statements):
         self.assertEqual(Statement("SELECT x.id FROM x WHERE id > 5", self.one).sql(),
                          "SELECT x.id FROM  `trips` AS `x`  WHERE id > 5")
         self.assertEqual(Statement("SELECT y.id FROM x AS y", self.one).sql(),
-                         "SELECT y.id FROM  `trips`  AS y")
+                         "SELECT y.id FROM `trips` AS y")
         for written in ("SELECT 1 FROM x JOIN trips", "WITH a AS (SELECT 1) SELECT 1 FROM x",
                         "SELECT 1 FROM x WHERE id IN (SELECT id FROM y)"):
             with self.subTest(written), self.assertRaisesRegex(Refused, "there is no table x"):
@@ -299,7 +306,7 @@ class Results(Statements):
                  [("id+1", None), ("x", None), ("count ( * )", None)]),
                 ("min(day), MAX(DISTINCT amount) m, max(id, 1)",
                  [("min(day)", "dates"), ("m", "decimals"), ("max(id, 1)", None)]),
-                ("(id), ((t.day)) AS 'x y'", [("(id)", "whole"), ("x y", "dates")]),
+                ("(id), ((t.day)) AS 'x y'", [("id", "whole"), ("x y", "dates")]),
                 ("max(day) OVER (), max(day) FILTER (WHERE id > 1)",
                  [("max(day) OVER ()", None), ("max(day) FILTER (WHERE id > 1)", None)]),
                 ("(SELECT max(day) FROM stations), CASE WHEN 1 THEN day END, NULL",
@@ -382,7 +389,6 @@ class Kept(Statements):
         written = "SELECT  id +\n 1,'é' /* c */ FROM trips -- d"
         statement = Statement(written, self.both)
         self.assertEqual([output.heading for output in statement.outputs], ["id +\n 1", "'é'"])
-        self.assertEqual(statement.text(1, 4), "id +\n 1")
 
 
 class Parameters(Statements):
@@ -407,7 +413,7 @@ class Parameters(Statements):
                                   datetime.date(2024, 2, 1), -4),
                          "SELECT 1 FROM `trips` WHERE day = '2024-02-01' AND id - -4 > 0")
         self.assertEqual(Statement("SELECT id-? FROM trips", self.both, [-4]).sql(),
-                         "SELECT id- -4  FROM  `trips` ")
+                         "SELECT id- -4  FROM `trips`")
         self.refused("SELECT 1 FROM trips WHERE day > ?", "2024 can't be compared with day", 2024)
         self.refused("SELECT 1 FROM trips WHERE id = ?", "'5' can't be compared with id", "5")
 

@@ -2,7 +2,7 @@
 import sqlite3
 import unittest
 
-from bwtools.sql.tokens import Token, quoted_name, text_literal, tokens_of
+from bwtools._sql.lexer import quoted_name, text_literal, tokens_of
 from bwtools.telling import Refused
 
 
@@ -51,8 +51,8 @@ class Tokens(unittest.TestCase):
     def test_names_and_values(self):
         names = [token.name for token in tokens_of('a "b""c" [d"e] `f``g` \'h\' 1')]
         self.assertEqual(names, ["a", 'b"c', 'd"e', "f`g", "", "", ""])
-        self.assertEqual([token.key for token in tokens_of('select "select" Sum')],
-                         ["SELECT", "", "SUM", ""])
+        self.assertEqual([token.key for token in tokens_of("select \"select\" Sum ( '('")],
+                         ["SELECT", "", "SUM", "(", "", ""])
         self.assertEqual(tokens_of("'it''s'")[0].value, "it's")
 
     def test_what_is_no_token_is_refused(self):
@@ -108,7 +108,3 @@ class Tokens(unittest.TestCase):
             token, _ = tokens_of(text_literal(text))
             self.assertEqual((token.kind, token.value), ("text", text))
             self.assertEqual(tokens_of(quoted_name(text or "`"))[0].name, text or "`")
-
-    def test_marks(self):
-        self.assertTrue(Token("mark", "(", 0).is_mark("(", ")"))
-        self.assertFalse(Token("text", "'('", 0).is_mark("("))

@@ -14,8 +14,7 @@ from .._output import writer_of
 from .._result import Result
 from ..failed import Failed
 from ..naming import is_name
-from ..sql.catalog import open_catalog
-from ..sql.table import name_of
+from .._sql.tables import name_of, open_catalog
 from ..telling import Refused, counted
 from ..waiting import Waiting
 from .options import AnswerOptions

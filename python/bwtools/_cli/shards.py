@@ -21,7 +21,7 @@ import argparse
 import sys
 
 from .. import command, importing, options
-from ..sql.table import name_of
+from .._sql.tables import name_of
 from .asking import ask
 from .options import add_asking, add_loading, new_parser, options_of
 

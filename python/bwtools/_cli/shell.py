@@ -11,7 +11,7 @@ from .. import command
 from .._output import FORMATS
 from ..failed import Failed
 from ..naming import is_name
-from ..sql.table import Table
+from .._sql.tables import Table
 from ..telling import Refused, counted
 from .asking import Asking, Splitter
 

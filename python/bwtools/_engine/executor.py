@@ -14,6 +14,8 @@ from ..telling import Refused
 from .process import AT_ONCE, Query, Session
 
 if TYPE_CHECKING:
+    from array import array
+
     from ..column import Column
 
 COUNT = "COUNT(*)"
@@ -126,8 +128,10 @@ class Engine:
 
     def __init__(self, asker: Asker) -> None:
         self.asker = asker
-        # the statements that bw ran, in order
+        # the statements that bw ran, in order, and the doubles that some listed, the last ones used
+        # last
         self.asked: list[str] = []
+        self.kept: dict[str, array[float]] = {}
 
     def once(self, statement: str) -> Totals:
         """Returns the totals of a statement over all files, as `totals` does, without a session for

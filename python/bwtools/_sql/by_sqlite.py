@@ -1,0 +1,135 @@
+"""Answers statements by SQLite over columns that bw listed: all that bw can't answer itself."""
+from __future__ import annotations
+
+import collections
+import sqlite3
+from typing import Callable, Iterable, Mapping
+
+from .._aggregation import NeedsExact
+from .._engine.executor import Engine
+from .._result import Result, ValueRows
+from ..telling import Refused
+from ..waiting import Waiting
+from .exactness import is_exact, refuse_doubles, refuse_sums, sum_text
+from .listing import Listing
+from .prepare import reads_of, told
+from .pushdown import pushed
+from .render import Renderer
+from .statement import Statement
+from .syntax import Call, Node
+from .tables import Catalog, Table
+
+# so many rows are listed without being asked for, and so many conditions' rows are kept
+MOST_ROWS, MOST_CONDITIONS = 4_000_000, 8
+EngineOf = Callable[[Table], Engine]
+
+
+class BySqlite:
+    """SQLite over the listed columns of a catalog's tables, which are kept. `is_all` says whether
+    any number of rows may be listed."""
+
+    def __init__(self, catalog: Catalog, engine_of: EngineOf, is_all: bool,
+                 waiting: Waiting) -> None:
+        self.catalog, self.engine_of = catalog, engine_of
+        self.is_all, self.waiting = is_all, waiting
+        self.whole = Listing(catalog)
+        # the rows of conditions, the last one used last
+        self.parts = collections.OrderedDict[str, Listing]()
+
+    def close(self) -> None:
+        """Forgets what was listed."""
+        for listing in (self.whole, *self.parts.values()):
+            listing.close()
+
+    def answer(self, statement: Statement) -> Result:
+        """Returns the answer to a statement. Raises Refused for one that can't run, Failed if bw
+        can't list a column, and KeyboardInterrupt when it is interrupted."""
+        refuse_doubles(statement.tree)
+        sql = text_of(statement)
+        with self.whole.watched():
+            reads = reads_of(self.whole.database, self.whole.guard, statement.tree, sql)
+        listing, asked = self.listing(statement, reads), list[str]()
+        tables = [self.tables()[name] for name in reads]
+        engines = {table.name: self.engine_of(table) for table in tables}
+        before = {name: len(engine.asked) for name, engine in engines.items()}
+        self.waiting.begin("bw lists")
+        self.refuse_many(listing, tables, reads, engines)
+        for table in tables:
+            with listing.watched():
+                listing.add(table, reads[table.name], engines[table.name], self.waiting.add)
+        for name, engine in engines.items():
+            asked += engine.asked[before[name]:]
+        try:
+            return self.run(listing, statement, sql, asked)
+        except NeedsExact:
+            refuse_sums(statement.tree)
+        return self.run(listing, statement, text_of(statement, True), asked, True)
+
+    def tables(self) -> Mapping[str, Table]:
+        return {table.name: table for table in self.catalog.tables.values()}
+
+    def refuse_many(self, listing: Listing, tables: Iterable[Table], reads: Mapping[str, set[str]],
+                    engines: Mapping[str, Engine]) -> None:
+        """Rejects a statement for which too many rows would be listed."""
+        count = sum(listing.count(table, engines[table.name]) for table in tables
+                    if table.name not in listing.listed or
+                    listing.missing(table, reads[table.name]))
+        if count > MOST_ROWS and not self.is_all:
+            raise Refused(f"SQLite would answer this over {count:,} rows, which bw lists: to list "
+                          f"more than {MOST_ROWS:,}, use --all, or list_all=True")
+
+    def listing(self, statement: Statement, reads: Mapping[str, set[str]]) -> Listing:
+        """Returns where a statement runs: over all rows if they are listed, or if it has no
+        condition of bw; else over those of the condition."""
+        tables = self.tables()
+        if all(table in self.whole.listed and not self.whole.missing(tables[table], columns)
+               for table, columns in reads.items()):
+            return self.whole
+        condition = pushed(statement.tree)
+        if not condition:
+            return self.whole
+        found = self.parts.pop(condition, None) or Listing(self.catalog, condition)
+        self.parts[condition] = found
+        while len(self.parts) > MOST_CONDITIONS:
+            self.parts.popitem(last=False)[1].close()
+        return found
+
+    def run(self, listing: Listing, statement: Statement, sql: str, asked: list[str],
+            are_blobs: bool = False) -> Result:
+        """Runs a statement over what is listed. Raises NeedsExact if a double isn't a sum of
+        decimals, unless these are integers as `blob_of` has them."""
+        guard = listing.guard
+        self.waiting.begin("SQLite computes")
+        guard.denied, guard.read, guard.is_off = "", {}, False
+        try:
+            with listing.watched():
+                cursor = listing.database.execute(sql)
+                rows = cursor.fetchall()
+        except sqlite3.Error as error:
+            guard.is_off = True
+            raise Refused(self.failure(listing, statement, str(error))) from None
+        finally:
+            guard.is_off = True
+        names = [each[0] for each in cursor.description]
+        outputs = statement.outputs
+        if len(outputs) != len(names):
+            return Result(names, [None] * len(names), ValueRows(rows), 2, asked)
+        exact = [place for place, each in enumerate(outputs)
+                 if is_exact(each) or are_blobs and each.is_total and each.kind]
+        return Result([each.heading for each in outputs], [each.kind for each in outputs],
+                      ValueRows(rows, exact), 2, asked)
+
+    def failure(self, listing: Listing, statement: Statement, message: str) -> str:
+        """Returns what to print for SQLite's message, while it ran a statement."""
+        if message == "integer overflow":
+            return "a SUM is outside the range of 64 bits"
+        return listing.guard.denied or told(statement.tree, message)
+
+
+def text_of(statement: Statement, are_blobs: bool = False) -> str:
+    """Returns a statement's text for SQLite, with exact sums; those of decimals may be as `blob_of`
+    has them."""
+    def sums(call: Call, text: Callable[[Node], str]) -> str | None:
+        return sum_text(call, text, are_blobs)
+
+    return Renderer(statement.written, sums).text(statement.tree)

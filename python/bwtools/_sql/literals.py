@@ -1,0 +1,212 @@
+"""What literals mean. A number means its exact value, also beside an integer column; beside a
+column of floats the double nearest to it, unless it is an integer of 64 bits. A date or a time
+means a moment: the first one, if it is shorter than the column's values are.
+
+SQLite would compare doubles and texts: so a literal that is compared with a column may have another
+text for it."""
+from __future__ import annotations
+
+import math
+from typing import TYPE_CHECKING, Any, Sequence, Union
+
+from .._result import INTEGER, MOMENTS, affinity, is_long
+from ..column import Column
+from ..kind import GREATEST, LEAST
+from ..kinds import Styled, undressed
+from ..telling import Refused
+from .lexer import BLOB, NUMBER, TEXT, text_literal
+from .syntax import ColumnName, Literal, Node, Unary
+
+if TYPE_CHECKING:
+    from fractions import Fraction
+
+# the digits of a number that are read: it is beyond all columns, or nearer to 0 than any, if its
+# first one is further away from the point
+MOST_DIGITS = 400
+# the longest numeral of which SQLite reads the nearest double
+MOST_SURE = 17
+# integers up to it, and a half beside each, are doubles
+MOST_HALVES = 1 << 51
+
+
+class Constant:
+    """An operand that is a literal, with its sign: its value, of which None is NULL and bytes a
+    blob; and whether SQLite reads it as an integer."""
+    __slots__ = ("node", "value", "is_integer", "is_float", "text")
+
+    def __init__(self, node: Node | None, value: Union[None, str, Fraction, bytes],
+                 is_integer: bool = False, is_float: bool = False, text: str = "") -> None:
+        self.node, self.value = node, value
+        self.is_integer, self.is_float, self.text = is_integer, is_float, text
+
+    def beside(self, column: Column) -> Union[None, str, Fraction, bytes]:
+        """Returns the value that it has beside a column: a double beside decimals is the decimal
+        that it is printed as."""
+        if self.is_float and column.kind.name == "decimals":
+            from fractions import Fraction
+            return Fraction(self.text)
+        return self.value
+
+
+def constant_of(node: Node) -> Constant | None:
+    """Returns what an expression is that is a literal, or None."""
+    if isinstance(node, Literal):
+        value = node.value
+        is_integer = node.kind == NUMBER and is_integral(node.text) and \
+            value is not None and not isinstance(value, (str, bytes)) and LEAST <= value <= GREATEST
+        return Constant(node, value, is_integer, node.is_float, node.text)
+    if isinstance(node, Unary) and node.sign in ("+", "-"):
+        inner = constant_of(node.operand) if isinstance(node.operand, Literal) else None
+        if inner is None or inner.value is None or isinstance(inner.value, (str, bytes)):
+            return None
+        if node.sign == "+":
+            return Constant(node, inner.value, inner.is_integer, inner.is_float, inner.text)
+        text = inner.text[1:] if inner.text[:1] == "-" else f"-{inner.text}"
+        is_integer = is_integral(inner.text) and inner.value <= -LEAST
+        return Constant(node, -inner.value, is_integer, inner.is_float, text)
+    if isinstance(node, ColumnName) and not node.output and not node.table and \
+            not node.name.quote and node.name.text.upper() in ("TRUE", "FALSE"):
+        from fractions import Fraction
+        return Constant(node, Fraction(node.name.text.upper() == "TRUE"), True)
+    return None
+
+
+def is_integral(text: str) -> bool:
+    return text.lstrip("-").isdecimal() or text[:2].lower() == "0x"
+
+
+def evaluate(literal: Literal) -> None:
+    """Gives a literal its value."""
+    if literal.kind == NUMBER:
+        literal.value = exact(literal.text)
+    elif literal.kind == TEXT:
+        literal.value = literal.text[1:-1].replace("''", "'")
+    elif literal.kind == BLOB:
+        literal.value = b""
+
+
+def exact(text: str) -> Fraction:
+    """Returns the number of a numeral. One that is beyond all columns, or nearer to 0 than any, or
+    has more digits than any, becomes another one that compares with theirs as it does."""
+    from fractions import Fraction
+    sign, text = (-1, text[1:]) if text[:1] == "-" else (1, text)
+    if text[:2].lower() == "0x":
+        number = int(text, 16)
+        return Fraction(sign * (number if number <= GREATEST else number - (1 << 64)))
+    mantissa, _, power = text.lower().partition("e")
+    whole, _, part = mantissa.partition(".")
+    digits = (whole + part).lstrip("0")
+    if not digits:
+        return Fraction(0)
+    many = len(power) > 9
+    tens = (int(power[:10] or 0) if not many else 10 ** 9 * (-1 if power[0] == "-" else 1)) - \
+        len(part)
+    if len(digits) + tens > MOST_DIGITS:
+        return Fraction(sign * 10 ** MOST_DIGITS)
+    if len(digits) + tens < -MOST_DIGITS:
+        return Fraction(sign, 10 ** MOST_DIGITS)
+    most = 2 * MOST_DIGITS
+    if len(digits) > most:
+        rest, tens = digits[most:], tens + len(digits) - most
+        digits = digits[:most]
+        if rest.strip("0"):
+            digits, tens = f"{digits}1", tens - 1
+    return sign * int(digits) * Fraction(10) ** tens
+
+
+def bind(parameters: Sequence[Literal], given: Any) -> None:
+    """Gives the parameters of a statement their values. Raises Refused if there are too few or too
+    many, or for a value of another type."""
+    if not parameters and isinstance(given, (tuple, list, dict)) and (
+            not given or isinstance(given, dict)):
+        return
+    # most statements have none
+    from .parameters import is_of_numpy, literal_of, values_of
+    for literal, (value, number) in zip(parameters, values_of(parameters, given)):
+        literal.kind, literal.text = literal_of(value, literal, number)
+        literal.is_float = isinstance(value, float) or is_of_numpy(value, "f")
+        if literal.is_float:
+            from fractions import Fraction
+            literal.value = Fraction(float(value))
+        else:
+            evaluate(literal)
+
+
+def form_of(column: Column, constant: Constant, sign: str) -> str:
+    """Returns the text for SQLite of a literal that is compared with a column, or nothing if it
+    stays as it is. `sign` is the operator between the column and the literal, = for one of
+    equality. Raises Refused if SQLite can't compare them."""
+    kind, value = column.kind, constant.beside(column)
+    if isinstance(value, str):
+        return text_form(column, value)
+    if value is None or isinstance(value, bytes):
+        return ""
+    plain: Any = undressed(kind)
+    if is_long(column):
+        scaled = Constant(None, value * 10 ** plain.digits, False, False, "." * (MOST_SURE + 1))
+        return integer_form(scaled, value * 10 ** plain.digits, sign)
+    if affinity(kind) == INTEGER:
+        return integer_form(constant, value, sign)
+    if plain.name == "decimals":
+        return decimal_form(plain, constant, value)
+    return "" if constant.is_integer else double_form(constant, value)
+
+
+def text_form(column: Column, value: str) -> str:
+    """Returns the text for SQLite of a text: of a date or a time the ISO form, of a number in the
+    column's style the number, of a boolean 0 or 1."""
+    kind = column.kind
+    if kind.name in MOMENTS:
+        # few statements need it
+        from .._result import iso_text
+        return text_literal(iso_text(kind, value))
+    place = kind.place(value) if kind.name == "truths" or isinstance(kind, Styled) else None
+    if place is None:
+        return ""
+    return kind.inner.text(place[0]) if isinstance(kind, Styled) else str(place[0])
+
+
+def integer_form(constant: Constant, value: Fraction, sign: str) -> str:
+    """Returns the text of a number that compares with integers as its exact value does."""
+    floor = math.floor(value)
+    if constant.is_integer:
+        return ""
+    if not LEAST <= floor < GREATEST:
+        return "9e999" if value > 0 else "-9e999"
+    if value == floor:
+        return str(floor) if floor != LEAST else "(-9223372036854775807 - 1)"
+    if abs(floor) < MOST_HALVES:
+        double = float(value)
+        return "" if floor < double < floor + 1 and len(constant.text) <= MOST_SURE else \
+            f"{floor}.5" if floor >= 0 else f"-{-floor - 1}.5"
+    if sign == "ROW":
+        raise Refused(f"{constant.text} can't be compared with an integer in a row: write integers")
+    if sign in ("<", ">="):
+        return str(floor + 1)
+    return str(floor) if sign in ("<=", ">") else "0.5"
+
+
+def decimal_form(kind: Any, constant: Constant, value: Fraction) -> str:
+    """Returns the text of a number that compares with decimals, which SQLite has as doubles, as its
+    exact value does."""
+    power = 10 ** kind.digits
+    scaled = value * power
+    if scaled.denominator == 1 or constant.is_integer:
+        return "" if constant.is_integer else double_form(constant, value)
+    floor = math.floor(scaled)
+    try:
+        if floor / power < float(value) < (floor + 1) / power:
+            return double_form(constant, value)
+        return repr((2 * floor + 1) / (2 * power))
+    except OverflowError:
+        return "9e999" if value > 0 else "-9e999"
+
+
+def double_form(constant: Constant, value: Fraction) -> str:
+    """Returns the text of the double nearest to a number, if it is longer than that."""
+    if len(constant.text) <= MOST_SURE:
+        return ""
+    try:
+        return repr(float(value))
+    except OverflowError:
+        return "9e999" if value > 0 else "-9e999"

@@ -1,1 +1,0 @@
-"""Whole questions over tables: SQLite's SQL above, scans of bw below."""
