@@ -99,6 +99,8 @@ class Listing:
     @contextlib.contextmanager
     def transaction(self) -> Iterator[None]:
         """Undoes what isn't done to its end."""
+        # a signal may have ended what should have set it
+        self.guard.is_off = True
         if self.database.in_transaction:
             # a signal ended what should have undone it
             self.database.execute("ROLLBACK")

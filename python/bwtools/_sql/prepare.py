@@ -160,7 +160,6 @@ def explain(database: sqlite3.Connection, guard: Guard, sql: str) -> list[tuple[
     guard.read, guard.denied, guard.is_off = {}, "", False
     # Python keeps statements by their text, and SQLite doesn't authorize one again that was kept
     guard.explained += 1
-    texts = database.text_factory
     # a literal of bytes is a text there
     database.text_factory = bytes
     try:
@@ -168,7 +167,7 @@ def explain(database: sqlite3.Connection, guard: Guard, sql: str) -> list[tuple[
                       for each in row)
                 for row in database.execute(f"EXPLAIN /* {guard.explained} */ {sql}")]
     finally:
-        database.text_factory, guard.is_off = texts, True
+        database.text_factory, guard.is_off = str, True
 
 
 def reads_of(database: sqlite3.Connection, guard: Guard, tree: Query, sql: str
@@ -179,7 +178,7 @@ def reads_of(database: sqlite3.Connection, guard: Guard, tree: Query, sql: str
     try:
         program = explain(database, guard, sql)
     except (sqlite3.Error, sqlite3.Warning) as error:
-        if str(error) == "interrupted":
+        if str(error) == "interrupted" or guard.is_lost(error):
             raise
         raise Refused(guard.denied or told(tree, str(error))) from None
     found = {name: set(columns) for name, columns in guard.read.items()}
