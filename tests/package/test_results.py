@@ -428,11 +428,19 @@ class Ended(Results):
         self.assertTrue(session.is_running())
 
 
-# asks statements again and again, while a thread sends it interrupts
+# asks statements again and again, while a thread sends it interrupts, of which up to two count for
+# each turn
 INTERRUPTED = """
 import os, random, signal, sys, threading, time
 import bwtools
-signal.signal(signal.SIGINT, signal.default_int_handler)
+armed = [0]
+
+def stop(*_):
+    if armed[0]:
+        armed[0] -= 1
+        raise KeyboardInterrupt
+
+signal.signal(signal.SIGINT, stop)
 connection = bwtools.connect(*sys.argv[2:])
 statements = ("SELECT COUNT(*) FROM shop", "SELECT n, m FROM many WHERE n < 9000",
               "SELECT m, COUNT(*), SUM(n) FROM many GROUP BY m",
@@ -451,12 +459,17 @@ thread = threading.Thread(target=pest)
 thread.start()
 while thread.is_alive():
     try:
-        for each in statements:
-            found = connection.execute(each).fetchall()
-            assert found == wanted[each], each
-            counts[0] += 1
+        try:
+            armed[0] = 2
+            for each in statements:
+                found = connection.execute(each).fetchall()
+                assert found == wanted[each], each
+                counts[0] += 1
+        except KeyboardInterrupt:
+            counts[1] += 1
+        armed[0] = 0
     except KeyboardInterrupt:
-        counts[1] += 1
+        armed[0] = 0
 for each in statements:
     assert connection.execute(each).fetchall() == wanted[each], each
 print(min(counts) > 9)
