@@ -11,7 +11,7 @@ from bwtools import kinds, store
 from bwtools.column import Column
 from bwtools.sorted_list import SortedList
 from bwtools._engine.executor import Outside
-from bwtools._rows import Limits
+from bwtools._result import Limits
 from bwtools._sql import plan, predicates, pushdown, selection
 from bwtools._sql.lexer import tokens_of
 from bwtools._sql.literals import Constant, evaluate

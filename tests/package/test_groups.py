@@ -9,11 +9,11 @@ import bwtools
 from bwtools import kinds
 from bwtools.failed import Failed
 from bwtools import _aggregation as counted
-from bwtools import _rows as rows
+from bwtools import _result as rows
 from bwtools._aggregation import float_sum
 from bwtools._engine import executor
 from bwtools._engine.executor import Part
-from bwtools._rows import Limits
+from bwtools._result import Limits
 from bwtools._sql import groups, plan
 from bwtools._sql.groups import Wanted
 from bwtools._sql.statement import Statement

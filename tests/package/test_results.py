@@ -428,6 +428,64 @@ class Ended(Results):
         self.assertTrue(session.is_running())
 
 
+# asks statements again and again, while a thread sends it interrupts, of which up to two count for
+# each turn
+INTERRUPTED = """
+import os, random, signal, sys, threading, time
+import bwtools
+armed = [0]
+
+def stop(*_):
+    if armed[0]:
+        armed[0] -= 1
+        raise KeyboardInterrupt
+
+signal.signal(signal.SIGINT, stop)
+connection = bwtools.connect(*sys.argv[2:])
+statements = ("SELECT COUNT(*) FROM shop", "SELECT n, m FROM many WHERE n < 9000",
+              "SELECT m, COUNT(*), SUM(n) FROM many GROUP BY m",
+              "SELECT upper(city) FROM shop, (SELECT 1)", "SELECT n, COUNT(*) FROM long GROUP BY n",
+              "SELECT n FROM many WHERE n < 5000 ORDER BY m DESC LIMIT 5",
+              "SELECT strftime('%m', day), SUM(price) FROM shop GROUP BY 1")
+wanted = {each: connection.execute(each).fetchall() for each in statements}
+chance, end, counts = random.Random(int(sys.argv[1])), time.monotonic() + 4, [0, 0]
+
+def pest():
+    while time.monotonic() < end:
+        time.sleep(chance.random() / 30)
+        os.kill(os.getpid(), signal.SIGINT)
+
+thread = threading.Thread(target=pest)
+thread.start()
+while thread.is_alive():
+    try:
+        try:
+            armed[0] = 2
+            for each in statements:
+                found = connection.execute(each).fetchall()
+                assert found == wanted[each], each
+                counts[0] += 1
+        except KeyboardInterrupt:
+            counts[1] += 1
+        armed[0] = 0
+    except KeyboardInterrupt:
+        armed[0] = 0
+for each in statements:
+    assert connection.execute(each).fetchall() == wanted[each], each
+print(min(counts) > 9)
+"""
+
+
+class Interrupted(Results):
+    def test_interrupts_at_any_moment_cost_one_statement_each(self):
+        done = subprocess.run(
+            [sys.executable, "-c", INTERRUPTED, "5", *(self.folder / name for name in self.tables)],
+            capture_output=True, text=True, env={**os.environ, "PYTHONPATH": str(PYTHON)},
+            check=False)
+        # Python itself prints what a signal raises in a finalizer
+        self.assertEqual((done.returncode, done.stdout), (0, "True\n"), done.stderr)
+
+
 class Package(unittest.TestCase):
     def test_version_and_types(self):
         self.assertRegex(bwtools.__version__, r"^[0-9]+\.[0-9]+\.[0-9]+$")

@@ -18,7 +18,7 @@ import os
 import sys
 
 from .. import command, options, pairs
-from .._translation import turn_back
+from .._output import turn_back
 from ..regular import open_regular
 from ..store import Store
 from .options import new_parser

@@ -310,8 +310,11 @@ class Sessions:
         """Returns what a function returns for the sessions of the files of some places."""
         try:
             for at, place in enumerate(places):
-                if at < len(self.sessions) and self.sessions[at].is_running():
+                if at < len(self.sessions) and self.sessions[at].is_running() and \
+                        not self.sessions[at].is_busy:
                     continue
+                for session in self.sessions[at:at + 1]:
+                    session.close()
                 self.sessions[at:at + 1] = [Session(self.files[place], self.options)]
 
             def call(place: int, session: Session) -> Callable[[], T]:
@@ -338,10 +341,12 @@ class Sessions:
             session.kill()
 
     def close(self) -> None:
-        self.kill()
-        for session in self.sessions:
+        # first, so that none is used again if this is interrupted, too
+        sessions, self.sessions = self.sessions, []
+        for session in sessions:
+            session.kill()
+        for session in sessions:
             session.close()
-        self.sessions = []
 
 
 def memory() -> int:

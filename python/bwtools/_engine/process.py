@@ -12,7 +12,8 @@ import itertools
 import os
 import re
 import signal
-from typing import Any, BinaryIO, Iterator, NoReturn, Sequence
+from _weakref import proxy
+from typing import Any, BinaryIO, Iterator, NoReturn, Sequence, Tuple
 
 from .. import command
 from ..failed import Failed
@@ -31,30 +32,37 @@ SURPLUS = "bw session returned more results than it was sent statements"
 
 
 class Process:
-    """A run of bw. It is ended by `close`, and when the object is dropped."""
+    """A run of bw. It is ended by `close`, and when the object is dropped, also if a signal's
+    exception ends what makes it."""
+
+    number: int | None = None
+    is_killed = False
+    ends: Sequence[Any] = ()
+    answer: io.BufferedReader | None = None
 
     def __init__(self, words: list[str], table: BinaryIO, inputs: int) -> None:
         """Starts bw. The table is its input of number 0, or of number 3 if `inputs` is 1: then its
         standard input is a pipe."""
-        self.number: int | None = None
         self.owner = os.getpid()
         # this process's ends of the pipes: standard input if it is one, output and error
-        self.ends = list[Any]()
+        self.ends = made = list[Any]()
         try:
             with held_signals():
-                self.start(words, table, inputs)
+                self.start(words, table, inputs, made)
         except BaseException:
             self.close()
             raise
 
-    def start(self, words: list[str], table: BinaryIO, inputs: int) -> None:
+    def start(self, words: list[str], table: BinaryIO, inputs: int, made: list[Any]) -> None:
+        """Starts bw, and adds this process's ends of the pipes."""
         theirs, sources = list[int](), [table.fileno()]
+        reap()
         try:
             for is_input in (*[True] * inputs, False, False):
                 reading, writing = os.pipe()
                 own, other = (writing, reading) if is_input else (reading, writing)
                 theirs.append(other)
-                self.ends.append(open(own, "wb" if is_input else "rb", buffering=0))
+                made.append(open(own, "wb" if is_input else "rb", buffering=0))
             sources = [*theirs, *sources] if inputs else [*sources, *theirs]
             if min(sources) < len(sources):
                 # a number that one of theirs gets: as if this process had no standard input
@@ -69,7 +77,12 @@ class Process:
                 os.close(end)
 
     def __del__(self) -> None:
-        self.close()
+        # quickly: what a signal's handler raises here is lost
+        if self.number is not None:
+            self.kill()
+            left.append((self.number, self.owner))
+        for end in self.ends:
+            end.close()
 
     def is_running(self) -> bool:
         """Returns whether it hasn't ended."""
@@ -79,7 +92,7 @@ class Process:
             except ChildProcessError:
                 has_ended = True
             self.number = None if has_ended else self.number
-        return self.number is not None
+        return self.number is not None and not self.is_killed
 
     def wait(self) -> int:
         """Waits for its end. Returns its status, or less than 0 if a signal ended it."""
@@ -94,6 +107,7 @@ class Process:
 
     def kill(self) -> None:
         """Ends it, whatever it does, without waiting. A fork of this process ends none."""
+        self.is_killed = True
         if self.number is not None and self.owner == os.getpid():
             with contextlib.suppress(ProcessLookupError):
                 os.kill(self.number, signal.SIGKILL)
@@ -107,6 +121,20 @@ class Process:
         self.number = None
         for end in self.ends:
             end.close()
+        self.ends = ()
+
+
+# the numbers of processes that were ended and not waited for, and of those that started them
+left = list[Tuple[int, int]]()
+
+
+def reap() -> None:
+    """Waits for the processes that are left, if they have ended."""
+    for each in left[:]:
+        with contextlib.suppress(ChildProcessError):
+            if each[1] == os.getpid() and not os.waitpid(each[0], os.WNOHANG)[0]:
+                continue
+        left.remove(each)
 
 
 @contextlib.contextmanager
@@ -169,7 +197,8 @@ class SessionOutput(io.RawIOBase):
 
     def __init__(self, session: Session) -> None:
         super().__init__()
-        self.session, self.last, self.is_ended = session, b"\n", False
+        # a session has its output: one that is dropped meanwhile must not be kept by it
+        self.session, self.last, self.is_ended = proxy(session), b"\n", False
 
     def readable(self) -> bool:
         return True
@@ -177,7 +206,7 @@ class SessionOutput(io.RawIOBase):
     def readinto(self, buffer: Any) -> int:
         if self.is_ended:
             return 0
-        count = self.session.stdout.readinto(buffer)
+        count: int = self.session.stdout.readinto(buffer)
         if not count:
             self.session.fail()
         text = self.last + bytes(buffer[:count])
@@ -192,7 +221,10 @@ class SessionOutput(io.RawIOBase):
 class Session(Process):
     """A run of `bw session`. It gets one statement at a time, and reads the next one only when its
     result is written, so that neither waits for the other. Standard error has a short line or two
-    for each result."""
+    for each result. It is busy from when a statement is sent until its result was read to the end:
+    if an exception ends that, its next result isn't the next statement's."""
+
+    is_busy = False
 
     def __init__(self, table: BinaryIO, options: Sequence[str] = ()) -> None:
         super().__init__([command.program(), "session", *options, "/dev/fd/3"], table, 1)
@@ -200,13 +232,13 @@ class Session(Process):
         self.stdout: io.FileIO = self.ends[1]
         self.stderr: io.FileIO = self.ends[2]
         os.set_blocking(self.stderr.fileno(), False)
-        self.answer: io.BufferedReader | None = None
         self.has_refused = False
 
     def result_of(self, statement: str) -> io.BufferedReader | None:
         """Sends a statement. Returns its result, or None if it is rejected; standard error then has
         the reason."""
         self.told()
+        self.is_busy = True
         self.send(sent_form(statement))
         answer = self.answer = io.BufferedReader(SessionOutput(self), AT_ONCE)
         if answer.peek(1):
@@ -219,6 +251,7 @@ class Session(Process):
         before. Returns the results, and what was printed on standard error for them. That of a
         rejected statement is empty."""
         self.told()
+        self.is_busy = True
         results, ahead = list[bytes](), list[int]()
         told, rest, sent = "", b"", 0
         while len(results) < len(statements):
@@ -237,6 +270,7 @@ class Session(Process):
         if rest or len(results) > len(statements):
             raise Failed(SURPLUS)
         self.has_refused |= b"" in results
+        self.is_busy = False
         return results, told
 
     def send(self, data: bytes) -> None:
@@ -255,8 +289,9 @@ class Session(Process):
             return ""
         while self.answer.read(AT_ONCE):
             pass
-        self.answer = None
-        return self.said()
+        found = self.said()
+        self.answer, self.is_busy = None, False
+        return found
 
     def said(self) -> str:
         """Returns what is on standard error by now. All that belongs to a result is printed before

@@ -101,6 +101,8 @@ class BySqlite:
         guard = listing.guard
         self.waiting.begin("SQLite computes")
         guard.denied, guard.read, guard.is_off = "", {}, False
+        # an interrupt may have ended what reads bytes
+        listing.database.text_factory = str
         try:
             with listing.watched():
                 cursor = listing.database.execute(sql)

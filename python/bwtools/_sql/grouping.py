@@ -8,8 +8,7 @@ from typing import Iterable, Iterator, Sequence
 
 from .._aggregation import AGGREGATES, Aggregate, TooMany
 from .._engine.executor import Engine, Outside
-from .._result import Value, ValueRows, affinity, is_long
-from .._rows import Limits
+from .._result import Limits, Value, ValueRows, affinity, is_long
 from ..column import Column
 from ..kind import Kind
 from ..telling import Refused

@@ -52,7 +52,8 @@ class Listing:
             if self.functions.raised:
                 raise self.functions.raised from None
             # a signal's exception ends the function of ours that it finds
-            if "interrupted" in str(error) or "user-defined" in str(error):
+            if "interrupted" in str(error) or "user-defined" in str(error) or \
+                    self.guard.is_lost(error):
                 raise KeyboardInterrupt from None
             raise
 
@@ -98,6 +99,8 @@ class Listing:
     @contextlib.contextmanager
     def transaction(self) -> Iterator[None]:
         """Undoes what isn't done to its end."""
+        # a signal may have ended what should have set it
+        self.guard.is_off = True
         if self.database.in_transaction:
             # a signal ended what should have undone it
             self.database.execute("ROLLBACK")

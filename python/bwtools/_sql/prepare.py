@@ -73,6 +73,11 @@ class Guard:
             self.denied = self.denied or "the statement isn't one that reads tables"
         return sqlite3.SQLITE_DENY
 
+    def is_lost(self, error: Exception) -> bool:
+        """Returns whether a signal's exception ended the guard: it denied, and noted no reason."""
+        is_denied = "not authorized" in str(error) or str(error).endswith("is prohibited")
+        return is_denied and not self.denied
+
 
 class Emptied:
     """A database of SQLite that has the tables of a catalog, without rows."""
@@ -118,6 +123,8 @@ class Emptied:
         try:
             explain(self.database, self.guard, sql)
         except (sqlite3.Error, sqlite3.Warning) as error:
+            if self.guard.is_lost(error):
+                raise KeyboardInterrupt from None
             return str(error)
         return ""
 
@@ -153,7 +160,6 @@ def explain(database: sqlite3.Connection, guard: Guard, sql: str) -> list[tuple[
     guard.read, guard.denied, guard.is_off = {}, "", False
     # Python keeps statements by their text, and SQLite doesn't authorize one again that was kept
     guard.explained += 1
-    texts = database.text_factory
     # a literal of bytes is a text there
     database.text_factory = bytes
     try:
@@ -161,7 +167,7 @@ def explain(database: sqlite3.Connection, guard: Guard, sql: str) -> list[tuple[
                       for each in row)
                 for row in database.execute(f"EXPLAIN /* {guard.explained} */ {sql}")]
     finally:
-        database.text_factory, guard.is_off = texts, True
+        database.text_factory, guard.is_off = str, True
 
 
 def reads_of(database: sqlite3.Connection, guard: Guard, tree: Query, sql: str
@@ -172,7 +178,7 @@ def reads_of(database: sqlite3.Connection, guard: Guard, tree: Query, sql: str
     try:
         program = explain(database, guard, sql)
     except (sqlite3.Error, sqlite3.Warning) as error:
-        if str(error) == "interrupted":
+        if str(error) == "interrupted" or guard.is_lost(error):
             raise
         raise Refused(guard.denied or told(tree, str(error))) from None
     found = {name: set(columns) for name, columns in guard.read.items()}

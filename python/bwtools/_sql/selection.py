@@ -2,8 +2,7 @@
 from __future__ import annotations
 
 from .._engine.executor import Engine, Outside
-from .._result import NumberRows
-from .._rows import Limits, SortKey, WantedRows
+from .._result import Limits, NumberRows, SortKey, WantedRows
 from ..column import Column
 from ..kind import Kind
 from .pushdown import condition_of, direct_column
