@@ -143,6 +143,9 @@ def numbers_of(kind: Kind, values: Sequence[Value]) -> list[int | None] | None:
     wanted = {INTEGER: int, REAL: float, TEXT: str}[affinity(plain)]
     if not set(map(type, values)) <= {wanted, type(None)}:
         return None
+    if plain.name in ("whole", "nulls"):
+        # they are their own numbers
+        return list(values)  # type: ignore[arg-type]
     distinct: list[Any] = [value for value in dict.fromkeys(values) if value is not None]
     try:
         numbers = read_values(plain, distinct)
@@ -404,7 +407,9 @@ class ValueRows:
 
     def __init__(self, rows: Sequence[tuple[Value, ...]], exact: Sequence[int] = ()) -> None:
         self.length, self.exact = len(rows), exact
-        self.columns: list[Sequence[Any]] = list(zip(*rows))
+        # zip takes a row as an argument: of a million that takes ten times as long
+        self.columns: list[Sequence[Any]] = [list(map(operator.itemgetter(place), rows))
+                                             for place in range(len(rows[0]) if rows else 0)]
         # which columns are of numbers
         self.are_numbers = list[bool]()
 
