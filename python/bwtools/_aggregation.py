@@ -12,7 +12,7 @@ import itertools
 import sqlite3
 from array import array
 from collections import Counter
-from typing import (TYPE_CHECKING, Any, Callable, Iterable, Iterator, Mapping, NamedTuple, Optional,
+from typing import (TYPE_CHECKING, Any, Callable, Iterable, Iterator, Mapping, Optional,
                     Sequence, Tuple)
 
 from ._engine.executor import COUNT, added
@@ -154,12 +154,13 @@ def values_for_sqlite(kind: Kind, numbers: Sequence[int | None], is_sum: bool = 
     return [None if number is None else found.get(number) for number in numbers], False
 
 
-class Found(NamedTuple):
+class Found:
     """Groups: the numbers of each column that makes them, and the totals of each group by their
     names, such as SUM(cents). All lists have the groups' order."""
 
-    columns: Sequence[Sequence[int]]
-    totals: Mapping[str, Sequence[int | None]]
+    def __init__(self, columns: Sequence[Sequence[int]],
+                 totals: Mapping[str, Sequence[int | None]]) -> None:
+        self.columns, self.totals = columns, totals
 
     @property
     def keys(self) -> list[Key]:

@@ -10,7 +10,7 @@ from __future__ import annotations
 import itertools
 import operator
 from array import array
-from typing import (TYPE_CHECKING, Any, Callable, Iterator, NamedTuple, Sequence, Tuple, Union)
+from typing import TYPE_CHECKING, Any, Callable, Iterator, Sequence, Tuple, Union
 
 from ._engine.executor import COUNT, Engine, Outside, Part, both, names_of, select
 from .failed import Failed
@@ -18,6 +18,7 @@ from .kind import Kind, Literal
 from .kinds import undressed
 from .listed import Place
 from .telling import Refused
+from .valued import Valued
 
 if TYPE_CHECKING:
     from .column import Column
@@ -497,12 +498,12 @@ MOST_ROWS = 1_000_000
 MANY_ROWS = 100_000
 
 
-class Limits(NamedTuple):
+class Limits(Valued):
     """How many rows an answer has at most, if that is limited, and how many are left out before
     them."""
 
-    most: int | None = None
-    offset: int = 0
+    def __init__(self, most: int | None = None, offset: int = 0) -> None:
+        self.most, self.offset = most, offset
 
     @property
     def end(self) -> int | None:
@@ -510,12 +511,12 @@ class Limits(NamedTuple):
         return None if self.most is None else self.offset + self.most
 
 
-class SortKey(NamedTuple):
+class SortKey(Valued):
     """A column by which rows are put in order."""
 
-    column: Column
-    is_descending: bool
-    are_nulls_first: bool
+    def __init__(self, column: Column, is_descending: bool, are_nulls_first: bool) -> None:
+        self.column, self.is_descending = column, is_descending
+        self.are_nulls_first = are_nulls_first
 
 
 class WantedRows:
