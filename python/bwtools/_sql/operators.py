@@ -183,10 +183,12 @@ class ExpressionParser:
             low = self.expression(OR, True)
             self.wants("AND")
             return self.made(Between(start, start, left, low, self.expression(ORDER), is_negated))
-        right = self.expression(level + 1)
         if sign in LIKES:
+            # also after NOT, which binds less
+            pattern = self.expression(ORDER)
             escape = self.expression(ORDER) if self.takes("ESCAPE") else None
-            return self.made(Like(start, start, sign, left, right, escape, is_negated))
+            return self.made(Like(start, start, sign, left, pattern, escape, is_negated))
+        right = self.expression(level + 1)
         return self.made(Comparison(start, start, SIGNS.get(sign, sign), left, right))
 
     def identity(self, start: int, left: Node) -> Node:

@@ -174,6 +174,15 @@ def like(column: Column, sign: str, pattern: str, escape: str | None) -> str:
     """Returns a LIKE or GLOB as the runs of numbers whose values match it, by SQLite itself."""
     words = f"WHERE value {sign} ?{'' if escape is None else ' ESCAPE ?'} ORDER BY code"
     wanted = (pattern,) if escape is None else (pattern, escape)
+    try:
+        return runs_like(column, words, wanted)
+    except sqlite3.Error:
+        # it has the message where it is asked itself
+        raise Outside from None
+
+
+def runs_like(column: Column, words: str, wanted: tuple[str, ...]) -> str:
+    """Returns the runs of numbers of which the values fulfil an SQL condition."""
     if column.kind.name == "texts" and isinstance(column.kind.listed, StoredList):
         count = len(column.kind.listed)
         codes: Iterable[int] = [code for code, _ in column.kind.listed.rows(words, wanted)]

@@ -16,6 +16,8 @@ from .tables import Catalog, missing
 
 # how the names of SQLite's own tables begin
 HIDDEN = ("sqlite_", "pragma_")
+# the quotes of a name that may be a heading
+QUOTES = ('"', "`", "[")
 TOTALS, ROWIDS = ("COUNT", "SUM", "AVG", "TOTAL"), ("rowid", "oid", "_rowid_")
 
 
@@ -164,7 +166,7 @@ class Resolver:
             self.expression(expression, scope)
 
     def is_headed(self, column: ColumnName, scope: Scope) -> bool:
-        return column.name.quote == '"' and bool(scope.headed(column.name.text, ""))
+        return column.name.quote in QUOTES and bool(scope.headed(column.name.text, ""))
 
     def select(self, select: Select, outer: Scope | None, commons: dict[str, Common]) -> None:
         """Binds the names of a SELECT, in the order in which SQLite does: its items don't see their
@@ -214,7 +216,7 @@ class Resolver:
         column.scope = scope
         around: Scope | None = scope
         while around:
-            if column.name.quote == '"' and self.bind_heading(column, around, qualifier):
+            if column.name.quote in QUOTES and self.bind_heading(column, around, qualifier):
                 return
             column.output = around.column(name, qualifier)
             if column.output:
@@ -232,7 +234,7 @@ class Resolver:
         column.output, column.item = around.aliases[column.name.text.lower()]
 
     def bind_heading(self, column: ColumnName, scope: Scope, qualifier: str) -> bool:
-        """Binds a name in double quotes to the column that has it as its heading."""
+        """Binds a name in quotes to the column that has it as its heading."""
         name = column.name
         headed = scope.headed(name.text, qualifier)
         names = sorted({output.name for output in headed})

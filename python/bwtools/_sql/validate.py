@@ -117,7 +117,11 @@ class Checks:
 
     def pattern(self, node: Like) -> None:
         """Rejects patterns for dates and times that are printed in another form than SQLite has,
-        unless they are clearly for SQLite's."""
+        unless they are clearly for SQLite's, and escapes that SQLite rejects on the first row."""
+        escape = node.escape
+        if isinstance(escape, Literal) and escape.kind == TEXT_TOKEN and \
+                len(str(escape.value)) != 1:
+            raise Refused(f"ESCAPE expression must be a single character ({where(escape)})")
         found = meaning(bare(node.operand))
         wanted = node.pattern
         text = str(wanted.value) if isinstance(wanted, Literal) and wanted.kind == TEXT_TOKEN \
