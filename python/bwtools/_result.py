@@ -9,7 +9,6 @@ from __future__ import annotations
 
 import itertools
 import operator
-from array import array
 from typing import TYPE_CHECKING, Any, Callable, Iterator, Sequence, Tuple, Union
 
 from ._engine.executor import COUNT, Engine, Outside, Part, both, names_of, select
@@ -21,6 +20,8 @@ from .telling import Refused
 from .valued import Valued
 
 if TYPE_CHECKING:
+    from array import array
+
     from .column import Column
 
 # a value as SQLite has it; our tables have no bytes, but expressions may
@@ -119,6 +120,7 @@ def stored(kind: Kind, numbers: Sequence[int]) -> list[Any]:
 def doubles(gap: int, numbers: Sequence[int]) -> array[float]:
     """Returns the doubles of the numbers of a column of floats. Raises OverflowError or ValueError
     for a number that none has."""
+    from array import array
     from math import isfinite
     # a double of a sign has the sign's bit, which is the least number of 64 bits
     bits = array("q", [number + gap if number > 0 else number and -number + gap - (1 << 63)

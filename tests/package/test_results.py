@@ -100,6 +100,11 @@ class Exact(Results):
                     "SELECT SUM(w), SUM(n), AVG(n) FROM big GROUP BY n IS 7"):
             self.assertEqual(self.rows(sql), wanted, sql)
         self.assertEqual(self.rows("SELECT AVG(w) FROM big"), [(float(Fraction(whole) / 21),)])
+        if importlib.util.find_spec("pandas"):
+            cursor = self.connection.execute("SELECT SUM(w) FROM big")
+            self.assertEqual(cursor.df(decimals=True).values.tolist(), [[whole]])
+            self.assertEqual((cursor.df().values.tolist(), cursor.columns()["SUM(w)"].tolist()),
+                             ([[float(whole)]], [float(whole)]))
         groups = self.rows("SELECT n, SUM(w) s FROM big GROUP BY n ORDER BY s DESC LIMIT 2")
         self.assertEqual([row[0] for row in groups], [None, D("5.25")])
 
