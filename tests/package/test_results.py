@@ -29,7 +29,7 @@ from bwtools._result import (NumberRows, Numbers, Result, ValueRows, blob_of, nu
 from bwtools._engine.executor import Part
 from bwtools.column import Column
 
-from tests.support import PYTHON, Imported, imported, texts
+from tests.support import PYTHON, Imported, imported, in_fork, texts
 
 LONG = ("id,n,g\n1,1234567890.12345678,a\n2,1234567890.12345679,a\n3,1234567890.12345680,b\n"
         "4,-0.00000001,b\n5,,b\n")
@@ -424,6 +424,15 @@ class Ended(Results):
              ("KeyboardInterrupt\r\n>>> $", "c.execute('SELECT g FROM long').fetchall()\n"),
              (r"\]\r\n>>> $", "exit()\n")])
         self.assertIn("[('a',), ('a',), ('b',), ('b',), ('b',)]", shown)
+
+    def test_a_fork_has_sessions_of_its_own(self):
+        wanted = self.rows("SELECT id FROM long")
+        for _ in range(2):
+            child = in_fork(lambda: self.assertEqual(self.rows("SELECT id FROM long"), wanted))
+            self.assertEqual(self.rows("SELECT id FROM long"), wanted)
+            self.assertEqual(os.waitpid(child, 0)[1], 0)
+        self.assertEqual(self.rows("SELECT g, COUNT(*) FROM long GROUP BY g"),
+                         [("a", 2), ("b", 3)])
 
     def test_a_signal_of_the_group_leaves_the_sessions(self):
         self.rows("SELECT id FROM long")
