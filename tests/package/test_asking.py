@@ -14,7 +14,8 @@ import time
 import unittest
 
 from bwtools import _output
-from bwtools._cli.asking import split, statements_in
+from bwtools._cli.asking import split
+from bwtools._cli.statements import statements_in
 from bwtools._result import Result, ValueRows
 from bwtools.kinds import Dates, Decimals, Styled, Truths, Whole
 from bwtools.style import Style

@@ -12,11 +12,11 @@ from bwtools.column import Column
 from bwtools.sorted_list import SortedList
 from bwtools._engine.executor import Outside
 from bwtools._result import Limits
-from bwtools._sql import plan, predicates, pushdown, selection
+from bwtools._sql import plan, pushdown, questions
 from bwtools._sql.lexer import tokens_of
 from bwtools._sql.literals import Constant, evaluate
 from bwtools._sql.parser import parse
-from bwtools._sql.predicates import Comparand
+from bwtools._sql.pushdown import Comparand
 from bwtools._sql.statement import Statement
 from bwtools._sql.syntax import Literal, walk
 from bwtools._sql.tables import Catalog, Table
@@ -165,9 +165,9 @@ class Conditions(OverTable):
             ("at LIKE '2024-05-01 00:00:0_'", "at BETWEEN 1714521600 AND 1714521609")])
         self.assertEqual(self.where("name LIKE '%0'").count(","), 99)
         # each ten texts of a hundred are a run
-        with mock.patch.object(predicates, "MOST_RUNS", 10):
+        with mock.patch.object(pushdown, "MOST_RUNS", 10):
             self.assertEqual(self.where("name GLOB 'n?5?'").count("BETWEEN"), 10)
-        with mock.patch.object(predicates, "MOST_RUNS", 9):
+        with mock.patch.object(pushdown, "MOST_RUNS", 9):
             self.refuse(["name GLOB 'n?5?'"])
         with mock.patch.object(pushdown, "MOST_BYTES", 400):
             self.refuse(["name LIKE '%0'"])
@@ -213,19 +213,19 @@ class Runs(unittest.TestCase):
         for numbers, wanted in [([], "c <> c"), ([3], "c IN (3)"), ([3, 4], "c IN (3, 4)"),
                                 ([3, 4, 5, 6], "c BETWEEN 3 AND 6"),
                                 ([1, 3, 4, 5, 6, 8, 9], "(c BETWEEN 3 AND 6 OR c IN (1, 8, 9))")]:
-            runs = predicates.runs_of(numbers)
-            self.assertEqual((predicates.in_runs(column, runs), sum(map(len, runs))),
+            runs = pushdown.runs_of(numbers)
+            self.assertEqual((pushdown.in_runs(column, runs), sum(map(len, runs))),
                              (wanted, len(numbers)))
 
     def test_a_list_in_memory_has_no_like(self):
         column = Column("c", "c", kinds.Texts(SortedList(("a", "b"))))
-        self.assertEqual(predicates.like(column, "LIKE", "A", None), "c IN (0)")
+        self.assertEqual(pushdown.like(column, "LIKE", "A", None), "c IN (0)")
 
     def test_literals_are_compared_with_each_other(self):
         one, text = (Comparand(None, Constant(None, value)) for value in (Fraction(1), "1"))
-        self.assertEqual(predicates.compared(one, ">", one), "1 = 0")
+        self.assertEqual(pushdown.compared(one, ">", one), "1 = 0")
         with self.assertRaises(Outside):
-            predicates.compared(one, "=", text)
+            pushdown.compared(one, "=", text)
 
 
 # statements, and whether bw answers them by statements
@@ -350,7 +350,7 @@ class Limited(unittest.TestCase):
         for node in walk(tree):
             if isinstance(node, Literal):
                 evaluate(node)
-        return selection.limits_of(tree)
+        return questions.limits_of(tree)
 
     def test_limits(self):
         for text, wanted in [("5", (5, 0)), ("5 OFFSET 2", (5, 2)), ("2, 5", (5, 2)),

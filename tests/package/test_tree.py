@@ -7,7 +7,7 @@ import unittest
 
 import bwtools
 from bwtools._sql.lexer import tokens_of
-from bwtools._sql.operators import RESERVED, Unexpected
+from bwtools._sql.parser import RESERVED, Unexpected
 from bwtools._sql.parser import parse
 from bwtools._sql.statement import Statement
 from bwtools._sql.syntax import children, walk

@@ -7,13 +7,13 @@
 
 The last word is the statement, unless it names a file or a folder, or is
 NAME=FILE. A table has the name of its file or folder, or NAME; a statement
-over one table may call it by any name, if it has no join and no WITH.
+that calls its only table by one name throughout may call it anything.
 
 Any SELECT of SQLite is answered: by proved scans of bw, or else by SQLite over
 the columns that bw lists for it. docs/SQL.md draws the border, and has where
 answers differ from SQLite's. A column is named by its name, or by its heading
-in double quotes. A literal is a text in single quotes, such as 'Boston' or
-'2024-05-01 12:30:00', a number, such as 12.50, or TRUE or FALSE.
+in quotes, as "unit price". A literal is a text in single quotes, such as
+'Boston' or '2024-05-01 12:30:00', a number, such as 12.50, or TRUE or FALSE.
 
 Without a statement, those on standard input are run one after another; each
 ends with a semicolon or the end of the input. Each answer is followed by an

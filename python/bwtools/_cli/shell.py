@@ -5,7 +5,7 @@ import contextlib
 import os
 import pathlib
 import sys
-from typing import Callable, Iterable, Iterator
+from typing import TYPE_CHECKING, Callable, Iterable, Iterator
 
 from .. import command
 from .._output import FORMATS
@@ -13,7 +13,10 @@ from ..failed import Failed
 from ..naming import is_name
 from .._sql.tables import Table
 from ..telling import Refused, counted
-from .asking import Asking, Splitter
+from .statements import Splitter
+
+if TYPE_CHECKING:
+    from .asking import Asking
 
 PROMPT, MORE = "bw> ", "...> "
 KEYWORDS = ("SELECT FROM WHERE GROUP BY HAVING ORDER LIMIT OFFSET DISTINCT COUNT SUM AVG MIN MAX "

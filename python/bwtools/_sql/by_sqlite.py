@@ -10,14 +10,14 @@ from .._engine.executor import Engine
 from .._result import Result, ValueRows
 from ..telling import Refused
 from ..waiting import Waiting
-from .exactness import is_exact, refuse_doubles, refuse_sums, sum_text
 from .listing import Listing
 from .prepare import reads_of, told
 from .pushdown import pushed
-from .render import Renderer
+from .render import Renderer, sum_text
 from .statement import Statement
 from .syntax import Call, Node
 from .tables import Catalog, Table
+from .validate import is_exact, refuse_doubles, refuse_sums
 
 # so many rows are listed without being asked for, and so many conditions' rows are kept
 MOST_ROWS, MOST_CONDITIONS = 4_000_000, 8

@@ -6,19 +6,30 @@ rows of many groups are listed by bw, and counted and added here (`counted`). Su
 counts of distinct values of many are made of rows that bw listed, too."""
 from __future__ import annotations
 
+import contextlib
 import math
+import sqlite3
 from collections import Counter
-from typing import Any, Callable, Mapping, NamedTuple, Optional, Sequence, Tuple
+from typing import Any, Callable, Iterable, Iterator, Mapping, NamedTuple, Optional, Sequence, Tuple
 
 from .. import _aggregation as counted
-from .._aggregation import (NULL_NUMBER, Aggregate, Found, Key, float_total, values_for_sqlite,
-                            values_of)
+from .._aggregation import (AGGREGATES, NULL_NUMBER, Aggregate, Found, Key, TooMany, float_total,
+                            values_for_sqlite, values_of)
 from .._engine.executor import COUNT, Engine, Outside, Totals, added, both, names_of, select
-from .._result import Value, is_long
+from .._result import Limits, Value, ValueRows, affinity, is_long
 from ..column import Column
 from ..failed import Failed
 from ..kind import Kind
+from ..telling import Refused
 from .cost import groups_at_most, is_sqlite_quicker
+from .lexer import quoted_name
+from .pushdown import condition_of, direct_column
+from .questions import aggregate_of, limits_of
+from .resolve import place_of
+from .syntax import (Between, Call, Case, Cast, ColumnName, Comparison, InList, Item, Like, Literal,
+                     Node, NullTest, Operation, Query, Select, Unary)
+from .tables import Table
+from .validate import NO_DOUBLE, refuse_doubles
 
 # so many groups are counted by statements at most, and only if the rows that those scan are no more
 # than so many times the rows that would be listed: which takes as long
@@ -58,7 +69,7 @@ class Wanted(NamedTuple):
         return select(items, self.table, both(self.where, where))
 
 
-class Groups(NamedTuple):
+class GroupValues(NamedTuple):
     """Groups in order: SQLite's values of what makes them, and of each aggregate, for all groups;
     and which of these columns, one after another, are decimals as their integers."""
 
@@ -73,7 +84,7 @@ Coarse = Callable[[Sequence[Sequence[Value]]],
                   Tuple[Sequence[Sequence[Value]], Sequence[int]]]
 
 
-def groups_of(engine: Engine, wanted: Wanted, coarse: Coarse | None = None) -> Groups:
+def groups_of(engine: Engine, wanted: Wanted, coarse: Coarse | None = None) -> GroupValues:
     """Returns the groups of rows; or those that some of them make together, if `coarse` returns
     their columns and the place of each of the groups."""
     found = totals_of(engine, wanted)
@@ -108,7 +119,7 @@ def groups_of(engine: Engine, wanted: Wanted, coarse: Coarse | None = None) -> G
             results.append(of_column(len(made) + len(results), each.column, each.kind,
                                      values_of(each, found.totals), exact,
                                      each.function == "SUM"))
-    return Groups(made, results, exact)
+    return GroupValues(made, results, exact)
 
 
 def of_column(place: int, column: Column | None, kind: Kind | None, numbers: Sequence[Any],
@@ -259,3 +270,382 @@ def doubles_of(engine: Engine, wanted: Wanted, column: Column) -> Mapping[Key, S
     while len(engine.kept) > MOST_KEPT:
         del engine.kept[next(iter(engine.kept))]
     return {(): found} if found else {}
+
+
+# functions whose value depends on nothing but their arguments
+FUNCTIONS = frozenset(
+    "ABS CHAR COALESCE DATE DATETIME HEX IFNULL IIF INSTR JULIANDAY LENGTH LOWER LTRIM NULLIF "
+    "PRINTF QUOTE REPLACE ROUND RTRIM SIGN STRFTIME SUBSTR SUBSTRING TIME TRIM TYPEOF UNICODE "
+    "UPPER".split())
+TYPES = ("INTEGER", "INT", "REAL", "TEXT", "NUMERIC")
+# what names in the table of groups begin with, and the table
+PREFIX = "bw:"
+TABLE = quoted_name(f"{PREFIX}groups")
+
+
+class Group:
+    """What makes groups: a column, or an expression over columns, of which this is the text; and
+    the type of its values if it is a CAST."""
+    __slots__ = ("column", "text", "type")
+
+    def __init__(self, column: Column | None, text: str = "", name: str = "") -> None:
+        self.column, self.text, self.type = column, text, name
+
+
+class GroupText:
+    """Makes the text of expressions over groups, and notes what makes the groups and which
+    aggregates are needed. `are_free` says that any column may make groups, as in SELECT
+    DISTINCT."""
+
+    def __init__(self, table: Table, groups: Iterable[Group] = (), are_free: bool = False) -> None:
+        self.table, self.groups, self.are_free = table, list(groups), are_free
+        self.aggregates: list[Aggregate] = []
+        # what expressions that make groups are called, by their text over columns
+        self.made = {group.text: self.name(place) for place, group in enumerate(self.groups)
+                     if not group.column}
+
+    @property
+    def columns(self) -> list[Column]:
+        """The columns that make groups."""
+        return [group.column for group in self.groups if group.column]
+
+    @property
+    def names(self) -> list[str]:
+        """The names of the columns of the table of groups: of what makes them, and of aggregates.
+        """
+        return [*map(self.name, range(len(self.groups))),
+                *(quoted_name(f"{PREFIX}{place}") for place in range(len(self.aggregates)))]
+
+    @property
+    def kinds(self) -> dict[str, Kind | None]:
+        """The kinds of these columns, by their names."""
+        kinds = [group.column.kind if group.column else None for group in self.groups]
+        return dict(zip(self.names, [*kinds, *(each.kind for each in self.aggregates)]))
+
+    @property
+    def types(self) -> list[str]:
+        """The columns of the table of groups: those that make them, with the type that SQLite
+        compares them by; expressions and aggregates have none."""
+        types = [group.type if not group.column else
+                 "INTEGER" if is_long(group.column) else affinity(group.column.kind)
+                 for group in self.groups]
+        return [f"{name} {typed}" for name, typed
+                in zip(self.names, [*types, *[""] * len(self.aggregates)])]
+
+    def name(self, place: int) -> str:
+        """Returns the name of what makes groups, by its place."""
+        column = self.groups[place].column
+        return quoted_name(f"{PREFIX}{column.name if column else f'group {place}'}")
+
+    def key(self, column: Column) -> str:
+        """Returns the name of a column that makes groups. Raises Outside for another one."""
+        places = [place for place, group in enumerate(self.groups) if group.column is column]
+        if not places and not self.are_free or column not in self.table.columns:
+            raise Outside
+        if not places:
+            self.groups.append(Group(column))
+        return self.name(places[0] if places else len(self.groups) - 1)
+
+    def aggregate(self, call: Call) -> str:
+        """Returns the name of an aggregate's column."""
+        found = aggregate_of(call)
+        if found not in self.aggregates:
+            self.aggregates.append(found)
+        return quoted_name(f"{PREFIX}{self.aggregates.index(found)}")
+
+    def text(self, node: Node) -> str:
+        """Returns the text of an expression. Raises Outside for one that isn't over groups."""
+        if self.made and not isinstance(node, (Literal, ColumnName)):
+            name = self.made.get(text_over_columns(self.table, node) or "")
+            if name:
+                return name
+        if isinstance(node, ColumnName):
+            return self.column(node)
+        if isinstance(node, Literal):
+            if str(node.value).lower() == "now":
+                # of the present moment
+                raise Outside
+            return node.form or node.text
+        if node.form:
+            return node.form
+        if isinstance(node, Call):
+            return self.call(node)
+        return f"({self.operation(node)})"
+
+    def column(self, node: ColumnName) -> str:
+        """Returns the text of a name: what its alias stands for, or a column that makes groups."""
+        if node.item and node.item.expression:
+            return self.text(node.item.expression)
+        if node.output is None and node.name.text.upper() in ("TRUE", "FALSE"):
+            return node.form or node.name.text
+        column = direct_column(node)
+        if not column:
+            raise Outside
+        return self.key(column)
+
+    def call(self, node: Call) -> str:
+        """Returns the text of a call: of an aggregate, or of a function of its arguments alone."""
+        if node.name in AGGREGATES and (len(node.arguments) < 2 or node.name not in ("MIN", "MAX")):
+            return self.aggregate(node)
+        if node.name not in FUNCTIONS or not node.arguments or is_special(node):
+            raise Outside
+        return f"{node.name}({', '.join(map(self.text, node.arguments))})"
+
+    def operation(self, node: Node) -> str:
+        """Returns the text of an operator and its operands."""
+        negated = "NOT " if getattr(node, "is_negated", False) else ""
+        if isinstance(node, Unary):
+            return f"{node.sign} {self.text(node.operand)}"
+        if isinstance(node, Operation) and not any("->" in sign for sign in node.signs):
+            parts = [f" {sign} {self.text(operand)}"
+                     for sign, operand in zip(node.signs, node.operands[1:])]
+            return "".join([self.text(node.operands[0]), *parts])
+        if isinstance(node, Comparison):
+            return f"{self.text(node.left)} {node.sign} {self.text(node.right)}"
+        if isinstance(node, NullTest):
+            return f"{self.text(node.operand)} IS {negated}NULL"
+        if isinstance(node, Between):
+            return f"{self.text(node.operand)} {negated}BETWEEN {self.text(node.low)} AND " \
+                   f"{self.text(node.high)}"
+        if isinstance(node, InList):
+            return f"{self.text(node.operand)} {negated}IN ({self.texts(node.members)})"
+        if isinstance(node, Like) and node.sign in ("LIKE", "GLOB"):
+            escape = f" ESCAPE {self.text(node.escape)}" if node.escape else ""
+            return f"{self.text(node.operand)} {negated}{node.sign} {self.text(node.pattern)}" \
+                   f"{escape}"
+        if isinstance(node, Case):
+            return self.case(node)
+        if isinstance(node, Cast) and node.type in TYPES:
+            return f"CAST({self.text(node.operand)} AS {node.type})"
+        raise Outside
+
+    def texts(self, nodes: Sequence[Node]) -> str:
+        return ", ".join(map(self.text, nodes))
+
+    def case(self, node: Case) -> str:
+        """Returns the text of a CASE."""
+        parts = ["CASE", *([self.text(node.operand)] if node.operand else [])]
+        for when in node.whens:
+            parts.append(f"WHEN {self.text(when.condition)} THEN {self.text(when.result)}")
+        parts += [f"ELSE {self.text(node.otherwise)}"] if node.otherwise else []
+        return " ".join([*parts, "END"])
+
+
+def text_over_columns(table: Table, node: Node) -> str | None:
+    """Returns the text of an expression over columns, which is equal for expressions that mean the
+    same; or None for another expression."""
+    made = GroupText(table, are_free=True)
+    try:
+        text = made.text(node)
+    except Outside:
+        return None
+    return text if made.groups and not made.aggregates else None
+
+
+def is_special(call: Call) -> bool:
+    """Returns whether a call has more than a name and arguments."""
+    return bool(call.is_bare or call.is_star or call.is_distinct or call.filter or call.over
+                or call.orders)
+
+
+class GroupsPlan:
+    """A statement with groups, or with totals of all rows. If an expression makes groups, rows are
+    first grouped by the columns in it (`fine`), and of these groups SQLite makes fewer."""
+
+    def __init__(self, query: Query, select: Select, table: Table) -> None:
+        self.query, self.select, self.table = query, select, table
+        self.fine = GroupText(table, are_free=True)
+        # what makes groups, as expressions over the columns of `fine`
+        self.made: list[str] = []
+        are_free = select.quantifier == "DISTINCT" and not select.groups
+        self.over = GroupText(table, self.groups(), are_free)
+        self.is_in_rows_order = False
+        # the texts of the items, of the terms of ORDER BY, and of HAVING
+        self.shown: list[str] = []
+        self.orders: list[str] = []
+        self.having = ""
+        self.sql = self.statement()
+        self.refuse_mixed()
+        refuse_doubles(query)
+
+    @property
+    def is_coarse(self) -> bool:
+        """Whether an expression makes groups."""
+        return any(group.column is None for group in self.over.groups)
+
+    @property
+    def columns(self) -> list[Column]:
+        """The columns by which rows are grouped."""
+        return self.fine.columns if self.is_coarse else self.over.columns
+
+    def groups(self) -> list[Group]:
+        """Returns what GROUP BY names, each once: columns, and expressions over columns."""
+        found = dict(self.group(each) for each in self.select.groups)
+        self.made = list(found)
+        return list(found.values())
+
+    def group(self, node: Node) -> tuple[str, Group]:
+        """Returns what makes groups, as an expression over the columns of `fine`, and as what it is
+        in the statement."""
+        expression = self.placed(node)
+        while isinstance(expression, ColumnName) and expression.item and \
+                expression.item.expression:
+            expression = expression.item.expression
+        column = direct_column(expression)
+        if column:
+            return self.fine.key(column), Group(column)
+        text = text_over_columns(self.table, expression)
+        if text is None:
+            # what has no column makes one group
+            raise Outside
+        made = self.fine.text(expression)
+        name = expression.type if isinstance(expression, Cast) else ""
+        return made, Group(None, text, name)
+
+    def placed(self, node: Node) -> Node:
+        """Returns the item whose place a literal is, or another expression as it is."""
+        items = self.select.items
+        place = place_of(node, len(self.select.outputs))
+        if place is None:
+            return node
+        if len(items) != len(self.select.outputs):
+            raise Outside
+        expression = items[place].expression
+        if expression is None:
+            raise Outside
+        return expression
+
+    def refuse_mixed(self) -> None:
+        """Raises Outside if groups are missing or surplus: an aggregate makes one group of all
+        rows, HAVING needs one, and DISTINCT columns. Numbers of distinct values of groups don't add
+        up to those of fewer groups."""
+        made, select = self.over, self.select
+        has_aggregates = bool(made.aggregates)
+        if not select.groups and (has_aggregates == bool(made.groups) or
+                                  select.having and not has_aggregates):
+            raise Outside
+        if self.is_coarse and any(each.is_distinct for each in made.aggregates):
+            raise Outside
+
+    def statement(self) -> str:
+        """Returns the statement over the table of groups."""
+        made, is_distinct = self.over, self.select.quantifier == "DISTINCT"
+        items = self.shown = [text for item in self.select.items for text in self.items(item)]
+        sql = f"SELECT {'DISTINCT ' if is_distinct else ''}{', '.join(items)} FROM {TABLE}"
+        if self.select.having:
+            self.having = made.text(self.select.having)
+            sql += f" WHERE {self.having}"
+        orders = self.orders
+        for term in self.query.orders:
+            place = place_of(term.expression, len(items))
+            # not a literal, which would be a place
+            orders.append(items[place] if place is not None else f"+{made.text(term.expression)}"
+                          if isinstance(term.expression, Literal) else made.text(term.expression))
+        if made.are_free:
+            keys = {made.name(place) for place in range(len(made.groups))}
+            self.is_in_rows_order = not set(items) <= keys <= set(orders)
+        if orders:
+            terms = [f"{order} {term.words}" for order, term in zip(orders, self.query.orders)]
+            sql += f" ORDER BY {', '.join([*terms, f'{TABLE}.rowid'])}"
+        return sql
+
+    def items(self, item: Item) -> list[str]:
+        """Returns the expressions that an item is."""
+        if item.expression is None:
+            if not self.over.are_free:
+                raise Outside
+            return [self.over.key(column) for column in self.table.columns]
+        return [self.over.text(item.expression)]
+
+
+class Groups:
+    """Groups, and expressions over them and their totals."""
+
+    def __init__(self, tree: Query, select: Select, table: Table) -> None:
+        self.table, self.plan = table, GroupsPlan(tree, select, table)
+        self.limits, self.where = limits_of(tree), condition_of(select.where)
+        self.sql = self.plan.sql
+        if self.limits != Limits():
+            most = -1 if self.limits.most is None else self.limits.most
+            self.sql += f" LIMIT {most} OFFSET {self.limits.offset}"
+        explain(self.plan.over.types, self.sql)
+        if self.plan.is_coarse:
+            explain(self.plan.fine.types, f"SELECT {', '.join(self.plan.made)} FROM {TABLE}")
+
+    def body(self, engine: Engine, missing: Missing | None = None) -> ValueRows:
+        """Returns the rows that SQLite makes of the groups. Raises Outside if it is quicker over
+        all rows."""
+        made = self.plan.over
+        if self.limits.most == 0:
+            return ValueRows([])
+        wanted = Wanted(self.table.bw_name, self.where, self.plan.columns, made.aggregates,
+                        self.plan.is_in_rows_order, self.plan.is_coarse, missing)
+        try:
+            groups = groups_of(engine, wanted, self.coarse if self.plan.is_coarse else None)
+        except TooMany:
+            if self.plan.is_coarse:
+                raise Outside from None
+            raise
+        exact = [made.names[place] for place in groups.exact]
+        self.refuse_sums(exact)
+        places = [place for place, item in enumerate(self.plan.shown) if item in exact]
+        rows = rows_of(made.types, [*groups.columns, *groups.values], self.sql)[0]
+        return ValueRows(rows, places)
+
+    def kinds(self) -> list[Kind | None]:
+        """Returns the kinds of the columns: those of items that are columns or aggregates."""
+        kinds = self.plan.over.kinds
+        return [kinds.get(item) for item in self.plan.shown]
+
+    def refuse_sums(self, exact: Sequence[str]) -> None:
+        """Rejects a statement that has one of these sums in an expression."""
+        made = self.plan.over
+        texts = [self.plan.having, *(each for each in (*self.plan.shown, *self.plan.orders)
+                                     if each not in exact)]
+        for name, each in zip(made.names[len(made.groups):], made.aggregates):
+            if each.function == "SUM" and name in exact and any(name in text for text in texts):
+                raise Refused(NO_DOUBLE.format(each.totals[0]))
+
+    def coarse(self, columns: Sequence[Sequence[Value]]
+               ) -> tuple[Sequence[Sequence[Value]], Sequence[int]]:
+        """Returns the values of the expressions that make groups, in order, and the place among
+        them of each group that the columns make."""
+        made = self.plan.made
+        items, order = ", ".join(made), ", ".join(str(place + 1) for place in range(len(made)))
+        rows, groups = rows_of(self.plan.fine.types, columns, f"SELECT {items} FROM {TABLE}",
+                               f"SELECT DISTINCT {items} FROM {TABLE} ORDER BY {order}")
+        places = {row: place for place, row in enumerate(groups)}
+        return list(zip(*groups)) if groups else [()] * len(made), [places[row] for row in rows]
+
+
+@contextlib.contextmanager
+def table_of(types: Sequence[str]) -> Iterator[sqlite3.Connection]:
+    """Yields a database that has the table of groups, without rows."""
+    database = sqlite3.connect(":memory:", isolation_level=None)
+    try:
+        database.execute(f"CREATE TABLE {TABLE} ({', '.join(types)})")
+        database.execute("BEGIN")
+        yield database
+    finally:
+        database.close()
+
+
+def rows_of(types: Sequence[str], columns: Sequence[Sequence[Value]],
+            *statements: str) -> list[list[tuple[Value, ...]]]:
+    """Returns the rows of statements over the table of groups of these columns."""
+    try:
+        with table_of(types) as database:
+            database.executemany(f"INSERT INTO {TABLE} VALUES ({', '.join('?' * len(types))})",
+                                 zip(*columns))
+            return [database.execute(sql).fetchall() for sql in statements]
+    except sqlite3.Error as error:
+        raise Refused(str(error)) from None
+
+
+def explain(types: Sequence[str], sql: str) -> None:
+    """Raises Outside if SQLite can't run a statement over the table of groups."""
+    try:
+        with table_of(types) as database:
+            database.execute(f"EXPLAIN {sql}")
+    except sqlite3.Error:
+        raise Outside from None

@@ -13,11 +13,11 @@ from .pushdown import single
 from .statement import Statement
 from .syntax import Call, walk
 from .tables import Table
-from .totals import Totals, totals_of
+from .questions import Totals, totals_of
 
 if TYPE_CHECKING:
-    from .grouping import Groups
-    from .selection import Rows
+    from .groups import Groups
+    from .questions import Rows
 
 EngineOf = Callable[[Table], Engine]
 MissingOf = Callable[[Table, Sequence[Column], int], Optional[int]]
@@ -53,7 +53,7 @@ def question_of(statement: Statement) -> Totals | Rows | Groups:
         return Totals(select, table, totals)
     if select.quantifier or select.groups or select.having or any(
             isinstance(node, Call) and node.name in AGGREGATES for node in walk(tree)):
-        from .grouping import Groups
+        from .groups import Groups
         return Groups(tree, select, table)
-    from .selection import Rows
+    from .questions import Rows
     return Rows(tree, select, table)

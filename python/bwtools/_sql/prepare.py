@@ -14,7 +14,7 @@ from ..column import Column
 from ..naming import RESERVED
 from ..telling import Refused
 from .lexer import Token, quoted_name
-from .words import MOMENTS
+from .lexer import MOMENTS
 from .resolve import HIDDEN
 from .syntax import Call, ColumnName, Node, Query, Row, Select, Window, walk
 from .tables import Catalog, missing

@@ -1,18 +1,248 @@
 """Translates a condition to one over a table's numbers, which bw evaluates. It may have AND, OR and
 NOT; comparisons, BETWEEN and IN of columns and literals; LIKE and GLOB of a column and a text;
 tests of nulls and truths; and columns of numbers or booleans, and numbers, which are TRUE if they
-aren't 0. All else is outside."""
+aren't 0. All else is outside.
+
+A literal that no row can have is compared correctly: it is between two numbers, so `< 12.505` is
+`<= 1250` on hundredths. A condition that is FALSE for each value becomes `x <> x`, and one that is
+TRUE becomes `x = x`: both are UNKNOWN if x is null, as the original is."""
 from __future__ import annotations
+
+import operator
+import sqlite3
+from typing import TYPE_CHECKING, Any, Callable, Iterable, Sequence, Union
 
 from .. import _result as values
 from .._engine.executor import Outside
 from ..column import Column
+from ..kind import GREATEST, LEAST
+from ..stored_list import StoredList
 from .lexer import TEXT
 from .literals import Constant, constant_of
-from .predicates import Comparand, among, between, compared, like
 from .syntax import (Between, ColumnName, Comparison, InList, InQuery, Like, Literal, Node,
                      NullTest, Operation, Query, Select, Subquery, TableSource, Unary, walk)
 from .tables import Table
+
+if TYPE_CHECKING:
+    from fractions import Fraction
+
+SWAPPED = {"<": ">", ">": "<", "<=": ">=", ">=": "<=", "=": "=", "<>": "<>"}
+# of two texts or of two numbers
+MEANING: dict[str, Callable[[Any, Any], bool]] = {
+    "<": operator.lt, ">": operator.gt, "<=": operator.le, ">=": operator.ge, "=": operator.eq,
+    "<>": operator.ne}
+UNKNOWN, TRUE, FALSE = "NULL = NULL", "1 = 1", "1 = 0"
+# in how many runs the codes of a condition may be that have more than so many numbers, how many
+# values a column may have that is compared with one of another scale, and how many days or times
+# LIKE may choose from
+MOST_RUNS, SHORT, MOST_VALUES, MOST_MOMENTS = 200, 3, 100, 50_000
+
+
+class Comparand:
+    """An operand of a comparison: a column, or a literal, or neither, which is NULL."""
+
+    def __init__(self, column: Column | None = None, constant: Constant | None = None) -> None:
+        self.column, self.constant = column, constant
+
+    @property
+    def value(self) -> Union[str, Fraction, None]:
+        """The value of a literal, or None."""
+        value = self.constant.value if self.constant else None
+        assert not isinstance(value, bytes)
+        return value
+
+    @property
+    def is_null(self) -> bool:
+        return self.column is None and self.value is None
+
+
+def never(column: Column) -> str:
+    return f"{column.name} <> {column.name}"
+
+
+def always(column: Column) -> str:
+    return f"{column.name} = {column.name}"
+
+
+def place_of(column: Column, literal: Comparand) -> tuple[int, bool]:
+    """Returns the place of a literal among the numbers of a column: the greatest number whose value
+    is at most the literal's, and whether they are equal."""
+    constant = literal.constant
+    value = constant.beside(column) if constant else None
+    assert constant and value is not None and not isinstance(value, bytes)
+    place = column.kind.place(value)
+    if place is None:
+        raise Outside
+    if constant.is_integer and column.kind.plural == "floats":
+        # an integer is compared with doubles as it is
+        from fractions import Fraction
+        double = Fraction(float(value))
+        if isinstance(value, Fraction) and double != value:
+            return place[0] - (place[1] and double > value), False
+    return place
+
+
+def compared(left: Comparand, sign: str, right: Comparand) -> str:
+    """Returns a comparison over numbers."""
+    if left.is_null or right.is_null:
+        return UNKNOWN
+    if left.column and right.column:
+        return columns_compared(left.column, sign, right.column)
+    if right.column:
+        return compared(right, SWAPPED[sign], left)
+    if left.column:
+        return placed(left.column, sign, *place_of(left.column, right))
+    if isinstance(left.value, str) != isinstance(right.value, str):
+        raise Outside
+    return TRUE if MEANING[sign](left.value, right.value) else FALSE
+
+
+def placed(column: Column, sign: str, number: int, is_exact: bool) -> str:
+    """Returns the comparison of a column with a literal whose place is known."""
+    if number < LEAST:
+        return always(column) if sign in (">", ">=", "<>") else never(column)
+    if number > GREATEST:
+        return always(column) if sign in ("<", "<=", "<>") else never(column)
+    if is_exact:
+        return f"{column.name} {sign} {number}"
+    if sign in ("=", "<>"):
+        return never(column) if sign == "=" else always(column)
+    return f"{column.name} {'<=' if sign in ('<', '<=') else '>'} {number}"
+
+
+def columns_compared(left: Column, sign: str, right: Column) -> str:
+    """Returns the comparison of two columns: of their numbers, if equal ones are equal values, else
+    value by value."""
+    if left is right or left.kind.alike(right.kind) or right.kind.alike(left.kind):
+        return f"{left.name} {sign} {right.name}"
+    affinities = {values.affinity(each.kind) for each in (left, right)}
+    if values.TEXT in affinities:
+        raise Outside
+    few, other = left, right
+    if len(range_of(right)) < len(range_of(left)):
+        few, other, sign = right, left, SWAPPED[sign]
+    if len(range_of(few)) > MOST_VALUES:
+        raise Outside
+    from fractions import Fraction
+
+    from .._result import stored
+    terms = [never(left), never(right)]
+    for number, value in zip(range_of(few), stored(few.kind, range_of(few))):
+        constant = Constant(None, Fraction(repr(value)))
+        part = placed(other, SWAPPED[sign], *place_of(other, Comparand(None, constant)))
+        terms.append(f"{few.name} = {number} AND {part}")
+    return f"({' OR '.join(terms)})"
+
+
+def range_of(column: Column) -> range:
+    """Returns the numbers of a column from its minimum to its maximum, of which some may not
+    occur."""
+    if column.kind.listed is not None or column.kind.name == "truths":
+        return range(len(column.kind.listed or "01"))
+    numbers = [column.kind.number(end) for end in column.ends]
+    if not numbers or None in numbers:
+        raise Outside
+    least, greatest = numbers
+    assert least is not None and greatest is not None
+    return range(least, greatest + 1) if greatest - least < GREATEST else range(GREATEST)
+
+
+def between(operand: Comparand, low: Comparand, high: Comparand) -> str:
+    """Returns a BETWEEN over numbers: one BETWEEN, if its ends are literals that have a place, or
+    else two comparisons in brackets."""
+    if operand.column and low.value is not None and high.value is not None:
+        least, is_exact = place_of(operand.column, low)
+        least, greatest = least if is_exact else least + 1, place_of(operand.column, high)[0]
+        if LEAST <= least <= GREATEST and LEAST <= greatest <= GREATEST:
+            return f"{operand.column.name} BETWEEN {least} AND {greatest}"
+    return f"({compared(operand, '>=', low)} AND {compared(operand, '<=', high)})"
+
+
+def among(column: Column, members: Sequence[Comparand]) -> str:
+    """Returns an IN over numbers, without the members that the column can't have."""
+    kept, others = list[str](), list[str]()
+    for member in members:
+        if member.is_null:
+            kept.append("NULL")
+        elif member.column:
+            others.append(columns_compared(column, "=", member.column))
+        else:
+            number, is_exact = place_of(column, member)
+            if is_exact and LEAST <= number <= GREATEST:
+                kept.append(str(number))
+    if kept:
+        others.append(f"{column.name} IN ({', '.join(dict.fromkeys(kept))})")
+    if len(others) > 1:
+        return f"({' OR '.join(others)})"
+    return others[0] if others else never(column)
+
+
+def like(column: Column, sign: str, pattern: str, escape: str | None) -> str:
+    """Returns a LIKE or GLOB as the runs of numbers whose values match it, by SQLite itself."""
+    words = f"WHERE value {sign} ?{'' if escape is None else ' ESCAPE ?'} ORDER BY code"
+    wanted = (pattern,) if escape is None else (pattern, escape)
+    try:
+        return runs_like(column, words, wanted)
+    except sqlite3.Error:
+        # it has the message where it is asked itself
+        raise Outside from None
+
+
+def runs_like(column: Column, words: str, wanted: tuple[str, ...]) -> str:
+    """Returns the runs of numbers of which the values fulfil an SQL condition."""
+    if column.kind.name == "texts" and isinstance(column.kind.listed, StoredList):
+        count = len(column.kind.listed)
+        codes: Iterable[int] = [code for code, _ in column.kind.listed.rows(words, wanted)]
+    elif values.affinity(column.kind) == values.TEXT:
+        numbers = range_of(column)
+        if len(numbers) > MOST_MOMENTS:
+            raise Outside
+        count, codes = len(numbers), matching(column, numbers, words, wanted)
+    else:
+        raise Outside
+    runs = runs_of(codes)
+    if sum(len(run) > SHORT for run in runs) > MOST_RUNS:
+        raise Outside
+    if sum(len(run) for run in runs) == count:
+        return always(column)
+    return in_runs(column, runs)
+
+
+def matching(column: Column, numbers: range, words: str, wanted: tuple[str, ...]) -> list[int]:
+    """Returns the numbers of a column whose values fulfil an SQL condition."""
+    from .._result import stored
+    database = sqlite3.connect(":memory:")
+    try:
+        database.execute("CREATE TABLE listed (code INTEGER PRIMARY KEY, value TEXT)")
+        database.executemany("INSERT INTO listed VALUES (?, ?)",
+                             zip(numbers, stored(column.kind, numbers)))
+        found = database.execute(f"SELECT code FROM listed {words}", wanted)
+        return [code for code, in found]
+    finally:
+        database.close()
+
+
+def runs_of(numbers: Iterable[int]) -> list[range]:
+    """Returns ascending numbers as runs of those that follow one another."""
+    runs = list[range]()
+    for number in numbers:
+        if runs and number == runs[-1].stop:
+            runs[-1] = range(runs[-1].start, number + 1)
+        else:
+            runs.append(range(number, number + 1))
+    return runs
+
+
+def in_runs(column: Column, runs: Sequence[range]) -> str:
+    """Returns the condition that a column has a number of one of these runs. Those of short ones
+    are in one list, which bw searches in a time that hardly depends on its length."""
+    listed = [str(number) for run in runs if len(run) <= SHORT for number in run]
+    terms = [f"{column.name} BETWEEN {run.start} AND {run.stop - 1}" for run in runs
+             if len(run) > SHORT]
+    if listed:
+        terms.append(f"{column.name} IN ({', '.join(listed)})")
+    return f"({' OR '.join(terms)})" if len(terms) > 1 else terms[0] if terms else never(column)
+
 
 # how deep a condition may be: bw has a limit of 100, and one over numbers has more brackets
 MOST_DEPTH = 30

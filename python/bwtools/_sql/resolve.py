@@ -3,15 +3,16 @@ an expression a column or an alias of its SELECT, or of one around it. Names tha
 left to SQLite, which has the message; a table must be known."""
 from __future__ import annotations
 
-from typing import Iterable, Iterator, Sequence
+from typing import Sequence
 
 from .. import kinds
 from .._aggregation import kind_of_sum
 from ..column import Column
 from ..kind import Kind
 from ..telling import Refused
-from .syntax import (Call, ColumnName, CommonQuery, Item, Literal, Name, NestedSources, Node, Query,
-                     QuerySource, Select, Source, Subquery, TableSource, Unary, bare, children)
+from .syntax import (Call, ColumnName, Common, FromItem, Item, Literal, Name, NestedSources, Node,
+                     Output, Query, QuerySource, Scope, Select, Source, Subquery, TableSource,
+                     Unary, bare, children)
 from .tables import Catalog, missing
 
 # how the names of SQLite's own tables begin
@@ -19,93 +20,6 @@ HIDDEN = ("sqlite_", "pragma_")
 # the quotes of a name that may be a heading
 QUOTES = ('"', "`", "[")
 TOTALS, ROWIDS = ("COUNT", "SUM", "AVG", "TOTAL"), ("rowid", "oid", "_rowid_")
-
-
-class Output:
-    """A column of a table or of a query's result: its name, its heading, and the column of a table
-    whose values it has, or None for another expression. A total has a column of its own, which no
-    table has: its kind says what the total can be compared with."""
-    __slots__ = ("name", "heading", "column", "is_total")
-
-    def __init__(self, name: str, heading: str, column: Column | None,
-                 is_total: bool = False) -> None:
-        self.name, self.heading, self.column, self.is_total = name, heading, column, is_total
-
-    @property
-    def kind(self) -> Kind | None:
-        """The kind of its values in a result: a column's, or decimals of a sum of them."""
-        if self.column and (not self.is_total or self.column.kind.name == "decimals"):
-            return self.column.kind
-        return None
-
-    @property
-    def plain(self) -> Column | None:
-        """The table's column of which it has values."""
-        return None if self.is_total else self.column
-
-    def called(self, name: str, heading: str = "") -> Output:
-        """Returns it with another name, which is its heading as well unless one is given."""
-        return Output(name, heading or name, self.column, self.is_total)
-
-
-class FromItem:
-    """A table or a query that FROM names: the name by which columns are qualified, its columns, and
-    those among them, in lower case, that `*` leaves out since a source before has them."""
-
-    def __init__(self, name: str, outputs: Sequence[Output],
-                 merged: Iterable[str] = ()) -> None:
-        self.name, self.outputs, self.merged = name, outputs, set(merged)
-        self.named: dict[str, Output] = {}
-        for output in outputs:
-            self.named.setdefault(output.name.lower(), output)
-
-
-class Common:
-    """A query of WITH, all those that it may read from, and the scope around its WITH."""
-
-    def __init__(self, node: CommonQuery, commons: dict[str, Common], outer: Scope | None) -> None:
-        self.node, self.commons, self.outer = node, commons, outer
-        self.is_begun = False
-
-
-class Scope:
-    """Where the names of a SELECT are looked for: what it reads from, the items that have aliases,
-    and the SELECT around it. `commons` are the queries of WITH that it may read from."""
-
-    def __init__(self, outer: Scope | None, commons: dict[str, Common],
-                 sources: Sequence[FromItem] = ()) -> None:
-        self.outer, self.commons, self.sources = outer, commons, list(sources)
-        # by their names in lower case; items themselves can't name them
-        self.aliases: dict[str, tuple[Output, Item]] = {}
-        # columns of USING that several sources have values of, and the pairs that are compared
-        self.joined: dict[str, Output] = {}
-        self.pairs: list[tuple[Output, Output]] = []
-
-    def each(self, qualifier: str) -> Iterator[FromItem]:
-        """Yields the sources of a name, or all."""
-        for source in self.sources:
-            if not qualifier or source.name.lower() == qualifier.lower():
-                yield source
-
-    def column(self, name: str, qualifier: str) -> Output | None:
-        """Returns the column of a name, or None."""
-        key = name.lower()
-        if not qualifier and key in self.joined:
-            return self.joined[key]
-        return next((source.named[key] for source in self.each(qualifier) if key in source.named),
-                    None)
-
-    def headed(self, heading: str, qualifier: str) -> list[Output]:
-        """Returns the columns of tables that have a heading and go by their own names."""
-        return [output for source in self.each(qualifier) for output in source.outputs
-                if output.plain and output.plain.heading == heading
-                and output.name == output.plain.name]
-
-    def names(self) -> list[str]:
-        """Returns all names of columns that mean something."""
-        found = [output.name for source in self.sources for output in source.outputs]
-        found += [output.name for output, _ in self.aliases.values()]
-        return found + (self.outer.names() if self.outer else [])
 
 
 def resolve(tree: Query, catalog: Catalog, written: str) -> None:

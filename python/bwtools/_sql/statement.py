@@ -6,12 +6,12 @@ from typing import Any, Mapping, Sequence, Union
 from ..telling import Refused
 from .lexer import END, Token, tokens_of
 from .literals import bind, evaluate
-from .operators import MOST_DEPTH, Unexpected
+from .parser import MOST_DEPTH, Unexpected
 from .parser import parse
 from .prepare import Emptied
 from .render import Renderer
-from .resolve import Output, resolve
-from .syntax import Literal, walk
+from .resolve import resolve
+from .syntax import Literal, Output, walk
 from .tables import Catalog
 from .validate import validate
 

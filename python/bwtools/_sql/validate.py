@@ -7,16 +7,18 @@ from __future__ import annotations
 
 from typing import Iterator, Sequence
 
-from .._result import MOMENTS, TEXT, affinity, plain_of
+from .. import _aggregation
+from .._result import MOMENTS, TEXT, affinity, is_long, plain_of
 from ..column import Column
 from ..kind import Literal as Value
 from ..naming import option
 from ..telling import Refused
 from .lexer import TEXT as TEXT_TOKEN
 from .literals import Constant, constant_of, form_of
-from .resolve import Output, column_of, meaning, place_of
-from .syntax import (Between, Call, Case, Comparison, InList, Like, Literal, Node, Operation,
-                     OrderTerm, Query, Row, Select, Source, Unary, Window, bare, children)
+from .resolve import column_of, meaning, place_of
+from .syntax import (Between, Call, Case, ColumnName, Comparison, InList, InQuery, Item, Like,
+                     Literal, Node, NullTest, Operation, OrderTerm, Output, Query, Row, Select,
+                     Source, Subquery, TableSource, Unary, Window, bare, children)
 
 ARITHMETIC = ("+", "-", "*", "/", "%")
 EQUAL = ("=", "<>", "IS", "IS NOT", "IN", "CASE")
@@ -259,3 +261,88 @@ def refuse_moments(left: Column, right: Column) -> None:
     if all(kind.name in MOMENTS for kind in kinds) and not kinds[0].alike(kinds[1]):
         raise Refused(f"{left.name} and {right.name} can't be compared: "
                       f"{held(left)}, {held(right)}, and equal texts mean different values")
+
+
+# --- decimals whose digits a double doesn't hold, which SQLite has as integers
+
+NO_DOUBLE = ("{} has decimals of more than 15 digits, and an expression computes with doubles, "
+             "which have fewer: list, compare, group, count or sum the column")
+
+
+def is_exact(output: Output | None) -> bool:
+    """Returns whether SQLite has the values of a column as integers."""
+    return output is not None and output.plain is not None and is_long(output.plain)
+
+
+def digits_of(output: Output | None) -> int:
+    """Returns how many digits the values of a column have after the point in SQLite's integers, or
+    -1 if it has doubles."""
+    return _aggregation.digits_of(output.plain.kind) if output and output.plain and \
+        is_exact(output) else -1
+
+
+def refuse_doubles(tree: Query) -> None:
+    """Raises Refused if a statement computes with the double of decimals of many digits."""
+    for node in resolved(tree):
+        allowed = set(allowed_in(node))
+        for child in children(node):
+            found = meaning(child)
+            if found and is_exact(found) and child not in allowed:
+                raise no_double(found)
+        pairs = list[tuple[Output, Output]]()
+        if isinstance(node, Query):
+            pairs += [(found, output) for select in node.selects
+                      for found, output in zip(select.outputs, node.outputs)]
+        if isinstance(node, Select) and node.scope:
+            pairs += node.scope.pairs
+        if isinstance(node, InQuery):
+            operand = meaning(node.operand) or Output("", "", None)
+            pairs += [(operand, output) for output in outputs_of(node)]
+        for one, other in pairs:
+            if digits_of(one) != digits_of(other):
+                raise no_double(one if is_exact(one) else other)
+
+
+def no_double(output: Output) -> Refused:
+    return Refused(NO_DOUBLE.format(output.plain.name if output.plain else output.name))
+
+
+def outputs_of(node: InQuery) -> list[Output]:
+    """Returns the columns of the query or the table in which IN looks."""
+    if node.query:
+        return node.query.outputs
+    table = node.source.table if node.source else None
+    return [Output(each.name, each.name, each) for each in table.columns] if table else []
+
+
+def allowed_in(node: Node) -> Iterator[Node]:
+    """Yields the children of a node that may be integers in place of decimals."""
+    if isinstance(node, (Item, OrderTerm, NullTest, InQuery, Select, Source, Query, TableSource)):
+        yield from children(node)
+    elif isinstance(node, Window):
+        yield from node.partitions
+    elif isinstance(node, Operation) and node.signs[0] in ("AND", "OR") or \
+            isinstance(node, Unary) and node.sign == "NOT":
+        yield from children(node)
+    elif isinstance(node, Call) and not node.over and len(node.arguments) == 1 and (
+            node.name in ("COUNT", "SUM", "AVG") or
+            node.name in ("MIN", "MAX") and not node.filter):
+        yield from node.arguments
+    for left, _, right in comparisons(node):
+        found = [meaning(left), meaning(right)]
+        constants = [constant_of(each) for each in (left, right)]
+        if digits_of(found[0]) == digits_of(found[1]) or constants[0] or constants[1]:
+            yield from (left, right)
+
+
+def refuse_sums(tree: Query) -> None:
+    """Raises Refused if a statement has a sum of decimals anywhere but as an item of its result, or
+    as a term of its order: the sum has more digits than a double."""
+    plain = list[Node]()
+    if len(tree.selects) == 1:
+        plain = [item.expression for item in tree.selects[0].items if item.expression]
+        plain += [term.expression for term in tree.orders]
+    for node in resolved(tree):
+        found = meaning(node) if isinstance(node, (Call, ColumnName, Subquery)) else None
+        if found and found.is_total and found.kind and not any(node is each for each in plain):
+            raise Refused(NO_DOUBLE.format(found.name))
