@@ -1,6 +1,7 @@
 """Results are exact, to the last digit, and each reader has its own place; what ends a statement
 costs that statement alone."""
 import contextlib
+import datetime
 import decimal
 import gc
 import importlib.util
@@ -148,6 +149,17 @@ class Exact(Results):
                 self.assertEqual(dict(connection.execute(sql).fetchall()), wanted)
             with self.assertRaisesRegex(bwtools.ProgrammingError, "more than 15 digits"):
                 connection.execute("SELECT SUM(p) + 1 FROM sums, (SELECT 1)")
+
+    def test_a_filter_changes_no_type(self):
+        self.assertEqual(
+            self.rows("SELECT SUM(n) FILTER (WHERE g = 'a'), MAX(n) FILTER (WHERE g = 'b'), "
+                      "AVG(n) FILTER (WHERE id = 1), SUM(DISTINCT n), SUM(ALL n) FROM long"),
+            [(D("2469135780.24691357"), D("1234567890.12345680"), 1234567890.1234567,
+              D("3703703670.37037036"), D("3703703670.37037036"))])
+        self.assertEqual(
+            self.rows("SELECT SUM(price) FILTER (WHERE paid), MIN(day) FILTER (WHERE NOT paid), "
+                      "COUNT(price) FILTER (WHERE paid) FROM shop"),
+            [(D("2.80"), datetime.date(2024, 2, 1), 2)])
 
     def test_integers_as_bytes_are_in_order(self):
         numbers = [-(1 << 120), -(1 << 64), -5, 0, 7, 1 << 63, 1 << 100]
