@@ -10,6 +10,7 @@ from __future__ import annotations
 
 import argparse
 import csv
+import datetime
 import importlib
 import os
 import pathlib
@@ -33,8 +34,31 @@ GROUPS = {size: f"SELECT {name}, COUNT(*), SUM(cents) FROM numbers GROUP BY {nam
           for size, name in ((22, "g"), (256, "h"))}
 # about a tenth of a million rows, by what only SQLite does
 WAY_2 = "SELECT id % 7, AVG(length(word)) FROM texts WHERE id <= 100000 GROUP BY id % 7 ORDER BY 1"
+# of a million rows, each beside sqlite3: a pivot has twelve sums
+PIVOT = ", ".join(f"SUM(CASE WHEN cents / 8400 = {month} THEN cents ELSE 0 END) AS m{month}"
+                  for month in range(12))
+QUESTIONS = {
+    "GROUP BY strftime('%H', at)":
+        "SELECT strftime('%H', at), COUNT(*) FROM trips GROUP BY strftime('%H', at)",
+    "GROUP BY strftime('%Y', at), SUM":
+        "SELECT strftime('%Y', at), SUM(cents) FROM trips GROUP BY strftime('%Y', at)",
+    "GROUP BY date(at)": "SELECT date(at), COUNT(*) FROM trips GROUP BY date(at)",
+    "GROUP BY strftime('%Y-%m', day)":
+        "SELECT strftime('%Y-%m', day), COUNT(*) FROM trips GROUP BY strftime('%Y-%m', day)",
+    "GROUP BY ROUND(score, 1)": "SELECT ROUND(score, 1), COUNT(*) FROM trips GROUP BY 1",
+    "GROUP BY id % 10": "SELECT id % 10, COUNT(*) FROM trips GROUP BY id % 10",
+    "DISTINCT city, product": "SELECT DISTINCT city, product FROM trips",
+    "GROUP BY customer, day":
+        "SELECT customer, day, COUNT(*) FROM trips GROUP BY customer, day",
+    "GROUP BY score": "SELECT score, COUNT(*) FROM trips GROUP BY score",
+    "AVG(score)": "SELECT AVG(score) FROM trips",
+    "12 SUM(CASE)": f"SELECT city, {PIVOT} FROM trips GROUP BY city",
+    "LIMIT 10 OFFSET 900000": "SELECT id, city, cents FROM trips LIMIT 10 OFFSET 900000"}
 # DuckDB gets what a CSV has, with its own guess of kinds
 DUCK = "CREATE TABLE {name} AS SELECT * FROM read_csv_auto('{raw}', header = true)"
+# of the columns that aren't whole numbers
+TYPES = {"word": "TEXT", "note": "TEXT", "day": "TEXT", "at": "TEXT", "city": "TEXT",
+         "product": "TEXT", "score": "REAL"}
 # the questions' figures for a picture: a title, and the times of each program
 Drawn = List[Tuple[str, Dict[str, float]]]
 
@@ -60,7 +84,10 @@ def add_options(parser: argparse.ArgumentParser) -> None:
     """Adds the options of this comparison."""
     parser.add_argument("--texts", type=int, default=1_440_000, metavar="N",
                         help="rows with texts (default: %(default)s)")
-    parser.add_argument("--only", choices=["count", "top", "groups", "border", "way2"])
+    parser.add_argument("--only",
+                        choices=["count", "top", "groups", "border", "way2", "questions"])
+    parser.add_argument("--trips", type=int, default=1_000_000, metavar="N",
+                        help="rows of the questions (default: %(default)s)")
     parser.add_argument("--svg", type=pathlib.Path, metavar="FILE", help="draw the figures")
 
 
@@ -87,14 +114,26 @@ def write_texts(path: pathlib.Path, rows: int) -> None:
             out.write(f'{place},word {word},"{chance.choice(notes)}"\n')
 
 
+def write_trips(path: pathlib.Path, rows: int) -> None:
+    """Writes drawn rows of texts, dates, times, floats and whole numbers."""
+    chance, start = random.Random(7), datetime.datetime(2020, 1, 1)
+    with open(path, "w", encoding="ascii") as out:
+        out.write("id,customer,day,at,city,product,score,cents\n")
+        for place in range(1, rows + 1):
+            at = start + datetime.timedelta(seconds=chance.randrange(4 * 365 * 86400))
+            day = start + datetime.timedelta(days=chance.randrange(1400))
+            out.write(f"{place},{chance.randrange(50_000)},{day:%Y-%m-%d},{at},"
+                      f"city {chance.randrange(300):03},product {chance.randrange(400):03},"
+                      f"{chance.gauss(50, 20)!r},{chance.randrange(100_000)}\n")
+
+
 def write_database(path: pathlib.Path, raw: pathlib.Path, name: str) -> None:
     """Writes a database of sqlite3 with the rows of a CSV."""
     path.unlink(missing_ok=True)
     with sqlite3.connect(path) as database, open(raw, encoding="utf-8", newline="") as file:
         records = csv.reader(file)
         columns = next(records)
-        typed = ", ".join(f"{column} {'TEXT' if column in ('word', 'note') else 'INTEGER'}"
-                          for column in columns)
+        typed = ", ".join(f"{column} {TYPES.get(column, 'INTEGER')}" for column in columns)
         database.execute(f"CREATE TABLE {name} ({typed})")
         database.executemany(f"INSERT INTO {name} VALUES ({', '.join('?' * len(columns))})",
                              records)
@@ -119,6 +158,19 @@ def make(folder: pathlib.Path, name: str, write: Callable[[pathlib.Path, int], N
             database.execute(DUCK.format(name=name, raw=raw))
 
 
+def children() -> List[str]:
+    """Returns the numbers of the processes that this one has started, which still run."""
+    own = pathlib.Path(f"/proc/{os.getpid()}/task/{os.getpid()}/children")
+    return own.read_text(encoding="ascii").split()
+
+
+def ticks_of(process_number: str) -> int:
+    """Returns the processor time of a process in ticks."""
+    stat = pathlib.Path(f"/proc/{process_number}/stat")
+    fields = stat.read_text(encoding="ascii").rsplit(")", 1)[1].split()
+    return int(fields[11]) + int(fields[12])
+
+
 class Clock:
     """The wall time and the processor's, of this process, of those that it has waited for, and of
     the sessions of connections."""
@@ -131,12 +183,8 @@ class Clock:
         own = [resource.getrusage(which)
                for which in (resource.RUSAGE_SELF, resource.RUSAGE_CHILDREN)]
         processor = sum(each.ru_utime + each.ru_stime for each in own)
-        for connection in self.connections:
-            for engine in connection.engines.values():
-                for session in engine.asker.sessions.sessions:
-                    stat = pathlib.Path(f"/proc/{session.process.pid}/stat")
-                    fields = stat.read_text(encoding="ascii").rsplit(")", 1)[1].split()
-                    processor += (int(fields[11]) + int(fields[12])) / os.sysconf("SC_CLK_TCK")
+        if self.connections:
+            processor += sum(map(ticks_of, children())) / os.sysconf("SC_CLK_TCK")
         return time.perf_counter(), processor
 
     def time(self, name: str, work: Callable[[], Any], runs: int = RUNS) -> Figure:
@@ -284,6 +332,32 @@ def time_way_2(folder: pathlib.Path, drawn: Drawn) -> None:
         Clock().time("sqlite3", lambda: database.execute(WAY_2).fetchall())], drawn)
 
 
+def time_questions(folder: pathlib.Path) -> None:
+    """Times questions by the processor beside sqlite3: the first time on a connection that has only
+    counted, which lists the columns, and again."""
+    database, clock = sqlite3.connect(folder / "trips.db"), Clock()
+
+    def lines() -> Iterator[Sequence[str]]:
+        for name, sql in QUESTIONS.items():
+            theirs = clock.time(name, lambda: len(database.execute(sql).fetchall()))
+            with connect(folder / "trips.bw") as connection:
+                ours = Clock(connection)
+                for bound in (5, 6):
+                    connection._database.answer(f"SELECT COUNT(*) FROM trips WHERE id > {bound}")
+                count = answer(connection, sql)
+                first = ours.time(name, lambda: len(count()), 1)
+                again = ours.time(name, lambda: len(count()))
+                way = connection._database.answer(sql).way
+            agree(name, [theirs.answer, first.answer, again.answer])
+            yield [f"`{name}`", f"{theirs.processor * 1000:,.0f}",
+                   f"{first.processor * 1000:,.0f}", f"{first.processor / theirs.processor:.1f}",
+                   f"{again.processor * 1000:,.0f}", f"{again.processor / theirs.processor:.1f}",
+                   str(way)]
+    show("Questions over a million rows, processor ms",
+         ["Question", "sqlite3", "first time", "times sqlite3", "again", "times sqlite3", "way"],
+         lines())
+
+
 def connect(path: pathlib.Path) -> Any:
     """Returns a connection to a table or a folder of shards."""
     return importlib.import_module("bwtools").connect(path)
@@ -310,6 +384,7 @@ def measure(given: argparse.Namespace) -> None:
     drawn: Drawn = []
     make(folder, "texts", write_texts, given.texts)
     make(folder, "numbers", write_numbers, given.rows)
+    make(folder, "trips", write_trips, given.trips)
     print(f"{given.rows:,} rows of whole numbers, {given.texts:,} of texts; SQLite "
           f"{sqlite3.sqlite_version}, Python {sys.version.split()[0]}.\n")
     missing = [name for name in ("pandas", "duckdb") if not installed(name)]
@@ -320,7 +395,8 @@ def measure(given: argparse.Namespace) -> None:
         "top": lambda: time_top_ten(folder, drawn),
         "groups": lambda: time_groups(folder, drawn),
         "border": lambda: time_border(folder),
-        "way2": lambda: time_way_2(folder, drawn)}
+        "way2": lambda: time_way_2(folder, drawn),
+        "questions": lambda: time_questions(folder)}
     for part, work in parts.items():
         if given.only in (None, part):
             work()
