@@ -9,10 +9,8 @@ from __future__ import annotations
 import contextlib
 import functools
 import itertools
-import sqlite3
-from array import array
 from collections import Counter
-from typing import (TYPE_CHECKING, Any, Callable, Iterable, Iterator, Mapping, NamedTuple, Optional,
+from typing import (TYPE_CHECKING, Any, Callable, Iterable, Iterator, Mapping, Optional,
                     Sequence, Tuple)
 
 from ._engine.executor import COUNT, added
@@ -27,6 +25,9 @@ from .telling import Refused
 from .valued import Valued
 
 if TYPE_CHECKING:
+    import sqlite3
+    from array import array
+
     from ._engine.executor import Part
 
 AGGREGATES = ("COUNT", "SUM", "MIN", "MAX", "AVG")
@@ -154,12 +155,13 @@ def values_for_sqlite(kind: Kind, numbers: Sequence[int | None], is_sum: bool = 
     return [None if number is None else found.get(number) for number in numbers], False
 
 
-class Found(NamedTuple):
+class Found:
     """Groups: the numbers of each column that makes them, and the totals of each group by their
     names, such as SUM(cents). All lists have the groups' order."""
 
-    columns: Sequence[Sequence[int]]
-    totals: Mapping[str, Sequence[int | None]]
+    def __init__(self, columns: Sequence[Sequence[int]],
+                 totals: Mapping[str, Sequence[int | None]]) -> None:
+        self.columns, self.totals = columns, totals
 
     @property
     def keys(self) -> list[Key]:
@@ -288,6 +290,7 @@ def totals(parts: Sequence[Part], keys: int, functions: Mapping[str, Sequence[st
 
 def doubles_in(parts: Sequence[Part], kind: Kind) -> array[float]:
     """Returns the doubles of a column, which is the only one and has no nulls."""
+    from array import array
     found, plain = array("d"), undressed(kind)
     gap: int | None = getattr(plain, "gap", None)
     for lines in lines_of(parts):
@@ -301,6 +304,7 @@ def doubles(parts: Sequence[Part], keys: int, kind: Kind) -> dict[Key, array[flo
     if not keys:
         own = doubles_in(parts, kind)
         return {(): own} if own else {}
+    from array import array
     found: dict[str, array[float]] = {}
     for fields, (column,) in blocks_of(parts, keys, 1):
         for key, double in zip(fields, stored(kind, list(map(int, column)))):

@@ -14,7 +14,6 @@ from .telling import Refused
 
 # numbers up to this one are doubles
 MOST_EXACT = 1 << 53
-NANOSECONDS = 9
 # numpy has nanoseconds from 1677 to 2262
 FIRST_YEAR, LAST_YEAR = 1678, 2261
 

@@ -6,7 +6,7 @@ from __future__ import annotations
 import io
 import itertools
 import re
-from typing import Any, Callable, Iterator, NamedTuple, Sequence, TextIO
+from typing import Any, Callable, Iterator, Sequence, TextIO
 
 from ._result import Numbers, Result, Values
 from .column import Column
@@ -152,11 +152,11 @@ def is_number(column: Any) -> bool:
     return bool(present) and all(isinstance(value, (int, float)) for value in present)
 
 
-class Layout(NamedTuple):
+class Layout:
     """The widths of columns, and which are aligned to the right."""
 
-    widths: Sequence[int]
-    rights: Sequence[bool]
+    def __init__(self, widths: Sequence[int], rights: Sequence[bool]) -> None:
+        self.widths, self.rights = widths, rights
 
     @classmethod
     def of(cls, headings: Sequence[str], rows: Sequence[Sequence[str]], rights: Sequence[bool],

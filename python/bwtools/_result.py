@@ -9,8 +9,7 @@ from __future__ import annotations
 
 import itertools
 import operator
-from array import array
-from typing import (TYPE_CHECKING, Any, Callable, Iterator, NamedTuple, Sequence, Tuple, Union)
+from typing import TYPE_CHECKING, Any, Callable, Iterator, Sequence, Tuple, Union
 
 from ._engine.executor import COUNT, Engine, Outside, Part, both, names_of, select
 from .failed import Failed
@@ -18,8 +17,11 @@ from .kind import Kind, Literal
 from .kinds import undressed
 from .listed import Place
 from .telling import Refused
+from .valued import Valued
 
 if TYPE_CHECKING:
+    from array import array
+
     from .column import Column
 
 # a value as SQLite has it; our tables have no bytes, but expressions may
@@ -118,6 +120,7 @@ def stored(kind: Kind, numbers: Sequence[int]) -> list[Any]:
 def doubles(gap: int, numbers: Sequence[int]) -> array[float]:
     """Returns the doubles of the numbers of a column of floats. Raises OverflowError or ValueError
     for a number that none has."""
+    from array import array
     from math import isfinite
     # a double of a sign has the sign's bit, which is the least number of 64 bits
     bits = array("q", [number + gap if number > 0 else number and -number + gap - (1 << 63)
@@ -502,12 +505,12 @@ MOST_ROWS = 1_000_000
 MANY_ROWS = 100_000
 
 
-class Limits(NamedTuple):
+class Limits(Valued):
     """How many rows an answer has at most, if that is limited, and how many are left out before
     them."""
 
-    most: int | None = None
-    offset: int = 0
+    def __init__(self, most: int | None = None, offset: int = 0) -> None:
+        self.most, self.offset = most, offset
 
     @property
     def end(self) -> int | None:
@@ -515,12 +518,12 @@ class Limits(NamedTuple):
         return None if self.most is None else self.offset + self.most
 
 
-class SortKey(NamedTuple):
+class SortKey(Valued):
     """A column by which rows are put in order."""
 
-    column: Column
-    is_descending: bool
-    are_nulls_first: bool
+    def __init__(self, column: Column, is_descending: bool, are_nulls_first: bool) -> None:
+        self.column, self.is_descending = column, is_descending
+        self.are_nulls_first = are_nulls_first
 
 
 class WantedRows:

@@ -268,7 +268,8 @@ class Programs(Imported):
         shown, status = self.at_terminal([
             ".read one.sql\n", ".once\n", ".once no/such/folder\n", "SELECT 7 AS seven;\n",
             ".format vertical\n", "SELECT city, n FROM t LIMIT 2\n", "\n", "SELECT 'a\n", "\n",
-            "b' AS c;\n", ".quit\n"])
+            "b' AS c;\n", ".format json\n", ".once out.tsv\n", "SELECT 1 AS a, 2 AS a;\n",
+            ".quit\n"])
         self.assertEqual(status, 0)
         for part in ("city\tn\nUlm\t20\n", "five\n5\n", "none.sql: No such file or directory\n",
                      "there is no column x", "z\nlast\n", "use .once FILE", "no/such/folder: ",
@@ -277,7 +278,8 @@ class Programs(Imported):
                 self.assertIn(part, shown)
         self.assertEqual((self.folder / "out.tsv").read_text(),
                          "day\n2024-05-01\n2024-05-02\n\n")
-        self.assertFalse((self.folder / "out.csv").exists())
+        self.assertIn("two columns have the heading", shown)
+        self.assertEqual(list(self.folder.glob("out*")), [self.folder / "out.tsv"])
 
     def test_prompt(self):
         shown, status = self.at_terminal([

@@ -1,6 +1,7 @@
 """Results are exact, to the last digit, and each reader has its own place; what ends a statement
 costs that statement alone."""
 import contextlib
+import datetime
 import decimal
 import gc
 import importlib.util
@@ -29,7 +30,7 @@ from bwtools._result import (NumberRows, Numbers, Result, ValueRows, blob_of, nu
 from bwtools._engine.executor import Part
 from bwtools.column import Column
 
-from tests.support import PYTHON, Imported, imported, texts
+from tests.support import PYTHON, Imported, imported, in_fork, texts
 
 LONG = ("id,n,g\n1,1234567890.12345678,a\n2,1234567890.12345679,a\n3,1234567890.12345680,b\n"
         "4,-0.00000001,b\n5,,b\n")
@@ -100,6 +101,11 @@ class Exact(Results):
                     "SELECT SUM(w), SUM(n), AVG(n) FROM big GROUP BY n IS 7"):
             self.assertEqual(self.rows(sql), wanted, sql)
         self.assertEqual(self.rows("SELECT AVG(w) FROM big"), [(float(Fraction(whole) / 21),)])
+        if importlib.util.find_spec("pandas"):
+            cursor = self.connection.execute("SELECT SUM(w) FROM big")
+            self.assertEqual(cursor.df(decimals=True).values.tolist(), [[whole]])
+            self.assertEqual((cursor.df().values.tolist(), cursor.columns()["SUM(w)"].tolist()),
+                             ([[float(whole)]], [float(whole)]))
         groups = self.rows("SELECT n, SUM(w) s FROM big GROUP BY n ORDER BY s DESC LIMIT 2")
         self.assertEqual([row[0] for row in groups], [None, D("5.25")])
 
@@ -143,6 +149,17 @@ class Exact(Results):
                 self.assertEqual(dict(connection.execute(sql).fetchall()), wanted)
             with self.assertRaisesRegex(bwtools.ProgrammingError, "more than 15 digits"):
                 connection.execute("SELECT SUM(p) + 1 FROM sums, (SELECT 1)")
+
+    def test_a_filter_changes_no_type(self):
+        self.assertEqual(
+            self.rows("SELECT SUM(n) FILTER (WHERE g = 'a'), MAX(n) FILTER (WHERE g = 'b'), "
+                      "AVG(n) FILTER (WHERE id = 1), SUM(DISTINCT n), SUM(ALL n) FROM long"),
+            [(D("2469135780.24691357"), D("1234567890.12345680"), 1234567890.1234567,
+              D("3703703670.37037036"), D("3703703670.37037036"))])
+        self.assertEqual(
+            self.rows("SELECT SUM(price) FILTER (WHERE paid), MIN(day) FILTER (WHERE NOT paid), "
+                      "COUNT(price) FILTER (WHERE paid) FROM shop"),
+            [(D("2.80"), datetime.date(2024, 2, 1), 2)])
 
     def test_integers_as_bytes_are_in_order(self):
         numbers = [-(1 << 120), -(1 << 64), -5, 0, 7, 1 << 63, 1 << 100]
@@ -420,6 +437,15 @@ class Ended(Results):
              (r"\]\r\n>>> $", "exit()\n")])
         self.assertIn("[('a',), ('a',), ('b',), ('b',), ('b',)]", shown)
 
+    def test_a_fork_has_sessions_of_its_own(self):
+        wanted = self.rows("SELECT id FROM long")
+        for _ in range(2):
+            child = in_fork(lambda: self.assertEqual(self.rows("SELECT id FROM long"), wanted))
+            self.assertEqual(self.rows("SELECT id FROM long"), wanted)
+            self.assertEqual(os.waitpid(child, 0)[1], 0)
+        self.assertEqual(self.rows("SELECT g, COUNT(*) FROM long GROUP BY g"),
+                         [("a", 2), ("b", 3)])
+
     def test_a_signal_of_the_group_leaves_the_sessions(self):
         self.rows("SELECT id FROM long")
         session, = self.connection._database.engine(
@@ -491,6 +517,11 @@ class Package(unittest.TestCase):
         self.assertRegex(bwtools.__version__, r"^[0-9]+\.[0-9]+\.[0-9]+$")
         self.assertTrue((pathlib.Path(bwtools.__file__).parent / "py.typed").exists())
 
+    def test_programs_are_short(self):
+        for name in ("ask", "from_numbers", "import_", "shards", "to_numbers"):
+            path = pathlib.Path(bwtools.__file__).parent / "_cli" / f"{name}.py"
+            self.assertLessEqual(len(path.read_text(encoding="utf-8").splitlines()), 60, name)
+
     def test_errors_are_shown_as_they_are_imported(self):
         for name in ("ProgrammingError", "OperationalError", "Connection", "Cursor", "Error"):
             self.assertEqual(getattr(bwtools, name).__module__, "bwtools")
@@ -504,6 +535,6 @@ class Package(unittest.TestCase):
         before, _, rest = text.partition("PACKAGE CONTENTS\n")
         # beside a line for each module
         self.assertLessEqual(len((before + rest.partition("\n\n")[2]).split("\n")), 60)
-        for part in ("bwtools.connect(", "connect(*paths", "VERSION"):
-            self.assertIn(part, text)
+        for part in (r"bwtools\.connect\(", r"connect\(\s*\*paths", "VERSION"):
+            self.assertRegex(text, part)
         self.assertIn("ProgrammingError", dir(bwtools))

@@ -308,7 +308,7 @@ class Results(Statements):
                  [("min(day)", "dates"), ("m", "decimals"), ("max(id, 1)", None)]),
                 ("(id), ((t.day)) AS 'x y'", [("id", "whole"), ("x y", "dates")]),
                 ("max(day) OVER (), max(day) FILTER (WHERE id > 1)",
-                 [("max(day) OVER ()", None), ("max(day) FILTER (WHERE id > 1)", None)]),
+                 [("max(day) OVER ()", None), ("max(day) FILTER (WHERE id > 1)", "dates")]),
                 ("(SELECT max(day) FROM stations), CASE WHEN 1 THEN day END, NULL",
                  [("(SELECT max(day) FROM stations)", "dates"), ("CASE WHEN 1 THEN day END", None),
                   ("NULL", None)]),

@@ -10,7 +10,7 @@ from typing import Iterable, Sequence
 
 from .. import command
 from .._database import Database, Settings
-from .._output import writer_of
+from .._output import Writer, writer_of
 from .._result import Result
 from ..failed import Failed
 from ..naming import is_name
@@ -44,8 +44,7 @@ class Asking:
         if self.is_plain:
             result.drop_styles()
         if path:
-            with open(path, "w", encoding="utf-8", newline="") as file:
-                writer_of(self.form)(result, file, None)
+            write_file(path, writer_of(self.form), result)
             return
         write, width = writer_of(self.form), width_of_terminal()
         # rows at a terminal show themselves that they come
@@ -80,6 +79,26 @@ class Asking:
             return 3
         except Failed as failed:
             return failed.report()
+
+
+def write_file(path: str, write: Writer, result: Result) -> None:
+    """Writes a result to a file, all of it or nothing."""
+    is_own = not os.path.lexists(path) or os.path.isfile(path) and not os.path.islink(path)
+    # a device, or what a link names, stays at its place
+    target = f"{path}.part" if is_own else path
+    try:
+        with open(target, "w", encoding="utf-8", newline="") as file:
+            write(result, file, None)
+        if is_own:
+            os.replace(target, path)
+    except BaseException as error:
+        if is_own:
+            with contextlib.suppress(OSError):
+                os.unlink(target)
+        if isinstance(error, OSError):
+            # not by the name that nobody typed
+            raise OSError(error.errno, error.strerror, path) from None
+        raise
 
 
 def width_of_terminal() -> int | None:

@@ -8,6 +8,7 @@ from typing import Callable, Iterable, Mapping
 from .._aggregation import NeedsExact
 from .._engine.executor import Engine
 from .._result import Result, ValueRows
+from ..failed import Failed
 from ..telling import Refused
 from ..waiting import Waiting
 from .listing import Listing
@@ -115,9 +116,13 @@ class BySqlite:
         names = [each[0] for each in cursor.description]
         outputs = statement.outputs
         if len(outputs) != len(names):
-            return Result(names, [None] * len(names), ValueRows(rows), 2, asked)
+            # integers that stand for decimals must not be taken for numbers
+            raise Failed(f"SQLite returned {len(names)} columns, expected {len(outputs)}")
         exact = [place for place, each in enumerate(outputs)
                  if is_exact(each) or are_blobs and each.is_total and each.kind]
+        if are_blobs and any(isinstance(value, bytes) for row in rows
+                             for place, value in enumerate(row) if place not in exact):
+            raise Failed("SQLite returned the bytes of a sum for an expression")
         return Result([each.heading for each in outputs], [each.kind for each in outputs],
                       ValueRows(rows, exact), 2, asked)
 

@@ -279,7 +279,7 @@ def meaning(node: Node) -> Output | None:
         return node.output
     if isinstance(node, Subquery) and not node.is_exists:
         return node.query.outputs[0] if len(node.query.outputs) == 1 else None
-    if not isinstance(node, Call) or node.over or node.filter or node.is_bare:
+    if not isinstance(node, Call) or node.over or node.is_bare:
         return None
     if node.name in TOTALS:
         return Output(node.name, node.name, Column(node.name, node.name, kind_of_total(node)), True)

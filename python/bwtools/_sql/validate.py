@@ -325,8 +325,7 @@ def allowed_in(node: Node) -> Iterator[Node]:
             isinstance(node, Unary) and node.sign == "NOT":
         yield from children(node)
     elif isinstance(node, Call) and not node.over and len(node.arguments) == 1 and (
-            node.name in ("COUNT", "SUM", "AVG") or
-            node.name in ("MIN", "MAX") and not node.filter):
+            node.name in ("COUNT", "SUM", "AVG", "MIN", "MAX")):
         yield from node.arguments
     for left, _, right in comparisons(node):
         found = [meaning(left), meaning(right)]
