@@ -413,7 +413,7 @@ class Selects:
             forms.append((f"{{SUM|long_sum}}({column}){only}", "sum"))
         if kind == "whole" and depth > 0:
             forms.append((f"sum(CASE WHEN {self.condition(0)} THEN {column} ELSE 0 END)", "number"))
-        return self.chance.choice(forms)  # type: ignore[no-any-return]
+        return self.chance.choice(forms)
 
     def groups(self, depth: int) -> tuple[list[tuple[str, str]], str, str]:
         """Returns the items of a SELECT with groups, and its GROUP BY and HAVING."""

@@ -16,7 +16,7 @@ import sys
 import tempfile
 from collections import Counter
 from fractions import Fraction
-from typing import Any, Iterator, Sequence
+from typing import Any, Callable, Iterator, Sequence
 
 import tests  # noqa: F401  finds bwtools
 import bwtools
@@ -50,12 +50,12 @@ class ExactSum:
     def __init__(self) -> None:
         self.total: Fraction | None = None
 
-    def step(self, value: Any) -> None:
+    def step(self, value: Any, /) -> None:
         if value is not None:
             number = Fraction(repr(value)) if self.power is None else Fraction(value, self.power)
             self.total = number + (self.total or 0)
 
-    def finalize(self) -> str | None:
+    def finalize(self) -> Any:
         return None if self.total is None else f"sum {self.total}"
 
 
@@ -71,7 +71,7 @@ class Compared:
         self.base = reference.Reference()
         self.stack.callback(self.base.close)
         rows = drawn_select.Rows(seed)
-        self.paths = []
+        self.paths = list[pathlib.Path]()
         for table, columns in TABLES.items():
             data = reference.csv_of([list(columns), *rows.tables[table]])
             words = [word for name, kind in columns.items() if kind == "text"
@@ -82,9 +82,10 @@ class Compared:
                                                *words, *shards))
             typed = [(f'"{name}"', TYPES.get(kind, "TEXT")) for name, kind in columns.items()]
             self.base.add(f'"{table}"', typed, rows.values(table))
+        sums: dict[str, Callable[[], Any]] = {"exact_sum": ExactSum, "long_sum": LongSum}
         for database in (self.base.exact, self.base.plain):
-            database.create_aggregate("exact_sum", 1, ExactSum)
-            database.create_aggregate("long_sum", 1, LongSum)
+            for name, function in sums.items():
+                database.create_aggregate(name, 1, function)
         self.connect()
         self.stack.callback(lambda: self.connection.close())
 

@@ -283,8 +283,9 @@ def digits_of(output: Output | None) -> int:
 
 def refuse_doubles(tree: Query) -> None:
     """Raises Refused if a statement computes with the double of decimals of many digits."""
-    for node in resolved(tree):
-        allowed = set(allowed_in(node))
+    nodes = list(resolved(tree))
+    allowed = {child for node in nodes for child in allowed_in(node)}
+    for node in nodes:
         for child in children(node):
             found = meaning(child)
             if found and is_exact(found) and child not in allowed:
