@@ -138,7 +138,8 @@ class Selects:
             operator = self.some("UNION", "UNION ALL", "EXCEPT", "INTERSECT")
             other, _ = self.select(1, kinds)
             sql = f"{sql} {operator} {other}"
-        if self.is_drawn(.6):
+        # the text of a fraction isn't in the order of numbers
+        if "sum" not in kinds and self.is_drawn(.6):
             terms = self.chance.sample(range(1, len(kinds) + 1), len(kinds))
             order = ", ".join(f"{place}{self.some('', '', ' DESC', ' ASC')}"
                               f"{self.some('', '', ' NULLS LAST', ' NULLS FIRST')}"
@@ -158,7 +159,7 @@ class Selects:
         for name in self.chance.sample(("c1", "c2", "key"), self.some(1, 1, 2)):
             sql, kinds = self.select(1)
             columns = [f"m{place}" for place in range(len(kinds))]
-            hint = self.some("", "", " MATERIALIZED", " NOT MATERIALIZED")
+            hint = self.some("", "", " MATERIALIZED", " NOT MATERIALIZED") if self.are_new else ""
             parts.append(f"{name}({', '.join(columns)}) AS{hint} ({sql})")
             found.append(Source(name, list(zip(columns, kinds))))
         if self.is_drawn(.2):
@@ -406,10 +407,10 @@ class Selects:
             forms += [(f"SUM({column}){only}", "number"), (f"avg({column}){only}", "number"),
                       (f"total({column}){only}", "number"),
                       (f"sum({self.some('DISTINCT ', '')}{column}) + 1", "number")]
-        if kind == "decimal":
+        if kind == "decimal" and depth > 1:
             forms += [(f"{{sum|exact_sum}}({column}){only}", "sum"),
                       (f"avg({column}){only}", "number")] * 2
-        if kind == "long":
+        if kind == "long" and depth > 1:
             forms.append((f"{{SUM|long_sum}}({column}){only}", "sum"))
         if kind == "whole" and depth > 0:
             forms.append((f"sum(CASE WHEN {self.condition(0)} THEN {column} ELSE 0 END)", "number"))

@@ -100,6 +100,9 @@ class Database:
                 engine.asked.clear()
             return plan.answer(statement, self.engine, self.missing) or \
                 self.by_sqlite.answer(statement)
+        except RecursionError:
+            raise Refused("the statement has too many expressions within one another for the calls "
+                          "around it") from None
         finally:
             if self.calls.get("now") is own:
                 del self.calls["now"]

@@ -106,7 +106,7 @@ class Found(Imported):
                  "ESCAPE expression must be a single character"),
                 ("SELECT abs(1, 2) FROM trips", "wrong number of arguments .*at character 7"),
                 ("SELECT id FROM trips ORDER BY 7", "1st ORDER BY term .*at character 30"),
-                ("SELECT id FROM trips HAVING id > 1", "HAVING clause .*at character 28"),
+                ("SELECT id FROM trips HAVING id > 1", "HAVING.*at character 28"),
                 ("SELECT sum(max(id)) FROM trips", "misuse of aggregate"),
                 ("SELECT id FROM trips LIMIT 1 UNION SELECT 2", "LIMIT clause should come after")]:
             self.refused(connection, sql, message)
@@ -249,6 +249,21 @@ class Drawn(support.TestCase):
                     connection.execute(sql).fetchall()
                 except bwtools.Error as error:
                     self.assertLess(len(str(error)), 70_000)
+
+    def test_statements_beneath_many_calls(self):
+        path = support.imported(pathlib.Path(self.new_folder()) / "t.bw", TRIPS)
+        with bwtools.connect(path) as connection:
+            def ask(depth):
+                if depth:
+                    return ask(depth - 1)
+                sql = f"SELECT id FROM t WHERE {'(' * 90}id = 1{')' * 90} {'= 1 ' * 100}"
+                return connection.execute(sql).fetchall()
+
+            for depth in range(0, 900, 30):
+                try:
+                    self.assertEqual(ask(depth), [(1,)])
+                except bwtools.ProgrammingError as error:
+                    self.assertIn("within one another", str(error))
 
 
 class Tree(unittest.TestCase):
