@@ -138,6 +138,8 @@ def of_column(place: int, column: Column | None, kind: Kind | None, numbers: Seq
 def together(doubles: Mapping[Key, Sequence[float]], keys: Sequence[Key], places: Sequence[int],
              count: int) -> list[Sequence[float]]:
     """Returns the doubles of so many groups, each of which has those of some keys."""
+    if len(keys) == count:
+        return [doubles.get(key, ()) for _, key in sorted(zip(places, keys))]
     found: list[list[float]] = [[] for _ in range(count)]
     for key, place in zip(keys, places):
         found[place] += doubles.get(key, ())
