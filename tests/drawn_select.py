@@ -412,8 +412,13 @@ class Selects:
                       (f"avg({column}){only}", "number")] * 2
         if kind == "long" and depth > 1:
             forms.append((f"{{SUM|long_sum}}({column}){only}", "sum"))
-        if kind == "whole" and depth > 0:
-            forms.append((f"sum(CASE WHEN {self.condition(0)} THEN {column} ELSE 0 END)", "number"))
+        if kind in ("whole", "decimal", "truth") and depth > 0:
+            only = self.condition(0)
+            forms += [(f"sum(CASE WHEN {only} THEN {column} ELSE 0 END)", "number"),
+                      (f"{self.some('sum', 'avg')}(iif({only}, {column}, "
+                       f"{self.some('NULL', '2.5', '1', '-3.')}))", "number"),
+                      (f"sum(CASE {column} WHEN {self.literal(kind)} THEN 1 ELSE {column} END)",
+                       "number")]
         return self.chance.choice(forms)
 
     def groups(self, depth: int) -> tuple[list[tuple[str, str]], str, str]:

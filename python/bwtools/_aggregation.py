@@ -359,20 +359,24 @@ class NeedsExact(Exception):
     integers."""
 
 
-def sum_text(name: str, numbers: str, is_exact: bool, digits: int = 0, most: int | None = None,
-             is_distinct: bool = False, only: str = "", form: int = 0) -> str:
-    """Returns the text of SUM or AVG, the `name`, for SQLite, with the functions of `Functions`.
-    `is_exact` says that `numbers` are integers: decimals multiplied by ten to `digits`, of which
-    `most` is the greatest magnitude; `only` is the clause FILTER. A sum of decimals becomes a
-    double, and NeedsExact is raised if that isn't the sum; of the form BLOB it is the sum's
-    integer, as `blob_of` has it, and of the form NEAREST the double nearest to the sum."""
-    if not is_exact:
-        return f"bw_{name.lower()}({'DISTINCT ' * is_distinct}{numbers}) {only}"
+def sum_text(name: str, argument: str, is_distinct: bool, only: str) -> str:
+    """Returns the text of SUM or AVG, the `name`, for SQLite, of any argument; `only` is the clause
+    FILTER."""
+    return f"bw_{name.lower()}({'DISTINCT ' * is_distinct}{argument}) {only}"
+
+
+def exact_sum_text(name: str, numbers: str, digits: int, most: int, is_distinct: bool, only: str,
+                   form: str) -> str:
+    """Returns the text of SUM or AVG of integers: decimals multiplied by ten to `digits`, of which
+    `most` is the greatest magnitude. A sum of decimals becomes a double, and NeedsExact is raised
+    if that isn't the sum; of the form BLOB it is the sum's integer, as `blob_of` has it, and of the
+    form NEAREST the double nearest to the sum. After a comma the form has the number of doubles
+    among the values: without any the sum is a whole number."""
     if is_distinct:
         if name == "AVG":
             return f"bw_avg_{digits}(DISTINCT {numbers}) {only}"
         high, low = "0", f"bw_sum(DISTINCT {numbers}) {only}"
-    elif most is not None and most < SMALL:
+    elif most < SMALL:
         high, low = "0", f"SUM({numbers}) {only}"
     else:
         high = f"SUM(({numbers}) >> 32) {only}"
@@ -395,7 +399,7 @@ class Functions:
         for digits in range(MOST_DIGITS + 1):
             database.create_aggregate(f"bw_avg_{digits}", 1,
                                       functools.partial(Mean, self.kept, digits))
-        database.create_function("bw_total", 4, self.total, deterministic=True)
+        database.create_function("bw_total", -1, self.total, deterministic=True)
         database.create_function("bw_mean", 4, mean_of_halves, deterministic=True)
 
     def keep(self, raised: BaseException) -> None:
@@ -411,13 +415,16 @@ class Functions:
             self.keep(error)
             raise
 
-    def total(self, high: int | None, low: int | None, digits: int, form: int
+    def total(self, high: int | None, low: int | None, digits: int, form: int, doubles: int = 1
               ) -> int | float | bytes | None:
         """Returns the sum of which these are the halves, of 32 bits: of decimals the double, or
-        the integer as `blob_of` has it, or the nearest double, by the form."""
+        the integer as `blob_of` has it, or the nearest double, by the form. Of so many doubles
+        among whole numbers it is a whole number if there are none."""
         if high is None or low is None:
             return None
         number = (high << 32) + low
+        if not doubles:
+            number, digits = number // int(10 ** digits), 0
         if digits and form == BLOB:
             return blob_of(number)
         with self.kept():

@@ -87,6 +87,9 @@ class Quicker(Imported):
         for argument, is_native in [
                 ("CASE WHEN g = 1 THEN cents ELSE 0 END", True), ("coalesce(price, 1.5)", True),
                 ("CASE g WHEN 1 THEN price WHEN 2 THEN cents END", True), ("cents + g * 2", True),
+                ("CASE WHEN g < 0 THEN price ELSE 0 END", True), ("coalesce(price, 1)", False),
+                ("iif(g < 0, -price, iif(g < -1, 2.5, cents))", True), ("5. + id", False),
+                ("CASE WHEN g > 3 THEN -price ELSE 7 END", True), ("NULL", False),
                 ("iif(g > 5, -price, NULL)", True), ("g > 5", True), ("wide - 1", True),
                 ("CASE WHEN g THEN score END", False), ("price * 2", False), ("price + 1", False),
                 ("wide * wide", False), ("length(at)", False)]:
@@ -100,8 +103,10 @@ class Quicker(Imported):
                     wanted = self.database.answer(
                         f"SELECT SUM(x), AVG(x) FROM (SELECT {argument} AS x FROM t "
                         "WHERE id + 0 > 0)")
-                    self.assertAlmostEqual(found[0][0], list(wanted.rows())[0][0], 6)
-                    self.assertAlmostEqual(found[0][1], list(wanted.rows())[0][1], 6)
+                    wanted = list(wanted.rows())
+                    self.assertEqual(list(map(type, found[0])), list(map(type, wanted[0])))
+                    self.assertAlmostEqual(found[0][0], wanted[0][0], 6)
+                    self.assertAlmostEqual(found[0][1], wanted[0][1], 6)
 
     def test_rows_that_offset_leaves_out_are_counted(self):
         found = self.connection.execute("SELECT id, g FROM t LIMIT 3 OFFSET 19990").fetchall()

@@ -84,11 +84,13 @@ TRUTHS = (Comparison, NullTest, Between, InList, InQuery)
 
 
 class Exact(NamedTuple):
-    """An expression of whole numbers or decimals: the digits after their point, and the greatest
-    magnitude of the integers that they are then."""
+    """An expression of whole numbers or decimals: the digits after their point, the greatest
+    magnitude of the integers that they are then, and whether some values are whole numbers to
+    SQLite, and others doubles. NULL alone has -1 digits."""
 
     digits: int
     most: int
+    is_mixed: bool = False
 
 
 def exact_of(node: Node) -> Exact | None:
@@ -107,7 +109,8 @@ def exact_of(node: Node) -> Exact | None:
         return together([exact_of(each) for each in
                          [*found, *([node.otherwise] if node.otherwise else [])]])
     if isinstance(node, Call) and node.name in CHOICES and not node.is_distinct:
-        return together([exact_of(each) for each in node.arguments[CHOICES[node.name]:]])
+        exact = together([exact_of(each) for each in node.arguments[CHOICES[node.name]:]])
+        return None if exact and exact.is_mixed and node.name != "IIF" else exact
     if isinstance(node, Operation) and node.signs[0] in "+-*":
         return exact_operation(node)
     return None
@@ -129,12 +132,13 @@ def exact_column(column: Column) -> Exact | None:
 def exact_literal(node: Literal) -> Exact | None:
     """Returns what is known of a literal: of a short number, or NULL."""
     if node.kind == WORD:
-        return Exact(0, 0)
+        return Exact(-1, 0)
     text = node.text
     if node.kind != NUMBER or node.is_float or "e" in text.lower() or "x" in text.lower() or \
             len(text) > 15:
         return None
-    digits = len(text.partition(".")[2])
+    # a number with a point is a double, also without digits after it
+    digits = max(len(text.partition(".")[2]), "." in text)
     value = node.value
     assert value is not None and not isinstance(value, (str, bytes))
     return Exact(digits, int(abs(value) * 10 ** digits))
@@ -142,11 +146,13 @@ def exact_literal(node: Literal) -> Exact | None:
 
 def together(parts: list[Exact | None]) -> Exact | None:
     """Returns what is known of one of some expressions."""
-    found = [each for each in parts if each]
-    if len(found) < len(parts) or not found:
+    found = [each for each in parts if each and each.digits >= 0]
+    if None in parts or not found:
         return None
     digits = max(each.digits for each in found)
-    return Exact(digits, max(each.most * 10 ** (digits - each.digits) for each in found))
+    is_mixed = any(each.is_mixed or not each.digits for each in found) and digits > 0
+    most = max(each.most * 10 ** (digits - each.digits) for each in found)
+    return Exact(digits, most, is_mixed)
 
 
 def exact_operation(node: Operation) -> Exact | None:
@@ -205,10 +211,33 @@ def sum_text(call: Call, text: Callable[[Node], str], is_blob: bool = False) -> 
     argument = call.arguments[0]
     only = f"FILTER (WHERE {text(call.filter)})" if call.filter else ""
     exact = exact_of(argument)
-    digits, most = exact or (0, None)
-    written = scaled(argument, digits, text) if exact else text(argument)
-    # the sum of an expression is a double
-    form = _aggregation.NEAREST if not column_of(argument) else int(is_blob)
-    found = _aggregation.sum_text(call.name, written, exact is not None, digits, most,
-                                  call.is_distinct, only, form)
-    return f" {found} "
+    if exact and (exact.digits < 0 or exact.is_mixed and call.is_distinct):
+        exact = None
+    if not exact:
+        return f" {_aggregation.sum_text(call.name, text(argument), call.is_distinct, only)} "
+    # the sum of an expression is a double, or a whole number if it has no double
+    form = str(_aggregation.NEAREST if not column_of(argument) else int(is_blob))
+    if exact.is_mixed:
+        form = f"{form}, COUNT({doubles_of(argument, text)}) {only}"
+    written = scaled(argument, exact.digits, text)
+    return " {} ".format(_aggregation.exact_sum_text(
+        call.name, written, exact.digits, exact.most, call.is_distinct, only, form))
+
+
+def doubles_of(node: Node, text: Callable[[Node], str]) -> str:
+    """Returns the text of a CASE or IIF, with NULL in place of its whole numbers."""
+    def result(each: Node) -> str:
+        exact = exact_of(each)
+        if exact is None or exact.digits <= 0:
+            return "NULL"
+        return doubles_of(each, text) if exact.is_mixed else text(each)
+
+    if isinstance(node, Case):
+        parts = [f"WHEN {text(each.condition)} THEN {result(each.result)}" for each in node.whens]
+        operand = f"{text(node.operand)} " if node.operand else ""
+        last = f" ELSE {result(node.otherwise)}" if node.otherwise else ""
+        return f"CASE {operand}{' '.join(parts)}{last} END"
+    if isinstance(node, Call):
+        return f"IIF({text(node.arguments[0])}, {', '.join(map(result, node.arguments[1:]))})"
+    # a sign before one
+    return doubles_of(node.operand, text) if isinstance(node, Unary) else text(node)
