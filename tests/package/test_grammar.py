@@ -222,10 +222,12 @@ class Runs(unittest.TestCase):
         self.assertEqual(pushdown.like(column, "LIKE", "A", None), "c IN (0)")
 
     def test_literals_are_compared_with_each_other(self):
-        one, text = (Comparand(None, Constant(None, value)) for value in (Fraction(1), "1"))
+        one, half, text = (Comparand(None, Constant(None, value, value == 1))
+                           for value in (Fraction(1), Fraction(1, 2), "1"))
         self.assertEqual(pushdown.compared(one, ">", one), "1 = 0")
-        with self.assertRaises(Outside):
-            pushdown.compared(one, "=", text)
+        for other in (text, half):
+            with self.assertRaises(Outside):
+                pushdown.compared(one, "=", other)
 
 
 # statements, and whether bw answers them by statements

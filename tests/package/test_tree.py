@@ -133,6 +133,49 @@ class Found(Imported):
                 self.assertEqual((cursor.description[0][0], cursor.fetchall()), (heading, wanted))
 
 
+class Exact(Imported):
+    """Decimals of many digits, of several scales."""
+
+    tables = {"lg.bw": (
+        "id,g,h,f\n1,1234567890123456.78,1234567890123456.780,0.5\n"
+        "2,1234567890123456.79,1234567890123456.781,1e10\n"
+        "3,1234567890123456.80,1234567890123456.790,2.5\n"
+        "4,1234567890123456.79,1234567890123456.800,1e-7\n",)}
+
+    def test_columns_of_several_scales_are_compared_exactly(self):
+        with bwtools.connect(self.folder / "lg.bw") as connection:
+            for sign, wanted in [("=", [1]), ("<>", [2, 3, 4]), ("<", [4]), (">", [2, 3]),
+                                 ("<=", [1, 4]), (">=", [1, 2, 3])]:
+                for sql in (f"g {sign} h", f"NOT NOT g {sign} h"):
+                    found = connection.execute(f"SELECT id FROM lg WHERE {sql}").fetchall()
+                    self.assertEqual([row[0] for row in found], wanted, sql)
+            for sql in ("g > f", "h < f"):
+                with self.assertRaisesRegex(bwtools.ProgrammingError, "more than 15 digits"):
+                    connection.execute(f"SELECT id FROM lg WHERE {sql}")
+
+    def test_ranges_of_numbers_are_refused(self):
+        with bwtools.connect(self.folder / "lg.bw") as connection:
+            frame = "RANGE BETWEEN 1 PRECEDING AND CURRENT ROW"
+            for over in (f"OVER (ORDER BY g {frame})",
+                         f"OVER (w {frame}) FROM lg WINDOW w AS (ORDER BY g)"):
+                with self.assertRaisesRegex(bwtools.ProgrammingError, "more than 15 digits"):
+                    connection.execute(f"SELECT COUNT(*) {over}"
+                                       f"{'' if 'FROM' in over else ' FROM lg'}")
+            sql = f"SELECT id, COUNT(*) OVER (ORDER BY g {frame.replace('RANGE', 'ROWS')}) FROM lg"
+            self.assertEqual(len(connection.execute(sql).fetchall()), 4)
+
+    def test_two_literals_are_compared_by_sqlite(self):
+        with bwtools.connect(self.folder / "lg.bw") as connection:
+            database = sqlite3.connect(":memory:")
+            self.addCleanup(database.close)
+            for sql in ("0.1 = 0.10000000000000001", "9223372036854775808 = 9223372036854775809",
+                        "1e-400 = 0", "1e-400", "1 < 2", "'a' < 'b'", "3 = 3.0", "0.5", "2 <> 2",
+                        "'é' > 'z'", "9223372036854775807 = 9223372036854775807.0", "-1 IN (1, 2)"):
+                wanted, = database.execute(f"SELECT ({sql}) <> 0").fetchone()
+                found = connection.execute(f"SELECT COUNT(*) FROM lg WHERE {sql}").fetchone()
+                self.assertEqual(found, (4 * wanted,), sql)
+
+
 class Grammar(unittest.TestCase):
     def test_each_word_is_a_name_where_sqlite_takes_it_for_one(self):
         database = sqlite3.connect(":memory:")

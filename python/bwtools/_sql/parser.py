@@ -397,9 +397,12 @@ class ExpressionParser:
             self.wants("BY")
             partitions = self.expressions()
         orders = self.orders() if self.key == "ORDER" else []
-        bounds = self.frame() if self.key in ("RANGE", "ROWS", "GROUPS") else []
+        unit = self.key if self.key in ("RANGE", "ROWS", "GROUPS") else ""
+        bounds = self.frame() if unit else []
         self.wants(")")
-        return Window(start, self.before.end, base, partitions, orders, bounds)
+        found = Window(start, self.before.end, base, partitions, orders, bounds)
+        found.unit = unit
+        return found
 
     def frame(self) -> list[Node]:
         """Consumes the frame of a window. Returns the expressions that are its bounds."""

@@ -16,6 +16,7 @@ from .. import _result as values
 from .._engine.executor import Outside
 from ..column import Column
 from ..kind import GREATEST, LEAST
+from ..kinds import undressed
 from ..stored_list import StoredList
 from .lexer import TEXT
 from .literals import Constant, constant_of
@@ -92,7 +93,10 @@ def compared(left: Comparand, sign: str, right: Comparand) -> str:
         return compared(right, SWAPPED[sign], left)
     if left.column:
         return placed(left.column, sign, *place_of(left.column, right))
-    if isinstance(left.value, str) != isinstance(right.value, str):
+    if not all(each.constant and (each.constant.is_integer or isinstance(each.value, str))
+               for each in (left, right)) or \
+            isinstance(left.value, str) != isinstance(right.value, str):
+        # SQLite compares other numbers as doubles
         raise Outside
     return TRUE if MEANING[sign](left.value, right.value) else FALSE
 
@@ -121,17 +125,27 @@ def columns_compared(left: Column, sign: str, right: Column) -> str:
     few, other = left, right
     if len(range_of(right)) < len(range_of(left)):
         few, other, sign = right, left, SWAPPED[sign]
-    if len(range_of(few)) > MOST_VALUES:
+    are_doubles = "floats" in (left.kind.plural, right.kind.plural)
+    if len(range_of(few)) > MOST_VALUES or are_doubles and (
+            values.is_long(left) or values.is_long(right)):
         raise Outside
-    from fractions import Fraction
-
-    from .._result import stored
     terms = [never(left), never(right)]
-    for number, value in zip(range_of(few), stored(few.kind, range_of(few))):
-        constant = Constant(None, Fraction(repr(value)))
+    for number, value in zip(range_of(few), exact_values(few, range_of(few))):
+        constant = Constant(None, value)
         part = placed(other, SWAPPED[sign], *place_of(other, Comparand(None, constant)))
         terms.append(f"{few.name} = {number} AND {part}")
     return f"({' OR '.join(terms)})"
+
+
+def exact_values(column: Column, numbers: Sequence[int]) -> list[Fraction]:
+    """Returns the values of a column's numbers: of doubles the decimals as which they are
+    printed."""
+    from fractions import Fraction
+    plain: Any = undressed(column.kind)
+    if plain.plural == "floats":
+        return [Fraction(repr(value)) for value in values.stored(column.kind, numbers)]
+    power = 10 ** plain.digits if plain.name == "decimals" else 1
+    return [Fraction(number, power) for number in numbers]
 
 
 def range_of(column: Column) -> range:

@@ -257,8 +257,8 @@ class OrderTerm(Node):
 
 class Window(Node):
     """The window of OVER, or of the clause WINDOW under a name: another one that it is based on,
-    its terms, and the bounds of its frame."""
-    __slots__ = ("base", "name", "partitions", "orders", "bounds")
+    its terms, and the unit and the bounds of its frame."""
+    __slots__ = ("base", "name", "partitions", "orders", "unit", "bounds")
     PARTS = ("name", "base", "partitions", "orders", "bounds")
 
     def __init__(self, start: int, end: int, base: Optional[Name], partitions: list[Node],
@@ -266,6 +266,7 @@ class Window(Node):
         super().__init__(start, end)
         self.base, self.partitions, self.orders, self.bounds = base, partitions, orders, bounds
         self.name: Optional[Name] = None
+        self.unit = ""
 
 
 class Item(Node):

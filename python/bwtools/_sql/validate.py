@@ -284,6 +284,12 @@ def digits_of(output: Output | None) -> int:
 def refuse_doubles(tree: Query) -> None:
     """Raises Refused if a statement computes with the double of decimals of many digits."""
     nodes = list(resolved(tree))
+    windows = [node for node in nodes if isinstance(node, Window)]
+    ordered = [found for node in windows for term in node.orders
+               if is_exact(found := meaning(bare(term.expression)))]
+    if ordered and ordered[0] and any(node.unit == "RANGE" and node.bounds for node in windows):
+        # a bound is a number that is added to the column
+        raise no_double(ordered[0])
     allowed = {child for node in nodes for child in allowed_in(node)}
     for node in nodes:
         for child in children(node):
