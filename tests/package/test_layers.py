@@ -16,7 +16,7 @@ LAYERS = """
     _sql.tables _sql.lexer _sql.cost
     _sql.syntax
     _sql.parser _sql.resolve _sql.literals
-    _sql.prepare _sql.validate _sql.render _sql.pushdown
+    _sql.prepare _sql.validate _sql.render _sql.sums _sql.pushdown
     _sql.statement _sql.questions _sql.listing
     _sql.groups _sql.by_sqlite
     _sql.plan

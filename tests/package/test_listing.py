@@ -12,8 +12,9 @@ from bwtools.failed import Failed
 from bwtools._sql import by_sqlite
 from bwtools._sql.prepare import FUNCTIONS
 from bwtools._sql.pushdown import pushed
-from bwtools._sql.render import Renderer, sum_text
+from bwtools._sql.render import Renderer
 from bwtools._sql.statement import Statement
+from bwtools._sql.sums import sum_text
 from bwtools.telling import Refused
 
 from tests.support import Imported, imported

@@ -14,8 +14,9 @@ from ..waiting import Waiting
 from .listing import Listing
 from .prepare import reads_of, told
 from .pushdown import pushed
-from .render import Renderer, sum_text
+from .render import Renderer
 from .statement import Statement
+from .sums import sum_text
 from .syntax import Call, Node
 from .tables import Catalog, Table
 from .validate import is_exact, refuse_doubles, refuse_sums
