@@ -22,6 +22,7 @@ import tests  # noqa: F401  finds bwtools
 import bwtools
 from bwtools._sql import plan
 from bwtools._sql.lexer import tokens_of
+from bwtools._sql.parser import parse
 from bwtools._sql.statement import Statement
 from bwtools.telling import Refused
 from tests import drawn_select, reference, support
@@ -119,7 +120,8 @@ class Compared:
                 found = list(answer.objects())
                 if list(map(heading_of, answer.headings)) != list(map(heading_of, headings)):
                     return f"way {answer.way}: headings {answer.headings}, expected {headings}"
-                if not is_same(found, wanted, " ORDER BY " in pair.ours, places):
+                is_ordered = bool(parse(tokens_of(pair.ours.rstrip("; "))).tree.orders)
+                if not is_same(found, wanted, is_ordered, places):
                     return f"way {answer.way}: {found[:9]}\n  expected {wanted[:9]}"
         except Refused as refused:
             return "" if OURS.search(str(refused)) and is_long(pair) else f"refused: {refused}"
@@ -150,7 +152,8 @@ class Compared:
         """Returns how a statement that may be none is treated otherwise than by sqlite3, or
         nothing."""
         try:
-            cursor = self.base.plain.execute(f"EXPLAIN {sql}")
+            # a semicolon at the end is left out, also if there are two
+            cursor = self.base.plain.execute(f"EXPLAIN {sql.rstrip(' ;')}")
             cursor.close()
             message = ""
         except (sqlite3.Error, sqlite3.Warning) as error:

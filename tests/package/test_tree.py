@@ -133,6 +133,35 @@ class Found(Imported):
                 self.assertEqual((cursor.description[0][0], cursor.fetchall()), (heading, wanted))
 
 
+class Forms(Imported):
+    """Literals that are compared with several columns."""
+
+    tables = {"v.bw": ("id,y,a,s,d,f,n,k\n"
+                       "1,2024-02-29,2024-02-29 12:30:00,true,0.10,0.1,1,5\n"
+                       "2,2024-03-01,2024-03-01 00:00:00,0,2.50,1e10,2,3\n"
+                       "3,2024-03-02,2024-02-29 00:00:00,2024-02-29,-1.25,2.5,7,9\n",
+                       "--text", "s")}
+
+    def test_a_literal_has_one_form(self):
+        with bwtools.connect(self.folder / "v.bw") as connection:
+            for condition in ("'2024-02-29' IN (y, a)", "'2024-02-29' IN (a, y)",
+                              "CASE '2024-02-29' WHEN y THEN 1 WHEN a THEN 2 END",
+                              "'2024-2-29' IN (y, s)", "'2024-02-29' BETWEEN a AND y",
+                              "0.1000000000000000055511151231257827 IN (f, d)"):
+                with self.subTest(condition), \
+                        self.assertRaisesRegex(bwtools.ProgrammingError, "write a comparison for"):
+                    connection.execute(f"SELECT id FROM v WHERE {condition}")
+            for condition, wanted in [("'2024-02-29' BETWEEN y AND y", [(1,)]),
+                                      ("5 BETWEEN n AND k", [(1,)]),
+                                      ("2.5 IN (d, f)", [(2,), (3,)]),
+                                      ("'2024-02-29' = y OR '2024-02-29' = a", [(1,), (3,)]),
+                                      ("CASE 2 WHEN n THEN 1 WHEN d THEN 2 END", [(2,)])]:
+                for more in ("", " AND id + 0 > 0"):
+                    sql = f"SELECT id FROM v WHERE ({condition}){more} ORDER BY id"
+                    with self.subTest(sql):
+                        self.assertEqual(connection.execute(sql).fetchall(), wanted)
+
+
 class Exact(Imported):
     """Decimals of many digits, of several scales."""
 

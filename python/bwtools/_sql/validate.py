@@ -51,6 +51,8 @@ class Checks:
 
     def __init__(self, written: str) -> None:
         self.written = written
+        # the texts for SQLite of literals, each with a column that needs it
+        self.forms: dict[Node, tuple[str, Column]] = {}
 
     def node(self, node: Node) -> None:
         """Checks a node, whose children are checked by themselves."""
@@ -160,7 +162,12 @@ class Checks:
         if sign.endswith(" ROW"):
             sign = "=" if sign.removesuffix(" ROW") in EQUAL else "ROW"
         form = form_of(column, constant, "=" if sign in EQUAL else sign)
-        constant.node.form = form or constant.node.form
+        before, other = self.forms.setdefault(constant.node, (form, column))
+        if before != form:
+            raise Refused(f"{shown} ({where(constant.node)}) is compared with {other.name} and "
+                          f"{column.name} at once, which have it in different forms: write a "
+                          "comparison for each")
+        constant.node.form = form
 
     def shown(self, node: Node) -> str:
         """Returns a node's text for a message, with the values of parameters."""
