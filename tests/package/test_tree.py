@@ -322,6 +322,24 @@ class Drawn(support.TestCase):
                 except bwtools.Error as error:
                     self.assertLess(len(str(error)), 70_000)
 
+    def test_halves_of_characters_are_refused(self):
+        path = support.imported(pathlib.Path(self.new_folder()) / "t.bw", TRIPS)
+        with bwtools.connect(path) as connection:
+            for sql, given in (("SELECT ?", ["\ud800"]), ("SELECT '\ud800'", []),
+                               ("SELECT :a", {"a": "x\udfff"})):
+                with self.subTest(given), \
+                        self.assertRaisesRegex(bwtools.ProgrammingError, "that isn't text"):
+                    connection.execute(sql, given)
+
+    def test_distinct_rows_in_the_order_of_another_column(self):
+        """The first of equal rows has the value that orders them, as in SQLite."""
+        path = support.imported(pathlib.Path(self.new_folder()) / "d.bw", "k,b\n3,2\n2,1\n3,\n")
+        with bwtools.connect(path) as connection:
+            for order, wanted in [("b, k", [(2,), (3,)]), ("b", [(2,), (3,)]),
+                                  ("k", [(2,), (3,)]), ("b DESC, k", [(3,), (2,)])]:
+                sql = f"SELECT DISTINCT k FROM d ORDER BY {order}"
+                self.assertEqual(connection.execute(sql).fetchall(), wanted, sql)
+
     def test_statements_beneath_many_calls(self):
         path = support.imported(pathlib.Path(self.new_folder()) / "t.bw", TRIPS)
         with bwtools.connect(path) as connection:

@@ -168,6 +168,6 @@ def ask(given: AnswerOptions, tables: Iterable[tuple[str, str]], statement: str 
         if sys.stdin and os.isatty(sys.stdin.fileno()) and is_terminal:
             from .shell import Shell
             return Shell(asking).run()
-        lines: Iterable[str] = io.TextIOWrapper(sys.stdin.buffer, encoding="utf-8",
-                                                newline="") if sys.stdin else ()
+        lines: Iterable[str] = io.TextIOWrapper(sys.stdin.buffer, encoding="utf-8", newline="",
+                                                errors="surrogateescape") if sys.stdin else ()
         return asking.ask_all(lines)

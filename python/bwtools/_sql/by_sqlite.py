@@ -130,7 +130,7 @@ class BySqlite:
     def failure(self, listing: Listing, statement: Statement, message: str) -> str:
         """Returns what to print for SQLite's message, while it ran a statement."""
         if message == "integer overflow":
-            return "a SUM is outside the range of 64 bits"
+            return "integer overflow: a SUM or abs() is outside the range of 64 bits"
         return listing.guard.denied or told(statement.tree, message)
 
 

@@ -545,7 +545,8 @@ class GroupsPlan:
                           if isinstance(term.expression, Literal) else made.text(term.expression))
         if made.are_free:
             keys = {made.name(place) for place in range(len(made.groups))}
-            self.is_in_rows_order = not set(items) <= keys <= set(orders)
+            # a term that is no item has the value of the first of equal rows
+            self.is_in_rows_order = not set(items) == keys <= set(orders)
         if orders:
             terms = [f"{order} {term.words}" for order, term in zip(orders, self.query.orders)]
             sql += f" ORDER BY {', '.join([*terms, f'{TABLE}.rowid'])}"

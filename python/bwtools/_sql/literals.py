@@ -14,6 +14,7 @@ from .._result import INTEGER, MOMENTS, affinity, is_long
 from ..column import Column
 from ..kind import GREATEST, LEAST
 from ..kinds import Styled, undressed
+from ..stored_list import is_unicode
 from ..telling import Refused
 from .lexer import BLOB, NUMBER, TEXT, WORD, text_literal
 from .syntax import ColumnName, Literal, Node, Unary
@@ -24,6 +25,8 @@ if TYPE_CHECKING:
 # the digits of a number that are read: it is beyond all columns, or nearer to 0 than any, if its
 # first one is further away from the point
 MOST_DIGITS = 400
+# the longest numeral of digits that is surely within 64 bits
+MOST_SHORT = 18
 # the longest numeral of which SQLite reads the nearest double
 MOST_SURE = 17
 # integers up to it, and a half beside each, are doubles
@@ -52,10 +55,11 @@ class Constant:
 def constant_of(node: Node) -> Constant | None:
     """Returns what an expression is that is a literal, or None."""
     if isinstance(node, Literal):
-        value = node.value
-        is_integer = node.kind == NUMBER and is_integral(node.text) and \
-            value is not None and not isinstance(value, (str, bytes)) and LEAST <= value <= GREATEST
-        return Constant(node, value, is_integer, node.is_float, node.text)
+        value, text = node.value, node.text
+        is_integer = node.kind == NUMBER and is_integral(text) and (
+            len(text) <= MOST_SHORT or value is not None and
+            not isinstance(value, (str, bytes)) and LEAST <= value <= GREATEST)
+        return Constant(node, value, is_integer, node.is_float, text)
     if isinstance(node, Unary) and node.sign in ("+", "-"):
         inner = constant_of(node.operand) if isinstance(node.operand, Literal) else None
         if inner is None or inner.value is None or isinstance(inner.value, (str, bytes)):
@@ -90,6 +94,9 @@ def exact(text: str) -> Fraction:
     """Returns the number of a numeral. One that is beyond all columns, or nearer to 0 than any, or
     has more digits than any, becomes another one that compares with theirs as it does."""
     from fractions import Fraction
+    if len(text) <= MOST_SHORT and text.isdecimal():
+        # most numbers
+        return Fraction(int(text))
     sign, text = (-1, text[1:]) if text[:1] == "-" else (1, text)
     if text[:2].lower() == "0x":
         number = int(text, 16)
@@ -238,9 +245,8 @@ def values_of(marks: Sequence[Literal], parameters: Any) -> list[tuple[Any, int]
 
 def numbers_of(marks: Sequence[Literal]) -> list[int]:
     """Returns the numbers of parameters."""
-    known, found = dict[str, int](), list[int]()
+    known, found, most = dict[str, int](), list[int](), 0
     for mark in marks:
-        most = max(found, default=0)
         if mark.mark[1:].isdecimal() and mark.mark[0] == "?":
             number = int(mark.mark[1:6])
             if not 0 < number <= MOST or len(mark.mark) > 6:
@@ -249,6 +255,7 @@ def numbers_of(marks: Sequence[Literal]) -> list[int]:
         else:
             number = most + 1 if mark.mark == "?" else known.setdefault(mark.mark, most + 1)
         found.append(number)
+        most = max(most, number)
     return found
 
 
@@ -274,6 +281,8 @@ def literal_of(value: Any, mark: Literal, number: int) -> tuple[str, str]:
     if isinstance(value, str):
         if "\0" in value:
             raise Refused(f"{what} has a character NUL")
+        if not is_unicode(value):
+            raise Refused(f"{what} has a character that isn't text")
         return TEXT, text_literal(str(value))
     if isinstance(value, (bytes, bytearray, memoryview)):
         return BLOB, f"X'{bytes(value).hex()}'"

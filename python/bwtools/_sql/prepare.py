@@ -121,7 +121,7 @@ class Emptied:
     def message(self, sql: str) -> str:
         """Returns SQLite's message about a statement, or nothing."""
         try:
-            explain(self.database, self.guard, sql)
+            explain(self.database, self.guard, sql, False)
         except (sqlite3.Error, sqlite3.Warning) as error:
             if self.guard.is_lost(error):
                 raise KeyboardInterrupt from None
@@ -155,17 +155,21 @@ def declared(column: Column) -> str:
     return f"{quoted_name(column.name)} {INTEGER if is_long(column) else affinity(column.kind)}"
 
 
-def explain(database: sqlite3.Connection, guard: Guard, sql: str) -> list[tuple[Any, ...]]:
-    """Has SQLite read a statement, which it doesn't run. Returns its program."""
+def explain(database: sqlite3.Connection, guard: Guard, sql: str, is_wanted: bool = True
+            ) -> list[tuple[Any, ...]]:
+    """Has SQLite read a statement, which it doesn't run. Returns its program, if that is wanted."""
     guard.read, guard.denied, guard.is_off = {}, "", False
     # Python keeps statements by their text, and SQLite doesn't authorize one again that was kept
     guard.explained += 1
     # a literal of bytes is a text there
     database.text_factory = bytes
     try:
+        found = database.execute(f"EXPLAIN /* {guard.explained} */ {sql}")
+        if not is_wanted:
+            found.close()
+            return []
         return [tuple(each.decode("utf-8", "replace") if isinstance(each, bytes) else each
-                      for each in row)
-                for row in database.execute(f"EXPLAIN /* {guard.explained} */ {sql}")]
+                      for each in row) for row in found]
     finally:
         database.text_factory, guard.is_off = str, True
 

@@ -56,6 +56,8 @@ class Checks:
 
     def node(self, node: Node) -> None:
         """Checks a node, whose children are checked by themselves."""
+        if isinstance(node, (Literal, ColumnName)):
+            return
         if isinstance(node, Call):
             self.call(node)
         elif isinstance(node, (Query, Window)):
@@ -171,6 +173,8 @@ class Checks:
 
     def shown(self, node: Node) -> str:
         """Returns a node's text for a message, with the values of parameters."""
+        if isinstance(node, Literal):
+            return node.text if node.mark else self.written[node.start:node.end]
         parts, at, left = list[str](), node.start, [node]
         marks = list[Literal]()
         while left:
