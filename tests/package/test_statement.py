@@ -186,7 +186,13 @@ class Literals(Statements):
         for condition in ('t."when" = s.since', "t.day < s.since", "t.clock = s.day"):
             self.refused(f"SELECT 1 FROM trips t JOIN stations s ON {condition}",
                          "equal texts mean different values")
+        for sql in ("SELECT 1 FROM trips WHERE \"when\" IN (SELECT since FROM stations)",
+                    "SELECT 1 FROM (SELECT clock since FROM trips) t JOIN stations USING (since)",
+                    "SELECT 1 FROM (SELECT \"when\" since FROM trips) t NATURAL JOIN stations"):
+            self.refused(sql, "equal texts mean different values")
         Statement("SELECT 1 FROM trips t JOIN stations s ON t.day = s.day", self.both)
+        Statement("SELECT 1 FROM trips t JOIN stations s USING (day)", self.both)
+        Statement("SELECT 1 FROM trips t WHERE day IN (SELECT day FROM stations)", self.both)
 
     def test_dates_have_no_arithmetic(self):
         """SQLite would compute with the year, or with the hour."""

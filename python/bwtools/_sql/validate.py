@@ -5,7 +5,7 @@ aren't spelled as SQLite has them. Literals that are compared with columns get t
 here."""
 from __future__ import annotations
 
-from typing import Iterator, Sequence
+from typing import Iterable, Iterator, Sequence
 
 from .. import _aggregation
 from .._result import MOMENTS, TEXT, affinity, is_long, plain_of
@@ -66,6 +66,10 @@ class Checks:
             self.operation(node)
         elif isinstance(node, Select):
             self.conditions([node.where, node.having])
+            same_moments(node.scope.pairs if node.scope else [])
+        elif isinstance(node, InQuery):
+            operand = meaning(bare(node.operand))
+            same_moments([(operand, output) for output in outputs_of(node)[:1] if operand])
         elif isinstance(node, Source):
             self.conditions([node.on])
         elif isinstance(node, Case) and not node.operand:
@@ -264,6 +268,13 @@ def refuse_form(word: str, node: Node, column: Column) -> None:
         raise Refused(f"{word} on {name} ({where(node)}): {name} is printed as "
                       f"{column.kind.example}, but {word} would see {plain.example}: compare "
                       f"{name} itself, or use strftime('%Y-%m-%d', {name})")
+
+
+def same_moments(pairs: Iterable[tuple[Output, Output]]) -> None:
+    """Rejects the comparisons of columns as `refuse_moments` does."""
+    for left, right in pairs:
+        if left.plain and right.plain:
+            refuse_moments(left.plain, right.plain)
 
 
 def refuse_moments(left: Column, right: Column) -> None:
