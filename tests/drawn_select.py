@@ -25,6 +25,8 @@ FIRST = {"id": "1", "k": "3", "w": "4611686018427387904", "d": "12.50", "g": "12
 SECOND = {**FIRST, "id": "2", "w": "-4611686018427387903", "f": "0.1", "b": "false", "g": "-1.05",
           "d": "-0.25", "filter": "1e10"}
 LONG = 100
+# so many rows of a query are joined
+MOST_JOINED = 40
 # what a name in a statement may be that SQLite doesn't reserve
 NAMES = ("x", "left", "right", "end", "filter", "over", "window", "key", "a b", "first", "row",
          "natural", "cross", "if", "date", "rows", "no", "é")
@@ -160,7 +162,7 @@ class Selects:
             sql, kinds = self.select(1)
             columns = [f"m{place}" for place in range(len(kinds))]
             hint = self.some("", "", " MATERIALIZED", " NOT MATERIALIZED") if self.are_new else ""
-            parts.append(f"{name}({', '.join(columns)}) AS{hint} ({sql})")
+            parts.append(f"{name}({', '.join(columns)}) AS{hint} ({sql}{self.first(kinds)})")
             found.append(Source(name, list(zip(columns, kinds))))
         if self.is_drawn(.2):
             parts.append("r(i) AS (SELECT 1 UNION ALL SELECT i + 1 FROM r WHERE i < 4)")
@@ -258,11 +260,17 @@ class Selects:
             sql, kinds = self.select(depth - 1)
             self.sources = outer
             columns = [f"q{place}" for place in range(len(kinds))]
-            head = f"WITH v({', '.join(columns)}) AS ({sql}) SELECT * FROM v"
+            head = f"WITH v({', '.join(columns)}) AS ({sql}) SELECT * FROM v{self.first(kinds)}"
             return f"({head}){joint}{name}", Source(name, list(zip(columns, kinds)))
         table = self.chance.choice(("t", "t", "t", "u", "left"))
         spelled = self.some(self.quoted(table), f"main.{self.quoted(table)}")
         return f"{spelled}{joint}{name}", Source(name, list(TABLES[table].items()))
+
+    def first(self, kinds: Sequence[str]) -> str:
+        """Returns an order and a limit of a query that others join: so no product of rows is
+        long."""
+        places = ", ".join(str(place) for place in range(1, len(kinds) + 1))
+        return f" ORDER BY {places} LIMIT {MOST_JOINED}"
 
     def column(self, *kinds: str) -> tuple[str, str] | None:
         """Returns a column of one of these kinds, and its kind."""
