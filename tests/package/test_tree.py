@@ -320,7 +320,24 @@ class Drawn(support.TestCase):
                 try:
                     connection.execute(sql).fetchall()
                 except bwtools.Error as error:
-                    self.assertLess(len(str(error)), 70_000)
+                    self.assertLess(len(str(error)), 2000)
+
+    def test_messages_are_short_and_of_sqlite(self):
+        path = support.imported(pathlib.Path(self.new_folder()) / "t.bw", TRIPS)
+        with bwtools.connect(path) as connection:
+            for sql, message in [
+                    ("SELECT id FROM t WHERE city LIKE '" + "%a" * 30_000 + "'",
+                     "^LIKE or GLOB pattern too complex$"),
+                    ("SELECT 1 x city FROM t", 'near "city": syntax error at character 11 of the '
+                                               "statement$"),
+                    ("SELECT 0x" + "f" * 60_000, "0xf*[.]{3} at character 7 .* more than 64 bits"),
+                    ("SELECT id FROM t WHERE day = '" + "2" * 60_000 + "'", "'2*[.]{3} can't be"),
+                    ("SELECT 1 1" + "1" * 60_000, 'near "1*[.]{3}": syntax error at character 9'),
+                    ("SELECT a b '" + "x" * 60_000 + "'", "near \"'x*[.]{3}\": syntax error")]:
+                with self.subTest(sql[:40]), \
+                        self.assertRaisesRegex(bwtools.ProgrammingError, message) as raised:
+                    connection.execute(sql)
+                self.assertLess(len(str(raised.exception)), 300)
 
     def test_halves_of_characters_are_refused(self):
         path = support.imported(pathlib.Path(self.new_folder()) / "t.bw", TRIPS)

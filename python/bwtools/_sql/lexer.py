@@ -26,6 +26,8 @@ PATTERN = re.compile(rf"""(?P<gap>[ \t\n\f\r\ufeff]+|--[^\n]*|/\*(?:.*?\*/|.+\Z)
 # what looks like a number or a blob, and isn't one
 ODD = re.compile(rf"[0-9.]+{NAME}*|[xX]'[^']*'?")
 
+# so many characters of a statement are in a message
+MOST_SHOWN = 80
 TOO_LONG = re.compile("0[xX]0*[1-9A-Fa-f][0-9A-Fa-f]{16}")
 
 
@@ -63,6 +65,11 @@ class Token:
         return f"Token({self.kind!r}, {self.text!r}, {self.start})"
 
 
+def short(text: str) -> str:
+    """Returns a part of a statement for a message: its first characters."""
+    return text if len(text) <= MOST_SHOWN else f"{text[:MOST_SHOWN - 3]}..."
+
+
 def text_literal(value: str) -> str:
     """Returns the literal of a text."""
     quoted = value.replace("'", "''")
@@ -88,8 +95,8 @@ def tokens_of(sql: str) -> list[Token]:
             raise odd(sql, at)
         kind = str(found.lastgroup)
         if kind == "number" and TOO_LONG.match(found.group()):
-            raise Refused(f"{found.group()} at character {at} of the statement has more than 64 "
-                          "bits")
+            raise Refused(f"{short(found.group())} at character {at} of the statement has more "
+                          "than 64 bits")
         if kind != "gap":
             tokens.append(Token(kind, found.group(), at))
         at = found.end()
@@ -103,7 +110,7 @@ def odd(sql: str, at: int) -> Refused:
     if sql[at] in "'\"`[":
         return Refused(f"the quote {sql[at]} {where} isn't closed")
     found = ODD.match(sql, at)
-    return Refused(f"unexpected {found.group() if found else repr(sql[at])} {where}")
+    return Refused(f"unexpected {short(found.group()) if found else repr(sql[at])} {where}")
 
 
 # words that are no name without quotes

@@ -5,12 +5,12 @@ from __future__ import annotations
 from typing import Callable, Optional, Sequence
 
 from ..telling import Refused
-from .lexer import BLOB, END, NUMBER, PARAMETER, QUOTED, TEXT, WORD, Token
 from .syntax import (IN, Between, Call, Case, Cast, Collate, ColumnName, CommonQuery, Comparison,
                      InList, InQuery, Item, Like, Literal, Name, NestedSources, Node, NullTest,
                      Operation, OrderTerm, Query, QuerySource, Row, Select, Source, Subquery,
                      TableSource, Unary, When, Window, children)
-from .lexer import COMPARE, COMPOUND, JOINS, MOMENTS, QUERY, RESERVED
+from .lexer import (BLOB, COMPARE, COMPOUND, END, JOINS, MOMENTS, NUMBER, PARAMETER, QUERY, QUOTED,
+                    RESERVED, TEXT, WORD, Token, short)
 
 # the levels of operators: those of a higher one bind tighter
 OR, AND, NOT, EQUAL, ORDER, BITS, SUM, PRODUCT, JOINED, COLLATE, SIGN = range(11)
@@ -36,7 +36,8 @@ class Unexpected(Refused):
     """A token that can't be where it is, and its place."""
 
     def __init__(self, token: Token) -> None:
-        what = "incomplete input" if token.kind == END else f'near "{token.text}": syntax error'
+        what = "incomplete input" if token.kind == END else \
+            f'near "{short(token.text)}": syntax error'
         super().__init__(f"{what} at character {token.start} of the statement")
         self.token = token
 

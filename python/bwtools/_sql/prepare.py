@@ -13,8 +13,8 @@ from .._result import INTEGER, affinity, is_long
 from ..column import Column
 from ..naming import RESERVED
 from ..telling import Refused
-from .lexer import Token, quoted_name
-from .lexer import MOMENTS
+from .lexer import JOINS, MOMENTS, MOST_SHOWN, Token, quoted_name, short
+from .lexer import RESERVED as NO_NAMES
 from .resolve import HIDDEN
 from .syntax import Call, ColumnName, Node, Query, Row, Select, Window, walk
 from .tables import Catalog, missing
@@ -115,6 +115,8 @@ class Emptied:
             return Refused(self.guard.denied) if self.guard.denied else ours
         place = self.place(tokens, sql)
         near = message.replace('near ""', "near the end")
+        if len(message) > MOST_SHOWN:
+            near = re.sub('"(.*)"', lambda found: f'"{short(found[1])}"', near, flags=re.DOTALL)
         return Refused(f"{near} at character {place} of the statement"
                        f"{reserved(self.catalog, tokens, place)}")
 
@@ -280,7 +282,8 @@ def name_in(node: Node) -> str:
 
 def reserved(catalog: Catalog, tokens: Sequence[Token], place: int) -> str:
     """Returns how to write a column's name that is a word of SQL, if one is at a place."""
-    words = [token.text for token in tokens if token.start == place]
+    words = [token.text for token in tokens if token.start == place
+             and (token.key in NO_NAMES or token.key in JOINS)]
     found = [column.name for table in catalog.tables.values() for column in table.columns
              if words and column.name.lower() == words[0].lower()]
     return f": the word is reserved: use \"{found[0]}\"" if found else ""

@@ -33,6 +33,8 @@ MEANING: dict[str, Callable[[Any, Any], bool]] = {
     "<": operator.lt, ">": operator.gt, "<=": operator.le, ">=": operator.ge, "=": operator.eq,
     "<>": operator.ne}
 UNKNOWN, TRUE, FALSE = "NULL = NULL", "1 = 1", "1 = 0"
+# the bytes of a pattern that SQLite takes
+MOST_PATTERN = 50_000
 # in how many runs the codes of a condition may be that have more than so many numbers, how many
 # values a column may have that is compared with one of another scale, and how many days or times
 # LIKE may choose from
@@ -195,6 +197,9 @@ def like(column: Column, sign: str, pattern: str, escape: str | None) -> str:
     """Returns a LIKE or GLOB as the runs of numbers whose values match it, by SQLite itself."""
     words = f"WHERE value {sign} ?{'' if escape is None else ' ESCAPE ?'} ORDER BY code"
     wanted = (pattern,) if escape is None else (pattern, escape)
+    if len(pattern.encode()) > MOST_PATTERN:
+        # SQLite has the message
+        raise Outside
     try:
         return runs_like(column, words, wanted)
     except sqlite3.Error:

@@ -14,6 +14,7 @@ from ..kind import Literal as Value
 from ..naming import option
 from ..telling import Refused
 from .lexer import TEXT as TEXT_TOKEN
+from .lexer import short
 from .literals import Constant, constant_of, form_of
 from .resolve import column_of, meaning, place_of
 from .syntax import (Between, Call, Case, ColumnName, Comparison, InList, InQuery, Item, Like,
@@ -178,7 +179,7 @@ class Checks:
     def shown(self, node: Node) -> str:
         """Returns a node's text for a message, with the values of parameters."""
         if isinstance(node, Literal):
-            return node.text if node.mark else self.written[node.start:node.end]
+            return short(node.text if node.mark else self.written[node.start:node.end])
         parts, at, left = list[str](), node.start, [node]
         marks = list[Literal]()
         while left:
@@ -189,7 +190,7 @@ class Checks:
         for mark in marks:
             parts += [self.written[at:mark.start], mark.text]
             at = mark.end
-        return "".join([*parts, self.written[at:node.end]])
+        return short("".join([*parts, self.written[at:node.end]]))
 
 
 def comparisons(node: Node) -> Iterator[tuple[Node, str, Node]]:
