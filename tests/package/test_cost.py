@@ -87,7 +87,10 @@ class Quicker(Imported):
         for argument, is_native in [
                 ("CASE WHEN g = 1 THEN cents ELSE 0 END", True), ("coalesce(price, 1.5)", True),
                 ("CASE g WHEN 1 THEN price WHEN 2 THEN cents END", True), ("cents + g * 2", True),
-                ("CASE WHEN g < 0 THEN price ELSE 0 END", True), ("coalesce(price, 1)", False),
+                ("CASE WHEN g < 0 THEN price ELSE 0 END", True), ("coalesce(price, 1)", True),
+                ("coalesce(cents, price, 0)", True), ("ifnull(price, 0)", True),
+                ("nullif(price, 0)", True), ("nullif(cents, 1.5)", False),
+                ("coalesce(nullif(price, 1), iif(g > 3, 1, 2.5))", True),
                 ("iif(g < 0, -price, iif(g < -1, 2.5, cents))", True), ("5. + id", False),
                 ("CASE WHEN g > 3 THEN -price ELSE 7 END", True), ("NULL", False),
                 ("iif(g > 5, -price, NULL)", True), ("g > 5", True), ("wide - 1", True),

@@ -154,6 +154,9 @@ class Forms(Imported):
             for condition, wanted in [("'2024-02-29' BETWEEN y AND y", [(1,)]),
                                       ("5 BETWEEN n AND k", [(1,)]),
                                       ("2.5 IN (d, f)", [(2,), (3,)]),
+                                      ("2.0 IN (n, d, f)", [(2,)]), ("1e0 BETWEEN n AND d", []),
+                                      ("3.0000000000000000000 IN (d, k)", [(2,)]),
+                                      ("2.50 BETWEEN n AND d", [(2,)]),
                                       ("'2024-02-29' = y OR '2024-02-29' = a", [(1,), (3,)]),
                                       ("CASE 2 WHEN n THEN 1 WHEN d THEN 2 END", [(2,)])]:
                 for more in ("", " AND id + 0 > 0"):

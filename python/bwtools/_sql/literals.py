@@ -7,6 +7,7 @@ text for it."""
 from __future__ import annotations
 
 import math
+import re
 from collections.abc import Mapping
 from typing import TYPE_CHECKING, Any, Sequence, Union
 
@@ -22,6 +23,7 @@ from .syntax import ColumnName, Literal, Node, Unary
 if TYPE_CHECKING:
     from fractions import Fraction
 
+NUMERAL = re.compile("-?(0[xX][0-9A-Fa-f]+|[0-9.]+([eE][+-]?[0-9]+)?)")
 # the digits of a number that are read: it is beyond all columns, or nearer to 0 than any, if its
 # first one is further away from the point
 MOST_DIGITS = 400
@@ -158,6 +160,14 @@ def form_of(column: Column, constant: Constant, sign: str) -> str:
     return "" if constant.is_integer else double_form(constant, value)
 
 
+def are_same(form: str, other: str, constant: Constant) -> bool:
+    """Returns whether two texts for SQLite of a literal mean the same; an empty one is what was
+    written."""
+    texts = [each or constant.text for each in (form, other)]
+    return form == other or all(map(NUMERAL.fullmatch, texts)) and \
+        exact(texts[0]) == exact(texts[1])
+
+
 def text_form(column: Column, value: str) -> str:
     """Returns the text for SQLite of a text: of a date or a time the ISO form, of a number in the
     column's style the number, of a boolean 0 or 1."""
@@ -179,6 +189,9 @@ def integer_form(constant: Constant, value: Fraction, sign: str) -> str:
         return ""
     if not LEAST <= floor < GREATEST:
         return "9e999" if value > 0 else "-9e999"
+    if value == floor and abs(floor) < 2 * MOST_HALVES and len(constant.text) <= MOST_SURE:
+        # it is a double
+        return ""
     if value == floor:
         return str(floor) if floor != LEAST else "(-9223372036854775807 - 1)"
     if abs(floor) < MOST_HALVES:

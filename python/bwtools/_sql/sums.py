@@ -45,8 +45,14 @@ def exact_of(node: Node) -> Exact | None:
         return together([exact_of(each) for each in
                          [*found, *([node.otherwise] if node.otherwise else [])]])
     if isinstance(node, Call) and node.name in CHOICES and not node.is_distinct:
-        exact = together([exact_of(each) for each in node.arguments[CHOICES[node.name]:]])
-        return None if exact and exact.is_mixed and node.name != "IIF" else exact
+        parts = [exact_of(each) for each in node.arguments[CHOICES[node.name]:]]
+        exact = together(parts)
+        if node.name == "NULLIF" and exact and parts[0]:
+            # its value is the first argument's
+            first = parts[0]
+            is_odd = first.is_mixed or first.digits < 0 or exact.digits > 0 == first.digits
+            return None if is_odd else Exact(exact.digits, exact.most)
+        return exact
     if isinstance(node, Operation) and node.signs[0] in "+-*":
         return exact_operation(node)
     return None
@@ -161,7 +167,7 @@ def sum_text(call: Call, text: Callable[[Node], str], is_blob: bool = False) -> 
 
 
 def doubles_of(node: Node, text: Callable[[Node], str]) -> str:
-    """Returns the text of a CASE or IIF, with NULL in place of its whole numbers."""
+    """Returns the text of a choice, such as CASE, with NULL in place of its whole numbers."""
     def result(each: Node) -> str:
         exact = exact_of(each)
         if exact is None or exact.digits <= 0:
@@ -173,7 +179,11 @@ def doubles_of(node: Node, text: Callable[[Node], str]) -> str:
         operand = f"{text(node.operand)} " if node.operand else ""
         last = f" ELSE {result(node.otherwise)}" if node.otherwise else ""
         return f"CASE {operand}{' '.join(parts)}{last} END"
-    if isinstance(node, Call):
+    if isinstance(node, Call) and node.name == "IIF":
         return f"IIF({text(node.arguments[0])}, {', '.join(map(result, node.arguments[1:]))})"
+    if isinstance(node, Call):
+        # the first of its arguments that isn't null
+        parts = [f"WHEN {text(each)} IS NOT NULL THEN {result(each)}" for each in node.arguments]
+        return f"CASE {' '.join(parts)} END"
     # a sign before one
     return doubles_of(node.operand, text) if isinstance(node, Unary) else text(node)

@@ -15,7 +15,7 @@ from ..naming import option
 from ..telling import Refused
 from .lexer import TEXT as TEXT_TOKEN
 from .lexer import short
-from .literals import Constant, constant_of, form_of
+from .literals import Constant, are_same, constant_of, form_of
 from .resolve import column_of, meaning, place_of
 from .syntax import (Between, Call, Case, ColumnName, Comparison, InList, InQuery, Item, Like,
                      Literal, Node, NullTest, Operation, OrderTerm, Output, Query, Row, Select,
@@ -170,7 +170,7 @@ class Checks:
             sign = "=" if sign.removesuffix(" ROW") in EQUAL else "ROW"
         form = form_of(column, constant, "=" if sign in EQUAL else sign)
         before, other = self.forms.setdefault(constant.node, (form, column))
-        if before != form:
+        if not are_same(before, form, constant):
             raise Refused(f"{shown} ({where(constant.node)}) is compared with {other.name} and "
                           f"{column.name} at once, which have it in different forms: write a "
                           "comparison for each")
