@@ -17,7 +17,8 @@ QUOTE, QUOTED = '"', re.compile('[",\r\n]')
 NUMBERS = ("whole", "decimals", "floats", "ranked")
 # what a line of tabs has for characters that would end a field or a line
 TSV = str.maketrans({"\t": "\\t", "\n": "\\n", "\r": "\\r", "\\": "\\\\"})
-MARKDOWN = str.maketrans({"\n": "<br>", "\r": "", "<": "&lt;", "&": "&amp;",
+MARKDOWN = str.maketrans({**{chr(each): f"\\\\x{each:02x}" for each in (*range(32), 127)},
+                          "\n": "<br>", "\r": "", "\t": "\t", "<": "&lt;", "&": "&amp;",
                           **{each: f"\\{each}" for each in "\\|*_`"}})
 # the widths of a table are those of so many rows, and a column is made narrower down to so many
 # characters

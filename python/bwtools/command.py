@@ -120,6 +120,9 @@ def status_of(name: str, work: Callable[[], int | None]) -> int:
     for number in (signal.SIGTERM, signal.SIGHUP):
         if signal.getsignal(number) == signal.SIG_DFL:
             signal.signal(number, stop)
+    if not sys.stderr:
+        # or `print` would put messages among the answers
+        sys.stderr = open(os.devnull, "w", encoding="utf-8")
     if not sys.stdout:
         print(f"{name}: standard output is closed", file=sys.stderr)
         return 5
