@@ -40,6 +40,9 @@ ISO_TIME, ISO_CLOCK = "%Y-%m-%d %H:%M:%S", "%H:%M:%S"
 EXACT_DIGITS = 15
 MOST_EXACT = 10 ** EXACT_DIGITS
 NULL, NULLS, SAMPLE = "NULL", ("NULL", None), 256
+# the bits of infinity: those of a finite double of its sign are less
+INFINITE_BITS = 0x7FF << 52
+
 ROWS_AT_ONCE = 8192
 # of an integer as bw spells it, or as Python has it
 to_int: Callable[[Any], int] = int
@@ -121,14 +124,16 @@ def doubles(gap: int, numbers: Sequence[int]) -> array[float]:
     """Returns the doubles of the numbers of a column of floats. Raises OverflowError or ValueError
     for a number that none has."""
     from array import array
-    from math import isfinite
-    # a double of a sign has the sign's bit, which is the least number of 64 bits
-    bits = array("q", [number + gap if number > 0 else number and -number + gap - (1 << 63)
-                       for number in numbers])
-    found = array("d", bits.tobytes())
-    if not all(map(isfinite, found)):
+    if not numbers:
+        return array("d")
+    least, greatest = min(numbers), max(numbers)
+    if max(greatest, -least) + gap >= INFINITE_BITS:
         raise ValueError
-    return found
+    # a double of a sign has the sign's bit, which is the least number of 64 bits
+    bits = array("q", [number + gap for number in numbers] if least > 0 else
+                 [number + gap if number > 0 else number and -number + gap - (1 << 63)
+                  for number in numbers])
+    return array("d", bits.tobytes())
 
 
 def number_of(kind: Kind, value: Value) -> int:
