@@ -1,7 +1,7 @@
 //! Explains an error of a CSV text, and reads its records again.
 use crate::heading::{other_kind, put_heading};
 use crate::text::{Shown, Text, named, put};
-use bw_csv::{bare_value_of, value_of, without_blanks};
+use bw_csv::{FieldRule, value_of, without_blanks};
 use bw_model::{Column, Fault, MAX_COLUMNS, MAX_ROWS, Place, Schema, code};
 use csv::{ByteRecord, Reader, ReaderBuilder};
 use std::alloc::Global;
@@ -120,7 +120,7 @@ fn put_length(text: &mut Text, here: usize, wanted: usize) {
 /// Appends what is wrong with the first field that isn't what its column accepts.
 fn put_field(text: &mut Text, record: &ByteRecord, columns: &[Column]) {
     for (column, field) in columns.iter().zip(record.iter()) {
-        if let Err(fault) = value_of(column, field, 0) {
+        if let Err(fault) = value_of(&FieldRule::of(column), field, 0) {
             put_shown(text, column.name.as_bytes(), field);
             return match fault.code {
                 code::OUT_OF_RANGE =>
@@ -211,7 +211,7 @@ fn read_rows(text: &mut Text, records: &mut Records<'_>, seen: &mut [Seen]) {
 /// Reads the fields of a record, and reports each column's first one that isn't a whole number.
 fn read_row(text: &mut Text, line: u64, heading: &ByteRecord, row: &ByteRecord, seen: &mut [Seen]) {
     for ((seen, name), field) in seen.iter_mut().zip(heading.iter()).zip(row.iter()) {
-        match bare_value_of(field, 0) {
+        match value_of(&FieldRule::any_number(), field, 0) {
             Ok(Some(n)) => {
                 let (least, most) = seen.range.unwrap_or((n, n));
                 seen.range = Some((least.min(n), most.max(n)));

@@ -14,7 +14,7 @@ use bw_io::SharedBytes;
 use bw_lanes::{LANES, Plane, Selection};
 use bw_model::{Fault, Schema, Value};
 use bw_planes::{PlaneSegment, Planes};
-use bw_segment::{ColumnCodes, Placement, Segment};
+use bw_segment::{ColumnCodes, Extreme, Placement, Segment};
 use bw_slices::{SliceSegment, Slices};
 use std::alloc::Global;
 use std::rc::Rc;
@@ -32,6 +32,16 @@ macro_rules! either {
         match $any {
             AnySegment::Planes($segment) => $value,
             AnySegment::Slices($segment) => $value,
+        }
+    };
+}
+
+/// Calls an associated function of the segments in a layout.
+macro_rules! in_layout {
+    ($layout:expr, $function:ident($($argument:expr),*)) => {
+        match $layout {
+            Layout::Planes => PlaneSegment::$function($($argument),*),
+            Layout::Slices => SliceSegment::$function($($argument),*),
         }
     };
 }
@@ -80,8 +90,8 @@ impl Segment for AnySegment {
         either!(self, segment => segment.max_code(col, rows))
     }
 
-    fn none_beyond(&self, col: usize, rows: &Selection, other: u64, greatest: bool) -> bool {
-        either!(self, segment => segment.none_beyond(col, rows, other, greatest))
+    fn none_beyond(&self, col: usize, rows: &Selection, other: u64, which: Extreme) -> bool {
+        either!(self, segment => segment.none_beyond(col, rows, other, which))
     }
 
     fn codes(&self, col: usize, codes: &mut [u64; LANES]) {
@@ -158,10 +168,7 @@ pub(crate) fn append(
     ensures refused { OnErr result (bytes.new.items ≡ bytes.old.items) }
     ensures only_oom { IsOkUnless result no_memory }
 {
-    match layout {
-        Layout::Planes => PlaneSegment::append(alloc, bytes, placement, kept),
-        Layout::Slices => SliceSegment::append(alloc, bytes, placement, kept),
-    }
+    in_layout!(layout, append(alloc, bytes, placement, kept))
 }
 
 /// Returns how many bytes a column's block has.
@@ -171,10 +178,7 @@ pub(crate) fn block_size(layout: Layout, placement: &Placement, col: usize) -> u
     ensures size { result ≡ block_size layout placement.now.schema.columns.items col }
     ensures bound { result ≤ 4160 }
 {
-    match layout {
-        Layout::Planes => PlaneSegment::block_size(placement, col),
-        Layout::Slices => SliceSegment::block_size(placement, col),
-    }
+    in_layout!(layout, block_size(placement, col))
 }
 
 /// Returns how many bytes a segment has.
@@ -184,10 +188,7 @@ pub(crate) fn segment_size(layout: Layout, placement: &Placement) -> usize
     ensures size { result ≡ segment_size layout placement.now.schema.columns.items }
     ensures small { result ≤ 266240 }
 {
-    match layout {
-        Layout::Planes => PlaneSegment::segment_size(placement),
-        Layout::Slices => SliceSegment::segment_size(placement),
-    }
+    in_layout!(layout, segment_size(placement))
 }
 
 /// Returns the number of the first error of a column's block, in a segment of `rows` rows.
@@ -204,8 +205,5 @@ pub(crate) fn block_fault(
     requires size { length block.now ≡ block_size layout placement.now.schema.columns.items col }
     ensures { result ≡ block_fault layout placement.now.schema.columns.items col rows block.now }
 {
-    match layout {
-        Layout::Planes => PlaneSegment::find_fault(placement, col, rows, block),
-        Layout::Slices => SliceSegment::find_fault(placement, col, rows, block),
-    }
+    in_layout!(layout, find_fault(placement, col, rows, block))
 }

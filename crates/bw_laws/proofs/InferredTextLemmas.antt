@@ -25,13 +25,13 @@ use Rattle.bw_model.proofs.SchemaSpelling.{not_empty}
 use Rattle.bw_csv.specs.Bare.{bare_number, bare_row, bare_rows, bare_value, bare_values, records_of}
 use Rattle.bw_csv.specs.Bare.{within_64_bits}
 use Rattle.bw_csv.specs.Rows.{is_minus, is_null_text, without_sign, with_row, without_blanks}
-use Rattle.bw_schemas.specs.Heading.{heading_names, names_from, some_names}
-use Rattle.bw_schemas.specs.InferredSchema.{column_over, columns_over, infer_schema, inferred_after}
-use Rattle.bw_schemas.specs.InferredSchema.{or_zero, check_bounds, ranged_column, schema_over}
-use Rattle.bw_schemas.specs.InferredSchema.{table_of}
-use Rattle.bw_schemas.specs.PrintedSchema.{schema_text}
-use Rattle.bw_schemas.proofs.NarrowLemmas.{greatest_of_one, least_of_one}
-use Rattle.bw_schemas.proofs.PrintedText.{IsSound, AreSound, shape_spelled}
+use Rattle.bw_csv_calls.specs.Heading.{heading_names, names_from, some_names}
+use Rattle.bw_csv_calls.specs.InferredSchema.{column_over, columns_over, infer_schema, inferred_after}
+use Rattle.bw_csv_calls.specs.InferredSchema.{or_zero, check_bounds, ranged_column, schema_over}
+use Rattle.bw_csv_calls.specs.InferredSchema.{table_of}
+use Rattle.bw_csv_calls.specs.PrintedSchema.{schema_text}
+use Rattle.bw_csv_calls.proofs.NarrowLemmas.{greatest_of_one, least_of_one}
+use Rattle.bw_csv_calls.proofs.PrintedText.{IsSound, AreSound, shape_spelled}
 use Rattle.bw_laws.proofs.SoundSchemaLemmas.{number_fits}
 
 -- a value is null, or a number that 64 bits hold; so is each value of a row, and of rows

@@ -28,7 +28,7 @@ mod schema;
 mod total;
 mod variable;
 
-pub use column::Column;
+pub use column::{Column, has_name, is_range};
 pub use cond::{Cond, Op, Operand, Truth};
 pub use fault::{Fault, Place, code, constants_are_listed, words_of};
 pub use groups::{

@@ -49,6 +49,7 @@ pub use column_blocks::ColumnBlocks;
 pub use columns::{ColumnCodes, clear_rows, columns_of, keep_row, no_rows};
 pub use group::is_group;
 pub use lanes::lanes_hold_codes;
+pub use extremes::Extreme;
 pub use layout::CodeLayout;
 pub use numbered_blocks::{NumberedBlocks, no_blocks, push_blocks};
 pub use packed::PackedSegment;

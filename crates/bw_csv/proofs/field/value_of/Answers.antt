@@ -7,6 +7,6 @@ use Rattle.bw_csv.proofs.field.value_of.Goals as goal
 pub returns-in-Some-clause-value : goal.returns-in-Some-clause-value
 returns-in-Some-clause-value c =
     subst (λ expected. MatchesUnlessExempt (λ value. value) c.within_bounds.result expected)
-    (sym (read_digits c.args.number c.args.column.now c.args.field.now c.in-Some.n
+    (sym (read_digits c.args.number c.args.rule.now c.args.field.now c.in-Some.n
     c.is_minus.result c.after_minus.result.now c.is_minus.ensures c.after_minus.ensures (sym c.in-Some.is ∙ c.number_in.ensures)))
     c.within_bounds.ensures.value
