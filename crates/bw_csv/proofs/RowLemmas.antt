@@ -147,7 +147,7 @@ rows_after-rows columns records more heading e h = rw (e, h) refl
 pub ruleset after_heading = (rows_after-none, rows_after-other, rows_after-rows)
 
 -- a text has at most 2^24 rows, each of which rules allow
-rows_good : (rules : List FieldRule) (records : List (List (List ℕ))) (number : ℕ) (rows : List (List Value)) → number ≤ 2 ^ 24 + 1
+pub rows_good : (rules : List FieldRule) (records : List (List (List ℕ))) (number : ℕ) (rows : List (List Value)) → number ≤ 2 ^ 24 + 1
     → rows_from rules number records ≡ Ok rows → (number + length rows ≤ 2 ^ 24 + 1) × (list_all (allow_values rules) rows ≡ true)
 unfolding rows_from
 rows_good rules [] number rows h e = let same : ◌≡◌ {A = List (List Value)} [] rows = cc e in rw (← same) (omega (arith, h), refl)
