@@ -29,7 +29,7 @@ mod schema;
 mod total;
 mod variable;
 
-pub use column::{Column, has_name, is_range};
+pub use column::Column;
 pub use cond::{Cond, Op, Operand, Truth};
 pub use fault::{Fault, Place, code, constants_are_listed, words_of};
 pub use groups::{
@@ -40,6 +40,7 @@ pub use junction::Junction;
 pub use laws::schema_faults_stand_as_listed;
 pub use limits::{MAX_COLUMNS, MAX_CSV_LEN, MAX_ROWS, MAX_SCHEMA_LEN};
 pub use name::{Name, is_name};
+pub use parse::{has_name, is_range};
 pub use query::{Item, Query};
 pub use row::{Row, Value};
 pub use row_consumer::RowConsumer;

@@ -1,19 +1,19 @@
 //! Schema texts: a line `TABLE name`, then for each column a line `COLUMN name lo hi` or
 //! `COLUMN name lo hi NOT NULL`. `lines.rt` of `bw_text` has the rules of lines. The case of
 //! keywords is ignored.
-ghost use Rattle.std.specs.Prelude.{◌≡◌, ◌<◌, Ok, false, map, length, option_map};
-ghost use Rattle.std.specs.Prelude.{IfOk, IfErr, IsTrue};
+ghost use Rattle.std.specs.Prelude.{◌≡◌, ◌<◌, Ok, false, map, length, option_map, pos, ◌≤ℤ◌, ◌<ℤ◌};
+ghost use Rattle.std.specs.Prelude.{◌-ℤ◌, ◌^◌, IfOk, IfErr, IsTrue};
 ghost use Rattle.std.specs.List.{list_any};
 ghost use Rattle.bw_model.specs.Column.{names_of};
 ghost use Rattle.bw_model.specs.Fault.{MatchesUnlessOom};
 ghost use Rattle.bw_text.specs.Lines.{line_of};
 ghost use Rattle.bw_model.specs.SchemaText.{schema_of, schema_shape, SchemaShape, IsSchemaText};
 ghost use Rattle.bw_model.specs.SchemaText.{IsSchemaFault, column_shape, column_words, with_bounds};
-ghost use Rattle.bw_model.specs.SchemaText.{are_not_null, column_on, table_on, bound_of};
+ghost use Rattle.bw_model.specs.SchemaText.{are_not_null, column_on, table_on, is_range, bound_of};
 ghost use Rattle.bw_model.specs.SchemaText.{signed_digits, words_shape};
 ghost use Rattle.bw_text.specs.Text.{same_text};
 
-use crate::column::{Column, has_name, is_range};
+use crate::column::Column;
 use crate::fault::{Fault, code};
 use crate::limits::{MAX_COLUMNS, MAX_SCHEMA_LEN};
 use crate::name::{Name, is_name};
@@ -162,6 +162,23 @@ fn signed_digits(is_negative: bool, digits: &[u8]) -> Option<i64>
     ensures { result ≡ signed_digits is_negative digits.now }
 {
     number_in(is_negative, digits)?
+}
+
+/// Returns whether a column has this name, ignoring case.
+pub fn has_name(columns: &[Column], name: &[u8]) -> bool
+    ensures { result ≡ list_any (λ column. same_text column.name name.now) columns.now }
+{
+    columns.iter().any(|column| column.name.is(name))
+}
+
+/// Returns whether the bounds are in order, and less than 2^63 apart.
+#[tactic(auto, unfolding(crate::specs::SchemaText::is_range))]
+pub fn is_range(lo: i64, hi: i64) -> bool
+    ensures test { result ≡ is_range lo hi }
+    ensures ordered { IsTrue result → lo ≤ℤ hi }
+    ensures narrow { IsTrue result → (hi -ℤ lo) <ℤ pos (2 ^ 63) }
+{
+    lo <= hi && hi.checked_sub(lo).is_some()
 }
 
 /// Returns the column of a line that follows these columns, or the line's first error.
