@@ -101,7 +101,7 @@ values_wide number (rule ∷ rules) (field ∷ fields) values e =
     let same : one.0 ∷ more.0 ≡ values = cc more.2 in
     ap length (sym same) ∙ ap suc (values_wide number rules fields more.0 more.1)
 
-row_wide : (number : ℕ) (rules : List FieldRule) (fields : List (List ℕ)) (row : List Value) → row_of_record number rules fields ≡ Ok row → length row ≡ length rules
+pub row_wide : (number : ℕ) (rules : List FieldRule) (fields : List (List ℕ)) (row : List Value) → row_of_record number rules fields ≡ Ok row → length row ≡ length rules
 unfolding row_of_record
 row_wide number rules fields row e =
     let p = record_passed number (length rules) fields (values_of_fields number rules fields) row e in values_wide number rules fields row p.2

@@ -3,12 +3,22 @@ use Rattle.std.proofs.Common.{◌∙◌, ◌+◌, [], ◌∷◌, ap, refl, sym, 
 use Rattle.bw_csv.specs.Bare.{bare_rows}
 use Rattle.bw_csv.specs.Rest.{to_come}
 use Rattle.bw_csv.specs.Rule.{any_number}
+use Rattle.std.proofs.lemmas.List.{length-replicate}
+use Rattle.bw_csv.proofs.BareLemmas.{row_wide}
 use Rattle.bw_csv.proofs.RowLemmas.{rows_from-end, rows_from-next}
 use Rattle.bw_csv.proofs.Passed.{passed-next, passed-stops}
 use Rattle.bw_csv_calls.specs.ColumnStats.{with_records}
 use Rattle.bw_csv_calls.proofs.ColumnStatsLemmas.{length-with_values, records-end, records-next}
 use Rattle.bw_csv_calls.proofs.schema.take_rows.Goals as goal
 use Rattle.bw_model.proofs.ErrLemmas.{err_passed_on}
+
+pub take_values-requires : goal.take_values-requires
+take_values-requires c =
+    let width = length c.args.columns.now.items in
+    let read = rw c.requires.rules at c.in_ok-next_row.ensures in
+    let some = read.nonempty c.if-branch.true in
+    let wide = row_wide c.rows.number (replicate width any_number) some.0 _ some.2 ∙ length-replicate width any_number in
+    rw (c.deref.ensures.value, c.rows.invariant.size) (sym wide)
 
 pub rows-preserved : goal.rows-preserved
 rows-preserved c =
