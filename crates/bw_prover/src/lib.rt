@@ -23,6 +23,7 @@ mod emit;
 mod facts;
 mod join;
 mod ledger;
+mod nodes;
 mod order;
 mod product;
 mod prover;

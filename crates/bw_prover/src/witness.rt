@@ -68,8 +68,8 @@ impl Facts<'_> {
         let mut bits = Vec::new(self.alloc);
         bits.resize(self.schema.var_count() as usize, false)?;
         let mut at = node;
-        for _ in 0..self.nodes.count {
-            let Some(node) = self.node(at) else {
+        for _ in 0..self.nodes.len() {
+            let Some(node) = self.nodes.get(at) else {
                 break;
             };
             let bit = node.low == 0;
