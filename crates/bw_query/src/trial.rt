@@ -127,7 +127,7 @@ trait TrialCount {
         ensures count { result
             ≡ counts self.old (S.meaning segment.now).columns (S.meaning segment.now).rows }
         ensures bounded { result ≤ 4096 }
-        ensures fits { fits self.new ≡ fits self.old }
+        ensures fits { (columns : List Column) → fits self.old columns → fits self.new columns }
         ensures same { counts self.new ≡ counts self.old };
 }
 

@@ -11,7 +11,7 @@ pub loop-number-init : goal.loop-number-init
 loop-number-init g c =
     let table = c.args.table.now in
     let none = no_groups table.layout (schema_of table).columns.items table.rows table.columns.items in
-    record { sum = rw none refl; bound = omega arith; fits = refl; same = refl }
+    record { sum = rw none refl; bound = omega arith; fits = c.requires.fits; same = refl }
 
 pub loop-number-preserved : goal.loop-number-preserved
 loop-number-preserved g c =
@@ -25,6 +25,6 @@ loop-number-preserved g c =
     record {
       sum = rw more (one_more (g.C.TrialCount.counts c.args.counter.now columns) groups rows _ _ c.loop-number.invariant.sum counted);
       bound = omega (arith, c.loop-number.invariant.bound, c.count_in.ensures.bounded);
-      fits = c.count_in.ensures.fits ∙ c.loop-number.invariant.fits;
+      fits = c.count_in.ensures.fits columns c.loop-number.invariant.fits;
       same = c.count_in.ensures.same ∙ c.loop-number.invariant.same;
     }
