@@ -6,7 +6,7 @@ use Rattle.bw_model.specs.Row.{Value}
 use Rattle.bw_csv.specs.declared.rule.FieldRule.{FieldRule}
 
 abbrev pub field_rule : ℤ → ℤ → Bool → FieldRule
-field_rule lo hi nullable = record { lo = lo; hi = hi; nullable = nullable; }
+field_rule lo hi nullable = record { lo = lo; hi = hi; nullable = nullable }
 
 -- the rule of a column of a schema
 abbrev pub rule_of : Column → FieldRule

@@ -46,7 +46,12 @@ fn value_of_text(rule: &FieldRule, text: &[u8], number: u32) -> Result<Value, Fa
 }
 
 /// Returns the number that a sign and digits spell under a rule.
-fn number_of(rule: &FieldRule, is_negative: bool, digits: &[u8], number: u32) -> Result<Value, Fault>
+fn number_of(
+    rule: &FieldRule,
+    is_negative: bool,
+    digits: &[u8],
+    number: u32,
+) -> Result<Value, Fault>
     ensures value { MatchesUnlessExempt (λ value. value) result
         (number_value number rule.now is_negative digits.now) }
     ensures fault { IfErr result IsRowsFault }

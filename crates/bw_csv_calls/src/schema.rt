@@ -66,11 +66,7 @@ fn schema_of(alloc: Global, table: &[u8], text: &[u8]) -> Result<Schema, Fault>
 
 /// Returns the columns of these names, from the rows of the unread records, the first of which has
 /// number 1.
-fn columns_after(
-    alloc: Global,
-    rest: &mut Rest<'_>,
-    names: &[Name],
-) -> Result<Vec<Column>, Fault>
+fn columns_after(alloc: Global, rest: &mut Rest<'_>, names: &[Name]) -> Result<Vec<Column>, Fault>
     requires { IsReadable rest.old }
     ensures columns { MatchesUnlessExempt (λ columns. map column_shape columns.items) result
         (columns_after names.now (to_come rest.old)) }

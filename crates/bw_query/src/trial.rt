@@ -212,12 +212,8 @@ fn order_by_share(alloc: Global, table: &MemoryTable, cond: &Cond) -> Result<Opt
         return Ok(None);
     }
     match cond {
-        Cond::And(parts) => {
-            Ok(by_share(alloc, table, parts, First::Rarest)?.map(Cond::And))
-        }
-        Cond::Or(parts) => {
-            Ok(by_share(alloc, table, parts, First::MostFrequent)?.map(Cond::Or))
-        }
+        Cond::And(parts) => { Ok(by_share(alloc, table, parts, First::Rarest)?.map(Cond::And)) }
+        Cond::Or(parts) => { Ok(by_share(alloc, table, parts, First::MostFrequent)?.map(Cond::Or)) }
         _ => Ok(None),
     }
 }

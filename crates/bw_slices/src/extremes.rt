@@ -10,8 +10,8 @@ ghost use Rattle.bw_segment.specs.Selected.{is_greatest};
 ghost use Rattle.bw_slices.specs.Slices.{slices_codes};
 
 use crate::read::{slice_of, slices_in};
-use bw_segment::Extreme;
 use bw_lanes::{LANES, Selection, bytes_of_plane, greatest_in, is_zero, keep_in, least_in};
+use bw_segment::Extreme;
 
 /// Returns the maximum or the minimum of the codes in the lanes, or None if there are no lanes.
 /// From the most significant byte down, the lanes that remain are those with the maximum, or the
