@@ -249,6 +249,13 @@ class Values(Listings):
                          "long has decimals of more than 15 digits")
         self.refused("SELECT long FROM trips UNION SELECT cents FROM trips", "more than 15 digits")
         self.refused("SELECT max(long) OVER () FROM trips", "more than 15 digits")
+        for condition in ("long IS TRUE", "long IS NOT FALSE", "TRUE IS long"):
+            self.refused(f"SELECT city FROM trips WHERE {condition}", "more than 15 digits")
+        self.refused("SELECT city FROM trips GROUP BY city HAVING MIN(long) IS TRUE",
+                     "more than 15 digits")
+        for limit in ("LIMIT", "LIMIT 1 OFFSET"):
+            self.refused(f"SELECT city FROM trips {limit} (SELECT long FROM trips)",
+                         "more than 15 digits")
 
     def test_decimals_of_many_digits_are_compared_and_grouped(self):
         for sql, wanted in [

@@ -187,7 +187,7 @@ def integer_form(constant: Constant, value: Fraction, sign: str) -> str:
     floor = math.floor(value)
     if constant.is_integer:
         return ""
-    if not LEAST <= floor < GREATEST:
+    if not LEAST <= floor <= GREATEST:
         return "9e999" if value > 0 else "-9e999"
     if value == floor and abs(floor) < 2 * MOST_HALVES and len(constant.text) <= MOST_SURE:
         # it is a double

@@ -162,6 +162,9 @@ class Checks:
     def literal(self, column: Column, constant: Constant, sign: str) -> None:
         """Rejects a literal of another kind than the column's, and gives it SQLite's form."""
         assert constant.node
+        if is_long(column) and sign.startswith("IS") and isinstance(constant.node, ColumnName):
+            # TRUE and FALSE after IS ask whether the column's double is 0
+            raise Refused(NO_DOUBLE.format(column.name))
         shown, value = self.shown(constant.node), constant.beside(column)
         if isinstance(value, bytes) or value is None:
             raise Refused(f"{shown} can't be compared with {column.name}: {held(column)}")
@@ -347,8 +350,10 @@ def outputs_of(node: InQuery) -> list[Output]:
 
 def allowed_in(node: Node) -> Iterator[Node]:
     """Yields the children of a node that may be integers in place of decimals."""
-    if isinstance(node, (Item, OrderTerm, NullTest, InQuery, Select, Source, Query, TableSource)):
+    if isinstance(node, (Item, OrderTerm, NullTest, InQuery, Select, Source, TableSource)):
         yield from children(node)
+    elif isinstance(node, Query):
+        yield from (child for child in children(node) if child not in (node.limit, node.offset))
     elif isinstance(node, Window):
         yield from node.partitions
     elif isinstance(node, Operation) and node.signs[0] in ("AND", "OR") or \
