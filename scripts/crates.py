@@ -12,12 +12,17 @@ ROOT = pathlib.Path(__file__).resolve().parent.parent
 PARTS = ("src", "specs", "proofs")
 
 
-def libraries() -> dict[str, list[str]]:
-    """Returns the libraries of the repository that each crate names."""
+def named_libraries() -> dict[str, list[str]]:
+    """Returns the libraries that each crate names, those of the kit too."""
     lines = (line.split("#")[0]
              for line in (ROOT / "crates.txt").read_text(encoding="utf-8").splitlines())
-    named = {name: rest.split() for name, found, rest in (line.partition(":") for line in lines)
-             if found}
+    return {name: rest.split() for name, found, rest in (line.partition(":") for line in lines)
+            if found}
+
+
+def libraries() -> dict[str, list[str]]:
+    """Returns the libraries of the repository that each crate names."""
+    named = named_libraries()
     return {name: [each for each in below if each in named] for name, below in named.items()}
 
 

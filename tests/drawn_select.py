@@ -409,11 +409,14 @@ class Selects:
         if not found or self.is_drawn(.2):
             return f"{self.some('COUNT(*)', 'count( * )', 'COUNT(1)')}{only}", "number"
         column, kind = found
+        if kind == "sum":
+            # sqlite3 gets a text
+            return f"COUNT({column}){only}", "number"
         forms = [(f"COUNT({self.some('', 'DISTINCT ')}{column}){only}", "number"),
                  (f"{self.some('MIN', 'max')}({column}){only}", kind)]
         if kind in ("whole", "float", "truth"):
             forms += [(f"SUM({column}){only}", "number"), (f"avg({column}){only}", "number"),
-                      (f"total({column}){only}", "number"),
+                      (f"{{total(|coalesce(exact_total(}}{column}){only}{{|, 0.0)}}", "number"),
                       (f"sum({self.some('DISTINCT ', '')}{column}) + 1", "number")]
         if kind == "decimal" and depth > 1:
             forms += [(f"{{sum|exact_sum}}({column}){only}", "sum"),
@@ -422,11 +425,15 @@ class Selects:
             forms.append((f"{{SUM|long_sum}}({column}){only}", "sum"))
         if kind in ("whole", "decimal", "truth") and depth > 0:
             only = self.condition(0)
-            forms += [(f"sum(CASE WHEN {only} THEN {column} ELSE 0 END)", "number"),
-                      (f"{self.some('sum', 'avg')}(iif({only}, {column}, "
-                       f"{self.some('NULL', '2.5', '1', '-3.')}))", "number"),
-                      (f"sum(CASE {column} WHEN {self.literal(kind)} THEN 1 ELSE {column} END)",
-                       "number")]
+            word, of = ("{sum|exact_sum}", "sum") if kind == "decimal" else ("sum", "number")
+            other = self.some("NULL", "1")
+            forms += [(f"{word}(CASE WHEN {only} THEN {column} ELSE 0 END)", of),
+                      (f"{word}(iif({only}, {column}, {other}))", of),
+                      (f"avg(iif({only}, {column}, {other}))", "number"),
+                      (f"{{sum|exact_sum}}(iif({only}, {column}, {self.some('2.5', '-3.')}))",
+                       "sum"),
+                      (f"{word}(CASE {column} WHEN {self.literal(kind)} THEN 1 ELSE {column} END)",
+                       of)]
         return self.chance.choice(forms)
 
     def groups(self, depth: int) -> tuple[list[tuple[str, str]], str, str]:

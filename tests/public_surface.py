@@ -9,14 +9,14 @@ from dataclasses import dataclass
 from pathlib import Path
 from typing import Iterator
 
-from tests.rattle_items import Crate, Source
+from tests.rattle_items import Crate
 
 ROOT = Path(__file__).resolve().parent.parent
 sys.path.insert(0, str(ROOT / "scripts"))
 from crates import libraries  # noqa: E402
 
 LISTED, PLANNED = "docs/surface.txt", "docs/planned_surface.txt"
-TESTS = re.compile(r"bw_conformance_\w+|bw_surface")
+TESTS = re.compile(r"bw_conformance_\w+")
 PROGRAMS = ("bw", "bench")
 HEADER = """\
 # The public items of each library: a declaration, what it derives, its fields or variants, its
@@ -26,20 +26,6 @@ HEADER = """\
 CRATE = re.compile(r"\[(\w+)\]")
 # lines of an item that aren't planned: what it ensures is in docs/promises.txt
 UNPLANNED = ("  ensures ", "  derives ")
-CALLABLE = re.compile(r"fn (?:(\w+)::)?(\w+)(?:<[^(]*>)?\((&?(?:'\w+ )?(?:mut )?self\b)?")
-
-
-@dataclass(frozen=True)
-class Call:
-    """A call of the surface: its crate, the type or trait that it belongs to, if any, its name, and
-    whether it is a method."""
-    crate: str
-    owner: str
-    name: str
-    is_method: bool
-
-    def __str__(self) -> str:
-        return "::".join(filter(None, (self.crate, self.owner, self.name)))
 
 
 @dataclass(frozen=True)
@@ -111,47 +97,9 @@ def compare_with_plan() -> Comparison:
     return Comparison(sum(map(len, planned.values())), wrong)
 
 
-def calls_in(text: str) -> list[Call]:
-    """Returns the calls of a text such as docs/surface.txt."""
-    return [Call(crate, found.group(1) or "", found.group(2), bool(found.group(3)))
-            for crate, items in items_by_crate(text).items() for item in items
-            for found in [CALLABLE.match(item)] if found]
-
-
-def is_called(call: Call, test: str, is_alone: bool) -> bool:
-    """Returns whether a file of tests calls a call. A function is imported from a library; a call
-    of a type is written with the type, but for a method its name suffices if no other call of the
-    surface has that name."""
-    if call.name not in test:
-        return False
-    if not call.owner:
-        used = rf"\bbw_\w+::(?:{{[^}}]*\b{call.name}\b[^}}]*}}|{call.name}\b)"
-        made = rf"(?<!fn )(?<![.:\w])(?:bw_\w+::)?{call.name}\("
-        return bool(re.search(used, test) and re.search(made, test))
-    if call.is_method and is_alone and re.search(rf"\.{call.name}\(", test):
-        return True
-    return bool(re.search(rf"\b{call.owner}(?:::<[^;{{}}]*>)?::{call.name}(?:::<[^()]*>)?\(", test))
-
-
-def test_files() -> Iterator[str]:
-    """Returns the texts of the files of tests, without comments and texts."""
-    for folder in sorted((ROOT / "crates").iterdir()):
-        if TESTS.fullmatch(folder.name):
-            yield from (Source.of(read(path)).mask for path in sorted(folder.glob("src/*.rt")))
-
-
-def compare_with_tests() -> Comparison:
-    """Looks for each planned call in the crates of tests, which are proved."""
-    calls, tests = calls_in(read(ROOT / PLANNED)), list(test_files())
-    names = [call.name for call in calls_in(read(ROOT / LISTED))]
-    wrong = [f"{PLANNED}: no test calls {call}" for call in calls
-             if not any(is_called(call, test, names.count(call.name) == 1) for test in tests)]
-    return Comparison(len(calls), wrong)
-
-
 def compare_all() -> list[Comparison]:
-    """Compares docs/surface.txt with the sources, and the planned surface with it and the tests."""
-    return [compare_with_sources(), compare_with_plan(), compare_with_tests()]
+    """Compares docs/surface.txt with the sources, and the planned surface with it."""
+    return [compare_with_sources(), compare_with_plan()]
 
 
 def read(path: Path) -> str:

@@ -49,6 +49,13 @@ class Sum:
             else float(self.exact())
 
 
+class Total(Sum):
+    """The sum of values as a double, likewise."""
+
+    def finalize(self) -> Any:
+        return float(self.exact()) if self.values else None
+
+
 class Mean(Sum):
     """The mean of values, likewise."""
 

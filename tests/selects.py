@@ -32,6 +32,8 @@ from tests.drawn_select import LONG, TABLES, TYPES, Pair
 A_CONNECTION, A_TABLE = 40, 200
 # the digits of a double that are compared: all
 SURE = 16
+# what is around the exact total of sqlite3
+TOTAL = ("coalesce(exact_", ", 0.0)")
 # what pages say is refused that SQLite answers
 OURS = re.compile(
     "can't be compared|is null in|is no condition|which have no|which can't be summed|has no order|"
@@ -83,7 +85,8 @@ class Compared:
                                                *words, *shards))
             typed = [(f'"{name}"', TYPES.get(kind, "TEXT")) for name, kind in columns.items()]
             self.base.add(f'"{table}"', typed, rows.values(table))
-        sums: dict[str, Callable[[], Any]] = {"exact_sum": ExactSum, "long_sum": LongSum}
+        sums: dict[str, Callable[[], Any]] = {"exact_sum": ExactSum, "long_sum": LongSum,
+                                              "exact_total": reference.Total}
         for database in (self.base.exact, self.base.plain):
             for name, function in sums.items():
                 database.create_aggregate(name, 1, function)
@@ -173,6 +176,8 @@ class Compared:
 def heading_of(heading: str) -> str:
     """Returns a heading without what sqlite3 gets in another form: sums of decimals, and decimals
     of many digits."""
+    if heading.startswith(TOTAL[0]):
+        heading = heading[len(TOTAL[0]):-len(TOTAL[1])]
     return re.sub(r"(?i)(exact_|long_)?sum|\b[0-9]{16,}(\.[0-9]+)?|\b0(\.00)?\b", "~", heading)
 
 
@@ -204,7 +209,7 @@ def is_equal(found: Any, wanted: Any, places: int = SURE) -> bool:
         return Fraction(found) == (Fraction(repr(wanted)) if isinstance(wanted, float)
                                    else Fraction(wanted, LONG))
     if isinstance(wanted, str) and wanted.startswith("sum "):
-        return isinstance(found, float) and found == float(Fraction(wanted[4:]))
+        return isinstance(found, (int, float)) and found == float(Fraction(wanted[4:]))
     return reference.is_near(plain(found), wanted) or isinstance(wanted, float) and \
         isinstance(found, float) and math.isnan(found) == math.isnan(wanted) is True
 

@@ -3,7 +3,9 @@ program, tools and pages that work with nothing else on the PATH; it rejects wha
 removes only what it wrote. The man pages and the completions must name the commands and options of
 the program's help. The tools must work from a copy of their folder and by a symlink."""
 import functools
+import hashlib
 import importlib.util
+import json
 import os
 import pathlib
 import re
@@ -165,6 +167,81 @@ class Install(Installed):
         self.assertEqual(self.install(self.folder / "file", top=tree).status, 5)
         self.assertEqual((self.folder / "file").read_text(), "mine")
 
+    def outside(self):
+        """Makes a folder beside PREFIX with a file and a symlink, and returns it with the marks
+        that a list may have of them."""
+        outside = self.folder / "outside"
+        (outside / "__pycache__").mkdir(parents=True)
+        (outside / "mine").write_text("mine")
+        (outside / "mine.py").write_text("mine")
+        (outside / "__pycache__" / "mine.cpython-39.pyc").write_text("mine")
+        (outside / "link").symlink_to("mine")
+        found = f"sha256 {hashlib.sha256(b'mine').hexdigest()}"
+        return outside, {"mine": [found], "mine.py": [found], "link": ["link mine"]}
+
+    def forge(self, prefix, files, folders=()):
+        """Adds files and folders to the list of what was installed."""
+        path = prefix / "share" / "bw" / "installed.json"
+        said = json.loads(path.read_text())
+        said["files"].update(files)
+        said["folders"].extend(folders)
+        path.write_text(json.dumps(said))
+
+    def test_lists_that_name_what_is_outside(self):
+        tree, (outside, marks) = copy_tree(self.folder / "tree"), self.outside()
+        before = content(outside)
+        for number, start in enumerate(("../outside/", f"{outside}/", "bin/../../outside/",
+                                        "./../outside/", "")):
+            prefix = self.folder / f"p{number}"
+            self.install(prefix, top=tree)
+            self.forge(prefix, {f"{start}{name}": each for name, each in marks.items()} if start
+                       else {}, [] if start else ["../outside/empty", "../outside/__pycache__"])
+            installed = content(prefix)
+            for words in (["--uninstall", prefix], [prefix]):
+                with self.subTest(start, words=words):
+                    done = self.install(*words, top=tree)
+                    self.assertEqual((done.status, content(prefix)), (3, installed), done)
+                    self.assertIn("is not a list that install wrote", done.err)
+        self.assertEqual(content(outside), before)
+
+    def test_symlinks_that_lead_out(self):
+        """In the tree of PREFIX, below which the list names files."""
+        tree, (outside, marks) = copy_tree(self.folder / "tree"), self.outside()
+        before, prefix = content(outside), self.folder / "p"
+        self.install(prefix, top=tree)
+        (prefix / "out").symlink_to(outside)
+        self.forge(prefix, {f"out/{name}": each for name, each in marks.items()},
+                   ["out/__pycache__", "out"])
+        self.assertEqual(self.install(prefix, top=tree).status, 0)
+        self.forge(prefix, {f"out/{name}": each for name, each in marks.items()}, ["out"])
+        done = self.install("--uninstall", prefix, top=tree)
+        self.assertEqual((done.status, content(outside)), (0, before))
+        self.assertIn(f"{prefix}/out/mine", done.out)
+        self.assertEqual(content(prefix), {"out": str(outside)})
+
+    def test_folders_that_are_symlinks(self):
+        tree, (outside, _) = copy_tree(self.folder / "tree"), self.outside()
+        before = content(outside)
+        for number, name in enumerate(("bin", "share", "share/bw", "share/bw/python",
+                                       "share/bw/python/bwtools", "share/man/man1",
+                                       "share/bw/python/bwtools/__pycache__")):
+            prefix = self.folder / f"p{number}"
+            (prefix / name).parent.mkdir(parents=True)
+            (prefix / name).symlink_to(outside)
+            made = content(prefix)
+            done = self.install(prefix, top=tree)
+            with self.subTest(name):
+                self.assertEqual((done.status, content(outside), content(prefix)),
+                                 (3, before, made), done)
+        prefix = self.folder / "whole"
+        self.install(prefix, top=tree)
+        (prefix / "share" / "bw" / "python" / "bwtools" / "__pycache__").rename(outside / "cache")
+        (prefix / "share" / "bw" / "python" / "bwtools" / "__pycache__").symlink_to(
+            outside / "cache")
+        before = content(outside)
+        self.assertEqual(self.install("--uninstall", prefix, top=tree).status, 0)
+        self.assertEqual(content(outside), before)
+
     def test_the_default(self):
         tree = copy_tree(self.folder / "tree")
         self.assertEqual(self.install(top=tree, HOME=str(self.folder / "home")).status, 0)
@@ -324,7 +401,9 @@ class Completions(support.TestCase):
 
     def test_python_programs(self):
         for words in ([name] for name in TOOLS if name != "bw-shards"):
-            told = run([PYTHON / "bin" / words[0], "--help"]).out.partition("\noptions:")[2]
+            # before Python 3.10 they are called optional arguments
+            told = re.split("\n(?:options|optional arguments):",
+                            run([PYTHON / "bin" / words[0], "--help"]).out)[-1]
             options = set(re.findall(r"^  (?:-h, )?(--[a-z-]+)", told, re.M))
             self.assertGreaterEqual(options, {"--help", "--version"})
             self.assertEqual(completed_by_bash(*words, "--"), options, words)

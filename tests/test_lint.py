@@ -19,8 +19,8 @@ RULES = ["--select", "E,F,W", "--ignore", "E402", "--line-length", "100"]
 STRICT = ["--strict", "--python-version", "3.9", "--ignore-missing-imports", "--no-error-summary",
           "--explicit-package-bases", "--no-site-packages", "--cache-dir"]
 # what is typed beside the package
-TYPED = [f"tests/{name}.py" for name in ("support", "pages", "drawn", "reference", "drawn_select",
-                                       "selects")]
+TYPED = [f"tests/{name}.py" for name in ("support", "pages", "drawn", "drawn_numbers", "reference",
+                                       "drawn_select", "selects")]
 WORD = re.compile(r"[^\s(){}\[\],;.:λ@]+")
 # a definition or lemma at the margin: its name, and the block that it belongs to
 HEAD = re.compile(r"^(?:(?:pub|abbrev|unfoldable|opaque) )*([^\s(){}\[\],;.:]+) :(?: (.*))?$")

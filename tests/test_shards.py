@@ -235,10 +235,13 @@ class Damage(Shards):
                 self.check_refused(foreign, (ALL, "COUNT(*) FROM t")[number % 2])
                 self.shard.unlink()
         (self.folder / "kept").rename(self.shard)
-        # if size, time and inode are the same, bw validates the file
-        self.shard.write_bytes(b"X" + self.data[1:])
-        os.utime(self.shard, ns=(told.st_mtime_ns, told.st_mtime_ns))
-        self.check_refused("bw: 301 magic at byte 0")
+        # if size, time and inode are the same, the header is compared, and bw validates the file
+        for damaged, why in ((b"X" + self.data[1:], foreign),
+                             (self.data[:20] + b"X" + self.data[21:], foreign),
+                             (self.data[:-1] + b"\xff", "bw: 30[678] ")):
+            self.shard.write_bytes(damaged)
+            os.utime(self.shard, ns=(told.st_mtime_ns, told.st_mtime_ns))
+            self.check_refused(why)
         self.shard.write_bytes(self.data)
         self.assertEqual((self.asked(ALL), self.right.status), (self.right, 0))
 
@@ -287,7 +290,16 @@ class Folders(Shards):
             with self.subTest(text):
                 (self.folder / "empty" / "shards.columns").write_text(text)
                 self.assert_refused(self.asked(ALL, name="empty"), " a columns file ")
-                self.assert_refused(self.load(name="empty"), "can't be overwritten")
+                if text == "[]":
+                    self.assert_refused(self.load(name="empty"), "can't be overwritten")
+        # of an earlier version: the command that the message names writes it anew
+        self.assert_refused(self.asked(ALL, name="empty"), "again, by bw-shards load RAW.csv empty")
+        (self.folder / "empty" / "shard-001.bw").write_bytes(b"BWCOLUMN")
+        (self.folder / "empty" / "mine").write_bytes(b"")
+        self.assert_refused(self.load(name="empty"), "it has mine, which isn't one of its shards")
+        (self.folder / "empty" / "mine").unlink()
+        self.assertEqual(self.load(name="empty").status, 0)
+        self.assertEqual(self.asked(ALL, name="empty").status, 0)
 
     def test_what_is_not_overwritten(self):
         (self.folder / "s" / "notes").write_text("mine")

@@ -188,7 +188,7 @@ class Prove(Trees):
         (self.folder / "out").mkdir()
         held = os.open(self.folder / "out", os.O_RDONLY)
         fcntl.flock(held, fcntl.LOCK_EX)
-        threading.Timer(.5, os.close, [held]).start()
+        threading.Timer(2, os.close, [held]).start()
         status, lines = self.run_in("scripts/prove", kit=SAME, gate=gate)
         self.assertEqual((status, lines[0]),
                          (0, "bw: waiting for another call that proves and builds here"))

@@ -2,12 +2,18 @@
 both are read."""
 from __future__ import annotations
 
+import re
+import sys
 import tempfile
 import unittest
 from pathlib import Path
 
 from tests import public_surface
 from tests.rattle_items import Crate
+
+ROOT = Path(__file__).resolve().parent.parent
+sys.path.insert(0, str(ROOT / "scripts"))
+from crates import named_libraries  # noqa: E402
 
 ROOT_FILE = """\
 //! A crate.
@@ -118,8 +124,24 @@ class Tree(unittest.TestCase):
     def test_planned_items_are_listed(self) -> None:
         self.assertEqual(public_surface.compare_with_plan().wrong, [])
 
-    def test_planned_calls_are_tested(self) -> None:
-        self.assertEqual(public_surface.compare_with_tests().wrong, [])
+
+class Libraries(unittest.TestCase):
+    """The kit's libraries."""
+
+    def test_table_is_that_of_the_crates(self) -> None:
+        """DECISIONS names each library of the kit, and the crates that use it."""
+        text = (ROOT / "docs" / "DECISIONS.md").read_text(encoding="utf-8")
+        section = text[text.index("## Libraries"):text.index("## Departures")]
+        rows = {cells[1].strip("`"): cells[2] for line in section.split("\n")
+                for cells in [line.split("|")] if len(cells) == 5}
+        rows |= {name: users for name, users in re.findall(r"`(\w+)` \(([^)]*)\)", section)}
+        told = {name: set(re.findall(r"`(\w+)`", users)) for name, users in rows.items()}
+        named = named_libraries()
+        used: dict[str, set[str]] = {}
+        for crate, below in named.items():
+            for name in set(below) - set(named):
+                used.setdefault(name, set()).add(crate)
+        self.assertEqual({name: users for name, users in told.items() if users}, used)
 
 
 class Reading(unittest.TestCase):
@@ -139,19 +161,6 @@ class Reading(unittest.TestCase):
                 "  ensures c,\n      d")
         self.assertEqual(public_surface.planned_part(item),
                          "fn cut(\n      at: usize,\n    ) -> u8\n  requires a {\n      b }")
-
-    def test_calls(self) -> None:
-        calls = public_surface.calls_in("[bw_a]\n\nfn cut(at: u8)\n\nfn Part::len(&self) -> u8\n")
-        self.assertEqual([str(call) for call in calls], ["bw_a::cut", "bw_a::Part::len"])
-        for text, is_alone, expected in (
-                ("use bw_a::{cut, join};\nlet x = cut(1);", True, [True, False]),
-                ("fn cut() {}\nlet x = other.cut(1);", True, [False, False]),
-                ("let x = part.len();", True, [False, True]),
-                ("let x = part.len();", False, [False, False]),
-                ("let x = Part::len(&part);", False, [False, True])):
-            with self.subTest(text=text, is_alone=is_alone):
-                self.assertEqual([public_surface.is_called(call, text, is_alone)
-                                  for call in calls], expected)
 
 
 if __name__ == "__main__":

@@ -3,19 +3,20 @@ function's total stands here once.
 
 Numbers are a column's integers. A sum of whole numbers is one within 64 bits; a sum of decimals is
 an integer of any size, of the column's scale. A mean is the double nearest to the exact quotient. A
-sum of floats is the double nearest to the exact sum (`math.fsum`)."""
+sum of floats is the double nearest to the exact sum, of listed rows by `math.fsum`."""
 from __future__ import annotations
 
 import contextlib
 import functools
 import itertools
+import math
 from collections import Counter
 from typing import (TYPE_CHECKING, Any, Callable, Iterable, Iterator, Mapping, Optional,
                     Sequence, Tuple)
 
 from ._engine.executor import COUNT, added
-from ._result import (NULL, Value, blob_of, columns_of, foreign, integers_of, is_double,
-                      stored)
+from ._result import (INFINITE_BITS, MOST_EXACT, NULL, Value, blob_of, columns_of, foreign,
+                      integers_of, is_double, number_in, stored)
 from ._result import doubles as decoded
 from .codes import Codes
 from .column import Column
@@ -40,11 +41,15 @@ GroupTotals = Mapping[str, Sequence[Optional[int]]]
 Key = Tuple[int, ...]
 # numbers up to this one have no sum of over 64 bits in 2^40 rows
 SMALL = 1 << 23
+# whole numbers below it are doubles
+MOST_WHOLE = 1 << 53
+# the bits of a double's fraction, and the power of two by which all doubles are whole numbers
+FRACTION, LEAST_POWER = 52, 1074
 # decimals have so many digits after the point
 MOST_DIGITS = 18
 # the functions of `Functions`
-FUNCTIONS = ("bw_sum", "bw_avg", "bw_total", "bw_mean",
-             *(f"bw_avg_{digits}" for digits in range(MOST_DIGITS + 1)))
+FUNCTIONS = ("bw_sum", "bw_avg", "bw_total", "bw_halves", "bw_mean",
+             *(f"bw_exact_{digits}" for digits in range(MOST_DIGITS + 1)))
 
 
 class Aggregate(Valued):
@@ -120,7 +125,6 @@ def mean_of(number: int | None, count: int, digits: int) -> float | None:
 
 def float_sum(doubles: Sequence[float]) -> float:
     """Returns the double nearest to the sum of finite doubles: infinity if it is too large."""
-    import math
     try:
         return math.fsum(doubles)
     except OverflowError:
@@ -129,13 +133,42 @@ def float_sum(doubles: Sequence[float]) -> float:
         return nearest(sum(map(Fraction, doubles), Fraction()))
 
 
-def float_total(function: str, doubles: Sequence[float]) -> float | None:
-    """Returns the sum or the mean of doubles, of a sum that was rounded once; None if there are
-    none."""
-    if not doubles:
+def float_total(function: str, total: float, count: int) -> float | None:
+    """Returns the sum, or the mean, of so many doubles whose sum was rounded once; None if there
+    are none."""
+    if not count:
         return None
-    found = float_sum(doubles)
-    return found if function == "SUM" else found / len(doubles)
+    return total if function == "SUM" else total / count
+
+
+def binades(gap: int, least: int, greatest: int) -> list[tuple[int, int]]:
+    """Returns ranges of a float column's numbers of one sign, each of doubles of one exponent. The
+    ends are the least and the greatest of all."""
+    if least < 0:
+        return [(-last, -first) for first, last in reversed(binades(gap, -greatest, -least))]
+    exponents = range((least + gap) >> FRACTION, ((greatest + gap) >> FRACTION) + 1)
+    return [(max(least, (each << FRACTION) - gap), min(greatest, (each + 1 << FRACTION) - 1 - gap))
+            for each in exponents]
+
+
+def sum_of_binades(kind: Kind, totals: Sequence[tuple[int, int, int]]) -> float:
+    """Returns the double nearest to the sum of a float column's values. Each total is a number of a
+    binade, how many numbers of it there are, and their sum."""
+    plain: Any = undressed(kind)
+    gap, found = plain.gap, 0
+    for number, count, total in totals:
+        sign = -1 if number < 0 else 1
+        bits, exponent = sign * total + count * gap, (abs(number) + gap) >> FRACTION
+        if exponent >= INFINITE_BITS >> FRACTION:
+            raise foreign(kind)
+        if exponent:
+            # the bits of the exponent are none of the fraction, which has a bit more
+            bits, exponent = bits - (count * (exponent - 1) << FRACTION), exponent - 1
+        found += sign * bits << exponent
+    try:
+        return found / (1 << LEAST_POWER)
+    except OverflowError:
+        return math.inf if found > 0 else -math.inf
 
 
 def values_for_sqlite(kind: Kind, numbers: Sequence[int | None], is_sum: bool = False
@@ -350,42 +383,13 @@ def refuse_groups(count: int) -> None:
 
 # --- SUM and AVG in SQLite
 
-# the forms of a sum of decimals: the double that it is, bytes, or the nearest double
-BLOB, NEAREST = 1, 2
+# the forms of a sum of decimals beside the double that it is: bytes; or the nearest double, and 0.0
+# of no values
+BLOB, TOTAL = 1, 2
 
 
 class NeedsExact(Exception):
-    """A double isn't the sum of decimals that an expression has: SQLite must compare the sums'
-    integers."""
-
-
-def sum_text(name: str, argument: str, is_distinct: bool, only: str) -> str:
-    """Returns the text of SUM or AVG, the `name`, for SQLite, of any argument; `only` is the clause
-    FILTER."""
-    return f"bw_{name.lower()}({'DISTINCT ' * is_distinct}{argument}) {only}"
-
-
-def exact_sum_text(name: str, numbers: str, digits: int, most: int, is_distinct: bool, only: str,
-                   form: str) -> str:
-    """Returns the text of SUM or AVG of integers: decimals multiplied by ten to `digits`, of which
-    `most` is the greatest magnitude. A sum of decimals becomes a double, and NeedsExact is raised
-    if that isn't the sum; of the form BLOB it is the sum's integer, as `blob_of` has it, and of the
-    form NEAREST the double nearest to the sum. After a comma the form has the number of doubles
-    among the values: without any the sum is a whole number."""
-    if is_distinct:
-        if name == "AVG":
-            return f"bw_avg_{digits}(DISTINCT {numbers}) {only}"
-        high, low = "0", f"bw_sum(DISTINCT {numbers}) {only}"
-    elif most < SMALL:
-        high, low = "0", f"SUM({numbers}) {only}"
-    else:
-        high = f"SUM(({numbers}) >> 32) {only}"
-        low = f"SUM(({numbers}) & 4294967295) {only}"
-    if name == "AVG":
-        return f"bw_mean({high}, {low}, COUNT({numbers}) {only}, {digits})"
-    if high == "0" and not digits:
-        return low
-    return f"bw_total({high}, {low}, {digits}, {form})"
+    """A double isn't the sum of decimals that an expression has."""
 
 
 class Functions:
@@ -394,12 +398,12 @@ class Functions:
 
     def __init__(self, database: sqlite3.Connection) -> None:
         self.raised: BaseException | None = None
-        database.create_aggregate("bw_sum", 1, functools.partial(Sum, self.kept))
-        database.create_aggregate("bw_avg", 1, functools.partial(Mean, self.kept, 0))
+        for name, made in (("bw_sum", Sum), ("bw_avg", Mean), ("bw_total", Total)):
+            database.create_aggregate(name, 1, functools.partial(made, self.kept))
         for digits in range(MOST_DIGITS + 1):
-            database.create_aggregate(f"bw_avg_{digits}", 1,
-                                      functools.partial(Mean, self.kept, digits))
-        database.create_function("bw_total", -1, self.total, deterministic=True)
+            database.create_aggregate(f"bw_exact_{digits}", 1,
+                                      functools.partial(ExactSum, self.kept, digits))
+        database.create_function("bw_halves", -1, self.joined, deterministic=True)
         database.create_function("bw_mean", 4, mean_of_halves, deterministic=True)
 
     def keep(self, raised: BaseException) -> None:
@@ -415,27 +419,31 @@ class Functions:
             self.keep(error)
             raise
 
-    def total(self, high: int | None, low: int | None, digits: int, form: int, doubles: int = 1
-              ) -> int | float | bytes | None:
-        """Returns the sum of which these are the halves, of 32 bits: of decimals the double, or
-        the integer as `blob_of` has it, or the nearest double, by the form. Of so many doubles
+    def joined(self, high: int | None, low: int | bytes | None, digits: int, form: int,
+               doubles: int = 1) -> int | float | bytes | None:
+        """Returns the sum of which these are the halves, of 32 bits; the lower one may be as
+        `blob_of` has it. A sum of decimals is the double, or another form of it. Of so many doubles
         among whole numbers it is a whole number if there are none."""
         if high is None or low is None:
-            return None
-        number = (high << 32) + low
+            return 0.0 if form == TOTAL else None
+        number = (high << 32) + int(number_in(low))
         if not doubles:
             number, digits = number // int(10 ** digits), 0
         if digits and form == BLOB:
             return blob_of(number)
         with self.kept():
-            if digits and form != NEAREST and not is_double(number, digits):
+            if form == TOTAL:
+                return number / int(10 ** digits)
+            if digits and not is_double(number, digits):
                 raise NeedsExact
             return number / int(10 ** digits) if digits else in_64_bits(number)
 
 
-def mean_of_halves(high: int | None, low: int | None, count: int, digits: int) -> float | None:
+def mean_of_halves(high: int | None, low: int | bytes | None, count: int, digits: int
+                   ) -> float | None:
     """Returns the mean of numbers of whose sum these are the halves."""
-    return None if high is None or low is None else mean_of((high << 32) + low, count, digits)
+    return None if high is None or low is None else \
+        mean_of((high << 32) + int(number_in(low)), count, digits)
 
 
 def in_64_bits(number: int) -> int:
@@ -472,33 +480,66 @@ class Sum:
 
 
 class Mean(Sum):
-    """The mean of a group's numbers, of which integers are multiplied by ten to `digits`."""
+    """The mean of a group's numbers."""
 
     name = "AVG"
-
-    def __init__(self, kept: Callable[[], contextlib.AbstractContextManager[None]],
-                 digits: int) -> None:
-        super().__init__(kept)
-        self.digits = digits
 
     def finalize(self) -> Any:
         """Returns the double nearest to the mean of integers; of others the sum divided."""
         with self.kept():
             values = self.present()
             found, count = summed(values), len(values)
-            if isinstance(found, int):
-                return mean_of(found, count, self.digits)
-            return None if found is None else found / count
+            return None if found is None else mean_of(found, count, 0) if isinstance(found, int) \
+                else found / count
+
+
+class Total(Sum):
+    """The sum of a group's numbers as a double, which is 0.0 if there are none."""
+
+    name = "TOTAL"
+
+    def finalize(self) -> Any:
+        with self.kept():
+            found = summed(self.present())
+            return None if found is None else float(found)
+
+
+class ExactSum(Sum):
+    """The sum of a group's whole numbers and decimals, multiplied by ten to `digits`, as `blob_of`
+    has it. A decimal is a double that is spelled so."""
+
+    def __init__(self, kept: Callable[[], contextlib.AbstractContextManager[None]],
+                 digits: int) -> None:
+        super().__init__(kept)
+        self.power, self.digits = int(10 ** digits), digits
+
+    def finalize(self) -> Any:
+        with self.kept():
+            values = self.present()
+            return blob_of(sum(map(self.number, values))) if values else None
+
+    def number(self, value: int | float) -> int:
+        """Returns the integer of a value."""
+        if isinstance(value, int):
+            return value * self.power
+        if abs(value) * self.power < MOST_EXACT:
+            return round(value * self.power)
+        from fractions import Fraction
+        return int(Fraction(repr(value)) * self.power)
 
 
 def summed(values: Sequence[Any]) -> int | float | None:
     """Returns the sum of numbers: of integers the exact one; else the double nearest to the exact
     one, which is infinite if that is too large, or None if it is none."""
-    import math
     if set(map(type, values)) <= {int}:
         found: int = sum(values)
         return found
     if all(map(math.isfinite, values)):
-        return float_sum(values)
+        whole = sum(value for value in values if isinstance(value, int))
+        if -MOST_WHOLE < whole < MOST_WHOLE:
+            return float_sum([whole, *(value for value in values if isinstance(value, float))])
+        from .kinds.doubles import nearest
+        from fractions import Fraction
+        return nearest(sum(map(Fraction, values), Fraction()))
     infinite: float = sum(map(float, values))
     return None if math.isnan(infinite) else infinite

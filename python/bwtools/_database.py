@@ -4,7 +4,7 @@ from __future__ import annotations
 
 import functools
 import os
-from typing import TYPE_CHECKING, Any, Callable, Sequence
+from typing import TYPE_CHECKING, Any, Callable, Sequence, TypeVar
 
 from ._engine.executor import Asker, Engine, Local
 from ._result import Result
@@ -12,11 +12,14 @@ from ._sql import plan
 from ._sql.statement import Parameters, Statement
 from ._sql.tables import Catalog, Table
 from .column import Column
+from .failed import Failed
 from .telling import Refused
 from .waiting import Waiting
 
 if TYPE_CHECKING:
     from ._sql.by_sqlite import BySqlite
+
+T = TypeVar("T")
 
 
 def nothing(told: str) -> None:
@@ -61,21 +64,23 @@ class Engines:
                          settings.options, settings.tell)
 
     def close(self) -> None:
-        """Ends the sessions."""
-        for engine in self.found.values():
+        """Ends the sessions. Later ones are others'."""
+        found, self.found = self.found, {}
+        for engine in found.values():
             engine.close()
 
 
 class Database:
     """Some tables, which are read only, and what answers statements over them, from the files that
-    were opened, also if these are replaced meanwhile. Any thread may use it, one at a time. It is
-    closed when it is dropped."""
+    were opened, also if these are replaced meanwhile; if one of them changes, no answer is returned
+    any more. One call at a time may use it, in the process that opened it. It is closed when it is
+    dropped."""
 
     def __init__(self, catalog: Catalog, settings: Settings | None = None) -> None:
         self.catalog, self.settings = catalog, settings or Settings()
         self.engines = Engines(self.settings)
-        # the call that is under way
-        self.calls = dict[str, object]()
+        # the calls that are under way: one, but for those that are refused
+        self.process, self.calls = os.getpid(), dict[object, None]()
 
     def __enter__(self) -> Database:
         return self
@@ -87,14 +92,44 @@ class Database:
         if "engines" in vars(self):
             self.close()
 
-    def answer(self, sql: str, parameters: Parameters = ()) -> Result:
-        """Returns the result of a statement. Raises Refused for a statement that is rejected, and
-        Failed if bw fails."""
+    def alone(self, call: Callable[[], T]) -> T:
+        """Returns what a function returns that no other one may interfere with. Raises Refused in
+        another process than the one that opened the tables, such as a fork of it, and while another
+        call is under way: two threads may both be refused, but never be served at once."""
         own = object()
         try:
-            if self.calls.setdefault("now", own) is not own:
-                raise Refused("another statement is under way: one thread at a time may use a "
+            self.calls[own] = None
+            if os.getpid() != self.process:
+                raise Refused(f"process {self.process} opened this connection: open another one in "
+                              f"process {os.getpid()}")
+            if len(self.calls) > 1:
+                raise Refused("another call is under way: one thread at a time may use a "
                               "connection")
+            return call()
+        finally:
+            # at once, so that no interrupt leaves it
+            self.calls.pop(own, None)
+
+    def answer(self, sql: str, parameters: Parameters = ()) -> Result:
+        """Returns the result of a statement. Raises Refused for a statement that is rejected, and
+        Failed if bw fails, or if a file of the tables changed after it was opened."""
+        self.refuse_changed()
+        return self.compared(lambda: self.found(sql, parameters))
+
+    def compared(self, call: Callable[[], T]) -> T:
+        """Returns what a function returns that is made of the tables' files. Raises Failed if one
+        of them changed after it was opened, which may be why the function failed."""
+        try:
+            found = call()
+        except Exception:
+            self.refuse_changed()
+            raise
+        self.refuse_changed()
+        return found
+
+    def found(self, sql: str, parameters: Parameters) -> Result:
+        """Returns the result of a statement, of files that may have changed meanwhile."""
+        try:
             statement = Statement(sql, self.catalog, parameters)
             for engine in self.engines.found.values():
                 engine.asked.clear()
@@ -103,9 +138,15 @@ class Database:
         except RecursionError:
             raise Refused("the statement has too many expressions within one another for the calls "
                           "around it") from None
-        finally:
-            if self.calls.get("now") is own:
-                del self.calls["now"]
+
+    def refuse_changed(self) -> None:
+        """Raises Failed if a file of the tables changed after it was opened, and forgets what was
+        read of it."""
+        try:
+            self.catalog.refuse_changed()
+        except Failed:
+            self.forget()
+            raise
 
     def missing(self, table: Table, columns: Sequence[Column], rows: int) -> int | None:
         """Returns how many of a table's columns SQLite hasn't got yet, or None if it may not get so
@@ -130,9 +171,14 @@ class Database:
         return BySqlite(self.catalog, self.engines.of, self.settings.list_all,
                         self.settings.waiting)
 
-    def close(self) -> None:
-        """Ends the sessions, and closes the files."""
+    def forget(self) -> None:
+        """Ends the sessions, and drops what was listed."""
         if "by_sqlite" in vars(self):
             self.by_sqlite.close()
+            del self.by_sqlite
         self.engines.close()
+
+    def close(self) -> None:
+        """Ends the sessions, and closes the files."""
+        self.forget()
         self.catalog.close()

@@ -2,14 +2,14 @@
 from __future__ import annotations
 
 import builtins
-import contextlib
+import functools
 import os
 import sqlite3
-from typing import TYPE_CHECKING, Any, Iterator, Optional, Sequence, Tuple
+from typing import TYPE_CHECKING, Any, Callable, Optional, Sequence, Tuple, TypeVar, cast
 
 from ._database import Database, Settings
-from ._result import Position, Result, Values
-from .failed import Failed
+from ._result import Position, Result, ResultColumn, Values
+from .failed import failure_of, is_failure
 from ._sql.statement import Parameters
 from ._sql.tables import name_of, open_catalog
 from .telling import Refused
@@ -22,6 +22,7 @@ if TYPE_CHECKING:
 
 # the SQLite of Debian 11
 OLDEST = (3, 34, 0)
+Method = TypeVar("Method", bound=Callable[..., Any])
 # the name of a column, the code of its type, and five values that aren't known
 Described = Tuple[str, Optional[str], None, None, None, None, None]
 
@@ -47,7 +48,8 @@ class DataError(DatabaseError):
 
 
 class OperationalError(DatabaseError):
-    """A file that can't be read, or a bw that ended: nothing is wrong with the statement."""
+    """A file that can't be read or changed, a bw that ended, or refused memory: nothing is wrong
+    with the statement."""
 
 
 class IntegrityError(DatabaseError):
@@ -55,7 +57,7 @@ class IntegrityError(DatabaseError):
 
 
 class InternalError(DatabaseError):
-    """SQLite's database in memory failed."""
+    """SQLite's database in memory is at fault: none is raised."""
 
 
 class ProgrammingError(DatabaseError):
@@ -66,20 +68,32 @@ class NotSupportedError(DatabaseError):
     """What read-only tables don't have."""
 
 
-@contextlib.contextmanager
-def translated() -> Iterator[None]:
-    """Turns what the package raises into errors of PEP 249 with the same sentence."""
+def translated(call: Callable[[], Any]) -> Any:
+    """Returns what a function returns. Turns what the package raises into errors of PEP 249 with
+    the same sentence."""
     try:
-        yield
+        return call()
     except Refused as refused:
         raise ProgrammingError(str(refused)) from None
-    except Failed as failed:
+    except Exception as error:
+        if not is_failure(error):
+            raise
+        failed = failure_of(error)
         raise OperationalError(str(failed) or failed.told.strip()) from None
-    except sqlite3.Error as error:
-        raise InternalError(str(error)) from error
-    except OSError as error:
-        where = f"{error.filename}: " if error.filename else ""
-        raise OperationalError(f"{where}{error.strerror}") from error
+
+
+def alone(method: Method) -> Method:
+    """Makes a method of a connection or a cursor one that runs alone: one call at a time, in the
+    process that opened the connection."""
+    @functools.wraps(method)
+    def call(self: Any, *words: Any, **named: Any) -> Any:
+        def run() -> Any:
+            return method(self, *words, **named)
+
+        database: Database = self._database
+        return translated(lambda: database.alone(run))
+
+    return cast(Method, call)
 
 
 class Type:
@@ -143,7 +157,8 @@ def TimestampFromTicks(ticks: float) -> datetime.datetime:
 
 class Connection:
     """A connection to some tables, which are read only. It answers all statements from the files
-    that it opened, also if they are replaced meanwhile. Any thread may use it, one at a time."""
+    that it opened, also if they are replaced meanwhile; if one of them changes, all later calls
+    fail. Any thread of the process that opened it may use it, one at a time."""
 
     Warning = Warning
     Error = Error
@@ -163,13 +178,15 @@ class Connection:
         return self
 
     def __exit__(self, *_: Any) -> None:
-        if not self._is_closed:
+        # a fork leaves what belongs to its parent
+        if not self._is_closed and self._database.process == os.getpid():
             self.close()
 
     def _refuse_closed(self) -> None:
         if self._is_closed:
             raise ProgrammingError("the connection is closed")
 
+    @alone
     def cursor(self) -> Cursor:
         """Returns a cursor, which doesn't disturb others."""
         self._refuse_closed()
@@ -179,14 +196,17 @@ class Connection:
         """Returns a cursor that has run a statement."""
         return self.cursor().execute(sql, parameters)
 
+    @alone
     def commit(self) -> None:
         """Does nothing: tables are read only."""
         self._refuse_closed()
 
+    @alone
     def rollback(self) -> None:
         """Does nothing: tables are read only."""
         self._refuse_closed()
 
+    @alone
     def close(self) -> None:
         """Ends the sessions, and closes the files. Any later use fails, and so does closing it
         again."""
@@ -202,6 +222,7 @@ class Cursor:
 
     def __init__(self, connection: Connection) -> None:
         self.connection, self.arraysize = connection, 1
+        self._database = connection._database
         self.answer: Result | None = None
         self._is_closed = False
         self._start()
@@ -215,8 +236,10 @@ class Cursor:
         return self
 
     def __exit__(self, *_: Any) -> None:
-        self.close()
+        if self._database.process == os.getpid():
+            self.close()
 
+    @alone
     def close(self) -> None:
         """Forgets the result. Any later use fails."""
         self._is_closed, self.answer = True, None
@@ -235,6 +258,7 @@ class Cursor:
         return self.answer
 
     @property
+    @alone
     def description(self) -> Optional[Sequence[Described]]:
         """The columns of the result, or None before the first statement. The type of a column
         equals one of STRING, NUMBER and DATETIME, or is None if it has only nulls."""
@@ -254,18 +278,19 @@ class Cursor:
                 for heading, code in zip(self.answer.headings, codes)]
 
     @property
+    @alone
     def rowcount(self) -> int:
         """The number of the result's rows, or -1 before the first statement."""
         return -1 if self.answer is None else self.answer.count()
 
+    @alone
     def execute(self, sql: str, parameters: Parameters = ()) -> Cursor:
         """Runs a statement. Its parameters are a sequence of values for `?` and `?1`, or a mapping
         of names for `:name`, `@name` and `$name`. Returns the cursor."""
         self._refuse_closed()
         self.answer = None
         self._start()
-        with translated():
-            self.answer = self.connection._database.answer(sql, parameters)
+        self.answer = self._database.answer(sql, parameters)
         return self
 
     def executemany(self, sql: str, seq_of_parameters: Sequence[Parameters]) -> Cursor:
@@ -280,25 +305,27 @@ class Cursor:
             if found is None:
                 return False
             block, position = found
-            rows, at = list(zip(*(column.objects() for column in block))), 0
+            rows, at = self._database.compared(lambda: objects_of(block)), 0
             self._state = position, rows, at
         return True
 
+    @alone
     def fetchone(self) -> tuple[Any, ...] | None:
         """Returns the next row, or None after the last one."""
         self._answered()
-        with translated():
-            if not self._next():
-                return None
+        if not self._next():
+            return None
         position, rows, at = self._state
         self._state = position, rows, at + 1
         return rows[at]
 
+    @alone
     def fetchmany(self, size: int | None = None) -> list[tuple[Any, ...]]:
         """Returns the next rows: `size` of them, or `arraysize`, or those that are left, as all
         are if the number is negative."""
         return self._fetch(self.arraysize if size is None else size)
 
+    @alone
     def fetchall(self) -> list[tuple[Any, ...]]:
         """Returns the rows that are left."""
         return self._fetch(-1)
@@ -309,12 +336,11 @@ class Cursor:
         self._answered()
         before, found = self._state, list[Tuple[Any, ...]]()
         try:
-            with translated():
-                while (size < 0 or len(found) < size) and self._next():
-                    position, rows, at = self._state
-                    end = len(rows) if size < 0 else min(len(rows), at + size - len(found))
-                    found += rows[at:end]
-                    self._state = position, rows, end
+            while (size < 0 or len(found) < size) and self._next():
+                position, rows, at = self._state
+                end = len(rows) if size < 0 else min(len(rows), at + size - len(found))
+                found += rows[at:end]
+                self._state = position, rows, end
             return found
         except BaseException:
             self._state = before
@@ -335,19 +361,30 @@ class Cursor:
     def setoutputsize(self, size: int, column: int | None = None) -> None:
         """Does nothing."""
 
+    @alone
     def df(self, decimals: bool = False) -> pandas.DataFrame:
         """Returns the whole result as a data frame of pandas: whole numbers are Int64, true and
         false boolean, texts Categorical, dates and times datetime64, times of day timedelta64, and
         floats and decimals float64; with `decimals` the latter are decimal.Decimal."""
         from ._dataframes import frame_of
-        with translated():
-            return frame_of(self._answered(), decimals)
+        answer = self._answered()
 
+        def made() -> Any:
+            return frame_of(answer, decimals)
+
+        return self._database.compared(made)
+
+    @alone
     def columns(self) -> dict[str, numpy.ma.MaskedArray[Any, Any]]:
         """Returns the columns of the whole result as masked arrays of numpy, by their headings."""
         from ._dataframes import arrays_of
-        with translated():
-            return arrays_of(self._answered())
+        answer = self._answered()
+        return self._database.compared(lambda: arrays_of(answer))
+
+
+def objects_of(block: Sequence[ResultColumn]) -> list[tuple[Any, ...]]:
+    """Returns the rows of some columns, as Python's objects."""
+    return list(zip(*(column.objects() for column in block)))
 
 
 def code_of(column: Any) -> str | None:
@@ -365,11 +402,12 @@ def connect(*paths: str | os.PathLike[str], scheduler: str | None = None, list_a
     if sqlite3.sqlite_version_info < OLDEST:
         raise NotSupportedError("SQLite 3.34 or later is needed, and this Python has "
                                 f"{sqlite3.sqlite_version}")
-    with translated():
-        given = [*((name_of(path), os.fspath(path)) for path in paths),
-                 *((name, os.fspath(path)) for name, path in named.items())]
-        settings = Settings(scheduler=scheduler, list_all=list_all)
-        return Connection(Database(open_catalog(given, scheduler is None), settings))
+    given = [*((name_of(path), os.fspath(path)) for path in paths),
+             *((name, os.fspath(path)) for name, path in named.items())]
+    settings = Settings(scheduler=scheduler, list_all=list_all)
+    database: Database = translated(lambda: Database(open_catalog(given, scheduler is None),
+                                                     settings))
+    return Connection(database)
 
 
 for shown in (Warning, Error, InterfaceError, DatabaseError, DataError, OperationalError,

@@ -506,8 +506,10 @@ class Result:
 NOTHING, HEADING = b"NULL", b"\n"
 # more rows than these aren't sorted here
 MOST_ROWS = 1_000_000
-# a limit is used to list fewer rows if there are more, and to read no others if it is less
+# a limit is used to list fewer rows if there are more than these
 MANY_ROWS = 100_000
+# up to so many rows that a limit and its offset need, no others are read
+MOST_FIRST = 1_000_000
 
 
 class Limits(Valued):
@@ -547,8 +549,9 @@ class WantedRows:
         sorting = [key.column for key in self.keys]
         statement = select(names_of([*self.columns, *sorting]), self.table, where)
         most = self.limits.end
-        if not self.keys and most is not None and most <= MANY_ROWS:
-            return NumberRows([Part(limited(engine.beginning(statement, most), self.limits))])
+        if not self.keys and most is not None and most <= MOST_FIRST:
+            parts = engine.beginning(statement, most, self.limits.offset)
+            return NumberRows([Part(limited(parts, self.limits))])
         parts = engine.rows(statement)
         if self.keys:
             return NumberRows([Part(self.sorted(parts))])
@@ -619,6 +622,7 @@ def limited(parts: Sequence[Part], limits: Limits) -> bytes:
     """Returns the rows of a result within limits, after an empty heading."""
     found, left, most = list[bytes](), limits.offset, limits.most
     for part in parts:
+        left -= part.skipped
         for block in part.blocks():
             count = block.count(b"\n")
             if left >= count:

@@ -72,8 +72,10 @@ def call(words: Sequence[Any]) -> None:
     """Runs a command of bw to its end. If it fails, passes on its error, and raises Ended with its
     status."""
     import subprocess
+    # a file past the system's limit is then an error of writing, and no signal
     status = subprocess.run([program(), *map(str, words)], stdin=subprocess.DEVNULL,
-                            stdout=subprocess.PIPE, check=False).returncode
+                            stdout=subprocess.PIPE, restore_signals=False,
+                            check=False).returncode
     if status:
         print(f"bw {words[0]} ended with status {status}", file=sys.stderr)
         raise Ended(status if status > 0 else 128 - status)
@@ -105,18 +107,19 @@ def drop_output() -> None:
     its end."""
     with contextlib.suppress(OSError):
         sys.stdout.flush()
-    os.dup2(os.open(os.devnull, os.O_WRONLY), sys.stdout.fileno())
+    with contextlib.suppress(OSError):
+        os.dup2(os.open(os.devnull, os.O_WRONLY), sys.stdout.fileno())
 
 
 def rejections() -> tuple[type[Exception], ...]:
-    """Returns what is raised for an input that is rejected. Only after an exception is csv needed,
-    which a program may not have imported."""
-    import csv
-    return Refused, UnicodeError, csv.Error
+    """Returns what is raised for an input that is rejected: by csv, if it was imported."""
+    own = getattr(sys.modules.get("csv"), "Error", Refused)
+    return Refused, UnicodeError, own
 
 
 def status_of(name: str, work: Callable[[], int | None]) -> int:
-    """Does a program's work. Returns its status: 3 if the input was rejected, 5 if I/O failed."""
+    """Does a program's work. Returns its status: 3 if the input was rejected, 5 if I/O failed, 6 if
+    memory was refused."""
     for number in (signal.SIGTERM, signal.SIGHUP):
         if signal.getsignal(number) == signal.SIG_DFL:
             signal.signal(number, stop)
@@ -144,8 +147,10 @@ def status_of(name: str, work: Callable[[], int | None]) -> int:
     except BrokenPipeError:
         drop_output()
         return 5
-    except OSError as error:
-        where = f"{error.filename}: " if error.filename else ""
-        print(f"{name}: {where}{error.strerror}", file=sys.stderr)
+    except Exception as error:
+        # it imports this module
+        from .failed import failure_of, is_failure
+        if not is_failure(error):
+            raise
         drop_output()
-        return 5
+        return failure_of(error).report()

@@ -20,6 +20,10 @@ class FieldStore:
     def __init__(self, folder: pathlib.Path | None = None) -> None:
         self.file, self.size = tempfile.TemporaryFile(dir=folder, buffering=0), 0
 
+    def __del__(self) -> None:
+        if "file" in vars(self):
+            self.file.close()
+
     def append(self, stored: Any) -> Place:
         data = marshal.dumps(stored)
         place = (self.size, len(data))

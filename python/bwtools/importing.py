@@ -6,14 +6,12 @@ import argparse
 import contextlib
 import os
 import pathlib
-from typing import BinaryIO
-
 from . import command, inputs, options, pairs, placing
 from .importing_straight import Imported, import_straight
 from .putting import put_many, put_one, refuse_out
-from .regular import open_regular
+from .regular import Watched, open_regular
 from .shards import FILE, Folder
-from .store import MOST_TABLES, TableFile
+from .store import MOST_TABLES, Store, TableFile
 from .table_limits import MOST_ROWS
 from .telling import Refused
 
@@ -54,7 +52,8 @@ def put_straight(found: Imported, room: pathlib.Path, name: str, path: str,
     """Moves what was loaded as it is to its place, and prints what an import reports."""
     record = found.records[0]
     if len(found.records) == 1 and not is_folder:
-        alone = TableFile("", 0, record.size, record.changed, record.inode, record.sha256)
+        alone = TableFile("", 0, record.size, record.changed, record.inode,
+                          record.sha256, record.header)
         told = put_one(room / "made" / record.file, found.columns, room, name, path, alone)
     else:
         told = put_many(found.records, found.columns, room, name, path)
@@ -68,21 +67,27 @@ def verify(path: str) -> None:
     if a part isn't as it was imported."""
     if os.path.isdir(path):
         with contextlib.closing(Folder(path)) as folder:
-            folder.store.verify()
             for place, record in enumerate(folder.shards):
                 with open_regular(folder.path_of(place)) as file:
-                    verify_sum(folder.path_of(place), record.sha256, file)
+                    verify_table(Watched(folder.path_of(place), file), record, folder.store)
+            folder.store.verify()
+            pairs.refuse_changed(folder.store.watched)
     else:
         with pairs.open_pair(path) as pair:
+            verify_table(pair.watched, pair.store.files[0], pair.store)
             pair.store.verify()
-            verify_sum(path, pair.store.files[0].sha256, pair.file)
+            pairs.refuse_changed(pair.watched, pair.store.watched)
     print(f"{path} is as it was imported")
 
 
-def verify_sum(path: str, digest: str, file: BinaryIO) -> None:
-    """Rejects a table file of other bytes than those that were written."""
-    if pairs.sum_of(file) != digest:
-        raise Refused(f"{path} isn't as it was written: its bytes have another SHA-256")
+def verify_table(watched: Watched, record: TableFile, store: Store) -> None:
+    """Rejects a table file of other bytes than those that were written, or of other columns than
+    the columns file has."""
+    if pairs.sum_of(watched.file) != record.sha256:
+        raise Refused(f"{watched.path} isn't as it was written: its bytes have another SHA-256")
+    if not pairs.are_columns_of(store.columns, watched.file):
+        raise store.foreign(f"its columns aren't those of {watched.path}")
+    pairs.refuse_changed(watched)
 
 
 def number_of_shards(text: str) -> str:

@@ -14,6 +14,7 @@ from .counts import Counts
 from .feeding import OutOfRange, load_part
 from .kinds import Nulls, Whole
 from .loaded import Loaded, contents_of
+from .regular import Marks
 from .reporting import report_lines
 from .shards import shard_file
 from .store import TableFile
@@ -93,7 +94,7 @@ def load(straight: Straight, given: argparse.Namespace, room: pathlib.Path, name
             shards = load_parts(straight, room, name, parts)
         except OutOfRange:
             raise Unfit from None
-    if pairs.marks_of(straight.file) != straight.marks:
+    if straight.marks.differ(Marks(straight.file)):
         raise Refused(f"{given.csv}: the file changed while it was read")
     return imported(straight, shards)
 

@@ -2,6 +2,7 @@
 it holds."""
 from __future__ import annotations
 
+import contextlib
 import importlib
 import io
 import os
@@ -30,6 +31,10 @@ class Positioned(io.RawIOBase):
 
     def __init__(self, file: IO[bytes]) -> None:
         self.file, self.position = file, 0
+
+    def close(self) -> None:
+        self.file.close()
+        super().close()
 
     def readable(self) -> bool:
         return True
@@ -75,23 +80,27 @@ def open_input(path: str | os.PathLike[str]) -> BinaryIO:
         file = open(os.dup(sys.stdin.fileno()), "rb")
     if not stat.S_ISREG(os.fstat(file.fileno()).st_mode):
         file = copied(file)
-    begin = os.pread(file.fileno(), 16, 0)
-    for mark, what in OTHERS:
-        if begin.startswith(mark):
-            raise Refused(f"{name_of(path)} is {what}")
-    for mark, name, module in FORMS:
-        if begin.startswith(mark):
-            # a module that a system's Python may lack, and that few files need
-            return unpacked(file, name, importlib.import_module(module), name_of(path))
+    with contextlib.ExitStack() as stack:
+        stack.enter_context(file)
+        begin = os.pread(file.fileno(), 16, 0)
+        for mark, what in OTHERS:
+            if begin.startswith(mark):
+                raise Refused(f"{name_of(path)} is {what}")
+        for mark, name, module in FORMS:
+            if begin.startswith(mark):
+                # a module that a system's Python may lack, and that few files need
+                return unpacked(file, name, importlib.import_module(module), name_of(path))
+        stack.pop_all()
     return file
 
 
 def copied(file: BinaryIO) -> BinaryIO:
     """Returns a temporary file with the rest of a file."""
-    out: Any = tempfile.TemporaryFile()
-    with file:
+    with contextlib.ExitStack() as stack, file:
+        out: Any = stack.enter_context(tempfile.TemporaryFile())
         shutil.copyfileobj(file, out, AT_ONCE)
-    out.flush()
+        out.flush()
+        stack.pop_all()
     found: BinaryIO = out
     return found
 

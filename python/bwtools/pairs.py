@@ -9,25 +9,33 @@ from __future__ import annotations
 import contextlib
 import os
 import re
-from typing import TYPE_CHECKING, Any, BinaryIO, Iterator
+import zlib
+from typing import TYPE_CHECKING, Any, BinaryIO, Iterator, List, Sequence, Tuple
 
-from .regular import open_regular
+from .failed import Failed
+from .regular import Marks, Watched, open_regular
 from .store import Store, TableFile
 from .telling import Refused
 
 if TYPE_CHECKING:
     import pathlib
 
+    from .column import Column
+
 # how often a pair is opened again that is replaced at that moment
 ATTEMPTS = 100
 DIGITS = 16
+# a header's bytes are at most those of 64 columns with names of 63 bytes
+TABLE_MAGIC, MOST_HEADER = b"BWCOLUMN", 1 << 13
+# the columns of a table file: their names, minimums and maximums
+Header = List[Tuple[str, int, int]]
 
 
 class Pair:
-    """An open table file, and its columns."""
+    """An open table file, and its columns. `watched` tells whether the table file changed since."""
 
-    def __init__(self, file: BinaryIO, store: Store) -> None:
-        self.file, self.store = file, store
+    def __init__(self, watched: Watched, store: Store) -> None:
+        self.watched, self.file, self.store = watched, watched.file, store
 
     def __enter__(self) -> Pair:
         return self
@@ -37,10 +45,41 @@ class Pair:
         self.store.close()
 
 
-def marks_of(file: BinaryIO) -> tuple[int, int, int]:
-    """Returns what identifies a file without reading it."""
-    told = os.fstat(file.fileno())
-    return told.st_size, told.st_mtime_ns, told.st_ino
+def header_of(file: BinaryIO) -> tuple[bytes, Header]:
+    """Returns the header of a table file, and the columns that it names; nothing if it isn't one
+    that bw wrote."""
+    data = os.pread(file.fileno(), MOST_HEADER, 0)
+    if not data.startswith(TABLE_MAGIC):
+        return b"", []
+    columns: Header = []
+    try:
+        # after the magic, the version, the layout, the number of rows and the table's name
+        at = 17 + data[16]
+        for _ in range(int.from_bytes(data[10:12], "little")):
+            end = at + 1 + data[at]
+            columns.append((data[at + 1:end].decode("ascii", "replace"),
+                            int.from_bytes(data[end:end + 8], "little", signed=True),
+                            int.from_bytes(data[end + 8:end + 16], "little", signed=True)))
+            at = end + 17
+    except IndexError:
+        return b"", []
+    return (data[:at], columns) if at <= len(data) else (b"", [])
+
+
+def header_sum(file: BinaryIO) -> int:
+    """Returns the sum of a table file's header."""
+    return zlib.crc32(header_of(file)[0])
+
+
+def are_columns_of(columns: Sequence[Column], file: BinaryIO) -> bool:
+    """Returns whether a table file has these columns, and no number outside of a column's list."""
+    found = header_of(file)[1]
+    if [each.name for each in columns] != [name for name, _, _ in found]:
+        return False
+    lists = [(each.kind.listed, least, greatest)
+             for each, (_, least, greatest) in zip(columns, found)]
+    return all(listed is None or 0 <= least <= greatest < max(1, len(listed))
+               for listed, least, greatest in lists)
 
 
 def sum_of(file: BinaryIO) -> str:
@@ -65,14 +104,32 @@ def record_of(path: str | os.PathLike[str], name: str = "", rows: int = 0,
               digest: str = "") -> TableFile:
     """Returns a table file's record for a columns file. Its SHA-256 may be known."""
     with open_regular(path) as file:
-        return TableFile(name, rows, *marks_of(file), digest or sum_of(file))
+        marks = Marks(file)
+        return TableFile(name, rows, marks.size, marks.modified, marks.inode,
+                         digest or sum_of(file), header_sum(file))
 
 
 def is_of(record: TableFile, file: BinaryIO) -> bool:
-    """Returns whether an open file is the one of a record: by size, time and inode, or else by its
-    bytes."""
-    return (record.size, record.changed, record.inode) == marks_of(file) or \
-        record.size == marks_of(file)[0] and record.sha256 == sum_of(file)
+    """Returns whether an open file is the one of a record: by size, header, time and inode, or else
+    by its bytes."""
+    marks = Marks(file)
+    return record.size == marks.size and record.header == header_sum(file) and (
+        (record.changed, record.inode) == (marks.modified, marks.inode) or
+        record.sha256 == sum_of(file))
+
+
+def refuse_changed(*watched: Watched) -> None:
+    """Raises Failed if a file changed after it was opened."""
+    for each in watched:
+        if each.has_changed():
+            raise Failed(f"{each.path} changed after it was opened, so nothing that was read of it "
+                         "counts: try again once it is written")
+
+
+def watch(watched: Watched, record: TableFile) -> Watched:
+    """Has a table file compared with its record, if it may only have got another name."""
+    watched.is_same = lambda: sum_of(watched.file) == record.sha256
+    return watched
 
 
 def columns_beside(table: str | os.PathLike[str]) -> str:
@@ -96,9 +153,10 @@ def open_pair(table: str | os.PathLike[str]) -> Pair:
         before = places(table, columns)
         file = open_regular(table)
         try:
+            watched = Watched(table, file)
             store = store_of(columns, file)
             if store:
-                return Pair(file, store)
+                return Pair(watch(watched, store.files[0]), store)
         except BaseException:
             file.close()
             raise
@@ -152,10 +210,16 @@ def store_at(path: str, file: BinaryIO) -> Store | None:
         store = Store(path)
     except FileNotFoundError:
         return None
-    if len(store.files) == 1 and is_of(store.files[0], file):
+    try:
+        if len(store.files) != 1 or not is_of(store.files[0], file):
+            store.close()
+            return None
+        if not are_columns_of(store.columns, file):
+            raise store.foreign("its columns aren't those of the table file")
         return store
-    store.close()
-    return None
+    except BaseException:
+        store.close()
+        raise
 
 
 def left(columns: str) -> Iterator[str]:

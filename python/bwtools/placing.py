@@ -137,6 +137,11 @@ def put(folder: pathlib.Path, moves: Iterable[tuple[Any, Any]]) -> None:
                         os.link(target, old)
                 os.replace(made, target)
                 done.append((target, old))
+            # a reader of a file that was there takes one with as many names, and another time of
+            # change, for one that changed
+            for _, old in done:
+                if old:
+                    old.unlink(missing_ok=True)
     except OSError:
         for target, old in done:
             if not old:

@@ -39,7 +39,7 @@ class Outcome(NamedTuple):
 
 def parts_of(source: Source) -> int:
     """Returns how many processes read a file."""
-    size = source.text.marks()[0]
+    size = source.text.marks().size
     return max(1, min(processes.processors(), len(source.headings), size // BYTES_A_PART))
 
 

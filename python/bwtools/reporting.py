@@ -13,6 +13,8 @@ from .wishes import BLANKS, NULLS
 if TYPE_CHECKING:
     from .tallies import Tally
 
+# a change is shown with so many digits after the point at most
+SHORT = 40
 HEADINGS = ("COLUMN", "HEADING", "WHAT IT IS", "FROM", "TO", "NULLS", "NOTES")
 
 
@@ -47,7 +49,9 @@ def notes(column: Column, tally: Tally) -> Iterator[str]:
     if counts.zeros:
         yield f"-0.0 in {counted(counts.zeros, 'field')} is 0.0"
     if counts.rounded:
-        yield f"{counted(counts.rounded, 'field')} rounded, by at most {counts.change:f}"
+        # of an exponent of thousands no zeros are printed
+        change = f"{counts.change:{'f' if counts.change.adjusted() > -SHORT else '.0e'}}"
+        yield f"{counted(counts.rounded, 'field')} rounded, by at most {change}"
     if counts.changed:
         is_float = undressed(column.kind).plural == "floats"
         where = "in the shortest spelling" if is_float else "values kept"

@@ -7,6 +7,8 @@ from dataclasses import dataclass
 from .style import Style
 
 
+# a number of more digits fits no 64 bits, and neither does this one
+MOST_DIGITS, BEYOND = 20, 1 << 64
 # enough digits for any double, and for what people write
 CONTEXT = decimal.Context(prec=1200, rounding=decimal.ROUND_HALF_EVEN)
 
@@ -21,7 +23,13 @@ class Rounding:
     def number(self, text: str) -> int | None:
         """Returns the number of a field, multiplied by ten to `digits`."""
         plain = self.style.bare(text)
-        return None if plain is None else int(self.rounded(decimal.Decimal(plain)))
+        if plain is None:
+            return None
+        number = decimal.Decimal(plain)
+        if number and number.adjusted() + self.digits > MOST_DIGITS:
+            # of thousands of digits no integer is made
+            return BEYOND if number > 0 else -BEYOND
+        return int(self.rounded(number))
 
     def rounded(self, number: decimal.Decimal) -> decimal.Decimal:
         return number.scaleb(self.digits,

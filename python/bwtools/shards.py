@@ -6,17 +6,23 @@ that of a single table.
 run them."""
 from __future__ import annotations
 
+import contextlib
 import os
 import pathlib
+import re
 import shutil
 import subprocess
 from typing import Sequence
 
-from .pairs import is_of
-from .store import Store, TableFile
+from .failed import FILES
+from .pairs import is_of, watch
+from .regular import Watched
+from .store import FOLDERS, OtherVersion, Store, TableFile
 from .telling import Refused
 
-FILE = "shards.columns"
+FILE = FOLDERS
+SHARD = re.compile(r"shard-[0-9]{3,}\.bw")
+CHANGED = "it changed after it was opened"
 FOREIGN = "isn't the table that {} names: it has changed or was replaced; run bw-shards load again"
 
 # What asking a shard gives: the status of bw, or of a table file that can't be asked; what was said
@@ -36,6 +42,7 @@ class Folder:
         self.store = found = Store(self.file)
         self.name, self.shards, self.columns = found.name, found.files, found.columns
         if not self.shards or not all(each.file for each in self.shards):
+            found.close()
             raise Refused(f"{self.file} is not a columns file of bw-shards load")
 
     def close(self) -> None:
@@ -58,11 +65,14 @@ def ask_shard(program: str, path: str, record: TableFile, columns: str, options:
     found = program if os.access(program, os.X_OK) else shutil.which("bw") or program
     try:
         with open(path, "rb") as table:
+            watched = watch(Watched(path, table), record)
             if not is_of(record, table):
                 return 3, FOREIGN.format(columns), b""
             done = subprocess.run([found, "query", *options, f"/dev/fd/{table.fileno()}",
                                    statement], stdin=subprocess.DEVNULL,
                                   capture_output=True, pass_fds=[table.fileno()], check=False)
+            if watched.has_changed():
+                return FILES, CHANGED, b""
     except OSError as error:
         where = f"{error.filename}: " if error.filename != path else ""
         return 5, f"{where}{error.strerror}", b""
@@ -86,7 +96,12 @@ def refuse_folder(path: str) -> None:
     if not os.listdir(path):
         return
     try:
-        foreign = Folder(path).foreign_files()
+        with contextlib.closing(Folder(path)) as folder:
+            foreign = folder.foreign_files()
+    except OtherVersion:
+        # it names its shards in a form that isn't known
+        foreign = sorted(name for name in os.listdir(path)
+                         if name != FILE and not SHARD.fullmatch(name))
     except Refused as refused:
         raise Refused(f"{path} can't be overwritten: {refused}") from None
     if foreign:

@@ -15,7 +15,7 @@ from . import ragged
 from .chunk import BREAK, Chunk
 from .fields import CHARACTERS_AT_ONCE, columns_of
 from .signs import NUL
-from .table_limits import MOST_COLUMNS, MOST_ROWS
+from .table_limits import MOST_CHARACTERS, MOST_COLUMNS, MOST_ROWS
 from .telling import Refused
 from .text import Text
 
@@ -60,6 +60,7 @@ class Source:
             raise Refused(f"{self.path}: there is no heading")
         if len(first) > MOST_COLUMNS:
             raise Refused(f"{self.path}: {len(first)} columns: a table has at most {MOST_COLUMNS}")
+        self.refuse_long([first], self.text.skipped + 1)
         return first if self.has_heading else [f"c{place}" for place in range(1, len(first) + 1)]
 
     def blocks(self) -> Iterator[tuple[int, str, list[list[str]] | None, list[list[str]]]]:
@@ -72,8 +73,7 @@ class Source:
         wait, left = 0, 0
         try:
             while True:
-                more = file.read(CHARACTERS_AT_ONCE + len(text))
-                more += file.readline()
+                more = self.lines_after(text, file, line)
                 text += more
                 if not text:
                     return
@@ -95,6 +95,8 @@ class Source:
                     if more and "end of data" in str(error):
                         continue
                     raise
+                if len(text) > MOST_CHARACTERS:
+                    self.refuse_long(columns or records, line)
                 yield line, text, columns, records
                 line += len(BREAK.findall(text)) if "\r" in text else text.count("\n")
                 text = ""
@@ -106,6 +108,27 @@ class Source:
             raise
         finally:
             file.detach()
+
+    def lines_after(self, text: str, file: TextIO, line: int) -> str:
+        """Returns the next lines of the file, after a text that begins at a line. Rejects a line,
+        or a record that the text doesn't end, that is too long."""
+        # the characters of a record, with those around its fields
+        most = len(self.headings) * (MOST_CHARACTERS + 4)
+        more, rest = file.read(CHARACTERS_AT_ONCE + len(text)), file.readline(most)
+        if len(rest) == most and rest[-1] not in "\r\n" or \
+                len(text) > 2 * most + CHARACTERS_AT_ONCE:
+            self.refuse_longer(line)
+        return more + rest
+
+    def refuse_long(self, fields: Sequence[Sequence[str]], line: int) -> None:
+        """Rejects a file with a field that is too long, among records or columns of a text that
+        begins at a line."""
+        if any(len(each) > MOST_CHARACTERS for each in itertools.chain.from_iterable(fields)):
+            self.refuse_longer(line)
+
+    def refuse_longer(self, line: int) -> NoReturn:
+        raise Refused(f"{self.path}: line {line}, or one after it, has a field of more than "
+                      f"{MOST_CHARACTERS:,} characters, or one in quotes that doesn't end")
 
     def to_next_quote(self, file: TextIO) -> str:
         """Returns the next lines of the file, up to the end of one that has a quote, or some

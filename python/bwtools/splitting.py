@@ -122,7 +122,7 @@ def load_shards(table: NumberTable, room: pathlib.Path, name: str,
     """Loads all rows of a table, so many a shard, side by side. Returns the records of the table
     files in the folder `made`, in the order of rows."""
     shards = max(1, -(-table.rows // most_rows))
-    parts = sharding.processes_for(shards, table.source.text.marks()[0])
+    parts = sharding.processes_for(shards, table.source.text.marks().size)
     ends = [min(table.rows, shards * part // parts * most_rows) for part in range(parts)]
     ends.append(table.rows)
 
@@ -147,4 +147,4 @@ def placed(room: pathlib.Path, place: int, record: TableFile) -> TableFile:
     path = shard_file(room / "made", place)
     os.rename(room / record.file, path)
     return TableFile(path.name, record.rows, record.size, record.changed, record.inode,
-                     record.sha256)
+                     record.sha256, record.header)

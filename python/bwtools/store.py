@@ -3,78 +3,93 @@
 It has the name of the table and what identifies its file, the columns, their settings and words for
 null, and a table `values_N` for each column whose numbers are places in a list. A file that was
 made by others, or is damaged, is refused: its header is checked before SQLite opens it, its schema
-must have the statements below and no others, and each field is checked before it is used."""
+must have the statements below and no others, and each field is checked before it is used. A sum
+covers all but the lists, and is compared when the file is opened; each block of a list has its own,
+which is compared when it is read."""
 from __future__ import annotations
 
 import contextlib
-import itertools
-import operator
 import os
 import re
 import sqlite3
+import zlib
 from typing import Any, Iterable, Iterator, Sequence
 
 from . import kinds
 from .column import Column
+from .failed import MEMORY, Failed, failure_of
 from .kind import Settings
 from .naming import is_name
-from .regular import open_regular
-from .stored_list import StoredList
+from .regular import Watched, open_regular
+from .stored_list import StoredList, are_ascending, blocks_of, packed, sum_of_block
 from .telling import Refused, counted
 from .valued import Valued
 
-VERSION, APPLICATION, MAGIC = 3, 0x62776331, b"SQLite format 3\0"
+VERSION, APPLICATION, MAGIC = 4, 0x62776331, b"SQLite format 3\0"
 # the first bytes of a columns file of the versions before, which was JSON
 EARLIER = b'{"bw columns"'
 MOST_COLUMNS, MOST_TABLES, MOST_SETTINGS, MOST_NULLS, MOST_CODES = 64, 1 << 16, 16, 1 << 12, 1 << 32
 FIXED = {
     "named": "CREATE TABLE named (name TEXT NOT NULL)",
+    "sums": "CREATE TABLE sums (sum INTEGER NOT NULL)",
     "files": "CREATE TABLE files (place INTEGER PRIMARY KEY, file TEXT NOT NULL, rows INTEGER NOT "
              "NULL, size INTEGER NOT NULL, changed INTEGER NOT NULL, inode INTEGER NOT NULL, "
-             "sha256 TEXT NOT NULL)",
+             "sha256 TEXT NOT NULL, header INTEGER NOT NULL)",
     "columns": "CREATE TABLE columns (place INTEGER PRIMARY KEY, name TEXT NOT NULL, heading TEXT "
                "NOT NULL, kind TEXT NOT NULL, why TEXT NOT NULL, looks_like TEXT NOT NULL, least "
                "TEXT, greatest TEXT, listed INTEGER)",
     "settings": "CREATE TABLE settings (place INTEGER NOT NULL, name TEXT NOT NULL, value NOT "
                 "NULL)",
     "nulls": "CREATE TABLE nulls (place INTEGER NOT NULL, word TEXT NOT NULL)"}
-# of a column whose numbers are places in a list of texts, or of doubles
-LISTED = "CREATE TABLE values_{} (code INTEGER PRIMARY KEY, value {} NOT NULL)"
-TYPES = {str: "TEXT", float: "REAL"}
+# of a column whose numbers are places in a list of texts, or of doubles: blocks of them, by their
+# first codes, and the sum of each
+LISTED = "CREATE TABLE values_{} (code INTEGER PRIMARY KEY, {} BLOB NOT NULL, sum INTEGER NOT NULL)"
+TYPES = {str: "texts", float: "doubles"}
+# what the sum covers
+HEAD = ("SELECT name FROM named",
+        "SELECT file, rows, size, changed, inode, sha256, header FROM files ORDER BY place",
+        "SELECT place, name, heading, kind, why, looks_like, least, greatest, listed FROM columns "
+        "ORDER BY place",
+        "SELECT place, name, value FROM settings", "SELECT place, word FROM nulls")
 # the bytes of a path that a URI has as numbers
 UNSAFE = re.compile(b"[^A-Za-z0-9/._~-]")
-AT_ONCE, JSON_AT_ONCE = 10_000, 4000
+# the name of a columns file: in a folder of shards, and how that of a table ends
+FOLDERS, ENDING = "shards.columns", ".columns"
 
 
 class TableFile(Valued):
-    """What identifies a table file: its size, time of change and inode, else its SHA-256. Of a
-    shard also its name in the folder, and its rows."""
+    """What identifies a table file: its size, and the sum of its header; and its time of change and
+    inode, else its SHA-256. Of a shard also its name in the folder, and its rows."""
 
-    def __init__(self, file: str, rows: int, size: int, changed: int, inode: int,
-                 sha256: str) -> None:
+    def __init__(self, file: str, rows: int, size: int, changed: int, inode: int, sha256: str,
+                 header: int) -> None:
         self.file, self.rows, self.size = file, rows, size
-        self.changed, self.inode, self.sha256 = changed, inode, sha256
+        self.changed, self.inode, self.sha256, self.header = changed, inode, sha256, header
+
+
+class OtherVersion(Refused):
+    """A columns file of another version."""
 
 
 class Store:
-    """An open columns file."""
+    """An open columns file. `watched` tells whether it changed since."""
 
     def __init__(self, path: str | os.PathLike[str]) -> None:
         self.path = os.fspath(path)
-        self.database = opened(self.path)
+        self.watched, self.database = opened(self.path)
         try:
             with self.reading():
                 self.refuse_schema()
-                self.name = self.read_name()
-                self.files = self.read_files()
-                self.columns = self.read_columns()
+                self.read_head()
+            self.watched.is_same = self.is_same
         except BaseException:
-            self.database.close()
+            self.close()
             raise
 
     def close(self) -> None:
         """Closes the file; texts can't be read any more."""
         self.database.close()
+        self.watched.file.close()
 
     @contextlib.contextmanager
     def reading(self) -> Iterator[None]:
@@ -82,6 +97,8 @@ class Store:
         try:
             yield
         except sqlite3.Error as error:
+            if failure_of(error).status == MEMORY:
+                raise
             raise self.foreign(str(error)) from None
         except (OverflowError, ValueError) as error:
             raise self.foreign(str(error)) from None
@@ -111,17 +128,35 @@ class Store:
                     wanted.add(("table", name, name, listed[name]))
         if len(found) != len(wanted) or set(found) != wanted:
             raise self.foreign("its schema is another one")
-        self.listed = {int(name[7:]): str if " TEXT " in sql else float
+        self.listed = {int(name[7:]): str if " texts " in sql else float
                        for name, sql in listed.items() if name.startswith("values_")}
 
-    def read_name(self) -> str:
-        found = self.rows("SELECT name FROM named", 1)
-        name = found[0][0] if found else None
-        return self.text(name, "the table's name")
+    def read_head(self) -> None:
+        """Reads all but the lists, and compares its sum."""
+        head = list(map(self.rows, HEAD, (1, MOST_TABLES, MOST_COLUMNS)))
+        for sql, most in zip(HEAD[3:], (MOST_SETTINGS, MOST_NULLS)):
+            head.append(self.rows(sql, most * len(head[2])))
+        self.sum = sum_of_head(head)
+        if self.rows("SELECT sum FROM sums", 1) != [(self.sum,)]:
+            raise self.foreign("its settings, its columns or its list of files have another sum")
+        named, files, columns, settings, nulls = head
+        self.name = self.text(named[0][0] if named else None, "the table's name")
+        self.seed = seed_of(head)
+        self.files = self.read_files(files)
+        self.columns = self.read_columns(columns, settings, nulls)
 
-    def read_files(self) -> list[TableFile]:
-        names = ("file", "rows", "size", "changed", "inode", "sha256")
-        found = self.rows(f"SELECT {', '.join(names)} FROM files ORDER BY place", MOST_TABLES)
+    def is_same(self) -> bool:
+        """Returns whether the open file still has what was read when it was opened. The lists have
+        sums of their own."""
+        uri = f"file:/proc/self/fd/{self.watched.file.fileno()}?mode=ro&immutable=1"
+        try:
+            with contextlib.closing(sqlite3.connect(uri, uri=True)) as again:
+                return sum_of_head([again.execute(sql).fetchall() for sql in HEAD]) == self.sum
+        except sqlite3.Error:
+            return False
+
+    def read_files(self, found: Sequence[tuple[Any, ...]]) -> list[TableFile]:
+        names = ("file", "rows", "size", "changed", "inode", "sha256", "header")
         for row in found:
             for name, value in zip(names, row):
                 if type(value) is not (str if name in ("file", "sha256") else int):
@@ -131,15 +166,14 @@ class Store:
             raise self.foreign("a table file isn't beside it")
         return files
 
-    def read_columns(self) -> list[Column]:
-        found = self.rows("SELECT place, name, heading, kind, why, looks_like, least, greatest, "
-                          "listed FROM columns ORDER BY place", MOST_COLUMNS)
+    def read_columns(self, found: Sequence[tuple[Any, ...]], settings: Sequence[tuple[Any, ...]],
+                     nulls: Sequence[tuple[Any, ...]]) -> list[Column]:
         if not found or [row[0] for row in found] != list(range(len(found))):
             raise self.foreign("its columns aren't numbered from 0 on")
         if set(self.listed) != {row[0] for row in found if row[8] is not None}:
             raise self.foreign("its lists aren't those of its columns")
-        settings, nulls = self.read_settings(len(found)), self.read_nulls(len(found))
-        columns = [self.column(row, settings[row[0]], nulls[row[0]]) for row in found]
+        own, words = self.read_settings(settings, len(found)), self.read_nulls(nulls, len(found))
+        columns = [self.column(row, own[row[0]], words[row[0]]) for row in found]
         if len({column.name.lower() for column in columns}) < len(columns):
             raise self.foreign("two columns have one name")
         return columns
@@ -157,26 +191,26 @@ class Store:
         if count is not None:
             if type(count) is not int or not 0 <= count < MOST_CODES:
                 raise self.foreign(f"column {name} has {count} values")
-            listed = StoredList(self.database, place, count, self.listed[place])
+            listed = StoredList(self.database, place, count, self.listed[place], self.seed,
+                                f"{self.path}: column {name}")
         try:
             made = kinds.kind_of(kind, settings, listed)
         except (ValueError, TypeError, KeyError):
             raise self.foreign(f"column {name} is of no kind that this version knows") from None
         return Column(name, heading, made, nulls, ends, why, looks_like)
 
-    def read_settings(self, count: int) -> list[Settings]:
+    def read_settings(self, found: Sequence[tuple[Any, ...]], count: int) -> list[Settings]:
         settings: list[Settings] = [{} for _ in range(count)]
-        for place, name, value in self.rows("SELECT place, name, value FROM settings",
-                                            MOST_SETTINGS * count):
+        for place, name, value in found:
             if type(place) is not int or not 0 <= place < count or type(name) is not str or \
                     type(value) not in (int, str) or name in settings[place]:
                 raise self.foreign("a setting is of no column, or of no type that settings have")
             settings[place][name] = value
         return settings
 
-    def read_nulls(self, count: int) -> list[list[str]]:
+    def read_nulls(self, found: Sequence[tuple[Any, ...]], count: int) -> list[list[str]]:
         nulls: list[list[str]] = [[] for _ in range(count)]
-        for place, word in self.rows("SELECT place, word FROM nulls", MOST_NULLS * count):
+        for place, word in found:
             if type(place) is not int or not 0 <= place < count:
                 raise self.foreign("a word for null is of no column")
             nulls[place].append(self.text(word, "a word for null"))
@@ -192,32 +226,46 @@ class Store:
         """Rejects a file of which a part is damaged, though it wasn't needed by now: it reads all
         of it."""
         with self.reading():
+            for column in self.columns:
+                if column.kind.listed is not None:
+                    for _ in column.kind.listed:
+                        pass
             found = self.database.execute("PRAGMA integrity_check(1)").fetchone()
             if found != ("ok",):
                 raise self.foreign(str(found[0]))
-            for column in self.columns:
-                for _ in column.kind.listed or ():
-                    pass
 
 
-def opened(path: str) -> sqlite3.Connection:
+def sum_of_head(head: Sequence[Sequence[tuple[Any, ...]]]) -> int:
+    """Returns the sum of rows, whose `ascii` is the same in every version of Python."""
+    return zlib.crc32(ascii(head).encode())
+
+
+def seed_of(head: Sequence[Sequence[tuple[Any, ...]]]) -> int:
+    """Returns what the sums of blocks begin with: that of the name and the table files. So a block
+    of another columns file has a wrong sum."""
+    return sum_of_head(head[:2])
+
+
+def opened(path: str) -> tuple[Watched, sqlite3.Connection]:
     """Opens a columns file, which must be a regular file, to be read only. SQLite opens a file by
     its path: if another one is put there at that moment, it is opened again."""
     for _ in range(100):
-        with open_regular(path) as file:
-            told = os.fstat(file.fileno())
-            refuse_header(path, file.read(100), told.st_size)
+        with contextlib.ExitStack() as stack:
+            file = stack.enter_context(open_regular(path))
+            watched = Watched(path, file)
+            refuse_header(path, file.read(100), watched.marks.size)
             try:
                 database = sqlite3.connect(uri_of(path), uri=True, check_same_thread=False)
             except sqlite3.OperationalError:
-                if os.path.samestat(os.stat(path), told):
+                if os.path.samestat(os.stat(path), os.fstat(file.fileno())):
                     raise
                 continue
-            if os.path.samestat(os.stat(path), told):
+            stack.callback(database.close)
+            if os.path.samestat(os.stat(path), os.fstat(file.fileno())):
                 for pragma in ("trusted_schema = off", "cell_size_check = on"):
                     database.execute(f"PRAGMA {pragma}")
-                return database
-            database.close()
+                stack.pop_all()
+                return watched, database
     raise Refused(f"{path} is replaced again and again")
 
 
@@ -231,48 +279,69 @@ def uri_of(path: str) -> str:
 def refuse_header(path: str, header: bytes, size: int) -> None:
     """Rejects a file whose first bytes aren't those of a columns file of this version."""
     if header.startswith(EARLIER):
-        raise Refused(f"{path} is a columns file of an earlier version: "
-                      "import the file again, by bw-import RAW.csv TABLE.bw")
+        raise OtherVersion(f"{path} is a columns file of an earlier version: import the file "
+                           f"again, by {again(path)}")
     version, mark, encoding = (int.from_bytes(header[at:at + 4], "big") for at in (60, 68, 56))
     if not header.startswith(MAGIC) or len(header) < 100 or mark != APPLICATION or encoding != 1 \
             or header[18:20] != b"\1\1":
         raise Refused(f"{path} is not a columns file that bw-import wrote")
     if version != VERSION:
-        raise Refused(f"{path} is a columns file of version {version}, and this is the program of "
-                      f"version {VERSION}: import the file again")
+        raise OtherVersion(f"{path} is a columns file of version {version}, and this program reads "
+                           f"version {VERSION}: import the file again, by {again(path)}")
     pages, page = int.from_bytes(header[28:32], "big"), int.from_bytes(header[16:18], "big")
     if pages * (1 << 16 if page == 1 else page) != size:
         raise Refused(f"{path} is damaged: it has {size:,} bytes, and not those of its pages")
 
 
+def again(path: str) -> str:
+    """Returns the command that writes a columns file anew."""
+    folder, name = os.path.split(path)
+    if name == FOLDERS:
+        return f"bw-shards load RAW.csv {folder or '.'}"
+    table = path[:-len(ENDING)] if name.endswith(ENDING) else "TABLE.bw"
+    return f"bw-import RAW.csv {table}"
+
+
 def write(path: str | os.PathLike[str], columns: Sequence[Column], name: str = "",
           files: Sequence[TableFile] = ()) -> None:
     """Writes a columns file. Each column's `kind.listed` is iterated once, in order: so it may be
-    read from elsewhere meanwhile. Raises Refused if it isn't strictly ascending."""
-    database = sqlite3.connect(os.fspath(path), isolation_level=None)
+    read from elsewhere meanwhile. Raises Refused if it isn't strictly ascending, and Failed if the
+    file can't be written."""
     try:
-        for pragma in ("page_size = 16384", "encoding = 'UTF-8'", "journal_mode = OFF",
-                       "synchronous = OFF",
-                       "locking_mode = EXCLUSIVE", f"user_version = {VERSION}",
-                       f"application_id = {APPLICATION}"):
-            database.execute(f"PRAGMA {pragma}").fetchall()
-        database.execute("BEGIN")
-        for sql in FIXED.values():
-            database.execute(sql)
-        database.execute("INSERT INTO named VALUES (?)", (name,))
-        database.executemany("INSERT INTO files VALUES (?, ?, ?, ?, ?, ?, ?)",
-                             [(place, *vars(file).values()) for place, file in enumerate(files)])
-        for place, column in enumerate(columns):
-            write_column(database, place, column)
-        database.execute("COMMIT")
-    finally:
-        database.close()
+        with contextlib.closing(sqlite3.connect(os.fspath(path), isolation_level=None)) as made:
+            write_to(made, columns, name, files)
+    except sqlite3.Error as error:
+        # the disk is full, or memory: nothing else was written there
+        found = failure_of(error)
+        raise Failed(f"the columns file can't be written: {found}", status=found.status) from None
 
 
-def write_column(database: sqlite3.Connection, place: int, column: Column) -> None:
+def write_to(database: sqlite3.Connection, columns: Sequence[Column], name: str,
+             files: Sequence[TableFile]) -> None:
+    """Writes a columns file into an empty database."""
+    for pragma in ("page_size = 16384", "encoding = 'UTF-8'", "journal_mode = OFF",
+                   "synchronous = OFF", "locking_mode = EXCLUSIVE", f"user_version = {VERSION}",
+                   f"application_id = {APPLICATION}"):
+        database.execute(f"PRAGMA {pragma}").fetchall()
+    database.execute("BEGIN")
+    for sql in FIXED.values():
+        database.execute(sql)
+    database.execute("INSERT INTO named VALUES (?)", (name,))
+    database.executemany("INSERT INTO files VALUES (?, ?, ?, ?, ?, ?, ?, ?)",
+                         [(place, *vars(file).values()) for place, file in enumerate(files)])
+    seed = seed_of([database.execute(sql).fetchall() for sql in HEAD[:2]])
+    for place, column in enumerate(columns):
+        write_column(database, place, column, seed)
+    # of what was written, as it is read
+    head = [database.execute(sql).fetchall() for sql in HEAD]
+    database.execute("INSERT INTO sums VALUES (?)", (sum_of_head(head),))
+    database.execute("COMMIT")
+
+
+def write_column(database: sqlite3.Connection, place: int, column: Column, seed: int) -> None:
     """Writes a column, its settings, its words for null and its list."""
     listed, ends = column.kind.listed, column.ends or (None, None)
-    count = None if listed is None else write_list(database, place, listed)
+    count = None if listed is None else write_list(database, place, listed, seed)
     database.execute("INSERT INTO columns VALUES (?, ?, ?, ?, ?, ?, ?, ?, ?)",
                      (place, column.name, column.heading, column.kind.name, column.why,
                       column.looks_like, *ends, count))
@@ -282,45 +351,19 @@ def write_column(database: sqlite3.Connection, place: int, column: Column) -> No
                          [(place, word) for word in column.nulls])
 
 
-def write_list(database: sqlite3.Connection, place: int, listed: Iterable[Any]) -> int:
+def write_list(database: sqlite3.Connection, place: int, listed: Iterable[Any], seed: int) -> int:
     """Writes the values of a list, and returns how many there are. Raises Refused if they don't
     ascend."""
-    rest = iter(listed)
-    part = list(itertools.islice(rest, AT_ONCE))
-    database.execute(LISTED.format(place, TYPES[type(part[0])] if part else "TEXT"))
-    insert = as_json if part and type(part[0]) is str and has_json(database) else one_by_one
-    count, last = 0, part[:0]
-    while part:
-        if not all(map(operator.lt, last + part[:-1], part if last else part[1:])):
+    count, last = 0, list[Any]()
+    for block in blocks_of(listed):
+        if not count:
+            database.execute(LISTED.format(place, TYPES[type(block[0])]))
+        if not are_ascending(last + block):
             raise Refused(f"the values of column {place + 1} don't ascend")
-        insert(database, f"values_{place}", count, part)
-        count, last = count + len(part), part[-1:]
-        part = list(itertools.islice(rest, AT_ONCE))
+        data = packed(block)
+        database.execute(f"INSERT INTO values_{place} VALUES (?, ?, ?)",
+                         (count, data, sum_of_block(data, seed, place, count)))
+        count, last = count + len(block), block[-1:]
+    if not count:
+        database.execute(LISTED.format(place, TYPES[str]))
     return count
-
-
-def has_json(database: sqlite3.Connection) -> bool:
-    """Returns whether SQLite reads JSON, as it does if it isn't built without."""
-    try:
-        database.execute("SELECT value FROM json_each('[]')")
-        return True
-    except sqlite3.OperationalError:
-        return False
-
-
-def as_json(database: sqlite3.Connection, table: str, first: int, texts: Sequence[str]) -> None:
-    """Inserts texts by codes from `first` on, many in one text, which is faster than one by one."""
-    if "\0" in "".join(texts):
-        one_by_one(database, table, first, texts)
-        return
-    # to write alone, not to read
-    import json
-    for start in range(0, len(texts), JSON_AT_ONCE):
-        part = json.dumps(texts[start:start + JSON_AT_ONCE], ensure_ascii=False)
-        database.execute(f"INSERT INTO {table} SELECT key + ?, value FROM json_each(?)",
-                         (first + start, part))
-
-
-def one_by_one(database: sqlite3.Connection, table: str, first: int, values: Sequence[Any]) -> None:
-    """Inserts values by codes from `first` on."""
-    database.executemany(f"INSERT INTO {table} VALUES (?, ?)", enumerate(values, first))

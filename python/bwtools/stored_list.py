@@ -1,26 +1,85 @@
 """A list of values in order, of which each has its place as its code: in a columns file, from which
-a value is read when it is needed."""
+a block of values is read when one of them is needed."""
 from __future__ import annotations
 
+import contextlib
 import itertools
 import operator
 import sqlite3
-from typing import Any, Iterator, Sequence
+import zlib
+from typing import Any, Iterable, Iterator, Sequence
 
 from .listed import Place
 from .telling import Refused, shown
 
-# values that are read at once, at most the variables of a statement of any SQLite, and so many are
+# a block has so many values, or fewer long ones: it ends with the one that makes it so long
+VALUES_A_BLOCK, CHARACTERS_A_BLOCK = 64, 1 << 14
+# values of one statement of SQLite, at most the variables of a statement of any, and so many are
 # all read once half of them were
-AT_ONCE, MOST_KEPT = 500, 1 << 20
+AT_ONCE, MOST_KEPT = 400, 1 << 20
+# what is between the texts of a block: no text has this byte in UTF-8
+BETWEEN = b"\xff"
+
+
+def blocks_of(values: Iterable[Any]) -> Iterator[list[Any]]:
+    """Yields the values of a list in blocks."""
+    rest = iter(values)
+    while block := list(itertools.islice(rest, VALUES_A_BLOCK)):
+        if type(block[0]) is not str or sum(map(len, block)) <= CHARACTERS_A_BLOCK:
+            yield block
+            continue
+        part, size = list[Any](), 0
+        for value in block:
+            part.append(value)
+            size += len(value)
+            if size > CHARACTERS_A_BLOCK:
+                yield part
+                part, size = [], 0
+        if part:
+            yield part
+
+
+def packed(block: Sequence[Any]) -> bytes:
+    """Returns the bytes of a block of texts, or of doubles."""
+    if type(block[0]) is str:
+        return BETWEEN.join(map(str.encode, block))
+    # few columns are of ranked doubles
+    import struct
+    return struct.pack(f"<{len(block)}d", *block)
+
+
+def unpacked(data: bytes, type_: type) -> list[Any]:
+    """Returns the values of a block's bytes, texts in UTF-8, whose order is that of code points.
+    Raises ValueError if they aren't those of a block."""
+    if type_ is str:
+        return data.split(BETWEEN)
+    if not data or len(data) % 8:
+        raise ValueError("a block isn't one of doubles")
+    import struct
+    return list(struct.unpack(f"<{len(data) // 8}d", data))
+
+
+def sum_of_block(data: bytes, seed: int, place: int, code: int) -> int:
+    """Returns the sum of a block's bytes, its column's place and its first code."""
+    return zlib.crc32(data, zlib.crc32(b"%d,%d" % (place, code), seed))
+
+
+def are_ascending(values: Sequence[Any]) -> bool:
+    """Returns whether each value is greater than the one before."""
+    return all(map(operator.lt, values, itertools.islice(values, 1, None)))
 
 
 class StoredList:
     """A list of texts, or of doubles, in a columns file: a `listed.Listed`. It checks what it
-    reads: that codes follow one another, that values are of one type, and that they ascend."""
+    reads: the sum of a block, that codes follow one another, and that values ascend. `what` names
+    it in messages."""
 
-    def __init__(self, database: sqlite3.Connection, place: int, count: int, type_: type) -> None:
-        self.database, self.name, self.count, self.type = database, f"values_{place}", count, type_
+    def __init__(self, database: sqlite3.Connection, place: int, count: int, type_: type,
+                 seed: int, what: str) -> None:
+        self.database, self.column, self.count, self.type = database, place, count, type_
+        self.seed, self.what = seed, what
+        self.select = f"SELECT code, {'texts' if type_ is str else 'doubles'}, sum " \
+                      f"FROM values_{place}"
         # how many values were read, and all of them, once they are kept
         self.read, self.all = 0, list[Any]()
 
@@ -29,81 +88,123 @@ class StoredList:
 
     def __iter__(self) -> Iterator[Any]:
         """Yields all values. Raises Refused at the first one that isn't as it must be."""
-        rows = self.rows("ORDER BY code")
         start, last = 0, list[Any]()
-        while True:
-            found = list(itertools.islice(rows, AT_ONCE))
-            codes, values = [code for code, _ in found], [value for _, value in found]
-            if codes != list(range(start, start + len(codes))):
-                raise self.broken("codes don't follow one another")
-            self.check(last[-1:] + values)
-            if start + len(codes) > self.count or not codes and start < self.count:
-                raise self.broken(f"it has not {self.count} values")
-            if not codes:
-                return
-            yield from values
-            start, last = start + len(codes), values
+        for code, values in self.blocks("ORDER BY code"):
+            if code != start:
+                raise self.broken(code, "a code is missing, or there twice")
+            if not are_ascending(last + values):
+                raise self.broken(code, "values don't ascend")
+            yield from self.decoded(values)
+            start, last = start + len(values), values[-1:]
+        if start != self.count:
+            raise self.broken(start, f"there aren't {self.count} values")
+
+    def blocks(self, condition: str, values: Sequence[Any] = ()) -> Iterator[tuple[int, list[Any]]]:
+        """Yields the first codes of blocks, and their values, texts in UTF-8, whose sums are
+        right."""
+        try:
+            for code, data, found in self.database.execute(f"{self.select} {condition}", values):
+                yield code, self.checked(code, data, found)
+        except sqlite3.Error as error:
+            # few files are damaged
+            from .failed import MEMORY, failure_of
+            if failure_of(error).status == MEMORY:
+                raise
+            raise self.broken(0, str(error)) from None
+
+    def checked(self, code: Any, data: Any, found: Any) -> list[Any]:
+        """Returns the values of a block. Raises Refused if its sum isn't the one that was
+        written."""
+        if type(code) is not int or type(data) is not bytes or \
+                found != sum_of_block(data, self.seed, self.column, code):
+            raise self.broken(code, "a block has another sum")
+        try:
+            return unpacked(data, self.type)
+        except ValueError as error:
+            raise self.broken(code, str(error)) from None
+
+    def decoded(self, values: Sequence[Any]) -> Sequence[Any]:
+        """Returns values of blocks as Python has them."""
+        try:
+            return list(map(bytes.decode, values)) if self.type is str else values
+        except ValueError as error:
+            raise self.broken(0, str(error)) from None
+
+    def block(self, code: int) -> tuple[int, list[Any]]:
+        """Returns the first code of the block that has a code, which there must be, and the values
+        of it."""
+        found = list(self.blocks("WHERE code <= ? ORDER BY code DESC LIMIT 1", (code,)))
+        if not found or not 0 <= code - found[0][0] < len(found[0][1]):
+            raise self.broken(code, "a code is missing")
+        return found[0]
 
     def place(self, value: str | float) -> Place:
         """Returns the greatest code whose value is at most this one, or -1, and whether the values
         are equal."""
         if isinstance(value, str) and not is_unicode(value):
             raise Refused(f"{shown(value)} isn't text of Unicode")
-        low, high, near = -1, self.count, list[Any]()
+        # a question without a literal of a text needs none
+        import bisect
+        if self.all:
+            code = bisect.bisect_right(self.all, value) - 1
+            return code, code >= 0 and bool(self.all[code] == value)
+        wanted: Any = value.encode() if isinstance(value, str) else value
+        # the value of `low` is at most this one, which is less than that of `high`
+        low, high, is_equal = -1, self.count, False
         while high - low > 1:
-            code = (low + high) // 2
-            found = self.at(code)
-            # what was read on both sides must ascend with what is between
-            near = [each for each in near if each[0] in (low, high)] + [(code, found)]
-            self.check([each for _, each in sorted(near)])
-            low, high = (code, high) if found <= value else (low, code)
-        return low, (low, value) in near
-
-    def at(self, code: int) -> Any:
-        """Returns the value of one code, which there must be."""
-        found = [each for _, each in self.rows("WHERE code = ?", (code,))]
-        if not found:
-            raise self.broken("a code is missing")
-        return found[0]
+            first, values = self.block((low + high) // 2)
+            at = bisect.bisect_right(values, wanted)
+            if first <= low or first + len(values) > high or not are_ascending(values):
+                raise self.broken(first, "values don't ascend")
+            if at:
+                low, is_equal = first + at - 1, values[at - 1] == wanted
+            if at < len(values):
+                high = first + at
+            # a long list of literals asks for most of them
+            self.keep(len(values))
+        return low, is_equal
 
     def values(self, codes: Sequence[int]) -> list[Any]:
         """Returns the values of codes. Raises IndexError for a code that there isn't."""
         if codes and not (0 <= min(codes) and max(codes) < self.count):
             raise IndexError
-        if not self.all and self.count <= MOST_KEPT and self.read + len(codes) > self.count // 2:
-            self.all = list(self)
+        wanted = [] if self.all else sorted(set(codes))
+        self.keep(len(wanted))
         if self.all:
             return list(map(self.all.__getitem__, codes))
-        wanted = sorted(set(codes))
-        self.read += len(wanted)
-        known: dict[int, Any] = {}
-        for start in range(0, len(wanted), AT_ONCE):
-            part = wanted[start:start + AT_ONCE]
-            marks = ",".join("?" * len(part))
-            known.update(self.rows(f"WHERE code IN ({marks}) ORDER BY code", part))
-        if list(known) != wanted:
-            raise self.broken("a code is missing")
-        self.check(list(known.values()))
+        known, first, values = dict[int, Any](), 0, list[Any]()
+        for code in wanted:
+            if not code - first < len(values):
+                first, values = self.block(code)
+            known[code] = values[code - first]
+        known = dict(zip(known, self.decoded(list(known.values()))))
         return list(map(known.__getitem__, codes))
 
-    def rows(self, condition: str, values: Sequence[Any] = ()) -> Iterator[tuple[Any, Any]]:
-        """Yields codes and their values."""
-        try:
-            yield from self.database.execute(f"SELECT code, value FROM {self.name} {condition}",
-                                             values)
-        except sqlite3.Error as error:
-            raise self.broken(str(error)) from None
+    def keep(self, count: int) -> None:
+        """Notes that so many values are read. Once half of them were, all are read and kept."""
+        self.read += count
+        if not self.all and self.count <= MOST_KEPT and self.read > self.count // 2:
+            self.all = list(self)
 
-    def check(self, values: Sequence[Any]) -> None:
-        """Rejects values that aren't of the list's type, or don't ascend."""
-        if any(type(value) is not self.type for value in values):
-            raise self.broken(f"a value isn't {'text' if self.type is str else 'a double'}")
-        if not all(map(operator.lt, values, itertools.islice(values, 1, None))):
-            raise self.broken("values don't ascend")
+    def matching(self, condition: str, wanted: Sequence[Any]) -> Iterator[int]:
+        """Yields the codes of values that fulfil a condition of SQLite on `value`. Raises
+        sqlite3.Error if it can't be evaluated."""
+        first, rest = 0, iter(self.all or self)
+        with contextlib.closing(sqlite3.connect(":memory:", isolation_level=None)) as database:
+            database.execute("CREATE TABLE listed (code INTEGER PRIMARY KEY, value TEXT)")
+            while part := list(itertools.islice(rest, AT_ONCE)):
+                # their codes there begin with 1
+                database.execute("DELETE FROM listed")
+                database.execute("INSERT INTO listed (value) VALUES "
+                                 + ",".join(["(?)"] * len(part)), part)
+                for code, in database.execute(f"SELECT code FROM listed {condition}", wanted):
+                    yield first + code - 1
+                first += len(part)
 
-    def broken(self, why: str) -> Refused:
+    def broken(self, code: Any, why: str) -> Refused:
         """Returns the refusal of a file that isn't as it was written."""
-        return Refused(f"the columns file is damaged: {self.name}: {why}; import the file again")
+        return Refused(f"the columns file is damaged: {self.what}, from code {code} on: {why}; "
+                       "import the file again")
 
 
 def is_unicode(text: str) -> bool:

@@ -13,10 +13,11 @@ import subprocess
 from dataclasses import dataclass
 from typing import BinaryIO
 
-from . import command, pairs, processes
+from . import command, processes
 from .fields import columns_of
 from .naming import names_of
 from .ranges import Range, range_in, range_of
+from .regular import Marks
 from .table_limits import MOST_COLUMNS
 from .telling import Refused
 
@@ -54,8 +55,8 @@ class Straight:
 
     def __init__(self, file: BinaryIO) -> None:
         self.file = file
-        self.marks = pairs.marks_of(file)
-        self.size = self.marks[0]
+        self.marks = Marks(file)
+        self.size = self.marks.size
         heading = self.at(0, LONGEST_HEADING).partition(b"\n")
         try:
             self.names = heading[0].decode("ascii").split(",")
@@ -71,7 +72,11 @@ class Straight:
             if is_plain(sample) else None
         if not columns:
             raise Unfit
-        self.ranges = list(map(range_of, columns))
+        try:
+            self.ranges = list(map(range_of, columns))
+        except ValueError:
+            # Python makes no integer of thousands of digits
+            raise Unfit from None
         # about how many rows there are
         self.rows_about = (self.size - self.first) * len(columns[0]) // len(sample)
 

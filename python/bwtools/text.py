@@ -13,6 +13,7 @@ from .comments import reader_of
 from .inputs import Positioned, name_of, open_input
 from .options import SEPARATORS
 from .records import Records
+from .regular import Marks
 from .signs import NUL, Signs
 from .telling import Refused
 
@@ -52,10 +53,9 @@ class Text:
         is_utf8 = found.lower().replace("_", "-") in ("utf-8", "utf8")
         return "utf-8-sig" if is_utf8 else found
 
-    def marks(self) -> tuple[int, int]:
+    def marks(self) -> Marks:
         """Returns what changes if the file does."""
-        told = os.fstat(self.file.fileno())
-        return told.st_size, told.st_mtime_ns
+        return Marks(self.file)
 
     def decoded(self) -> io.TextIOWrapper:
         self.file.seek(0)

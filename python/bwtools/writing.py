@@ -136,7 +136,7 @@ class NumberTable:
     def finish(self) -> None:
         """Rejects a file that has changed, and sets the nulls, the minimum and the maximum of each
         column."""
-        if self.rows != self.source.counts.rows or self.marks != self.source.text.marks():
+        if self.rows != self.source.counts.rows or self.marks.differ(self.source.text.marks()):
             self.refuse_changed()
         for column, tally in zip(self.columns, self.tallies):
             tally.counts.padded += tally.column.plain.padded if tally.texts is None else 0

@@ -9,12 +9,14 @@ _bw() {
     done
     COMPREPLY=()
     case $command:$before in
-        load:--layout) words='planes slices' ;;
+        load:--layout|encode:--layout) words='planes slices' ;;
+        encode:--separator|encode:--quote|encode:--escape|encode:--comment) return ;;
         infer:--table) return ;;
         query:--program|session:--program) ;;
-        :*) words='infer load query session direct dump info plan certify check --explain --help --version' ;;
+        :*) words='infer load encode recode query session direct dump info plan certify check --explain --help --version' ;;
         infer:*) words='--table --explain --help' ;;
         load:*) words='--layout --explain --help' ;;
+        encode:*) words='--separator --quote --escape --comment --lenient --layout --explain --help' ;;
         query:*) words='--program --stats --explain --help' ;;
         session:*) words='--program --stats --explain --help' ;;
         *) words='--explain --help' ;;

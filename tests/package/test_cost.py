@@ -3,10 +3,12 @@ that are kept."""
 import datetime
 import random
 import unittest
+from unittest import mock
 
 import bwtools
 from bwtools import kinds
 from bwtools._aggregation import Aggregate
+from bwtools._result import columns_of
 from bwtools._sql import cost
 from bwtools._sql.by_sqlite import text_of
 from bwtools._sql.statement import Statement
@@ -107,7 +109,10 @@ class Quicker(Imported):
                         f"SELECT SUM(x), AVG(x) FROM (SELECT {argument} AS x FROM t "
                         "WHERE id + 0 > 0)")
                     wanted = list(wanted.rows())
-                    self.assertEqual(list(map(type, found[0])), list(map(type, wanted[0])))
+                    # a sum of what is chosen among decimals is one of decimals
+                    types = [float] * 2 if is_native and ("price" in argument or "." in argument) \
+                        else list(map(type, wanted[0]))
+                    self.assertEqual(list(map(type, found[0])), types)
                     self.assertAlmostEqual(found[0][0], wanted[0][0], 6)
                     self.assertAlmostEqual(found[0][1], wanted[0][1], 6)
 
@@ -115,6 +120,14 @@ class Quicker(Imported):
         found = self.connection.execute("SELECT id, g FROM t LIMIT 3 OFFSET 19990").fetchall()
         rows = self.connection.execute("SELECT id, g FROM t").fetchall()
         self.assertEqual(found, rows[19990:19993])
+        converted = list[int]()
+
+        def noted(lines, width):
+            converted.append(lines.count(b"\n"))
+            return columns_of(lines, width)
+        with mock.patch("bwtools._result.columns_of", noted):
+            self.connection.execute("SELECT id, g FROM t LIMIT 3 OFFSET 19990").fetchall()
+        self.assertEqual(sum(converted), 3)
 
     def test_times_before_1970_and_nulls_are_filled(self):
         statement = Statement("SELECT at, price, wide FROM t WHERE id + 0 > 0 ORDER BY id + 0",

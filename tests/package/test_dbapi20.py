@@ -38,6 +38,7 @@ class Cursor(bwtools.Cursor):
         found = WRITE.match(sql)
         if not found:
             self.connection.read_again()
+            self._database = self.connection._database
             return super().execute(sql, parameters)
         self._refuse_closed()
         self.answer = None

@@ -18,7 +18,7 @@ from bwtools._sql import groups, plan
 from bwtools._sql.groups import Wanted
 from bwtools._sql.statement import Statement
 from bwtools.telling import Refused
-from tests.support import Imported
+from tests.support import Imported, imported
 
 CITIES = ("Bern", "Genf", "Zug")
 
@@ -292,7 +292,50 @@ class Counted(unittest.TestCase):
                                 ([1e308] * 2, math.inf),
                                 ([-1e308] * 2, -math.inf), ([1e100, 1.0, -1e100], 1.0)]:
             self.assertEqual(float_sum(doubles), wanted)
-        self.assertIsNone(counted.float_total("AVG", []))
+        self.assertIsNone(counted.float_total("AVG", 0.0, 0))
+
+    def test_numbers_of_each_binade_have_one_exponent(self):
+        gap, least, greatest = 5, 3, (4 << 52) + 7
+        found = counted.binades(gap, least, greatest)
+        self.assertEqual((found[0][0], found[-1][1], len(found)), (least, greatest, 5))
+        for (_, last), (first, _) in zip(found, found[1:]):
+            self.assertEqual(last + 1, first)
+            self.assertEqual((first + gap) % (1 << 52), 0)
+        self.assertEqual(counted.binades(gap, -greatest, -least),
+                         [(-last, -first) for first, last in reversed(found)])
+        with self.assertRaisesRegex(Refused, "none of its column's floats"):
+            counted.sum_of_binades(kinds.Floats(0), [(0x7FF << 52, 1, 0x7FF << 52)])
+
+
+class SumsOfFloats(Imported):
+    """Sums by statements for each exponent are those of listed rows."""
+
+    def test_both_are_the_double_nearest_to_the_exact_sum(self):
+        chance = random.Random(53)
+        for number, draw in enumerate([
+                lambda: chance.gauss(50, 20), lambda: chance.choice((1, -1)) * 5e-324 *
+                chance.randrange(1 << 54), lambda: chance.choice((1e308, 1.7e308, 5e307)),
+                lambda: chance.choice((0.1, -0.1, 0.0, 0.3, 1e16)),
+                lambda: math.ldexp(chance.random() - .5, chance.randrange(-40, 40))]):
+            doubles = [draw() for _ in range(500)]
+            lines = "".join(f"{place},{each!r}\n" for place, each in enumerate(doubles))
+            path = self.folder / f"floats{number}.bw"
+            imported(path, f"id,f\n{lines}999,1e-7\n998,\n")
+            with bwtools.connect(path) as connection:
+                for where, kept in [("", [*doubles, 1e-7]),
+                                    (" WHERE id < 200", doubles[:200]),
+                                    (" WHERE f < 0", [each for each in doubles if each < 0]),
+                                    (" WHERE id = 998", [])]:
+                    wanted = float_sum(kept) if kept else None
+                    for cost in (10 ** 9, 0):
+                        with mock.patch("bwtools._sql.groups.FLOAT_COST", cost):
+                            answer = connection._database.answer(
+                                f"SELECT SUM(f), COUNT(f) FROM floats{number}{where}")
+                        listed = any(sql.startswith("SELECT f ") for sql in answer.asked)
+                        self.assertEqual(listed, cost == 0 and bool(kept))
+                        self.assertEqual(list(answer.rows()), [(wanted, len(kept))])
+                        connection._database.engine(
+                            connection._database.catalog.only).kept.clear()
 
 
 class InOrder(Asked):
@@ -346,6 +389,10 @@ class InOrder(Asked):
     def test_limits_without_an_order_are_of_all_files(self):
         parts = [Part(b"a\n1\n2\n"), Part(b"a\n"), Part(b"a\n3\n4\n")]
         self.assertEqual(rows.limited(parts, Limits(2, 1)), b"\n2\n3\n")
+        parts = [Part(b"a\n7\n", None, 4), Part(b"a\n8\n9\n")]
+        self.assertEqual(rows.limited(parts, Limits(2, 4)), b"\n7\n8\n")
+        parts = [Part(b"a\n", None, 4), Part(b"a\n8\n9\n")]
+        self.assertEqual(rows.limited(parts, Limits(2, 5)), b"\n9\n")
 
 
 class Files(Imported):

@@ -15,8 +15,9 @@ LAYERS = """
     _aggregation _dataframes
     _sql.tables _sql.lexer _sql.cost
     _sql.syntax
-    _sql.parser _sql.resolve _sql.literals
-    _sql.prepare _sql.validate _sql.render _sql.sums _sql.pushdown
+    _sql.parser _sql.expressions _sql.literals
+    _sql.resolve
+    _sql.prepare _sql.validate _sql.render _sql.pushdown
     _sql.statement _sql.questions _sql.listing
     _sql.groups _sql.by_sqlite
     _sql.plan

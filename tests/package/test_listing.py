@@ -14,7 +14,6 @@ from bwtools._sql.prepare import FUNCTIONS
 from bwtools._sql.pushdown import pushed
 from bwtools._sql.render import Renderer
 from bwtools._sql.statement import Statement
-from bwtools._sql.sums import sum_text
 from bwtools.telling import Refused
 
 from tests.support import Imported, imported
@@ -282,13 +281,50 @@ class Values(Listings):
                 self.assertEqual(self.rows(f"SELECT {sql}, length(max(city)) FROM trips"),
                                  [(*wanted, 6)])
 
+    def test_decimals_of_many_digits_are_compared_with_nothing_of_another_form(self):
+        """Each of several operands must have the form in which SQLite has them."""
+        for sql in ("long BETWEEN 1 AND id", "long BETWEEN ratio AND 5", "long IN (1.00, id)",
+                    "long NOT IN (7, cents, 5)", "CASE long WHEN 1 THEN 0 WHEN id THEN 1 END"):
+            self.refused(f"SELECT id FROM trips WHERE {sql}", "more than 15 digits")
+
+    def test_sums_of_choices_are_as_exact_as_those_of_columns(self):
+        path = imported(self.folder / "choices.bw", "id,p,q,w,g\n"
+                        "1,0.10,1.0001,9007199254740993,1234567890123456.78\n"
+                        "2,0.20,2.0002,-4611686018427387903,1234567890123456.79\n"
+                        "3,0.30,,4611686018427387904,-0.01\n4,,-0.5000,,\n")
+        with bwtools.connect(path) as connection:
+            for argument, wanted in [
+                    ("CASE WHEN id > 1 THEN p ELSE 0 END", "0.50"), ("COALESCE(p, 1)", "1.60"),
+                    ("IIF(id < 3, p, q)", "-0.2000"), ("NULLIF(p, 0.2)", "0.40"),
+                    ("CASE WHEN id = 9 THEN p ELSE 2 END", "8.00"),
+                    ("COALESCE(q, w)", "4611686018427387906.5003"),
+                    ("CASE id WHEN 3 THEN q ELSE w END", "-4602678819172646910.0000"),
+                    ("COALESCE(g, 5)", "2469135780246918.56"), ("-g", "-2469135780246913.56"),
+                    ("CASE WHEN g > 1 THEN g ELSE p END", "2469135780246913.87"),
+                    ("DISTINCT IFNULL(g, 7.125)", "2469135780246920.685")]:
+                with self.subTest(argument):
+                    found = connection.execute(f"SELECT SUM({argument}) FROM choices").fetchall()
+                    self.assertEqual(list(map(str, found[0])), [wanted])
+            found = connection.execute("SELECT TOTAL(p), TOTAL(IIF(id = 9, p, NULL)), TOTAL(w), "
+                                       "AVG(COALESCE(q, w)), SUM(p) / 4, TOTAL(w * 1.0) "
+                                       "FROM choices WHERE id < 9").fetchall()
+            self.assertEqual(found, [(.6, 0.0, 9007199254740994.0, 4611686018427387906.5003 / 4,
+                                      .15, 9007199254740992.0)])
+            self.assertEqual(connection.execute(
+                "SELECT SUM(CASE WHEN id = 9 THEN p ELSE 7 END) / 2, TOTAL(p + w) FROM choices "
+                "WHERE id > 9 OR id = 1").fetchall(), [(3, 9007199254740992.0)])
+            for sql in ("SUM(COALESCE(g, 5)) + 1", "AVG(COALESCE(g, 0.0000000001))",
+                        "MAX(COALESCE(g, 5))"):
+                with self.assertRaisesRegex(bwtools.ProgrammingError, "more than 15 digits"):
+                    connection.execute(f"SELECT {sql} FROM choices")
+
     def test_sqlite_has_sums_before_over(self):
         self.assertEqual(self.rows("SELECT id, sum(cents) OVER (ORDER BY id), avg(id) FILTER "
                                    "(WHERE id > 1) OVER () FROM trips WHERE id < 3"),
                          [(1, 12.5, 2.0), (2, 15.6, 2.0)])
         statement = self.statement("SELECT sum(cents) OVER () FROM trips")
         self.assertIn("sum(cents) OVER",
-                      Renderer(statement.written, sum_text).text(statement.tree))
+                      Renderer(statement.written, set()).text(statement.tree))
 
     def test_sums_outside_64_bits_are_refused(self):
         self.refused("SELECT sum(n), sum(n + 0) FROM big", "outside the range of 64 bits")
@@ -302,13 +338,13 @@ class Values(Listings):
 
     def test_sums_that_doubles_do_not_spell_are_integers(self):
         functions = self.connection._database.by_sqlite.whole.functions
-        self.assertEqual(functions.total(0, 123456, 2, 0), 1234.56)
-        self.assertEqual(functions.total(-1, 1 << 31, 1, 0), -(1 << 31) / 10)
+        self.assertEqual(functions.joined(0, 123456, 2, 0), 1234.56)
+        self.assertEqual(functions.joined(-1, 1 << 31, 1, 0), -(1 << 31) / 10)
         for number in (1234567890123456789, -12345678901234567890123):
             halves = number >> 32, number & (1 << 32) - 1
             with self.assertRaises(NeedsExact):
-                functions.total(*halves, 2, 0)
-            self.assertEqual(number_in(functions.total(*halves, 2, 1)), number)
+                functions.joined(*halves, 2, 0)
+            self.assertEqual(number_in(functions.joined(*halves, 2, 1)), number)
 
     def test_sums_of_doubles(self):
         for values, wanted in [([0.1] * 10, 1.0), ([1e308, 1e308, -1e308], 1e308),
@@ -398,6 +434,11 @@ class Guarded(Listings):
                          r"the function newest isn't in this SQLite \(3[0-9.]+\)")
             self.refused("SELECT newset(id) FROM trips",
                          "there is no function newset: (?!.*newest)")
+
+    def test_functions_of_ours_are_none_of_a_statement(self):
+        for call in ("bw_sum(id)", "bw_mean(1, 2, 3, 4)", "bw_halves(0, 1, 0, 0)", "BW_exact_2(id)",
+                     "bw_total(id)"):
+            self.refused(f"SELECT {call} FROM trips", "there is no function (bw|BW)_")
 
     def test_what_was_typed_is_not_proposed(self):
         for sql in ("SELECT stations.id FROM trips, stations", "SELECT t.id FROM stations t",

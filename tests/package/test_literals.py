@@ -60,6 +60,53 @@ class Values(support.TestCase):
         self.assertGreater(counts[1], COUNT // 2)
         self.assertEqual(counts[2], COUNT)
 
+    def test_parameters_of_many_digits(self):
+        path = support.imported(self.new_folder() / "t.bw", "n,f,d\n1,1e-7,0.50\n2,-3.5,-1.00\n")
+        with bwtools.connect(path) as connection:
+            for text, wanted in [("1E+300000000", 2), ("-1E+300000000", 0), ("1E-300000000", 1),
+                                 ("-1E-300000000", 1), ("0E+300000000", 1), ("9" * 5000, 2),
+                                 ("0." + "0" * 5000 + "1", 1)]:
+                for name in ("f", "d"):
+                    found = connection.execute(f"SELECT COUNT(*) FROM t WHERE {name} < ?",
+                                               (decimal.Decimal(text),)).fetchall()
+                    with self.subTest(text[:20], name=name):
+                        self.assertEqual(found, [(wanted,)])
+            with self.assertRaisesRegex(bwtools.ProgrammingError,
+                                        "^parameter 1 is outside the range of 64 bits$"):
+                connection.execute("SELECT COUNT(*) FROM t WHERE n < ?", (10 ** 5000,))
+
+    def test_the_greatest_integer_with_a_point_is_that_integer(self):
+        """As a double it is one more: SQLite's text for it must be the integer."""
+        most = (1 << 63) - 1
+        path = support.imported(self.new_folder() / "t.bw",
+                                f"w,v\n{most},1\n{most - 1},2\n5,3\n,4\n")
+        with bwtools.connect(path) as connection:
+            for sign, wanted in [("=", [1]), ("<>", [2, 3]), ("<", [2, 3]), ("<=", [1, 2, 3]),
+                                 (">", []), (">=", [1])]:
+                for text in (f"{most}.0", f"{most}.000", f"{most}"):
+                    for more in ("", " AND v + 0 > 0"):
+                        sql = f"SELECT v FROM t WHERE w {sign} {text}{more} ORDER BY v"
+                        for way, found in self.answers(connection._database, sql, ()):
+                            with self.subTest(sql, way=way):
+                                self.assertEqual(found, [(each,) for each in wanted])
+            found = connection.execute(f"SELECT w IN (1, {most}.0), v FROM t WHERE v < 3")
+            self.assertEqual(found.fetchall(), [(1, 1), (0, 2)])
+
+    def test_a_literal_that_two_columns_need_as_an_integer_and_a_double_is_refused(self):
+        """4.611686018427388e18 is another number to a float than to an integer of 63 bits."""
+        path = support.imported(self.new_folder() / "t.bw",
+                                "w,f,d\n4611686018427387904,4611686018427387904.5e0,3.00\n"
+                                "4611686018427388000,1e-7,0.50\n")
+        with bwtools.connect(path) as connection:
+            with self.assertRaisesRegex(bwtools.Error, "different forms: write a comparison"):
+                connection.execute("SELECT d FROM t WHERE 4.611686018427388e18 IN (w, f)")
+            for sql, wanted in [("4.611686018427388e18 = w", 1), ("4.611686018427388e18 = f", 1),
+                                ("4.611686018427388e18 IN (f, d)", 1), ("3.0 IN (f, w, d)", 1),
+                                ("4611686018427387904 IN (f, w)", 1), ("0.5 IN (d, f)", 1)]:
+                with self.subTest(sql):
+                    found = connection.execute(f"SELECT COUNT(*) FROM t WHERE {sql}").fetchall()
+                    self.assertEqual(found, [(wanted,)])
+
     def value(self, name, field):
         if name == "b":
             return Fraction(field == "true")

@@ -1,19 +1,79 @@
 """A table file and the columns file that belongs to it, whenever an import is stopped."""
+import contextlib
+import hashlib
 import os
 import pathlib
 import signal
 import sqlite3
 import tempfile
 import unittest
+import zlib
 from unittest import mock
 
 from bwtools import pairs, placing, store
 from bwtools.column import Column
 from bwtools.telling import Refused
 
-from tests.support import described, in_fork, texts
+from tests.support import Imported, described, in_fork, texts, tool
 
-A_TABLE = "ad875d4bcb7fa0fef5d27aadd709b8ca253b2a10d15e8283d4dc7823bf26918e"
+RAW = "word,n,price\npear,1,2.50\nplum,2,3.75\n,3,4.25\n"
+# the header of a table file: one column, `a`, without nulls and with the number 0 alone
+HEADER = b"BWCOLUMN\1\0\1\0\0\0\0\0\1t\1a" + bytes(17)
+
+
+class Verified(Imported):
+    """`bw-import --verify` names the part that isn't as it was imported."""
+    tables = {"t.bw": (RAW,), "s": (RAW, "--shards", "2"), "kept.bw": (RAW,)}
+
+    def told(self, name="t.bw"):
+        done = tool("bw-import", "--verify", name, cwd=self.folder)
+        self.assertEqual(done.status, 0 if done.out else 3)
+        return done.out + done.err
+
+    def changed(self, sql, name="t.bw.columns", is_forged=False):
+        """Returns what is told of a columns file that SQL has changed, and puts it back."""
+        path = self.folder / name
+        before, told = path.read_bytes(), path.stat()
+        with contextlib.closing(sqlite3.connect(path, isolation_level=None)) as made:
+            made.executescript(sql)
+            if is_forged:
+                head = [made.execute(each).fetchall() for each in store.HEAD]
+                made.execute("UPDATE sums SET sum = ?", (store.sum_of_head(head),))
+        found = self.told(name.partition("/")[0].removesuffix(".columns"))
+        path.write_bytes(before)
+        os.utime(path, ns=(told.st_mtime_ns, told.st_mtime_ns))
+        return found
+
+    def test_parts(self):
+        sums = "its settings, its columns or its list of files have another sum"
+        for sql, wanted in (("UPDATE settings SET value = 3 WHERE name = 'digits'", sums),
+                            ("UPDATE files SET sha256 = upper(sha256)", sums),
+                            ("UPDATE columns SET least = '9' WHERE place = 1", sums),
+                            ("UPDATE values_0 SET texts = replace(hex(texts), '70', '71')",
+                             "column word, from code 0 on: a block has another sum"),
+                            ("DELETE FROM columns WHERE place = 1", sums)):
+            with self.subTest(sql):
+                self.assertIn(wanted, self.changed(sql))
+        self.assertIn(sums, self.changed("DELETE FROM files WHERE place = 1", "s/shards.columns"))
+        for sql in ("DELETE FROM columns WHERE place = 2; DELETE FROM settings WHERE place = 2",
+                    "UPDATE columns SET name = 'other' WHERE place = 1"):
+            with self.subTest(sql):
+                self.assertIn("its columns aren't those of", self.changed(sql, is_forged=True))
+        self.assertEqual(self.told(), "t.bw is as it was imported\n")
+        self.assertEqual(self.told("s"), "s is as it was imported\n")
+
+    def test_the_table_file(self):
+        for name, table in (("t.bw", "t.bw"), ("s", "s/shard-002.bw")):
+            path = self.folder / table
+            before, told = path.read_bytes(), path.stat()
+            path.write_bytes(before[:-64] + bytes([before[-64] ^ 1]) + before[-63:])
+            os.utime(path, ns=(told.st_mtime_ns, told.st_mtime_ns))
+            with self.subTest(name):
+                self.assertIn(f"{table} isn't as it was written: its bytes have another SHA-256",
+                              self.told(name))
+            path.write_bytes(before)
+            os.utime(path, ns=(told.st_mtime_ns, told.st_mtime_ns))
+            self.assertIn("is as it was imported", self.told(name))
 
 
 class Pairs(unittest.TestCase):
@@ -25,10 +85,11 @@ class Pairs(unittest.TestCase):
         self.put("a table")
 
     def put(self, content):
-        """Puts a pair in place: a table of this content, whose columns file has it as a text."""
+        """Puts a pair in place: a header and this content, and a columns file that has it as a
+        text."""
         with placing.new_folder(self.table) as folder:
             made, columns = folder / "table.bw", folder / "columns"
-            made.write_text(content)
+            made.write_bytes(HEADER + content.encode())
             record = pairs.record_of(made)
             store.write(columns, [Column("a", "A é", texts(content), why="so")], "t", [record])
             pairs.put_pair(folder, made, columns, record.sha256, self.table)
@@ -36,7 +97,9 @@ class Pairs(unittest.TestCase):
     def found(self):
         """Returns the content of the table file, and the text of its columns file."""
         with pairs.open_pair(self.table) as pair:
-            return pair.file.read().decode(), list(pair.store.columns[0].kind.listed)
+            data = pair.file.read()
+            self.assertEqual(data[:len(HEADER)], HEADER)
+            return data[len(HEADER):].decode(), list(pair.store.columns[0].kind.listed)
 
     def left(self):
         return sorted(os.listdir(self.folder))
@@ -44,21 +107,22 @@ class Pairs(unittest.TestCase):
     def test_what_was_written_is_read(self):
         with pairs.open_pair(self.table) as pair:
             record, = pair.store.files
-            self.assertEqual((pair.store.name, record.size, record.file), ("t", 7, ""))
-            # printf 'a table' | sha256sum
-            self.assertEqual(record.sha256, A_TABLE)
+            self.assertEqual((pair.store.name, record.size, record.file),
+                             ("t", len(HEADER) + 7, ""))
+            self.assertEqual(record.sha256, hashlib.sha256(HEADER + b"a table").hexdigest())
+            self.assertEqual(record.header, zlib.crc32(HEADER))
             self.assertEqual(list(map(described, pair.store.columns)),
                              [("a", "A é", "texts", {}, [], [], "so", ["a table"])])
         self.assertEqual(self.left(), ["t.bw", "t.bw.columns"])
 
     def test_a_copy_of_the_table_is_the_same(self):
         copy = self.folder / "copy"
-        copy.write_bytes(b"a table")
+        copy.write_bytes(HEADER + b"a table")
         copy.replace(self.table)
         self.assertEqual(self.found()[0], "a table")
 
     def test_another_table_is_refused(self):
-        for content in (b"a Table", b"a table.", b""):
+        for content in (HEADER + b"a Table", HEADER + b"a table.", b"", b"a table"):
             self.table.write_bytes(content)
             os.utime(self.table, ns=(1, 1))
             with self.subTest(content), \
@@ -161,8 +225,8 @@ class Pairs(unittest.TestCase):
         (self.columns / "mine").write_text("kept")
         with self.assertRaises(OSError):
             self.put("another one")
-        self.assertEqual((self.table.read_text(), self.left()),
-                         ("a table", ["t.bw", "t.bw.columns"]))
+        self.assertEqual((self.table.read_bytes(), self.left()),
+                         (HEADER + b"a table", ["t.bw", "t.bw.columns"]))
 
     def test_files_that_are_not_regular(self):
         os.mkfifo(self.folder / "fifo")

@@ -67,6 +67,17 @@ class Failing(unittest.TestCase):
             found = self.engine(script, script).beginning("SELECT a FROM t", rows)
             self.assertEqual([each.data for each in found], [wanted.encode()] * 2)
             self.assertLess(time.monotonic() - begun, 20)
+        for script, rows, skipped, wanted in (
+                (endless, 4, 2, b"a\n5\n5\n"), ("printf 'a\\n1\\n2\\n'", 5, 1, b"a\n2\n"),
+                ("printf 'a\\n1\\n2\\n'", 2, 2, b"a\n"), ("printf 'a\\n1\\n'", 9, 7, b"a\n"),
+                ("printf a; sleep .1; printf '\\n1'; sleep .1; printf '2\\n3\\n'", 2, 1, b"a\n3\n"),
+                ("printf 'a\\n'; sleep .1; seq 90000", 70001, 70000, b"a\n70001\n")):
+            with self.subTest(script, rows=rows, skipped=skipped):
+                found = self.engine(script, script).beginning("SELECT a FROM t", rows, skipped)
+                self.assertEqual(found[0].data, wanted)
+                self.assertEqual(found[0].skipped + found[0].count, found[1].count)
+                # of which it isn't known yet how many are skipped
+                self.assertEqual(found[1].skipped, 0)
         for script, error in (("printf 'a\\n1\\n'; exit 5", Failed), ("exit 0", Failed),
                               ("printf 'a\\n1\\n'; kill -9 $$", Failed),
                               ("echo 'bw: 405 literal at byte 9' >&2; exit 3", Refused)):

@@ -327,7 +327,7 @@ class Threads(Results):
     def test_two_at_once_are_refused(self):
         begun, go, errors = threading.Event(), threading.Event(), []
         engine = self.connection._database.engine(self.connection._database.catalog.get("long"))
-        ask = engine.once
+        ask, other = engine.once, self.connection.execute("SELECT id FROM long")
 
         def slow(statement):
             begun.set()
@@ -342,12 +342,33 @@ class Threads(Results):
             thread = threading.Thread(target=work)
             thread.start()
             begun.wait(20)
-            with self.assertRaisesRegex(bwtools.ProgrammingError, "one thread at a time"):
-                self.rows("SELECT id FROM long")
+            for use in (lambda: self.rows("SELECT id FROM long"), self.connection.cursor,
+                        self.connection.commit, self.connection.close, other.fetchone,
+                        other.fetchall, other.df, other.close, lambda: other.description,
+                        lambda: other.rowcount, lambda: other.execute("SELECT 1")):
+                with self.assertRaisesRegex(bwtools.ProgrammingError, "one thread at a time"):
+                    use()
             go.set()
             thread.join()
         self.assertEqual(errors, [[(5,)]])
         self.assertEqual(self.rows("SELECT COUNT(*) FROM long"), [(5,)])
+        self.assertEqual(len(other.fetchall()), 5)
+
+    def test_two_on_one_cursor(self):
+        """Each row is fetched once, or the call is refused."""
+        cursor, found = self.connection.execute("SELECT id FROM long"), list[tuple]()
+
+        def work():
+            for _ in range(200):
+                with contextlib.suppress(bwtools.ProgrammingError):
+                    found.extend(cursor.fetchmany(1))
+
+        threads = [threading.Thread(target=work) for _ in range(4)]
+        for thread in threads:
+            thread.start()
+        for thread in threads:
+            thread.join()
+        self.assertEqual(sorted(found + cursor.fetchall()), [(number,) for number in range(1, 6)])
 
 
 class Ended(Results):
@@ -437,10 +458,15 @@ class Ended(Results):
              (r"\]\r\n>>> $", "exit()\n")])
         self.assertIn("[('a',), ('a',), ('b',), ('b',), ('b',)]", shown)
 
-    def test_a_fork_has_sessions_of_its_own(self):
+    def test_a_fork_leaves_the_sessions(self):
         wanted = self.rows("SELECT id FROM long")
+
+        def use():
+            with self.assertRaisesRegex(bwtools.ProgrammingError, "opened this connection"):
+                self.rows("SELECT id FROM long")
+
         for _ in range(2):
-            child = in_fork(lambda: self.assertEqual(self.rows("SELECT id FROM long"), wanted))
+            child = in_fork(use)
             self.assertEqual(self.rows("SELECT id FROM long"), wanted)
             self.assertEqual(os.waitpid(child, 0)[1], 0)
         self.assertEqual(self.rows("SELECT g, COUNT(*) FROM long GROUP BY g"),

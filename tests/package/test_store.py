@@ -2,12 +2,13 @@
 import contextlib
 import os
 import pathlib
+import random
 import sqlite3
 import tempfile
 import time
 import unittest
 
-from bwtools import kinds, store
+from bwtools import kinds, store, stored_list
 from bwtools.column import Column
 from bwtools.sorted_list import SortedList
 from bwtools.store import Store, TableFile
@@ -24,7 +25,7 @@ COLUMNS = [Column("a", "A é", texts(*WORDS), [], ["", "\U0001f600"], "so", "num
            Column("at", "at", kinds.Times("%Y-%m-%d %H:%M", 0, "Z")),
            Column("ok", "ok", kinds.Truths("no", "yes")), Column("gone", "gone", kinds.Nulls()),
            Column("none", "none", texts())]
-FILES = [TableFile("shard-001.bw", 5, 7, 1 << 60, 1 << 40, "ab" * 32)]
+FILES = [TableFile("shard-001.bw", 5, 7, 1 << 60, 1 << 40, "ab" * 32, 1 << 31)]
 
 
 class Files(unittest.TestCase):
@@ -70,10 +71,34 @@ class Whole(Files):
         values = (-1e300, -0.5, 0.0, 5e-324, 1.5, 1e300, float("inf"))
         path = self.path.with_name("doubles")
         with contextlib.closing(sqlite3.connect(path, isolation_level=None)) as made:
-            self.assertEqual(store.write_list(made, 0, values), len(values))
-            listed = store.StoredList(made, 0, len(values), float)
+            self.assertEqual(store.write_list(made, 0, values, 5), len(values))
+            listed = store.StoredList(made, 0, len(values), float, 5, "a")
             self.assertEqual((list(listed), listed.place(1.0), listed.place(1.5)),
                              (list(values), (3, False), (4, True)))
+
+    def test_long_texts_are_in_blocks_of_their_own(self):
+        long = [letter * 20_000 for letter in "abcdefgh"]
+        values = sorted([*long, *(f"{letter}{number}" for letter in "abc" for number in range(99))])
+        self.assertGreater(len(list(stored_list.blocks_of(long))), 7)
+        self.write([Column("a", "a", texts(*values))])
+        with contextlib.closing(Store(self.path)) as found:
+            listed = found.columns[0].kind.listed
+            self.assertEqual(list(listed), values)
+            self.assertEqual([listed.place(value) for value in values],
+                             [(code, True) for code in range(len(values))])
+
+    def test_texts_of_a_pattern(self):
+        values = sorted(["", "a", "a\0b", *(f"{number}x" for number in range(1000))])
+        self.write([Column("a", "a", texts(*values))])
+        with contextlib.closing(Store(self.path)) as found:
+            listed = found.columns[0].kind.listed
+            for pattern in ("%9%x", "a%", "", "%"):
+                codes = list(listed.matching("WHERE value LIKE ? ORDER BY code", (pattern,)))
+                with contextlib.closing(sqlite3.connect(":memory:")) as made:
+                    made.execute("CREATE TABLE l (code INTEGER PRIMARY KEY, value TEXT)")
+                    made.executemany("INSERT INTO l VALUES (?, ?)", enumerate(values))
+                    self.assertEqual(codes, [code for code, in made.execute(
+                        "SELECT code FROM l WHERE value LIKE ? ORDER BY code", (pattern,))])
 
     def test_a_list_that_does_not_ascend(self):
         for values in (("b", "a"), ("a", "a")):
@@ -109,20 +134,44 @@ class Foreign(Files):
             with self.subTest(data[:20]):
                 self.refused()
         self.path.write_bytes(b'{"bw columns": 1, "table": null, "columns": []}')
-        self.refused("is a columns file of an earlier version: import the file again")
+        self.refused("is a columns file of an earlier version: import the file again, by "
+                     "bw-import RAW.csv .*/it's a ..20 name$")
+        for version in (3, 5):
+            self.changed(f"PRAGMA user_version = {version}")
+            self.refused(f"of version {version}, .* reads version 4: import the file again, by "
+                         "bw-import RAW.csv .*/it's a ..20 name$")
+        shards = self.path.with_name("shards.columns")
+        self.path.rename(shards)
+        with self.assertRaisesRegex(Refused, "again, by bw-shards load RAW.csv /"):
+            Store(shards)
 
-    def test_bytes_that_are_damaged(self):
-        """Each header byte, and bytes all over the file: it is refused, or reads as it was."""
-        data, right = self.path.read_bytes(), list(map(described, COLUMNS))
-        for at in (*range(100), *range(100, len(data), 197)):
-            for bit in (1, 0x80):
-                self.overwrite(at, data[at] ^ bit)
-                with contextlib.suppress(Refused), contextlib.closing(Store(self.path)) as found:
-                    found.verify()
-                    if list(map(described, found.columns)) != right:
-                        # a text that ascends all the same, or a word: no check can know it
-                        self.assertEqual(len(found.columns), len(right), at)
+    def test_bits_that_are_flipped(self):
+        """Every bit of each byte that isn't 0, and drawn ones of the others: the file is refused,
+        or everything reads as it was."""
+        self.write(COLUMNS[:3])
+        data, drawn = self.path.read_bytes(), random.Random(94)
+        right = self.content()
+        zeros = [at for at, byte in enumerate(data) if not byte]
+        flips = [(at, bit) for at, byte in enumerate(data) if byte for bit in range(8)]
+        flips += [(at, drawn.randrange(8)) for at in drawn.sample(zeros, 500)]
+        count = 0
+        for at, bit in flips:
+            self.overwrite(at, data[at] ^ 1 << bit)
+            try:
+                self.assertEqual(self.content(), right, (at, bit))
+            except Refused:
+                count += 1
             self.overwrite(at, data[at])
+        self.assertGreater(count, len(flips) // 4)
+
+    def content(self):
+        """Returns all that answers depend on."""
+        with contextlib.closing(Store(self.path)) as found:
+            return found.name, found.files, list(map(described, found.columns)), \
+                [column.looks_like for column in found.columns]
+
+    def test_files_that_are_cut(self):
+        data = self.path.read_bytes()
         for end in (1, 99, 100, 4096, len(data) - 1):
             self.path.write_bytes(data[:end])
             with self.subTest(end):
@@ -135,13 +184,37 @@ class Foreign(Files):
             file.write(bytes([byte]))
 
     def changed(self, *statements):
-        """Changes the file by SQL, with a schema that may be written."""
+        """Changes the file by SQL, with a schema that may be written, and has the sum of what it
+        has then, as a forger would."""
         self.write()
         with contextlib.closing(sqlite3.connect(self.path, isolation_level=None)) as made:
             made.execute("PRAGMA synchronous = off")
             made.execute("PRAGMA writable_schema = on")
             for sql in statements:
                 made.execute(sql)
+            with contextlib.suppress(sqlite3.Error):
+                head = [made.execute(sql).fetchall() for sql in store.HEAD]
+                made.execute("UPDATE sums SET sum = ?", (store.sum_of_head(head),))
+
+    def test_what_the_sum_covers(self):
+        """Whatever changes without the sum is refused, though each field might be one."""
+        for sql in ("UPDATE named SET name = 'u'", "UPDATE files SET rows = 6",
+                    "UPDATE files SET inode = 7", "DELETE FROM files",
+                    "INSERT INTO files SELECT 1, * FROM (SELECT file, rows, size, changed, inode, "
+                    "sha256, header FROM files)", "UPDATE files SET header = 5",
+                    "UPDATE columns SET heading = 'other' WHERE place = 1",
+                    "UPDATE columns SET least = '0' WHERE place = 1",
+                    "UPDATE columns SET why = '' WHERE place = 0",
+                    "UPDATE columns SET looks_like = '' WHERE place = 0",
+                    "UPDATE settings SET value = 3 WHERE name = 'digits' AND place = 2",
+                    "UPDATE nulls SET word = 'other'", "DELETE FROM nulls",
+                    "DELETE FROM columns WHERE place = 6; DROP TABLE values_6",
+                    "UPDATE sums SET sum = sum + 1", "DELETE FROM sums"):
+            self.write()
+            with contextlib.closing(sqlite3.connect(self.path, isolation_level=None)) as made:
+                made.executescript(sql)
+            with self.subTest(sql):
+                self.refused("its settings, its columns or its list of files have another sum")
 
     def test_another_schema(self):
         for sql in ("CREATE VIEW v AS SELECT 1", "CREATE TABLE more (a)", "DROP TABLE nulls",
@@ -150,7 +223,7 @@ class Foreign(Files):
                     "ALTER TABLE nulls ADD COLUMN more", "ALTER TABLE settings RENAME TO s",
                     "ALTER TABLE nulls ADD COLUMN g AS (length(word))",
                     "UPDATE sqlite_master SET sql = replace(sql, 'NOT NULL', '') WHERE name = "
-                    "'values_0'",
+                    "'values_0'", "DROP TABLE sums",
                     "UPDATE sqlite_master SET sql = 'CREATE VIEW named AS SELECT ''t'' AS name', "
                     "type = 'view', rootpage = 0 WHERE name = 'named'"):
             self.changed(sql)
@@ -186,12 +259,12 @@ class Foreign(Files):
                     "DELETE FROM named", "INSERT INTO named VALUES ('u')",
                     "UPDATE named SET name = x'00'", "UPDATE files SET size = 'x'",
                     "UPDATE files SET file = '../x'", "UPDATE files SET sha256 = x'00'",
-                    "UPDATE values_0 SET code = 50 WHERE code = 6",
-                    "UPDATE values_0 SET code = -5 WHERE code = 0",
-                    "UPDATE values_0 SET value = x'61' WHERE code = 6",
-                    "UPDATE values_0 SET value = 'zz' WHERE code = 0",
-                    "DELETE FROM values_0 WHERE code = 3", "DELETE FROM values_0",
-                    "INSERT INTO values_0 VALUES (7, 'later')",
+                    "UPDATE values_0 SET code = 5", "UPDATE values_0 SET code = -5",
+                    "UPDATE values_0 SET texts = x'61'", "UPDATE values_0 SET texts = 'zz'",
+                    "UPDATE values_0 SET texts = x''", "UPDATE values_0 SET sum = sum + 1",
+                    "UPDATE values_0 SET sum = 'x'", "DELETE FROM values_0",
+                    "INSERT INTO values_0 VALUES (7, x'7a', 5)",
+                    "INSERT INTO values_6 SELECT * FROM values_0",
                     "PRAGMA user_version = 2", "PRAGMA application_id = 5",
                     "PRAGMA journal_mode = WAL"):
             self.changed(sql)
@@ -208,16 +281,37 @@ class Foreign(Files):
                 self.refused()
 
     def test_a_look_up_checks_what_it_reads(self):
-        for sql, tried in (("UPDATE values_0 SET value = 'zz' WHERE code = 1", "a"),
-                           ("UPDATE values_0 SET code = 50 WHERE code = 6", "\U0001f600"),
-                           ("DELETE FROM values_0 WHERE code = 2", "a\0"),
-                           ("UPDATE values_0 SET value = x'61' WHERE code = 6", "z")):
+        for sql in ("UPDATE values_0 SET texts = x'61ff62'", "UPDATE values_0 SET code = 1",
+                    "DELETE FROM values_0", "UPDATE values_0 SET sum = 0"):
             self.changed(sql)
             with contextlib.closing(Store(self.path)) as found:
                 listed = found.columns[0].kind.listed
-                with self.subTest(sql), self.assertRaisesRegex(Refused, "damaged"):
-                    listed.place(tried)
-                    listed.values([5, 6])
+                for act in (lambda: listed.place("a"), lambda: listed.values([5]),
+                            lambda: list(listed), lambda: list(listed.matching("", ())),
+                            found.verify):
+                    with self.subTest(sql), \
+                            self.assertRaisesRegex(Refused, "damaged: .*: column a, from code"):
+                        act()
+
+    def test_blocks_of_another_file(self):
+        """A block whose own sum is right, of another column, place or columns file."""
+        self.write([Column("a", "a", texts("x", "y")), Column("b", "b", texts("p", "q"))])
+        with contextlib.closing(sqlite3.connect(self.path, isolation_level=None)) as made:
+            a, b = (made.execute(f"SELECT * FROM values_{place}").fetchone() for place in (0, 1))
+            for place, row in ((0, b), (1, a)):
+                made.execute(f"DELETE FROM values_{place}")
+                made.execute(f"INSERT INTO values_{place} VALUES (?, ?, ?)", row)
+        self.refused("a block has another sum")
+        self.write([Column("a", "a", texts("x", "y"))])
+        with contextlib.closing(sqlite3.connect(self.path, isolation_level=None)) as made:
+            other = self.path.with_name("other")
+            files = [TableFile("shard-001.bw", 5, 7, 1 << 60, 1 << 40, "cd" * 32, 1 << 31)]
+            store.write(other, [Column("a", "a", texts("p", "q"))], "t", files)
+            with contextlib.closing(sqlite3.connect(other)) as from_there:
+                row = from_there.execute("SELECT * FROM values_0").fetchone()
+            made.execute("DELETE FROM values_0")
+            made.execute("INSERT INTO values_0 VALUES (?, ?, ?)", row)
+        self.refused("a block has another sum")
 
     def test_tables_that_share_pages(self):
         self.changed("UPDATE sqlite_master SET rootpage = (SELECT rootpage FROM sqlite_master "

@@ -2,7 +2,7 @@
 import sqlite3
 import unittest
 
-from bwtools._sql.lexer import quoted_name, text_literal, tokens_of
+from bwtools._sql.lexer import MOST_TOKENS, quoted_name, text_literal, tokens_of
 from bwtools.telling import Refused
 
 
@@ -102,6 +102,13 @@ class Tokens(unittest.TestCase):
                 database.execute(f"SELECT {sql} FROM FROM")
             self.assertEqual("unrecognized token" in str(error.exception), is_refused,
                              error.exception)
+
+    def test_a_statement_has_so_many_tokens_at_most(self):
+        words = ",".join("7" * (MOST_TOKENS // 2))
+        self.assertEqual(len(tokens_of(words)), MOST_TOKENS)
+        with self.assertRaisesRegex(Refused, "more than 70,000 words and signs: import a long "
+                                             "list as a table"):
+            tokens_of(f"{words},7,7")
 
     def test_literals_are_read_back(self):
         for text in ("", "it's", "a\nb", '"', "é"):

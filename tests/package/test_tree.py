@@ -4,6 +4,7 @@ import pathlib
 import random
 import sqlite3
 import unittest
+from collections import Counter
 
 import bwtools
 from bwtools._sql.lexer import tokens_of
@@ -14,7 +15,7 @@ from bwtools._sql.syntax import children, walk
 from bwtools._sql.tables import Catalog
 from bwtools.telling import Refused
 
-from tests import drawn_select, selects, support
+from tests import drawn_numbers, drawn_select, selects, support
 from tests.support import Imported
 
 SEED = 92
@@ -307,6 +308,14 @@ class Drawn(support.TestCase):
                 self.assertEqual(how, "")
         self.assertEqual(count, 600)
 
+    def test_numbers_mean_what_exact_fractions_say(self):
+        """`python3 -m tests.drawn_numbers` draws many more."""
+        told = Counter()
+        found = list(drawn_numbers.differences(SEED, 400, self.new_folder(), told))
+        self.assertEqual(found, [])
+        self.assertGreater(told["answered by way 1"], 60)
+        self.assertGreater(told["answered by way 2"], 200)
+
     def test_bytes_are_refused_or_answered(self):
         """Random bytes, and random words, of up to 64 KiB."""
         folder, chance = pathlib.Path(self.new_folder()), random.Random(SEED)
@@ -324,6 +333,35 @@ class Drawn(support.TestCase):
                     connection.execute(sql).fetchall()
                 except bwtools.Error as error:
                     self.assertLess(len(str(error)), 2000)
+
+    def test_long_statements_are_answered_or_refused(self):
+        """Each in a time that grows with its length: some took seconds, or raised ValueError."""
+        deep, digits = "is in more than 100 others", "9" * 5000
+        path = support.imported(self.new_folder() / "t.bw", TRIPS)
+        with bwtools.connect(path) as connection:
+            for sql, wanted in [
+                    (f"SELECT {'CASE WHEN id THEN ' * 1000}1{' END' * 1000} FROM t", deep),
+                    (f"SELECT {'(' * 20_000}1{')' * 20_000} FROM t", "is in more than 100 others"),
+                    (f"SELECT id FROM t WHERE {'NOT ' * 16_000}id", deep),
+                    (f"SELECT {'- ' * 30_000}id FROM t", deep),
+                    (f"SELECT id FROM t WHERE {'id IN (' * 9000}1{')' * 9000}", deep),
+                    (f"SELECT COUNT(*) FROM t WHERE id IN ({'1, ' * 99_999}1)",
+                     "more than 70,000 words and signs"),
+                    (f"SELECT COUNT(*) FROM t WHERE city IN ({chr(39) * 2}, {'1, ' * 99_999}1)",
+                     "more than 70,000 words and signs"),
+                    (f"SELECT id FROM t LIMIT {digits}", "datatype mismatch"),
+                    (f"SELECT id FROM t ORDER BY {digits} LIMIT 1", [(1,)]),
+                    (f"SELECT COUNT(*) FROM t WHERE id < {digits}", [(3,)]),
+                    (f"SELECT COUNT(*) FROM t WHERE price < 0.{digits}", [(2,)]),
+                    (f"SELECT COUNT(*) FROM t WHERE id > 1e{digits}", [(0,)]),
+                    ("SELECT x'ff' FROM t LIMIT 1", [(b"\xff",)])]:
+                with self.subTest(sql[:40]):
+                    if isinstance(wanted, list):
+                        self.assertEqual(connection.execute(sql).fetchall(), wanted)
+                    else:
+                        with self.assertRaisesRegex(bwtools.ProgrammingError, wanted) as raised:
+                            connection.execute(sql)
+                        self.assertLess(len(str(raised.exception)), 300)
 
     def test_messages_are_short_and_of_sqlite(self):
         path = support.imported(pathlib.Path(self.new_folder()) / "t.bw", TRIPS)

@@ -59,7 +59,8 @@ fn explanation(
     if let (Some(name), code::SCHEMA_NAME, None) = (words.name(), fault.code, file) {
         return explain_name(rt, name);
     }
-    if !(100..700).contains(&fault.code) {
+    let is_in_numbers = words.numbers().is_some() && (200..300).contains(&fault.code);
+    if is_in_numbers || !(100..700).contains(&fault.code) {
         return None;
     }
     let schema = schema_again(rt, words);
@@ -133,7 +134,7 @@ fn file_of<'a>(words: &CommandArgs<'a>, ended: &CommandFailure<'a>) -> Option<&'
         // of `bw infer`: a name that the command line gave, or one of the heading
         (100..200, Place::Nowhere) => words.schema(),
         (100..200, _) => words.schema().or(words.csv()),
-        (200..300, _) => words.csv(),
+        (200..300, _) => words.csv().or(words.numbers()),
         (300..400, _) => words.table(),
         (code::NO_PROGRAM, _) => None,
         (500..700, _) => ended.program.or(words.program()),

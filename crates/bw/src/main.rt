@@ -2,8 +2,8 @@
 //!
 //! `run` chooses the command. Each, in one of the modules of commands or in `session`, opens the
 //! files that the command line names and makes one call of `bw_shell` on them. Results go to
-//! standard output, and the table file of a load to the file OUT. An error is one line on standard
-//! error, as `bw: 404 unknown column at byte 7`.
+//! standard output, and the table file of a load, an encoding or a recoding to the file OUT. An error
+//! is one line on standard error, as `bw: 404 unknown column at byte 7`.
 //!
 //! The exit status is 0 for success, 2 for an invalid command line, 3 for an error in an input, 4
 //! for one of a certificate or for a condition without a plan, 5 for one of an I/O device, and 6
@@ -12,6 +12,7 @@
 #![tactic(auto)]
 
 mod csv_commands;
+mod encode_command;
 mod explain;
 mod failure;
 mod in_file;
@@ -19,6 +20,7 @@ mod opened;
 mod out_file;
 mod out_stream;
 mod program_commands;
+mod recode_command;
 mod run;
 mod session;
 mod table_commands;

@@ -1,12 +1,12 @@
 //! Opens and reads the files of a command.
-ghost use Rattle.std.specs.Prelude.{◌≡◌, IfOk};
+ghost use Rattle.std.specs.Prelude.{◌≡◌, ◌<◌, ◌^◌, IfOk};
 ghost use Rattle.bw_io.specs.ReadAhead.{read_failures};
 
 use crate::failure::{CommandFailure, or_failure};
 use crate::in_file::InFile;
 use bw_file::FromRead;
 use bw_io::ReadAhead;
-use bw_model::{Fault, MAX_SCHEMA_LEN, code};
+use bw_model::{Fault, MAX_CSV_LEN, MAX_SCHEMA_LEN, code};
 use bw_shell::{Input, MAX_PROGRAM_FILE_LEN, read_limited};
 use std::fs::File;
 use std::io::Stdin;
@@ -38,7 +38,7 @@ pub fn read_schema<'a>(
     path: &'a str,
     file: InFile,
 ) -> Result<Vec<u8>, CommandFailure<'a>> {
-    match read_text(rt, path, file, MAX_SCHEMA_LEN as u32)? {
+    match read_text(rt, path, file, MAX_SCHEMA_LEN as u64)? {
         Input::Whole(text) => Ok(text),
         Input::Over => Err(CommandFailure::new(Fault::new(code::SCHEMA_TOO_LONG))),
     }
@@ -50,7 +50,7 @@ pub fn read_program<'a>(
     path: &'a str,
     file: InFile,
 ) -> Result<Vec<u8>, CommandFailure<'a>> {
-    match read_text(rt, path, file, MAX_PROGRAM_FILE_LEN as u32)? {
+    match read_text(rt, path, file, MAX_PROGRAM_FILE_LEN as u64)? {
         Input::Whole(bytes) => Ok(bytes),
         Input::Over => {
             let fault = Fault::new(code::PROGRAM_FILE_TOO_LONG);
@@ -59,15 +59,41 @@ pub fn read_program<'a>(
     }
 }
 
+/// Returns all bytes of a text of numbers, which may have as many as a CSV text.
+pub fn read_numbers<'a>(
+    rt: &HostRuntime,
+    path: &'a str,
+    file: InFile,
+) -> Result<Vec<u8>, CommandFailure<'a>> {
+    match read_text(rt, path, file, MAX_CSV_LEN)? {
+        Input::Whole(text) => Ok(text),
+        Input::Over => Err(CommandFailure::new(Fault::new(code::CSV_TOO_LONG))),
+    }
+}
+
+/// Returns all bytes of a table file. None has as many as the limit.
+pub fn read_table<'a>(
+    rt: &HostRuntime,
+    path: &'a str,
+    file: InFile,
+) -> Result<Vec<u8>, CommandFailure<'a>> {
+    match read_text(rt, path, file, 1 << 40)? {
+        Input::Whole(bytes) => Ok(bytes),
+        Input::Over => Err(CommandFailure::new(Fault::new(code::OUT_OF_MEMORY))),
+    }
+}
+
 /// Returns the bytes of a file, if there are no more than a limit.
 fn read_text<'a>(
     rt: &HostRuntime,
     path: &'a str,
     mut file: InFile,
-    limit: u32,
-) -> Result<Input, CommandFailure<'a>> {
+    limit: u64,
+) -> Result<Input, CommandFailure<'a>>
+    requires { limit < 2 ^ 63 }
+{
     let mut source = FromRead::new(&mut file);
-    let done = read_limited(rt.alloc(), &mut source, u64::from(limit));
+    let done = read_limited(rt.alloc(), &mut source, limit);
     or_failure(done, &[(path, file.reads())])
 }
 

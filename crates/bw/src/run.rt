@@ -1,9 +1,11 @@
 //! Runs the command of the command line, and returns the exit status.
 use crate::csv_commands::{run_direct, run_infer, run_load};
+use crate::encode_command::{dialect_of, run_encode};
 use crate::explain::{explain_failure, explain_fallback};
 use crate::failure::CommandFailure;
 use crate::out_file::is_same_file;
 use crate::program_commands::{run_certify, run_check, run_plan};
+use crate::recode_command::run_recode;
 use crate::session::run_session;
 use crate::table_commands::{run_dump, run_info, run_query};
 use bw_cli::{CommandArgs, Invocation, USAGE, parse_invocation, process_args};
@@ -38,6 +40,18 @@ fn run_invocation(rt: &HostRuntime, asked: Invocation<'_>) -> u8 {
         return USAGE;
     }
     let told = is_explained || rt.stderr().is_terminal();
+    if let CommandArgs::Encode { marks, .. } = words
+        && dialect_of(marks).is_none()
+    {
+        let _ = eprintln!(rt;
+            "error: each mark is one byte, no line end, and differs from the others"
+        );
+        return USAGE;
+    }
+    if is_fields_taken(rt, &words) {
+        let _ = eprintln!(rt; "error: FIELDS can't be CSV or OUT too");
+        return USAGE;
+    }
     match run_command(rt, words, &programs, told) {
         Ok(status) => status,
         Err(ended) if told && !is_explained && ended.is_closed_pipe() => quiet_status(&ended.fault),
@@ -53,11 +67,24 @@ pub fn quiet_status(fault: &Fault) -> u8 {
 /// Returns the input of a command that is the same file as its output, by any name.
 fn input_as_output<'a>(rt: &HostRuntime, words: &CommandArgs<'a>) -> Option<&'a str> {
     let out = words.out()?;
-    let inputs = [words.schema(), words.csv()];
+    let inputs = [words.schema(), words.csv(), words.table(), words.numbers()];
     inputs
         .into_iter()
         .flatten()
         .find(|input| is_same_file(rt, input, out))
+}
+
+/// Returns whether the second file that `bw encode` writes is its input, or the first one.
+fn is_fields_taken(rt: &HostRuntime, words: &CommandArgs<'_>) -> bool {
+    match words {
+        CommandArgs::Encode {
+            csv,
+            out,
+            fields,
+            ..
+        } => out == fields || is_same_file(rt, csv, fields) || is_same_file(rt, out, fields),
+        _ => false,
+    }
 }
 
 /// Writes the line of the error that ended a command, and explains it if `told`. Returns the exit
@@ -95,6 +122,19 @@ fn run_command<'a>(
             csv,
             out,
         } => run_load(rt, layout, schema, csv, out)?,
+        CommandArgs::Encode {
+            marks,
+            layout,
+            csv,
+            out,
+            fields,
+        } => run_encode(rt, marks, layout, csv, out, fields)?,
+        CommandArgs::Recode {
+            table,
+            schema,
+            numbers,
+            out,
+        } => run_recode(rt, table, schema, numbers, out)?,
         CommandArgs::Query {
             program,
             stats,

@@ -5,12 +5,12 @@ ghost use Rattle.std.specs.List.{list_any, reduce};
 ghost use Rattle.std.specs.Int.{int_min, int_max};
 ghost use Rattle.bw_lanes.specs.Lanes.{lanes_of_words};
 ghost use Rattle.bw_model.specs.Code.{value_at};
-ghost use Rattle.bw_segment.specs.Selected.{codes_in, is_beyond};
+ghost use Rattle.bw_segment.specs.Selected.{codes_in, is_beyond, is_greatest};
 ghost use Rattle.bw_rowwise.specs.Accumulator.{IsTotalOfRows};
 ghost use Rattle.bw_aggregate.specs.Selected.{present_lanes, values_in};
 
 use bw_lanes::{Selection, and, count, not};
-use bw_segment::Segment;
+use bw_segment::{Extreme, Segment};
 
 /// Returns the selected rows in which a column isn't null.
 #[tactic(auto, unfolding(crate::specs::Selected::present_lanes))]
@@ -71,8 +71,8 @@ pub(crate) fn greatest<S: Segment>(segment: &S, col: usize, rows: &Selection) ->
 /// so far.
 const SOME: u32 = 16;
 
-/// Returns true only if no value of the codes in these rows is above a total or, unless `greatest`,
-/// below it. If more than a few rows were selected, `number` of them, the digits aren't looked at.
+/// Returns true only if no value of the codes in these rows is beyond a total: above it, or below
+/// it if the least is sought. If more than a few rows were selected, `number` of them, the digits aren't looked at.
 #[inline(always)]
 pub(crate) fn none_beyond<S: Segment>(
     segment: &S,
@@ -80,13 +80,13 @@ pub(crate) fn none_beyond<S: Segment>(
     rows: &Selection,
     number: u32,
     so_far: Option<i128>,
-    greatest: bool,
+    which: Extreme,
 ) -> bool
     requires { col < length (S.meaning segment.now).columns }
     ensures { result ≡ true → (lo : ℤ) × (code : ℕ)
         × ((other : ℕ) → value_at (S.meaning segment.now).columns col other ≡ lo +ℤ pos other)
         × (so_far ≡ Some (lo +ℤ pos code))
-        × (list_any (is_beyond greatest code)
+        × (list_any (is_beyond (is_greatest which) code)
         (codes_in (S.meaning segment.now) col (lanes_of_words rows.now)) ≡ false) }
 {
     if number > SOME {
@@ -96,7 +96,7 @@ pub(crate) fn none_beyond<S: Segment>(
         return false;
     };
     match code_of_value(lowest(segment, col), total) {
-        Some(code) => segment.none_beyond(col, rows, code, greatest),
+        Some(code) => segment.none_beyond(col, rows, code, which),
         None => false,
     }
 }
@@ -124,7 +124,7 @@ pub(crate) fn no_value_below<S: Segment>(
         &present(segment, col, rows),
         number,
         so_far,
-        false,
+        Extreme::Least,
     )
 }
 

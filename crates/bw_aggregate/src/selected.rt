@@ -12,7 +12,7 @@ use crate::column::{greatest, least, no_value_below, none_beyond, present, sum};
 use bw_lanes::{Selection, count};
 use bw_model::{Item, totals_join};
 use bw_rowwise::Accumulator;
-use bw_segment::Segment;
+use bw_segment::{Extreme, Segment};
 
 /// Adds the selected rows of a segment to a total: row i is selected if lane i is 1. The selection
 /// must have no bit past the segment's rows, and `number` bits in all, which are counted once for
@@ -95,11 +95,11 @@ fn leaves_total<S: Segment>(
 {
     match item {
         Item::Min(col) => {
-            none_beyond(segment, col, selection, number, so_far, false)
+            none_beyond(segment, col, selection, number, so_far, Extreme::Least)
                 || segment.schema().columns[col].nullable
                     && no_value_below(segment, col, selection, number, so_far)
         }
-        Item::Max(col) => none_beyond(segment, col, selection, number, so_far, true),
+        Item::Max(col) => none_beyond(segment, col, selection, number, so_far, Extreme::Greatest),
         Item::Plain(_) | Item::CountAll | Item::Count(_) | Item::Sum(_) => false,
     }
 }

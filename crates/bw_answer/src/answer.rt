@@ -1,7 +1,7 @@
 //! The result of a query over the rows of segments, as CSV text.
 ghost use Rattle.std.specs.Prelude.{◌≡◌, ◌==◌, ◌<◌, ◌≤◌, ◌+◌, ◌-◌, ◌++◌, ◌∷◌, List, [], ℕ};
 ghost use Rattle.std.specs.Prelude.{false, All, IsTrue, IfOk, IfErr, OnOk, length, replicate};
-ghost use Rattle.std.specs.Prelude.{map, vec_len};
+ghost use Rattle.std.specs.Prelude.{map, vec_len, IsOkUnless};
 ghost use Rattle.std.specs.List.{list_all};
 ghost use Rattle.bw_model.specs.Column.{admits_values, names_of};
 ghost use Rattle.bw_model.specs.Fault.{no_memory};
@@ -73,7 +73,7 @@ impl<'a> Answer<'a> {
             → IsTrue (length row == answer.width)) }
         ensures width { IfOk result (λ answer. answer.width ≡ vec_len schema.now.columns) }
         ensures rows { IfOk result (λ answer. answer.rows ≡ 0) }
-        ensures only_oom { IfErr result (λ fault. fault ≡ no_memory) }
+        ensures only_oom { IsOkUnless result no_memory }
     {
         admitted_rows_have_each_value();
         let width = schema.columns.len();
@@ -102,7 +102,7 @@ impl<'a> Answer<'a> {
             → IsOver names query rows self.old → IsOver names query rows self.new }
         ensures width { self.new.width ≡ self.old.width }
         ensures rows { self.new.rows ≡ self.old.rows }
-        ensures only_oom { IfErr result (λ fault. fault ≡ no_memory) }
+        ensures only_oom { IsOkUnless result no_memory }
     {
         if matches_all(&self.query.cond) {
             self.output.reserve(&mut self.text, count)?;
@@ -155,7 +155,7 @@ impl<'a> Answer<'a> {
         ensures width { OnOk result (self.new.width ≡ self.old.width) }
         ensures rows { OnOk result (self.new.rows
             ≡ self.old.rows + length (S.meaning segment.now).rows) }
-        ensures only_oom { IfErr result (λ fault. fault ≡ no_memory) }
+        ensures only_oom { IsOkUnless result no_memory }
     {
         self.output
             .put_selected(&mut self.text, self.query, segment, selection)?;
@@ -176,7 +176,7 @@ impl<'a> Answer<'a> {
         ensures width { OnOk result (self.new.width ≡ self.old.width) }
         ensures rows { OnOk result (self.new.rows
             ≡ self.old.rows + length (S.meaning segment.now).rows) }
-        ensures only_oom { IfErr result (λ fault. fault ≡ no_memory) }
+        ensures only_oom { IsOkUnless result no_memory }
     {
         let kept = self.filter.matching_lanes(segment);
         self.take_selected(segment, &kept)
@@ -250,7 +250,7 @@ impl<'a> Answer<'a> {
             ≡ map (λ (tally : Tally). tally.item) (totals_in self.old.output)) }
         ensures refused { IfErr result (λ _. (self.new.rows ≡ self.old.rows)
             × (totals_in self.new.output ≡ totals_in self.old.output)) }
-        ensures only_oom { IfErr result (λ fault. fault ≡ no_memory) }
+        ensures only_oom { IsOkUnless result no_memory }
     {
         self.output
             .put_gathered(&mut self.text, self.query, selection, summed, count)?;
@@ -265,7 +265,7 @@ impl<'a> Answer<'a> {
             → (rows : List (List Value))
             → IsOver names query rows self.entry
             → text.items ≡ csv_text (meaning names query rows)) }
-        ensures only_oom { IfErr result (λ fault. fault ≡ no_memory) }
+        ensures only_oom { IsOkUnless result no_memory }
     {
         let Answer {
             width: _,

@@ -1,6 +1,6 @@
 //! A CSV text that is being written: fields joined by commas, each record ended by a line feed,
 //! numbers in decimal and null as `NULL`.
-ghost use Rattle.std.specs.Prelude.{◌≡◌, ℕ, [], ◌∷◌, ◌++◌, List, IsTrue, OnOk, IfOk, IfErr};
+ghost use Rattle.std.specs.Prelude.{◌≡◌, ℕ, [], ◌∷◌, ◌++◌, List, IsTrue, OnOk, IfOk, IsOkUnless};
 ghost use Rattle.bw_model.specs.Fault.{no_memory};
 ghost use Rattle.bw_answer.specs.Answer.{record_text, value_text};
 ghost use Rattle.bw_answer.specs.Field.{needs_no_quotes};
@@ -31,7 +31,7 @@ impl CsvText {
         requires { IsTrue (needs_no_quotes field.now) }
         ensures field { OnOk result ((ended : List ℕ) → (fields : List (List ℕ))
             → Holds self.old ended fields → Holds self.new ended (fields ++ field.now ∷ [])) }
-        ensures only_oom { IfErr result (λ fault. fault ≡ no_memory) }
+        ensures only_oom { IsOkUnless result no_memory }
     {
         write_field(&mut self.writer, field)
     }
@@ -42,7 +42,7 @@ impl CsvText {
         ensures field { OnOk result ((ended : List ℕ) → (fields : List (List ℕ))
             → Holds self.old ended fields
             → Holds self.new ended (fields ++ value_text number ∷ [])) }
-        ensures only_oom { IfErr result (λ fault. fault ≡ no_memory) }
+        ensures only_oom { IsOkUnless result no_memory }
     {
         match number {
             None => write_field(&mut self.writer, b"NULL"),
@@ -55,7 +55,7 @@ impl CsvText {
         ensures ended { OnOk result ((ended : List ℕ) → (fields : List (List ℕ))
             → IsTrue (is_begun fields)
             → Holds self.old ended fields → Holds self.new (ended ++ record_text fields) []) }
-        ensures only_oom { IfErr result (λ fault. fault ≡ no_memory) }
+        ensures only_oom { IsOkUnless result no_memory }
     {
         match self.writer.end_record() {
             Ok(()) => Ok(()),
@@ -67,7 +67,7 @@ impl CsvText {
     pub fn into_bytes(self) -> Result<Vec<u8>, Fault>
         ensures text { IfOk result (λ text. (ended : List ℕ) → Holds self ended []
             → text.items ≡ ended) }
-        ensures only_oom { IfErr result (λ fault. fault ≡ no_memory) }
+        ensures only_oom { IsOkUnless result no_memory }
     {
         match self.writer.into_inner() {
             Ok(text) => Ok(text),
@@ -81,7 +81,7 @@ fn write_field(writer: &mut Writer<Vec<u8>>, field: &[u8]) -> Result<(), Fault>
     requires { IsTrue (needs_no_quotes field.now) }
     ensures field { OnOk result ((ended : List ℕ) → (fields : List (List ℕ))
         → Drafts writer.old ended fields → Drafts writer.new ended (fields ++ field.now ∷ [])) }
-    ensures only_oom { IfErr result (λ fault. fault ≡ no_memory) }
+    ensures only_oom { IsOkUnless result no_memory }
 {
     match writer.write_field(field) {
         Ok(()) => Ok(()),

@@ -1,6 +1,6 @@
 //! The result of a query over rows that come one at a time, as CSV text.
 ghost use Rattle.std.specs.Prelude.{◌≡◌, ◌==◌, ◌+◌, ◌<◌, ◌≤◌, ◌++◌, ◌∷◌, List, [], ℕ, IsTrue};
-ghost use Rattle.std.specs.Prelude.{IfErr, IfOk, OnOk, length, map, vec_len};
+ghost use Rattle.std.specs.Prelude.{IfOk, OnOk, length, map, vec_len, IsOkUnless};
 ghost use Rattle.std.specs.List.{list_all};
 ghost use Rattle.bw_answer.specs.Answer.{csv_text, meaning};
 ghost use Rattle.bw_answer.specs.Gathered.{AreSummed};
@@ -51,7 +51,7 @@ impl<'a> GatheredAnswer<'a> {
             → IsTrue (admits_values schema.now.columns.items row)
             → IsTrue (length row == answer.answer.width)) }
         ensures rows { IfOk result (λ answer. answer.answer.rows + answer.filled ≡ 0) }
-        ensures only_oom { IfErr result (λ fault. fault ≡ no_memory) }
+        ensures only_oom { IsOkUnless result no_memory }
     {
         let mut answer = Answer::new(alloc, schema, query)?;
         answer.clear_rows();
@@ -72,7 +72,7 @@ impl<'a> GatheredAnswer<'a> {
         ensures width { OnOk result (self.new.answer.width ≡ self.old.answer.width) }
         ensures rows { OnOk result (self.new.answer.rows + self.new.filled
             ≡ self.old.answer.rows + self.old.filled + 1) }
-        ensures only_oom { IfErr result (λ fault. fault ≡ no_memory) }
+        ensures only_oom { IsOkUnless result no_memory }
     {
         self.make_room()?;
         self.gather(row);
@@ -88,7 +88,7 @@ impl<'a> GatheredAnswer<'a> {
         ensures width { OnOk result (self.new.answer.width ≡ self.old.answer.width) }
         ensures rows { OnOk result (self.new.answer.rows + self.new.filled
             ≡ self.old.answer.rows + self.old.filled) }
-        ensures only_oom { IfErr result (λ fault. fault ≡ no_memory) }
+        ensures only_oom { IsOkUnless result no_memory }
     {
         if self.filled as usize == LANES {
             return self.flush();
@@ -120,7 +120,7 @@ impl<'a> GatheredAnswer<'a> {
         ensures empty { OnOk result (self.new.filled ≡ 0) }
         ensures width { OnOk result (self.new.answer.width ≡ self.old.answer.width) }
         ensures rows { OnOk result (self.new.answer.rows ≡ self.old.answer.rows + self.old.filled) }
-        ensures only_oom { IfErr result (λ fault. fault ≡ no_memory) }
+        ensures only_oom { IsOkUnless result no_memory }
     {
         let selection = self.answer.matching_rows(self.filled);
         self.answer
@@ -138,7 +138,7 @@ impl<'a> GatheredAnswer<'a> {
             → (rows : List (List Value))
             → HasTaken names query rows self.entry
             → text.items ≡ csv_text (meaning names query rows)) }
-        ensures only_oom { IfErr result (λ fault. fault ≡ no_memory) }
+        ensures only_oom { IsOkUnless result no_memory }
     {
         self.flush()?;
         let GatheredAnswer {

@@ -1,6 +1,6 @@
 //! The heading record of a result.
-ghost use Rattle.std.specs.Prelude.{◌≡◌, ◌≤◌, ◌++◌, List, [], ℕ, IsTrue, IfErr, IfOk, OnOk, length};
-ghost use Rattle.std.specs.Prelude.{map};
+ghost use Rattle.std.specs.Prelude.{◌≡◌, ◌≤◌, ◌++◌, List, [], ℕ, IsTrue, IfOk, OnOk, length};
+ghost use Rattle.std.specs.Prelude.{map, IsOkUnless};
 ghost use Rattle.std.specs.List.{list_all};
 ghost use Rattle.bw_model.specs.Column.{names_of};
 ghost use Rattle.bw_model.specs.Fault.{no_memory};
@@ -23,7 +23,7 @@ pub(crate) fn heading_text(
     requires nonempty { 1 ≤ length items.now }
     ensures heading { IfOk result (λ text. text.items ≡ record_text
         (map (heading_of (names_of columns.now)) items.now)) }
-    ensures only_oom { IfErr result (λ fault. fault ≡ no_memory) }
+    ensures only_oom { IsOkUnless result no_memory }
 {
     let mut text = CsvText::onto(Vec::new(alloc));
     push_heading(alloc, columns, items, &mut text)?;
@@ -43,7 +43,7 @@ fn push_heading(
     ensures heading { OnOk result ((ended : List ℕ) → Holds text.old ended []
         → Holds text.new (ended ++ record_text (map (heading_of (names_of columns.now)) items.now))
         []) }
-    ensures only_oom { IfErr result (λ fault. fault ≡ no_memory) }
+    ensures only_oom { IsOkUnless result no_memory }
 {
     let mut heading = Vec::new(alloc);
     for item in items {
@@ -59,7 +59,7 @@ fn put_heading(heading: &mut Vec<u8>, columns: &[Column], item: Item) -> Result<
     requires { IsTrue (item_within (length columns.now) item) }
     ensures heading { OnOk result (heading.new.items ≡ heading_of (names_of columns.now) item) }
     ensures plain { OnOk result (IsTrue (needs_no_quotes heading.new.items)) }
-    ensures only_oom { IfErr result (λ fault. fault ≡ no_memory) }
+    ensures only_oom { IsOkUnless result no_memory }
 {
     heading.clear();
     match item {
@@ -79,7 +79,7 @@ fn put_call(heading: &mut Vec<u8>, function: &[u8], column: &Column) -> Result<(
     requires { IsTrue (needs_no_quotes function.now) }
     ensures call { OnOk result (heading.new.items ≡ call_of function.now column.now.name) }
     ensures plain { OnOk result (IsTrue (needs_no_quotes heading.new.items)) }
-    ensures only_oom { IfErr result (λ fault. fault ≡ no_memory) }
+    ensures only_oom { IsOkUnless result no_memory }
 {
     heading.clear();
     heading.extend_from_slice(function)?;

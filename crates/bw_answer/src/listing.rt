@@ -1,6 +1,6 @@
 //! The rows that a query lists, as records of its columns.
-ghost use Rattle.std.specs.Prelude.{◌≡◌, ◌*◌, ◌<◌, ◌≤◌, ◌++◌, ◌∷◌, [], ℕ, All, List, IfErr, IfOk};
-ghost use Rattle.std.specs.Prelude.{OnOk, length, map, vec_len};
+ghost use Rattle.std.specs.Prelude.{◌≡◌, ◌*◌, ◌<◌, ◌≤◌, ◌++◌, ◌∷◌, [], ℕ, All, List, IfOk};
+ghost use Rattle.std.specs.Prelude.{OnOk, length, map, vec_len, IsOkUnless};
 ghost use Rattle.bw_aggregate.specs.Selected.{IsWithin, selected_rows};
 ghost use Rattle.bw_lanes.specs.Lanes.{lanes_of_words};
 ghost use Rattle.bw_model.specs.Fault.{no_memory};
@@ -51,7 +51,7 @@ impl Listing {
     pub(crate) fn new(alloc: Global, items: &[Item]) -> Result<Self, Fault>
         ensures names { IfOk result (λ listing. IsListing listing items.now) }
         ensures empty { IfOk result (λ listing. HaveRows [] listing.columns) }
-        ensures only_oom { IfErr result (λ fault. fault ≡ no_memory) }
+        ensures only_oom { IsOkUnless result no_memory }
     {
         let mut columns = Columns::new(alloc);
         let fields = fields_of(alloc, items, &mut columns)?;
@@ -69,7 +69,7 @@ impl Listing {
     /// for each field.
     pub(crate) fn reserve(&self, text: &mut Vec<u8>, rows: u32) -> Result<(), Fault>
         ensures text { text.new.items ≡ text.old.items }
-        ensures only_oom { IfErr result (λ fault. fault ≡ no_memory) }
+        ensures only_oom { IsOkUnless result no_memory }
     {
         let Some(size) = self.fields.len().checked_mul(SHORTEST * rows as usize) else {
             return Err(Fault::new(code::OUT_OF_MEMORY));
@@ -97,7 +97,7 @@ impl Listing {
             (selected_rows (S.meaning segment.now) (lanes_of_words selection.now)))) }
         ensures names { (items : List Item) → IsListing self.old items → IsListing self.new items }
         ensures fields { self.new.fields.items ≡ self.old.fields.items }
-        ensures only_oom { IfErr result (λ fault. fault ≡ no_memory) }
+        ensures only_oom { IsOkUnless result no_memory }
     {
         if is_zero(selection) {
             return Ok(());
@@ -121,7 +121,7 @@ impl Listing {
             → text.new.items ≡ text.old.items ++ csv_text (map (fields_of listed)
             (selected_items (lanes_of_words selection.now) rows))) }
         ensures names { (items : List Item) → IsListing self.old items → IsListing self.new items }
-        ensures only_oom { IfErr result (λ fault. fault ≡ no_memory) }
+        ensures only_oom { IsOkUnless result no_memory }
     {
         self.push(text, selection)
     }
@@ -134,7 +134,7 @@ impl Listing {
             (positions_of (lanes_of_words selection.now)))) }
         ensures columns { self.new.columns ≡ self.old.columns }
         ensures fields { self.new.fields.items ≡ self.old.fields.items }
-        ensures only_oom { IfErr result (λ fault. fault ≡ no_memory) }
+        ensures only_oom { IsOkUnless result no_memory }
     {
         push_records(
             text,
@@ -170,7 +170,7 @@ impl Listing {
 fn fields_of(alloc: Global, items: &[Item], columns: &mut Columns) -> Result<Vec<usize>, Fault>
     ensures places { IfOk result (λ fields.
         AreAt (numbers_of columns.new) (columns_of items.now) fields.items) }
-    ensures only_oom { IfErr result (λ fault. fault ≡ no_memory) }
+    ensures only_oom { IsOkUnless result no_memory }
 {
     let mut fields = Vec::new(alloc);
     for item in items {
@@ -192,7 +192,7 @@ fn rows_at_once(columns: usize) -> usize
 fn room_for(alloc: Global, columns: usize, rows: usize) -> Result<Vec<u8>, Fault>
     requires { rows ≤ 512 }
     ensures capacity { IfOk result (λ room. 21 * columns * rows ≤ vec_len room) }
-    ensures only_oom { IfErr result (λ fault. fault ≡ no_memory) }
+    ensures only_oom { IsOkUnless result no_memory }
 {
     let Some(size) = (FIELD * rows).checked_mul(columns) else {
         return Err(Fault::new(code::OUT_OF_MEMORY));

@@ -1,6 +1,6 @@
 //! What a query makes of the rows that match it: records, or totals.
 ghost use Rattle.std.specs.Prelude.{◌≡◌, ◌-◌, ◌<◌, ◌≤◌, ◌+◌, ◌++◌, ◌∷◌, [], ℕ, List, All, IfErr, IfOk};
-ghost use Rattle.std.specs.Prelude.{IsTrue, OnOk, false, length, map, replicate};
+ghost use Rattle.std.specs.Prelude.{IsTrue, OnOk, false, length, map, replicate, IsOkUnless};
 ghost use Rattle.std.specs.List.{list_all};
 ghost use Rattle.bw_lanes.specs.Lanes.{lanes_of_words};
 ghost use Rattle.bw_model.specs.Fault.{no_memory};
@@ -50,7 +50,7 @@ impl Output {
         ensures counts { IfOk result (λ output. (width : ℕ)
             → IsTrue (list_all (item_within width) items.now)
             → IsTrue (list_all (is_of width 0) (totals_in output))) }
-        ensures only_oom { IfErr result (λ fault. fault ≡ no_memory) }
+        ensures only_oom { IsOkUnless result no_memory }
     {
         if lists_rows(items) {
             Ok(Output::Listing(Listing::new(alloc, items)?))
@@ -62,7 +62,7 @@ impl Output {
     /// Reserves memory after a text for the records of `rows` rows, if rows are listed.
     pub(crate) fn reserve(&self, text: &mut Vec<u8>, rows: u32) -> Result<(), Fault>
         ensures text { text.new.items ≡ text.old.items }
-        ensures only_oom { IfErr result (λ fault. fault ≡ no_memory) }
+        ensures only_oom { IsOkUnless result no_memory }
     {
         match self {
             Output::Listing(listing) => listing.reserve(text, rows),
@@ -115,7 +115,7 @@ impl Output {
             (totals_in self.new))) }
         ensures left { IfErr result (λ _. totals_in self.new ≡ totals_in self.old) }
         ensures of_items { IsOutputOf self.new query.now.items.items }
-        ensures only_oom { IfErr result (λ fault. fault ≡ no_memory) }
+        ensures only_oom { IsOkUnless result no_memory }
     {
         totals_join();
         match self {
@@ -180,7 +180,7 @@ impl Output {
             ≡ map (λ (tally : Tally). tally.item) (totals_in self.old)) }
         ensures left { IfErr result (λ _. totals_in self.new ≡ totals_in self.old) }
         ensures of_items { IsOutputOf self.new query.now.items.items }
-        ensures only_oom { IfErr result (λ fault. fault ≡ no_memory) }
+        ensures only_oom { IsOkUnless result no_memory }
     {
         totals_join();
         match self {
@@ -200,7 +200,7 @@ impl Output {
         ensures text { IfOk result (λ whole. (names : List (List ℕ)) (rows : List (List Value))
             → AreOver names query.now rows text.items (totals_in self)
             → whole.items ≡ csv_text (meaning names query.now rows)) }
-        ensures only_oom { IfErr result (λ fault. fault ≡ no_memory) }
+        ensures only_oom { IsOkUnless result no_memory }
     {
         match self {
             Output::Listing(_) => Ok(text),

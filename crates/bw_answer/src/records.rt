@@ -1,6 +1,6 @@
 //! The records of selected rows.
-ghost use Rattle.std.specs.Prelude.{◌≡◌, ◌-◌, ◌*◌, ◌<◌, ◌≤◌, ◌++◌, All, IfErr, OnOk, drop, length};
-ghost use Rattle.std.specs.Prelude.{map};
+ghost use Rattle.std.specs.Prelude.{◌≡◌, ◌-◌, ◌*◌, ◌<◌, ◌≤◌, ◌++◌, All, OnOk, drop, length};
+ghost use Rattle.std.specs.Prelude.{map, IsOkUnless};
 ghost use Rattle.bw_lanes.specs.Lanes.{lanes_of_words};
 ghost use Rattle.bw_model.specs.Fault.{no_memory};
 ghost use Rattle.bw_model.specs.Selection.{positions_of};
@@ -29,7 +29,7 @@ pub(crate) fn push_records(
     ensures records { OnOk result (text.new.items ≡ text.old.items
         ++ csv_text (map (fields_in_lane lanes.now columns.now)
         (positions_of (lanes_of_words selection.now)))) }
-    ensures only_oom { IfErr result (λ fault. fault ≡ no_memory) }
+    ensures only_oom { IsOkUnless result no_memory }
 {
     let mut first = 0;
     while first < LANES {

@@ -1,6 +1,6 @@
 //! The selected rows of a segment, or of those that were gathered, in a result's totals.
-ghost use Rattle.std.specs.Prelude.{◌≡◌, ◌+◌, ◌≤◌, IfErr, IfOk, IsTrue, All, List, count_by, length};
-ghost use Rattle.std.specs.Prelude.{ℕ, [], map, OnOk};
+ghost use Rattle.std.specs.Prelude.{◌≡◌, ◌+◌, ◌≤◌, IfOk, IsTrue, All, List, count_by, length};
+ghost use Rattle.std.specs.Prelude.{ℕ, [], map, OnOk, IsOkUnless};
 ghost use Rattle.std.specs.List.{list_all};
 ghost use Rattle.bw_lanes.specs.Lanes.{lanes_of_words};
 ghost use Rattle.bw_model.specs.Fault.{no_memory};
@@ -59,7 +59,7 @@ impl Summed {
     pub(crate) fn new(alloc: Global, output: &Output) -> Result<Self, Fault>
         ensures places { IfOk result (λ summed. AreSummed summed (totals_in output.now)) }
         ensures rows { IfOk result (λ summed. HaveRows [] summed.columns) }
-        ensures only_oom { IfErr result (λ fault. fault ≡ no_memory) }
+        ensures only_oom { IsOkUnless result no_memory }
     {
         let mut columns = Columns::new(alloc);
         let places = match output {
@@ -79,7 +79,7 @@ pub(crate) fn places_of(
 ) -> Result<Vec<usize>, Fault>
     ensures places { IfOk result (λ places. AreRead (numbers_of columns.new)
         (map (λ (tally : Tally). tally.item) totals.now) places.items) }
-    ensures only_oom { IfErr result (λ fault. fault ≡ no_memory) }
+    ensures only_oom { IsOkUnless result no_memory }
 {
     let mut places = Vec::new(alloc);
     for total in totals {
@@ -93,7 +93,7 @@ pub(crate) fn places_of(
 fn place_of(item: Item, columns: &mut Columns) -> Result<usize, Fault>
     ensures place { IfOk result (Reads (numbers_of columns.new) item) }
     ensures grown { OnOk result (Grows (numbers_of columns.old) (numbers_of columns.new)) }
-    ensures only_oom { IfErr result (λ fault. fault ≡ no_memory) }
+    ensures only_oom { IsOkUnless result no_memory }
 {
     match item {
         Item::CountAll => Ok(0),

@@ -1,6 +1,6 @@
 //! The totals of a query.
-ghost use Rattle.std.specs.Prelude.{◌≡◌, ◌≤◌, ◌+◌, ◌++◌, ◌∷◌, ℕ, List, [], IfOk, IfErr};
-ghost use Rattle.std.specs.Prelude.{OnOk, length, map, All};
+ghost use Rattle.std.specs.Prelude.{◌≡◌, ◌≤◌, ◌+◌, ◌++◌, ◌∷◌, ℕ, List, [], IfOk};
+ghost use Rattle.std.specs.Prelude.{OnOk, length, map, All, IsOkUnless};
 ghost use Rattle.std.specs.List.{list_any};
 ghost use Rattle.bw_model.specs.declared.query.Item.{Item};
 ghost use Rattle.bw_model.specs.Fault.{no_memory};
@@ -20,7 +20,7 @@ use std::alloc::Global;
 pub(crate) fn totals_of(alloc: Global, items: &[Item]) -> Result<Vec<Accumulator>, Fault>
     ensures totals { IfOk result (λ totals. totals.items ≡ map (λ item. tally_of item [])
         (aggregates_of items.now)) }
-    ensures only_oom { IfErr result (λ fault. fault ≡ no_memory) }
+    ensures only_oom { IsOkUnless result no_memory }
 {
     let mut totals = Vec::new(alloc);
     for item in items {
@@ -34,7 +34,7 @@ fn include(totals: &mut Vec<Accumulator>, item: Item) -> Result<(), Fault>
     ensures totals { OnOk result ((items : List Item) → totals.old.items
         ≡ map (λ item. tally_of item []) (aggregates_of items)
         → totals.new.items ≡ map (λ item. tally_of item []) (aggregates_of (items ++ item ∷ []))) }
-    ensures only_oom { IfErr result (λ fault. fault ≡ no_memory) }
+    ensures only_oom { IsOkUnless result no_memory }
 {
     if let Item::Plain(_) = item {
         return Ok(());
@@ -86,7 +86,7 @@ pub(crate) fn with_totals(
     ensures record { IfOk result (λ text. text.items
         ≡ bytes.items ++ record_text
         (map (λ item. value_text (answer_for totals.now item)) items.now)) }
-    ensures only_oom { IfErr result (λ fault. fault ≡ no_memory) }
+    ensures only_oom { IsOkUnless result no_memory }
 {
     let mut text = CsvText::onto(bytes);
     push_totals(&mut text, totals, items)?;
@@ -99,7 +99,7 @@ fn push_totals(text: &mut CsvText, totals: &[Accumulator], items: &[Item]) -> Re
     ensures record { OnOk result ((ended : List ℕ) → Holds text.old ended []
         → Holds text.new (ended ++ record_text
         (map (λ item. value_text (answer_for totals.now item)) items.now)) []) }
-    ensures only_oom { IfErr result (λ fault. fault ≡ no_memory) }
+    ensures only_oom { IsOkUnless result no_memory }
 {
     for item in items {
         text.push_number(total_for(totals, *item))?;

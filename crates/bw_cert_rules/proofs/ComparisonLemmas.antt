@@ -31,13 +31,13 @@ use Rattle.bw_cert_text.specs.declared.lines.ConditionEntry.{ConditionEntry}
 use Rattle.bw_cert_text.specs.declared.lines.ConditionEntry.TheVariants.{Compare, CompareColumns}
 use Rattle.bw_cert_text.specs.declared.lines.ConditionEntry.TheVariants.{Fixed}
 use Rattle.bw_cert_rules.specs.Rows.{TruthPair}
-use Rattle.bw_diagram.specs.declared.comparison.Bound.{Bound}
-use Rattle.bw_diagram.specs.declared.comparison.Order.{Order}
+use Rattle.bw_diagram.specs.declared.comparison.LiteralComparison.{LiteralComparison}
+use Rattle.bw_diagram.specs.declared.comparison.ColumnComparison.{ColumnComparison}
 use Rattle.bw_cert_rules.specs.Rows.{if_both, exchange_nodes, value_node}
 use Rattle.bw_cert_rules.specs.Comparison.{lo_at, constant_pair, fixed_pair, pair_if_known}
-use Rattle.bw_diagram.specs.Comparison.{bound_of, terminal_of, order_of}
+use Rattle.bw_diagram.specs.Comparison.{literal_comparison, terminal_of, column_comparison}
 use Rattle.bw_cert_rules.specs.Comparison.{exchange_if, terminal_or_cited}
-use Rattle.bw_cert_rules.specs.Comparison.{bound_node, with_literal, order_node}
+use Rattle.bw_cert_rules.specs.Comparison.{literal_node, with_literal, column_node}
 use Rattle.bw_cert_rules.specs.Comparison.{both_node, with_column, comparison}
 use Rattle.bw_cert_rules.specs.Meaning.{Tells}
 use Rattle.bw_cert_rules.proofs.NumberLemmas.{compares_to, turned_bit, lt_low, lt_high, eq_low}
@@ -142,7 +142,7 @@ terminal_of-compares Equal limit width x is = by_low (int_lt limit (pos 0)) refl
     by_low false low is = eq_within x limit low
 
 -- what a comparison of two values says of their distances from one number
-holds_ordered : (op : Op) (lo : ℤ) (c d : ℕ) (code : ℕ → ℕ) → holds op (lo +ℤ pos (code c)) (lo +ℤ pos (code d)) ≡ turned_bit (order_of op c d).negated (compares (order_of op c d).kind (code (order_of op c d).left) (code (order_of op c d).right))
+holds_ordered : (op : Op) (lo : ℤ) (c d : ℕ) (code : ℕ → ℕ) → holds op (lo +ℤ pos (code c)) (lo +ℤ pos (code d)) ≡ turned_bit (column_comparison op c d).negated (compares (column_comparison op c d).kind (code (column_comparison op c d).left) (code (column_comparison op c d).right))
 holds_ordered Lt lo c d code = lt_apart lo (code c) (code d)
 holds_ordered Ge lo c d code = le_apart lo (code d) (code c)
 holds_ordered Le lo c d code = le_apart lo (code c) (code d)
@@ -205,22 +205,22 @@ module _ (facts : Facts) (have_values : HaveStatedValues facts) where
       by_turn false is = cc
 
   -- the node of a comparison of a column's code with a bound
-  bound_node-denoted : (col : ℕ) (bound : Bound) (chain : Option ℕ) (e : ℕ) → bound_node facts.columns facts col bound chain ≡ Some e →
-      Denotes facts.nodes (λ assignment. compares_to bound.kind (pos (code_spelled facts.columns col assignment)) bound.limit) e
-  bound_node-denoted col bound chain e is = by_terminal (terminal_of bound.kind bound.limit (width_at facts.columns col)) refl chain is
+  literal_node-denoted : (col : ℕ) (compared : LiteralComparison) (chain : Option ℕ) (e : ℕ) → literal_node facts.columns facts col compared chain ≡ Some e →
+      Denotes facts.nodes (λ assignment. compares_to compared.kind (pos (code_spelled facts.columns col assignment)) compared.limit) e
+  literal_node-denoted col compared chain e is = by_terminal (terminal_of compared.kind compared.limit (width_at facts.columns col)) refl chain is
     where
       cite : ℕ → Option ℕ
-      cite = comparison_node facts bound.kind col 0 (width_at facts.columns col) (unsigned_abs bound.limit)
+      cite = comparison_node facts compared.kind col 0 (width_at facts.columns col) (unsigned_abs compared.limit)
 
       P : ℕ → Type 0
-      P = Denotes facts.nodes (λ assignment. compares_to bound.kind (pos (code_spelled facts.columns col assignment)) bound.limit)
+      P = Denotes facts.nodes (λ assignment. compares_to compared.kind (pos (code_spelled facts.columns col assignment)) compared.limit)
 
-      by_terminal : (terminal : Option ℕ) → terminal_of bound.kind bound.limit (width_at facts.columns col) ≡ terminal → (chain : Option ℕ) → terminal_or_cited terminal cite chain ≡ Some e → P e
+      by_terminal : (terminal : Option ℕ) → terminal_of compared.kind compared.limit (width_at facts.columns col) ≡ terminal → (chain : Option ℕ) → terminal_or_cited terminal cite chain ≡ Some e → P e
       by_terminal (Some terminal) which None is =
-          subst P (cc) (terminal-denoted facts.nodes (code_spelled facts.columns col) bound.kind bound.limit (width_at facts.columns col) terminal (code_spelled-lt facts.columns col) which)
+          subst P (cc) (terminal-denoted facts.nodes (code_spelled facts.columns col) compared.kind compared.limit (width_at facts.columns col) terminal (code_spelled-lt facts.columns col) which)
       by_terminal None which (Some number) is =
-          let found = have_values.chain bound.kind col 0 (width_at facts.columns col) (unsigned_abs bound.limit) number e is in
-          denotes_so facts.nodes _ _ e (λ assignment. terminal_of-compares bound.kind bound.limit (width_at facts.columns col) (code_spelled facts.columns col assignment) which)
+          let found = have_values.chain compared.kind col 0 (width_at facts.columns col) (unsigned_abs compared.limit) number e is in
+          denotes_so facts.nodes _ _ e (λ assignment. terminal_of-compares compared.kind compared.limit (width_at facts.columns col) (code_spelled facts.columns col assignment) which)
           (record { is_node = found.0; denoted = found.1 })
       by_terminal _ which _ is = cc
 
@@ -230,54 +230,54 @@ module _ (facts : Facts) (have_values : HaveStatedValues facts) where
   unfolding with_literal
   with_literal-tells op col n (Compare chain value p q) pair lt is =
       tells_so facts.nodes _ _ pair same
-      (split-tells bound.negated (value_node facts (null_variable facts.columns col) value) (bound_node facts.columns facts col bound chain) p q pair (has_value facts.columns col)
-      (λ assignment. compares_to bound.kind (pos (code_spelled facts.columns col assignment)) bound.limit)
-      (λ m found. value_node-denoted facts.columns facts have_values col value m found) (λ e found. bound_node-denoted col bound chain e found) is)
+      (split-tells compared.negated (value_node facts (null_variable facts.columns col) value) (literal_node facts.columns facts col compared chain) p q pair (has_value facts.columns col)
+      (λ assignment. compares_to compared.kind (pos (code_spelled facts.columns col assignment)) compared.limit)
+      (λ m found. value_node-denoted facts.columns facts have_values col value m found) (λ e found. literal_node-denoted col compared chain e found) is)
     where
-      bound : Bound
-      bound = bound_of op (n -ℤ lo_at facts.columns col)
+      compared : LiteralComparison
+      compared = literal_comparison op (n -ℤ lo_at facts.columns col)
 
-      by_value : (there : Bool) (x : ℤ) → split_truth bound.negated there (compares_to bound.kind x bound.limit) ≡ compare_values op (value_if there (lo_at facts.columns col +ℤ x)) (Some n)
+      by_value : (there : Bool) (x : ℤ) → split_truth compared.negated there (compares_to compared.kind x compared.limit) ≡ compare_values op (value_if there (lo_at facts.columns col +ℤ x)) (Some n)
       by_value true x = ap truth_from (sym (holds_moved op (lo_at facts.columns col) x n))
       by_value false x = refl
 
-      same : (assignment : Assignment) → split_truth bound.negated (has_value facts.columns col assignment) (compares_to bound.kind (pos (code_spelled facts.columns col assignment)) bound.limit) ≡ compare_values op (value_in (row_of facts.columns assignment) col) (Some n)
+      same : (assignment : Assignment) → split_truth compared.negated (has_value facts.columns col assignment) (compares_to compared.kind (pos (code_spelled facts.columns col assignment)) compared.limit) ≡ compare_values op (value_in (row_of facts.columns assignment) col) (Some n)
       same assignment = by_value (has_value facts.columns col assignment) (pos (code_spelled facts.columns col assignment))
           ∙ ap (λ v. compare_values op v (Some n)) (sym (value_in-assigned facts.columns col lt assignment))
   with_literal-tells op col n _ pair lt is = cc
 
   -- the node of a comparison of the codes of two columns
-  order_node-denoted : (order : Order) (chain : Option ℕ) (e : ℕ) → order_node facts.columns facts order chain ≡ Some e →
-      Denotes facts.nodes (λ assignment. compares order.kind (code_spelled facts.columns order.left assignment) (code_spelled facts.columns order.right assignment)) e
-  order_node-denoted order chain e is = by_same (eqb order.left order.right) refl chain is
+  column_node-denoted : (compared : ColumnComparison) (chain : Option ℕ) (e : ℕ) → column_node facts.columns facts compared chain ≡ Some e →
+      Denotes facts.nodes (λ assignment. compares compared.kind (code_spelled facts.columns compared.left assignment) (code_spelled facts.columns compared.right assignment)) e
+  column_node-denoted compared chain e is = by_same (eqb compared.left compared.right) refl chain is
     where
       len : ℕ
-      len = max (width_at facts.columns order.left) (width_at facts.columns order.right)
+      len = max (width_at facts.columns compared.left) (width_at facts.columns compared.right)
 
       cite : ℕ → Option ℕ
-      cite = two_column_node facts order.kind order.left order.right len
+      cite = two_column_node facts compared.kind compared.left compared.right len
 
       P : ℕ → Type 0
-      P = Denotes facts.nodes (λ assignment. compares order.kind (code_spelled facts.columns order.left assignment) (code_spelled facts.columns order.right assignment))
+      P = Denotes facts.nodes (λ assignment. compares compared.kind (code_spelled facts.columns compared.left assignment) (code_spelled facts.columns compared.right assignment))
 
       itself : (kind : ChainKind) (x : Assignment → ℕ) → Denotes facts.nodes (λ assignment. compares kind (x assignment) (x assignment)) (first_node kind)
       itself Less x = denotes_so facts.nodes _ _ 0 (λ assignment. sym (le-ltb (x assignment) (x assignment) (omega arith))) (zero_denotes facts.nodes)
       itself Equal x = denotes_so facts.nodes _ _ 1 (λ assignment. sym (eq-eqb (x assignment) (x assignment) refl)) (one_denotes facts.nodes)
 
-      whole : (assignment : Assignment) → compares order.kind (padded_number facts.columns order.left len assignment) (padded_number facts.columns order.right len assignment)
-          ≡ compares order.kind (code_spelled facts.columns order.left assignment) (code_spelled facts.columns order.right assignment)
-      whole assignment = ap₂ (compares order.kind)
-          (padded_number-whole facts.columns order.left len assignment (omega arith))
-          (padded_number-whole facts.columns order.right len assignment (omega arith))
+      whole : (assignment : Assignment) → compares compared.kind (padded_number facts.columns compared.left len assignment) (padded_number facts.columns compared.right len assignment)
+          ≡ compares compared.kind (code_spelled facts.columns compared.left assignment) (code_spelled facts.columns compared.right assignment)
+      whole assignment = ap₂ (compares compared.kind)
+          (padded_number-whole facts.columns compared.left len assignment (omega arith))
+          (padded_number-whole facts.columns compared.right len assignment (omega arith))
 
-      by_same : (same : Bool) → eqb order.left order.right ≡ same → (chain : Option ℕ) → terminal_or_cited (cond same (Some (first_node order.kind)) None) cite chain ≡ Some e → P e
+      by_same : (same : Bool) → eqb compared.left compared.right ≡ same → (chain : Option ℕ) → terminal_or_cited (cond same (Some (first_node compared.kind)) None) cite chain ≡ Some e → P e
       by_same true same None is =
-          let one : order.left ≡ order.right = eqb-true order.left order.right same in
-          subst P (cc) (denotes_so facts.nodes _ _ (first_node order.kind)
-          (λ assignment. ap (λ c. compares order.kind (code_spelled facts.columns order.left assignment) (code_spelled facts.columns c assignment)) one)
-          (itself order.kind (code_spelled facts.columns order.left)))
+          let one : compared.left ≡ compared.right = eqb-true compared.left compared.right same in
+          subst P (cc) (denotes_so facts.nodes _ _ (first_node compared.kind)
+          (λ assignment. ap (λ c. compares compared.kind (code_spelled facts.columns compared.left assignment) (code_spelled facts.columns c assignment)) one)
+          (itself compared.kind (code_spelled facts.columns compared.left)))
       by_same false same (Some number) is =
-          let found = have_values.two order.kind order.left order.right len number e is in
+          let found = have_values.two compared.kind compared.left compared.right len number e is in
           denotes_so facts.nodes _ _ e whole (record { is_node = found.0; denoted = found.1 })
       by_same _ same _ is = cc
 
@@ -292,8 +292,8 @@ module _ (facts : Facts) (have_values : HaveStatedValues facts) where
   unfolding with_column
   with_column-tells op c d (CompareColumns chain left right number p q) pair c_lt d_lt is = by_lo (int_eq (lo_at facts.columns c) (lo_at facts.columns d)) refl is
     where
-      order : Order
-      order = order_of op c d
+      compared : ColumnComparison
+      compared = column_comparison op c d
 
       code : Assignment → ℕ → ℕ
       code assignment col = code_spelled facts.columns col assignment
@@ -302,28 +302,28 @@ module _ (facts : Facts) (have_values : HaveStatedValues facts) where
       m = both_node facts (value_node facts (null_variable facts.columns c) left) (value_node facts (null_variable facts.columns d) right) number
 
       by_value : (assignment : Assignment) (x y : Bool) → lo_at facts.columns c ≡ lo_at facts.columns d →
-          split_truth order.negated (x && y) (compares order.kind (code assignment order.left) (code assignment order.right))
+          split_truth compared.negated (x && y) (compares compared.kind (code assignment compared.left) (code assignment compared.right))
           ≡ compare_values op (value_if x (lo_at facts.columns c +ℤ pos (code assignment c))) (value_if y (lo_at facts.columns d +ℤ pos (code assignment d)))
       by_value assignment true true one = ap truth_from (sym (holds_ordered op (lo_at facts.columns c) c d (code assignment)) ∙ ap (λ lo. holds op (lo_at facts.columns c +ℤ pos (code assignment c)) (lo +ℤ pos (code assignment d))) one)
       by_value assignment _ _ one = refl
 
       same : lo_at facts.columns c ≡ lo_at facts.columns d → (assignment : Assignment) →
-          split_truth order.negated (has_value facts.columns c assignment && has_value facts.columns d assignment) (compares order.kind (code assignment order.left) (code assignment order.right))
+          split_truth compared.negated (has_value facts.columns c assignment && has_value facts.columns d assignment) (compares compared.kind (code assignment compared.left) (code assignment compared.right))
           ≡ compare_values op (value_in (row_of facts.columns assignment) c) (value_in (row_of facts.columns assignment) d)
       same one assignment = by_value assignment (has_value facts.columns c assignment) (has_value facts.columns d assignment) one
           ∙ ap₂ (compare_values op) (sym (value_in-assigned facts.columns c c_lt assignment)) (sym (value_in-assigned facts.columns d d_lt assignment))
 
       by_lo : (one : Bool) → int_eq (lo_at facts.columns c) (lo_at facts.columns d) ≡ one →
-          cond one (exchange_if order.negated (pair_if_known facts m (order_node facts.columns facts order chain) p q)) None ≡ Some pair →
+          cond one (exchange_if compared.negated (pair_if_known facts m (column_node facts.columns facts compared chain) p q)) None ≡ Some pair →
           Tells facts.nodes (λ assignment. compare_values op (value_in (row_of facts.columns assignment) c) (value_in (row_of facts.columns assignment) d)) pair
       by_lo false one is = cc
       by_lo true one is =
           tells_so facts.nodes _ _ pair (same (equal-lo (lo_at facts.columns c) (lo_at facts.columns d) one))
-          (split-tells order.negated m (order_node facts.columns facts order chain) p q pair
+          (split-tells compared.negated m (column_node facts.columns facts compared chain) p q pair
           (λ assignment. has_value facts.columns c assignment && has_value facts.columns d assignment)
-          (λ assignment. compares order.kind (code assignment order.left) (code assignment order.right))
+          (λ assignment. compares compared.kind (code assignment compared.left) (code assignment compared.right))
           (λ n found. both_node-denoted _ _ number n _ _ (λ n found. value_node-denoted facts.columns facts have_values c left n found) (λ n found. value_node-denoted facts.columns facts have_values d right n found) found)
-          (λ e found. order_node-denoted order chain e found) is)
+          (λ e found. column_node-denoted compared chain e found) is)
   with_column-tells op c d _ pair c_lt d_lt is = cc
 
   -- a comparison

@@ -7,7 +7,7 @@ use Rattle.bw_model.specs.declared.cond.Op.TheVariants.{Eq, Ne, Lt, Gt, Le, Ge}
 use Rattle.bw_model.specs.Truth.{holds, swap_operands}
 use Rattle.bw_diagram.specs.declared.chain.ChainKind.{ChainKind}
 use Rattle.bw_diagram.specs.declared.chain.ChainKind.TheVariants.{Less, Equal}
-use Rattle.bw_diagram.specs.Comparison.{bound_of}
+use Rattle.bw_diagram.specs.Comparison.{literal_comparison}
 
 -- less than, or equal to, of whole numbers
 abbrev pub compares_to : ChainKind → ℤ → ℤ → Bool
@@ -52,7 +52,7 @@ eq_moved : (lo x n : ℤ) → int_eq (lo +ℤ x) n ≡ int_eq x (n -ℤ lo)
 eq_moved lo x n = grind (arith, ints)
 
 -- what a comparison of a value with a literal says of the value's distance from any number
-pub holds_moved : (op : Op) (lo x n : ℤ) → holds op (lo +ℤ x) n ≡ turned_bit (bound_of op (n -ℤ lo)).negated (compares_to (bound_of op (n -ℤ lo)).kind x (bound_of op (n -ℤ lo)).limit)
+pub holds_moved : (op : Op) (lo x n : ℤ) → holds op (lo +ℤ x) n ≡ turned_bit (literal_comparison op (n -ℤ lo)).negated (compares_to (literal_comparison op (n -ℤ lo)).kind x (literal_comparison op (n -ℤ lo)).limit)
 holds_moved Lt lo x n = lt_moved lo x n
 holds_moved Ge lo x n = ge_moved lo x n
 holds_moved Le lo x n = le_moved lo x n

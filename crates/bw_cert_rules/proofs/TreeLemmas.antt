@@ -21,8 +21,8 @@ use Rattle.bw_cert_text.specs.declared.lines.Entry.TheVariants as entry
 use Rattle.bw_cert_text.specs.CertificateFields.{BodyFields, EntryFields, Condition}
 use Rattle.bw_cert_text.specs.CertificateFields.{body_fields, entry_fields}
 use Rattle.bw_cert_rules.specs.Rows.{TruthPair}
-use Rattle.bw_cert_rules.specs.declared.steps.Junction.{Junction}
-use Rattle.bw_cert_rules.specs.declared.steps.Junction.TheVariants.{All, Any}
+use Rattle.bw_model.specs.declared.junction.Junction.{Junction}
+use Rattle.bw_model.specs.declared.junction.Junction.TheVariants.{All, Any}
 use Rattle.bw_cert_rules.specs.Comparison.{fixed_pair, comparison}
 use Rattle.bw_cert_rules.specs.Pair.{Reading, line_fields, condition_entry, next_entry, expect_line}
 use Rattle.bw_cert_rules.specs.Pair.{by_line, is_null_test, joined_pair, negated_pair, tested_pair}

@@ -21,8 +21,8 @@ use Rattle.bw_diagram.specs.References.{HaveStatedValues}
 use Rattle.bw_diagram.specs.Facts.{Facts}
 use Rattle.bw_cert_text.specs.declared.lines.BodyLine.{BodyLine}
 use Rattle.bw_cert_rules.specs.Rows.{TruthPair}
-use Rattle.bw_cert_rules.specs.declared.steps.Junction.{Junction}
-use Rattle.bw_cert_rules.specs.declared.steps.Junction.TheVariants.{All, Any}
+use Rattle.bw_model.specs.declared.junction.Junction.{Junction}
+use Rattle.bw_model.specs.declared.junction.Junction.TheVariants.{All, Any}
 use Rattle.bw_cert_rules.specs.Comparison.{fixed_pair, comparison}
 use Rattle.bw_cert_rules.specs.Meaning.{Tells}
 use Rattle.bw_cert_rules.specs.Pair.{Reading, by_line, is_null_test, negated_pair, tested_pair}

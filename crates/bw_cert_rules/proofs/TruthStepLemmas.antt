@@ -25,8 +25,8 @@ use Rattle.bw_cert_text.specs.declared.lines.ConditionEntry.{ConditionEntry}
 use Rattle.bw_cert_text.specs.declared.lines.ConditionEntry.TheVariants.{NullTest, And, Or, Not, Is}
 use Rattle.bw_cert_text.specs.declared.lines.ConditionEntry.TheVariants.{IsUnknown}
 use Rattle.bw_cert_rules.specs.Rows.{TruthPair}
-use Rattle.bw_cert_rules.specs.declared.steps.Junction.{Junction}
-use Rattle.bw_cert_rules.specs.declared.steps.Junction.TheVariants.{All, Any}
+use Rattle.bw_model.specs.declared.junction.Junction.{Junction}
+use Rattle.bw_model.specs.declared.junction.Junction.TheVariants.{All, Any}
 use Rattle.bw_cert_rules.specs.Rows.{exchange_nodes}
 use Rattle.bw_cert_rules.specs.Meaning.{Tells}
 use Rattle.bw_cert_rules.specs.Pair.{Reading, next_entry, expect_line, by_line, null_test}

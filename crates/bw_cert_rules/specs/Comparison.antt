@@ -13,11 +13,11 @@ use Rattle.bw_model.specs.declared.cond.Truth.TheVariants.{No, Unknown, Yes}
 use Rattle.bw_model.specs.Code.{width_at}
 use Rattle.bw_model.specs.Truth.{truth_from, holds, swap_operands}
 use Rattle.bw_model.specs.Variable.{null_variable}
-use Rattle.bw_diagram.specs.declared.comparison.Bound.{Bound}
-use Rattle.bw_diagram.specs.declared.comparison.Order.{Order}
+use Rattle.bw_diagram.specs.declared.comparison.LiteralComparison.{LiteralComparison}
+use Rattle.bw_diagram.specs.declared.comparison.ColumnComparison.{ColumnComparison}
 use Rattle.bw_diagram.specs.declared.product.Connective.TheVariants.{And, Diff}
 use Rattle.bw_diagram.specs.Chain.{first_node}
-use Rattle.bw_diagram.specs.Comparison.{bound_of, terminal_of, order_of}
+use Rattle.bw_diagram.specs.Comparison.{literal_comparison, terminal_of, column_comparison}
 use Rattle.bw_diagram.specs.References.{product_node, comparison_node, two_column_node}
 use Rattle.bw_diagram.specs.Facts.{Facts}
 use Rattle.bw_cert_text.specs.declared.lines.ConditionEntry.{ConditionEntry}
@@ -60,31 +60,31 @@ terminal_or_cited _ cite _ = None
 
 -- node e of a comparison of a column's code with a bound: that of a chain over all bits of the
 -- column
-abbrev pub bound_node : List Column → Facts → ℕ → Bound → Option ℕ → Option ℕ
-bound_node columns facts col bound chain =
+abbrev pub literal_node : List Column → Facts → ℕ → LiteralComparison → Option ℕ → Option ℕ
+literal_node columns facts col compared chain =
     let width = width_at columns col in
-    let terminal = terminal_of bound.kind bound.limit width in
+    let terminal = terminal_of compared.kind compared.limit width in
     terminal_or_cited terminal
-    (comparison_node facts bound.kind col 0 width (unsigned_abs bound.limit))
+    (comparison_node facts compared.kind col 0 width (unsigned_abs compared.limit))
     chain
 
 -- CMP: a column and a literal, which compares the column's code with the literal's distance from
 -- the column's minimum
 unfoldable pub with_literal : List Column → Facts → Op → ℕ → ℤ → ConditionEntry → Option TruthPair
 with_literal columns facts op col n (Compare chain value p q) =
-    let bound = bound_of op (n -ℤ lo_at columns col) in
+    let compared = literal_comparison op (n -ℤ lo_at columns col) in
     let m = value_node facts (null_variable columns col) value in
-    let e = bound_node columns facts col bound chain in
-    exchange_if bound.negated (pair_if_known facts m e p q)
+    let e = literal_node columns facts col compared chain in
+    exchange_if compared.negated (pair_if_known facts m e p q)
 with_literal columns facts op col n _ = None
 
 -- node e of such a comparison: that of a chain over as many bits as the wider column has, or the
 -- terminal of a column that is compared with itself
-abbrev pub order_node : List Column → Facts → Order → Option ℕ → Option ℕ
-order_node columns facts order chain =
-    let len = max (width_at columns order.left) (width_at columns order.right) in
-    let terminal = if order.left == order.right then Some (first_node order.kind) else None in
-    terminal_or_cited terminal (two_column_node facts order.kind order.left order.right len) chain
+abbrev pub column_node : List Column → Facts → ColumnComparison → Option ℕ → Option ℕ
+column_node columns facts compared chain =
+    let len = max (width_at columns compared.left) (width_at columns compared.right) in
+    let terminal = if compared.left == compared.right then Some (first_node compared.kind) else None in
+    terminal_or_cited terminal (two_column_node facts compared.kind compared.left compared.right len) chain
 
 -- the node that is 1 if two columns have values: that of a product row that combines the nodes of
 -- both by AND
@@ -96,13 +96,13 @@ both_node facts _ _ number = None
 -- have no line.
 unfoldable pub with_column : List Column → Facts → Op → ℕ → ℕ → ConditionEntry → Option TruthPair
 with_column columns facts op c d (CompareColumns chain left right both p q) =
-    let order = order_of op c d in
+    let compared = column_comparison op c d in
     let left_value = value_node facts (null_variable columns c) left in
     let right_value = value_node facts (null_variable columns d) right in
     let m = both_node facts left_value right_value both in
-    let e = order_node columns facts order chain in
+    let e = column_node columns facts compared chain in
     if int_eq (lo_at columns c) (lo_at columns d)
-    then exchange_if order.negated (pair_if_known facts m e p q)
+    then exchange_if compared.negated (pair_if_known facts m e p q)
     else None
 with_column columns facts op c d _ = None
 

@@ -27,8 +27,8 @@ use Rattle.bw_cert_text.specs.CertificateFields.{BodyFields, body_fields}
 use Rattle.bw_cert_text.specs.declared.lines.ConditionEntry.TheVariants.{NullTest, And, Or, Not, Is}
 use Rattle.bw_cert_text.specs.declared.lines.ConditionEntry.TheVariants.{IsUnknown}
 use Rattle.bw_cert_rules.specs.Rows.{TruthPair}
-use Rattle.bw_cert_rules.specs.declared.steps.Junction.{Junction}
-use Rattle.bw_cert_rules.specs.declared.steps.Junction.TheVariants.{All, Any}
+use Rattle.bw_model.specs.declared.junction.Junction.{Junction}
+use Rattle.bw_model.specs.declared.junction.Junction.TheVariants.{All, Any}
 use Rattle.bw_cert_rules.specs.Rows.{if_both, exchange_nodes, null_pair}
 use Rattle.bw_cert_rules.specs.Comparison.{fixed_pair, comparison}
 

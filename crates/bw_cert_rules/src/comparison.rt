@@ -3,12 +3,12 @@
 ghost use Rattle.std.specs.Prelude.{◌≡◌, ◌<◌, IsTrue, length};
 ghost use Rattle.bw_model.specs.Cond.{is_within};
 ghost use Rattle.bw_cert_rules.specs.Comparison.{lo_at, fixed_pair, pair_if_known, exchange_if};
-ghost use Rattle.bw_cert_rules.specs.Comparison.{bound_node, with_literal, order_node};
+ghost use Rattle.bw_cert_rules.specs.Comparison.{literal_node, with_literal, column_node};
 ghost use Rattle.bw_cert_rules.specs.Comparison.{with_column, comparison};
 
 use crate::nodes::{TruthNodes, constant_pair, if_both, value_node};
 use bw_cert_text::ConditionEntry;
-use bw_diagram::{Bound, Connective, Diagram, Order};
+use bw_diagram::{ColumnComparison, Connective, Diagram, LiteralComparison};
 use bw_model::{Op, Operand, Schema, Truth};
 
 /// Returns the truth pair of a comparison by its line, which is `CMP`, `CMP2` or `FIXED`, or None
@@ -95,10 +95,10 @@ fn with_literal(
     else {
         return None;
     };
-    let bound = Bound::of(op, n, lo_of(schema, column));
+    let compared = LiteralComparison::of(op, n, lo_of(schema, column));
     let m = value_node(diagram, schema.var_null(column), value);
-    let e = bound_node(schema, diagram, column, bound, chain);
-    pair_if_known(diagram, m, e, bound.negated, yes, no)
+    let e = literal_node(schema, diagram, column, compared, chain);
+    pair_if_known(diagram, m, e, compared.negated, yes, no)
 }
 
 /// Returns the minimum of a column, which has the code 0.
@@ -111,22 +111,22 @@ fn lo_of(schema: &Schema, column: usize) -> i64
 
 /// Returns the node that is 1 if a column's code is less than (equal to) a bound: a terminal, for
 /// `-`, or the node of the chain that the line references.
-fn bound_node(
+fn literal_node(
     schema: &Schema,
     diagram: &Diagram<'_>,
     column: usize,
-    bound: Bound,
+    compared: LiteralComparison,
     chain: Option<u64>,
 ) -> Option<u64>
     requires { column < length schema.now.columns.items }
-    ensures { result ≡ bound_node schema.now.columns.items diagram.now column bound chain }
+    ensures { result ≡ literal_node schema.now.columns.items diagram.now column compared chain }
 {
     let width = schema.width(column);
-    match (bound.terminal(width), chain) {
+    match (compared.terminal(width), chain) {
         (Some(terminal), None) => Some(u64::from(terminal)),
         (None, Some(number)) => {
-            let limit = bound.limit.unsigned_abs() as u64;
-            diagram.comparison_node(bound.kind, column as u32, 0, width, limit, number)
+            let limit = compared.limit.unsigned_abs() as u64;
+            diagram.comparison_node(compared.kind, column as u32, 0, width, limit, number)
         }
         _ => None,
     }
@@ -160,32 +160,34 @@ fn with_column(
     if lo_of(schema, c) != lo_of(schema, d) {
         return None;
     }
-    let order = Order::of(op, c, d);
+    let compared = ColumnComparison::of(op, c, d);
     let left = value_node(diagram, schema.var_null(c), left)?;
     let right = value_node(diagram, schema.var_null(d), right)?;
     let m = diagram.product_node(Connective::And, left, right, both);
-    let e = order_node(schema, diagram, order, chain);
-    pair_if_known(diagram, m, e, order.negated, yes, no)
+    let e = column_node(schema, diagram, compared, chain);
+    pair_if_known(diagram, m, e, compared.negated, yes, no)
 }
 
 /// Returns the node that is 1 if the comparison of two codes is true: a terminal, for `-`, if they
 /// are of one column, or the node of the chain that the line references.
-fn order_node(
+fn column_node(
     schema: &Schema,
     diagram: &Diagram<'_>,
-    order: Order,
+    compared: ColumnComparison,
     chain: Option<u64>,
 ) -> Option<u64>
-    requires left { order.left < length schema.now.columns.items }
-    requires right { order.right < length schema.now.columns.items }
-    ensures { result ≡ order_node schema.now.columns.items diagram.now order chain }
+    requires left { compared.left < length schema.now.columns.items }
+    requires right { compared.right < length schema.now.columns.items }
+    ensures { result ≡ column_node schema.now.columns.items diagram.now compared chain }
 {
-    let len = schema.width(order.left).max(schema.width(order.right));
-    match (order.terminal(), chain) {
+    let len = schema
+        .width(compared.left)
+        .max(schema.width(compared.right));
+    match (compared.terminal(), chain) {
         (Some(terminal), None) => Some(u64::from(terminal)),
         (None, Some(number)) => {
-            let (left, right) = (order.left as u32, order.right as u32);
-            diagram.two_column_node(order.kind, left, right, len, number)
+            let (left, right) = (compared.left as u32, compared.right as u32);
+            diagram.two_column_node(compared.kind, left, right, len, number)
         }
         _ => None,
     }

@@ -6,7 +6,7 @@ ghost use Rattle.bw_model.specs.FaultTable.{CONDITION_LINE};
 ghost use Rattle.bw_model.specs.Cond.{names_within, is_within};
 ghost use Rattle.bw_model.specs.declared.cond.Op.TheVariants.{Eq, Le, Ge};
 ghost use Rattle.bw_model.specs.Fault.{at_line};
-ghost use Rattle.bw_cert_rules.specs.declared.steps.Junction.TheVariants.{All, Any};
+ghost use Rattle.bw_model.specs.declared.junction.Junction.TheVariants.{All, Any};
 ghost use Rattle.bw_cert_text.specs.BodyLines.{body_lines};
 ghost use Rattle.bw_cert_rules.specs.Comparison.{fixed_pair, comparison};
 ghost use Rattle.bw_cert_rules.specs.Pair.{Answers, next_entry, next_number, expect_line, by_line};
@@ -18,17 +18,10 @@ use crate::comparison::{comparison, fixed_pair};
 use crate::nodes::{TruthNodes, if_both, null_pair};
 use bw_cert_text::{BodyLines, ConditionEntry, Entry};
 use bw_diagram::{Connective, Diagram};
-use bw_model::{Cond, Fault, Op, Operand, Schema, Truth, code};
+use bw_model::{Cond, Fault, Junction, Op, Operand, Schema, Truth, code};
 
 /// A truth pair and the lines after those that made it, or an error.
 type Read<'a> = Result<(TruthNodes, BodyLines<'a>), Fault>;
-
-/// The connective of a condition's parts: AND, or OR.
-#[derive(Clone, Copy)]
-pub enum Junction {
-    All,
-    Any,
-}
 
 /// Returns the truth pair of a condition and the lines after its own, with which the lines must
 /// begin. The condition's columns must be the schema's. Allocates no memory.

@@ -49,16 +49,16 @@ pub fn known_at_end<'a>(
         result (check_lines diagram.now program.now.instrs end (body_lines lines.entry)) }
     ensures code { IfErr result (λ fault. IsTrue (is_known_fault fault)) }
 {
-    let judge = LineChecker { schema, diagram };
+    let checker = LineChecker { schema, diagram };
     let mut known: Known = [None; 64];
     let mut edges = Edges::new(alloc, program.len())?;
     let mut rest = lines;
     for number in 0..program.len() {
         let instr = program.instr(number);
         edges.add(&known, instr)?;
-        rest = judge.take_instruction(&mut known, instr, rest, end)?;
+        rest = checker.take_instruction(&mut known, instr, rest, end)?;
         let place = number + 1;
-        rest = judge.take_join(&mut known, edges.into_place(place), place, rest, end)?;
+        rest = checker.take_join(&mut known, edges.into_place(place), place, rest, end)?;
     }
     Ok(AtEnd { known, rest })
 }

@@ -1,6 +1,17 @@
 //! A command and its arguments.
 use bw_file::Layout;
 
+/// The options of `bw encode` that name marks of a CSV text, as they were given, and whether text
+/// may follow a closing quotation mark.
+#[derive(Clone, Copy)]
+pub struct Marks<'a> {
+    pub separator: Option<&'a str>,
+    pub quote: Option<&'a str>,
+    pub escape: Option<&'a str>,
+    pub comment: Option<&'a str>,
+    pub is_lenient: bool,
+}
+
 /// A command and its arguments. All but the SQL and the name of a table are file names.
 #[derive(Clone, Copy)]
 pub enum CommandArgs<'a> {
@@ -24,6 +35,19 @@ pub enum CommandArgs<'a> {
         stats: bool,
         table: &'a str,
         sql: &'a str,
+    },
+    Encode {
+        marks: Marks<'a>,
+        layout: Layout,
+        csv: &'a str,
+        out: &'a str,
+        fields: &'a str,
+    },
+    Recode {
+        table: &'a str,
+        schema: &'a str,
+        numbers: &'a str,
+        out: &'a str,
     },
     /// Its program files, any number of them, are a field of the invocation.
     Session {
@@ -58,6 +82,7 @@ impl<'a> CommandArgs<'a> {
         match self {
             CommandArgs::Direct { schema, .. }
             | CommandArgs::Load { schema, .. }
+            | CommandArgs::Recode { schema, .. }
             | CommandArgs::Plan { schema, .. }
             | CommandArgs::Certify { schema, .. }
             | CommandArgs::Check { schema, .. } => Some(schema),
@@ -70,6 +95,7 @@ impl<'a> CommandArgs<'a> {
         match self {
             CommandArgs::Direct { csv, .. }
             | CommandArgs::Infer { csv, .. }
+            | CommandArgs::Encode { csv, .. }
             | CommandArgs::Load { csv, .. } => { Some(csv) }
             _ => None,
         }
@@ -79,6 +105,7 @@ impl<'a> CommandArgs<'a> {
     pub fn table(self) -> Option<&'a str> {
         match self {
             CommandArgs::Query { table, .. }
+            | CommandArgs::Recode { table, .. }
             | CommandArgs::Session { table, .. }
             | CommandArgs::Info { table }
             | CommandArgs::Dump { table } => Some(table),
@@ -92,6 +119,14 @@ impl<'a> CommandArgs<'a> {
             CommandArgs::Query { program, .. } => program,
             CommandArgs::Certify { program, .. } => Some(program),
             CommandArgs::Check { file, .. } => Some(file),
+            _ => None,
+        }
+    }
+
+    /// Returns the file that NUMBERS names, if the command has this argument.
+    pub fn numbers(self) -> Option<&'a str> {
+        match self {
+            CommandArgs::Recode { numbers, .. } => Some(numbers),
             _ => None,
         }
     }
@@ -122,6 +157,8 @@ impl<'a> CommandArgs<'a> {
             CommandArgs::Direct { .. } => "bw direct SCHEMA CSV SQL",
             CommandArgs::Infer { .. } => "bw infer [--table NAME] CSV",
             CommandArgs::Load { .. } => "bw load [--layout planes|slices] SCHEMA CSV OUT",
+            CommandArgs::Encode { .. } => "bw encode [OPTIONS] CSV OUT FIELDS",
+            CommandArgs::Recode { .. } => "bw recode IN SCHEMA NUMBERS OUT",
             CommandArgs::Query { .. } => "bw query [--program FILE] [--stats] TABLE SQL",
             CommandArgs::Session { .. } => "bw session [--program FILE]... [--stats] TABLE",
             CommandArgs::Info { .. } => "bw info TABLE",
@@ -135,7 +172,9 @@ impl<'a> CommandArgs<'a> {
     /// Returns the file that is written.
     pub fn out(self) -> Option<&'a str> {
         match self {
-            CommandArgs::Load { out, .. } => Some(out),
+            CommandArgs::Load { out, .. }
+            | CommandArgs::Encode { out, .. }
+            | CommandArgs::Recode { out, .. } => Some(out),
             _ => None,
         }
     }

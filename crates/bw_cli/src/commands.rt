@@ -1,9 +1,9 @@
 //! The commands, their arguments and their help: `bw direct SCHEMA CSV SQL`, `bw infer [--table
-//! NAME] CSV`, `bw load [--layout planes|slices] SCHEMA CSV OUT`, `bw query [--program FILE]
-//! [--stats] TABLE SQL`, `bw session [--program FILE]... [--stats] TABLE`, `bw plan SCHEMA SQL`,
+//! NAME] CSV`, `bw load [--layout planes|slices] SCHEMA CSV OUT`, `bw encode [OPTIONS] CSV OUT
+//! FIELDS`, `bw recode IN SCHEMA NUMBERS OUT`, `bw query [--program FILE] [--stats] TABLE SQL`, `bw session [--program FILE]... [--stats] TABLE`, `bw plan SCHEMA SQL`,
 //! `bw certify SCHEMA SQL PROGRAM`, `bw check SCHEMA SQL FILE`, `bw info TABLE` and `bw dump TABLE`.
 //! Each takes `--explain`, before the command or after it.
-use crate::args::CommandArgs;
+use crate::args::{CommandArgs, Marks};
 use bw_file::Layout;
 use clap::{Arg, ArgAction, ArgMatches, Command, Error};
 use std::alloc::{AllocError, Global};
@@ -22,6 +22,7 @@ enum ArgSpec {
     /// name, and its help.
     Valued(ArgAction, &'static str, &'static str, &'static str),
     Layout,
+    Lenient,
     Stats,
 }
 
@@ -33,6 +34,48 @@ const CSV: ArgSpec = ArgSpec::File(
 );
 
 const TABLE: ArgSpec = ArgSpec::File("TABLE", "A table file, as written by `bw load`");
+
+const IN: ArgSpec = ArgSpec::File("IN", "The table file whose codes are replaced");
+
+const NUMBERS: ArgSpec = ArgSpec::File(
+    "NUMBERS",
+    "For each column a line KEEP, or CODES and then a number or NULL for each code",
+);
+
+const ANY_CSV: ArgSpec = ArgSpec::File("CSV", "A CSV file with a heading, whatever its fields");
+
+const FIELDS: ArgSpec = ArgSpec::File(
+    "FIELDS",
+    "The file to create or replace: what the codes of each column stand for",
+);
+
+const SEPARATOR: ArgSpec = ArgSpec::Valued(
+    ArgAction::Set,
+    "separator",
+    "C",
+    "The byte between fields (default: a comma)",
+);
+
+const QUOTE: ArgSpec = ArgSpec::Valued(
+    ArgAction::Set,
+    "quote",
+    "C",
+    "The byte around a quoted field (default: a quotation mark)",
+);
+
+const ESCAPE: ArgSpec = ArgSpec::Valued(
+    ArgAction::Set,
+    "escape",
+    "C",
+    "The byte before one of a quoted field that stands for itself (default: none)",
+);
+
+const COMMENT: ArgSpec = ArgSpec::Valued(
+    ArgAction::Set,
+    "comment",
+    "C",
+    "The first byte of lines to leave out (default: none)",
+);
 
 const OUT: ArgSpec = ArgSpec::File("OUT", "The table file to create or replace");
 
@@ -74,7 +117,7 @@ struct CommandSpec {
 }
 
 /// The commands, in the order of the help.
-const COMMANDS: [CommandSpec; 10] = [
+const COMMANDS: [CommandSpec; 12] = [
     CommandSpec {
         name: "direct",
         about: "Run a statement over a CSV file",
@@ -92,6 +135,28 @@ const COMMANDS: [CommandSpec; 10] = [
         about: "Load a CSV file into a table file",
         example: "Example: bw load trips.schema trips.csv trips.bw",
         takes: &[ArgSpec::Layout, SCHEMA, CSV, OUT],
+    },
+    CommandSpec {
+        name: "encode",
+        about: "Load a CSV file of any fields into a table file of numbers and codes",
+        example: "Example: bw encode --separator ';' trips.csv codes.bw trips.fields",
+        takes: &[
+            SEPARATOR,
+            QUOTE,
+            ESCAPE,
+            COMMENT,
+            ArgSpec::Lenient,
+            ArgSpec::Layout,
+            ANY_CSV,
+            OUT,
+            FIELDS,
+        ],
+    },
+    CommandSpec {
+        name: "recode",
+        about: "Write a table file with other numbers in place of its codes",
+        example: "Example: bw recode codes.bw trips.schema trips.numbers trips.bw",
+        takes: &[IN, SCHEMA, NUMBERS, OUT],
     },
     CommandSpec {
         name: "query",
@@ -201,6 +266,9 @@ fn argument<'a>(alloc: Global, spec: ArgSpec) -> Arg<'a> {
             .action(ArgAction::Set)
             .value_parser(["planes", "slices"].as_slice())
             .help("How to store segments: as bit planes (the default) or byte slices"),
+        ArgSpec::Lenient => flag(alloc, "lenient").help(
+            "Accept text after a closing quotation mark, and one that is open at the end",
+        ),
         ArgSpec::Stats => flag(alloc, "stats").help("Print scan statistics to standard error"),
     }
 }
@@ -265,12 +333,21 @@ fn text_args<'a>(name: &str, found: &ArgMatches<'a>) -> Option<CommandArgs<'a>> 
             csv: found.get_str("CSV")?,
         });
     }
+    if name == "encode" {
+        return encode_args(found);
+    }
     let schema = found.get_str("SCHEMA")?;
     Some(match name {
         "load" => CommandArgs::Load {
             layout: layout_of(found),
             schema,
             csv: found.get_str("CSV")?,
+            out: found.get_str("OUT")?,
+        },
+        "recode" => CommandArgs::Recode {
+            table: found.get_str("IN")?,
+            schema,
+            numbers: found.get_str("NUMBERS")?,
             out: found.get_str("OUT")?,
         },
         "direct" => CommandArgs::Direct {
@@ -292,6 +369,23 @@ fn text_args<'a>(name: &str, found: &ArgMatches<'a>) -> Option<CommandArgs<'a>> 
             schema,
             sql: found.get_str("SQL")?,
         },
+    })
+}
+
+/// Returns the command `bw encode`.
+fn encode_args<'a>(found: &ArgMatches<'a>) -> Option<CommandArgs<'a>> {
+    Some(CommandArgs::Encode {
+        marks: Marks {
+            separator: found.get_str("separator"),
+            quote: found.get_str("quote"),
+            escape: found.get_str("escape"),
+            comment: found.get_str("comment"),
+            is_lenient: found.get_flag("lenient"),
+        },
+        layout: layout_of(found),
+        csv: found.get_str("CSV")?,
+        out: found.get_str("OUT")?,
+        fields: found.get_str("FIELDS")?,
     })
 }
 

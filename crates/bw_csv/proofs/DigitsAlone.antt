@@ -8,7 +8,7 @@ use Rattle.std.proofs.lemmas.Bool.{cond_both, eqb-true, and_parts}
 use Rattle.std.proofs.lemmas.Bool.Decides.{nat_tests}
 use Rattle.std.proofs.Math.Dec.{eqb-suc-zero}
 use Rattle.std.proofs.lemmas.List.Sums.{AllPass-from_list_all, suffix_len-take_no}
-use Rattle.bw_model.specs.declared.column.Column.{Column}
+use Rattle.bw_csv.specs.declared.rule.FieldRule.{FieldRule}
 use Rattle.bw_text.specs.Number.{are_digits, number_of}
 use Rattle.bw_text.specs.Text.{same_text}
 use Rattle.bw_csv.specs.Rows.{after_minus, is_blank, is_minus, is_null_text, text_value}
@@ -44,18 +44,18 @@ no_null : (c : ℕ) (cs : List ℕ) → is_ascii_digit c ≡ true → is_null_te
 unfolding same_text
 no_null c cs e = rw (eqb-suc-zero (length cs), no_letter c e) refl
 
-spells_itself : (number : ℕ) (column : Column) (c : ℕ) (cs : List ℕ) → is_ascii_digit c ≡ true → are_digits (c ∷ cs) ≡ true
-    → text_value number column (c ∷ cs) ≡ within_bounds number column (number_of false (c ∷ cs))
-spells_itself number column c cs e digits = rw (no_null c cs e, other_than c 45 e (omega arith), other_than c 43 e (omega arith), digits) refl
+spells_itself : (number : ℕ) (rule : FieldRule) (c : ℕ) (cs : List ℕ) → is_ascii_digit c ≡ true → are_digits (c ∷ cs) ≡ true
+    → text_value number rule (c ∷ cs) ≡ within_bounds number rule (number_of false (c ∷ cs))
+spells_itself number rule c cs e digits = rw (no_null c cs e, other_than c 45 e (omega arith), other_than c 43 e (omega arith), digits) refl
 
-digits_alone : (number : ℕ) (column : Column) (field : List ℕ) → are_digits field ≡ true
-    → value_of_field number column field ≡ within_bounds number column (number_of false field)
+digits_alone : (number : ℕ) (rule : FieldRule) (field : List ℕ) → are_digits field ≡ true
+    → value_of_field number rule field ≡ within_bounds number rule (number_of false field)
 unfolding value_of_field
-digits_alone number column [] e = absurd (cc e)
-digits_alone number column (c ∷ cs) e =
+digits_alone number rule [] e = absurd (cc e)
+digits_alone number rule (c ∷ cs) e =
     let all = and_parts (is_ascii_digit c) (list_all is_ascii_digit cs) e in
     let whole : without_blanks (c ∷ cs) ≡ c ∷ cs = rw (front c cs all.0) (ended (c ∷ cs) (omega arith) (last_of is_ascii_digit no_blank (c ∷ cs) (omega arith) e)) in
-    rw whole (spells_itself number column c cs all.0 e)
+    rw whole (spells_itself number rule c cs all.0 e)
 
 -- a minus sign is no blank, and no text that begins with it is NULL
 whole_after : (cs : List ℕ) → are_digits cs ≡ true → without_blanks (45 ∷ cs) ≡ 45 ∷ cs
@@ -64,30 +64,30 @@ whole_after (c ∷ cs) e =
     let last : length (45 ∷ c ∷ cs) - 1 ≡ suc (length (c ∷ cs) - 1) = omega arith in
     ended (45 ∷ c ∷ cs) (omega arith) (rw last (last_of is_ascii_digit no_blank (c ∷ cs) (omega arith) e))
 
-digits_after_minus : (number : ℕ) (column : Column) (cs : List ℕ) → are_digits cs ≡ true
-    → value_of_field number column (45 ∷ cs) ≡ within_bounds number column (number_of true cs)
+digits_after_minus : (number : ℕ) (rule : FieldRule) (cs : List ℕ) → are_digits cs ≡ true
+    → value_of_field number rule (45 ∷ cs) ≡ within_bounds number rule (number_of true cs)
 unfolding value_of_field same_text
-digits_after_minus number column cs e = rw (whole_after cs e, eqb-suc-zero (length cs), e) refl
+digits_after_minus number rule cs e = rw (whole_after cs e, eqb-suc-zero (length cs), e) refl
 
-by_sign : (number : ℕ) (column : Column) (c : ℕ) (cs : List ℕ) (minus : Bool) → eqb c 45 ≡ minus
+by_sign : (number : ℕ) (rule : FieldRule) (c : ℕ) (cs : List ℕ) (minus : Bool) → eqb c 45 ≡ minus
     → are_digits (if minus then cs else c ∷ cs) ≡ true
-    → value_of_field number column (c ∷ cs) ≡ within_bounds number column (number_of minus (if minus then cs else c ∷ cs))
-by_sign number column c cs true s e = rw (eqb-true c 45 s) (digits_after_minus number column cs e)
-by_sign number column c cs false s e = digits_alone number column (c ∷ cs) e
+    → value_of_field number rule (c ∷ cs) ≡ within_bounds number rule (number_of minus (if minus then cs else c ∷ cs))
+by_sign number rule c cs true s e = rw (eqb-true c 45 s) (digits_after_minus number rule cs e)
+by_sign number rule c cs false s e = digits_alone number rule (c ∷ cs) e
 
 -- digits, after a minus sign if there is one
-pub signed_digits : (number : ℕ) (column : Column) (field : List ℕ) → are_digits (after_minus field) ≡ true
-    → value_of_field number column field ≡ within_bounds number column (number_of (is_minus field) (after_minus field))
-signed_digits number column [] e = absurd (cc e)
-signed_digits number column (c ∷ cs) e = by_sign number column c cs (eqb c 45) refl e
+pub signed_digits : (number : ℕ) (rule : FieldRule) (field : List ℕ) → are_digits (after_minus field) ≡ true
+    → value_of_field number rule field ≡ within_bounds number rule (number_of (is_minus field) (after_minus field))
+signed_digits number rule [] e = absurd (cc e)
+signed_digits number rule (c ∷ cs) e = by_sign number rule c cs (eqb c 45) refl e
 
 -- what was read of a field of digits
-pub read_digits : (number : ℕ) (column : Column) (field : List ℕ) (n : Option ℤ) (is_negative : Bool) (digits : List ℕ)
+pub read_digits : (number : ℕ) (rule : FieldRule) (field : List ℕ) (n : Option ℤ) (is_negative : Bool) (digits : List ℕ)
     → is_negative ≡ is_minus field → digits ≡ after_minus field
     → Some n ≡ (if are_digits digits then Some (number_of is_negative digits) else None)
-    → value_of_field number column field ≡ within_bounds number column n
-read_digits number column field n is_negative digits s d e =
+    → value_of_field number rule field ≡ within_bounds number rule n
+read_digits number rule field n is_negative digits s d e =
     let spelled = number_of (is_minus field) (after_minus field) in
-    cond_both (are_digits (after_minus field)) (Some spelled) None (λ (r : Option (Option ℤ)). Some n ≡ r → value_of_field number column field ≡ within_bounds number column n)
-    (λ is read. let same : spelled ≡ n = cc in signed_digits number column field is ∙ ap (within_bounds number column) same)
+    cond_both (are_digits (after_minus field)) (Some spelled) None (λ (r : Option (Option ℤ)). Some n ≡ r → value_of_field number rule field ≡ within_bounds number rule n)
+    (λ is read. let same : spelled ≡ n = cc in signed_digits number rule field is ∙ ap (within_bounds number rule) same)
     (λ none read. absurd (cc read)) (rw (← d, ← s) e)

@@ -6,6 +6,7 @@ use Rattle.std.proofs.lemmas.List.{append-nil, drop_all, drop_more}
 use Rattle.std.proofs.Math.Dec.{eqb-suc-suc, eqb-suc-zero}
 use Rattle.csv.specs.Records.{field_at}
 use Rattle.bw_model.specs.declared.column.Column.{Column}
+use Rattle.bw_csv.specs.declared.rule.FieldRule.{FieldRule}
 use Rattle.bw_model.specs.declared.fault.Fault.{Fault}
 use Rattle.bw_model.specs.Fault.{◌>>=◌, at_record}
 use Rattle.bw_model.specs.Row.{Value}
@@ -70,23 +71,23 @@ after-cons done x (Ok rest) = ap Ok (sym (append_assoc done (x ∷ []) rest))
 after-cons done x (Err fault) = refl
 
 -- one more value
-pub values-next : (number : ℕ) (cs cs2 : List Column) (fs fs2 : List (List ℕ)) (column : Column) (field : List ℕ) (value : Value) (done : List Value)
-    → cs ≡ column ∷ cs2 → fs ≡ field ∷ fs2 → value_of_field number column field ≡ Ok value
+pub values-next : (number : ℕ) (cs cs2 : List FieldRule) (fs fs2 : List (List ℕ)) (rule : FieldRule) (field : List ℕ) (value : Value) (done : List Value)
+    → cs ≡ rule ∷ cs2 → fs ≡ field ∷ fs2 → value_of_field number rule field ≡ Ok value
     → after done (values_of_fields number cs fs) ≡ after (done ++ value ∷ []) (values_of_fields number cs2 fs2)
 unfolding values_of_fields
-values-next number cs cs2 fs fs2 column field value done c f v = rw (c, f, v) (after-cons done value (values_of_fields number cs2 fs2))
+values-next number cs cs2 fs fs2 rule field value done c f v = rw (c, f, v) (after-cons done value (values_of_fields number cs2 fs2))
 
-pub values-fault : (number : ℕ) (cs cs2 : List Column) (fs fs2 : List (List ℕ)) (column : Column) (field : List ℕ) (fault : Fault) (done : List Value)
-    → cs ≡ column ∷ cs2 → fs ≡ field ∷ fs2 → value_of_field number column field ≡ Err fault
+pub values-fault : (number : ℕ) (cs cs2 : List FieldRule) (fs fs2 : List (List ℕ)) (rule : FieldRule) (field : List ℕ) (fault : Fault) (done : List Value)
+    → cs ≡ rule ∷ cs2 → fs ≡ field ∷ fs2 → value_of_field number rule field ≡ Err fault
     → after done (values_of_fields number cs fs) ≡ Err fault
 unfolding values_of_fields
-values-fault number cs cs2 fs fs2 column field fault done c f v = rw (c, f, v) refl
+values-fault number cs cs2 fs fs2 rule field fault done c f v = rw (c, f, v) refl
 
-pub values-short : (number : ℕ) (cs cs2 : List Column) (fs : List (List ℕ)) (column : Column) (done : List Value)
-    → cs ≡ column ∷ cs2 → fs ≡ [] → after done (values_of_fields number cs fs) ≡ Err (at_record 203 number)
+pub values-short : (number : ℕ) (cs cs2 : List FieldRule) (fs : List (List ℕ)) (rule : FieldRule) (done : List Value)
+    → cs ≡ rule ∷ cs2 → fs ≡ [] → after done (values_of_fields number cs fs) ≡ Err (at_record 203 number)
 unfolding values_of_fields
-values-short number cs cs2 fs column done c f = rw (c, f) refl
+values-short number cs cs2 fs rule done c f = rw (c, f) refl
 
-pub values-end : (number : ℕ) (cs : List Column) (fs : List (List ℕ)) (done : List Value) → cs ≡ [] → after done (values_of_fields number cs fs) ≡ Ok done
+pub values-end : (number : ℕ) (cs : List FieldRule) (fs : List (List ℕ)) (done : List Value) → cs ≡ [] → after done (values_of_fields number cs fs) ≡ Ok done
 unfolding values_of_fields
 values-end number cs fs done c = rw c (ap Ok (append-nil done))

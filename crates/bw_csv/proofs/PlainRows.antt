@@ -6,7 +6,7 @@ use Rattle.std.proofs.lemmas.Bool.{both_ways, eqb-true, or_cases}
 use Rattle.csv.specs.Machine.{next_record}
 use Rattle.csv.specs.Reading.{default_config}
 use Rattle.csv.specs.declared.parser.State.TheVariants as st
-use Rattle.bw_model.specs.declared.column.Column.{Column}
+use Rattle.bw_csv.specs.declared.rule.FieldRule.{FieldRule}
 use Rattle.bw_model.specs.Limits.{most_rows}
 use Rattle.bw_model.specs.Row.{Value}
 use Rattle.bw_csv.specs.Plain.{HasRow, IsPlainField, ends_line, is_field_end, is_line_end}
@@ -17,26 +17,26 @@ use Rattle.bw_csv.proofs.RowLemmas.{row_made}
 
 -- Of a text's first record these are the values so far, of this many fields, and this is left of
 -- the text.
-pub record ReadSoFar (number : ℕ) (columns : List Column) (text rest : List ℕ) (i : ℕ) (values : List Value) : Type 0 where
+pub record ReadSoFar (number : ℕ) (rules : List FieldRule) (text rest : List ℕ) (i : ℕ) (values : List Value) : Type 0 where
   pub done : List (List ℕ)
   pub many : length done ≡ i
   pub reads : next_record default_config st.StartRecord [] [] text ≡ next_record default_config st.StartField done [] rest
-  pub spelled : (more : List (List ℕ)) → values_of_fields number columns (done ++ more) ≡ after values (values_of_fields number (drop i columns) more)
+  pub spelled : (more : List (List ℕ)) → values_of_fields number rules (done ++ more) ≡ after values (values_of_fields number (drop i rules) more)
 
-pub read-nothing : (number : ℕ) (columns : List Column) (text : List ℕ) → is_line_end text ≡ false → ReadSoFar number columns text text 0 []
-read-nothing number columns [] e = absurd (cc e)
-read-nothing number columns (c ∷ cs) e =
-    record { done = []; many = refl; reads = begins c cs e; spelled = λ more. after-nothing (values_of_fields number columns more) }
+pub read-nothing : (number : ℕ) (rules : List FieldRule) (text : List ℕ) → is_line_end text ≡ false → ReadSoFar number rules text text 0 []
+read-nothing number rules [] e = absurd (cc e)
+read-nothing number rules (c ∷ cs) e =
+    record { done = []; many = refl; reads = begins c cs e; spelled = λ more. after-nothing (values_of_fields number rules more) }
 
 -- one more field
-values_more : (number : ℕ) (columns : List Column) (i : ℕ) (values : List Value) (done : List (List ℕ)) (field : List ℕ) (column : Column) (value : Value)
-    → ((more : List (List ℕ)) → values_of_fields number columns (done ++ more) ≡ after values (values_of_fields number (drop i columns) more))
-    → drop i columns ≡ column ∷ drop (i + 1) columns → value_of_field number column field ≡ Ok value
-    → (more : List (List ℕ)) → values_of_fields number columns ((done ++ field ∷ []) ++ more) ≡ after (values ++ value ∷ []) (values_of_fields number (drop (i + 1) columns) more)
-values_more number columns i values done field column value spelled here v more =
-    ap (λ (fields : List (List ℕ)). values_of_fields number columns fields) (append_assoc done (field ∷ []) more)
+values_more : (number : ℕ) (rules : List FieldRule) (i : ℕ) (values : List Value) (done : List (List ℕ)) (field : List ℕ) (rule : FieldRule) (value : Value)
+    → ((more : List (List ℕ)) → values_of_fields number rules (done ++ more) ≡ after values (values_of_fields number (drop i rules) more))
+    → drop i rules ≡ rule ∷ drop (i + 1) rules → value_of_field number rule field ≡ Ok value
+    → (more : List (List ℕ)) → values_of_fields number rules ((done ++ field ∷ []) ++ more) ≡ after (values ++ value ∷ []) (values_of_fields number (drop (i + 1) rules) more)
+values_more number rules i values done field rule value spelled here v more =
+    ap (λ (fields : List (List ℕ)). values_of_fields number rules fields) (append_assoc done (field ∷ []) more)
     ∙ spelled (field ∷ more)
-    ∙ values-next number (drop i columns) (drop (i + 1) columns) (field ∷ more) more column field value values here refl v
+    ∙ values-next number (drop i rules) (drop (i + 1) rules) (field ∷ more) more rule field value values here refl v
 
 -- what is left after a field begins with a comma, unless the field is the last
 comma_is : (after_field : List ℕ) → is_field_end after_field ≡ true → is_line_end after_field ≡ false → after_field ≡ 44 ∷ drop 1 after_field
@@ -46,11 +46,11 @@ comma_is (c ∷ cs) e f = elim (or_cases (eqb c 44) (ends_line c) e) [
   | inr k ↦ absurd (both_ways (ends_line c) f k)
 ]
 
-pub read-next : (number : ℕ) (columns : List Column) (text rest : List ℕ) (i : ℕ) (values : List Value) (column : Column) (size : ℕ) (value : Value)
-    → ReadSoFar number columns text rest i values → drop i columns ≡ column ∷ drop (i + 1) columns
-    → IsPlainField rest size → value_of_field number column (take size rest) ≡ Ok value → is_line_end (drop size rest) ≡ false
-    → ReadSoFar number columns text (drop 1 (drop size rest)) (i + 1) (values ++ value ∷ [])
-read-next number columns text rest i values column size value so_far here plain v e =
+pub read-next : (number : ℕ) (rules : List FieldRule) (text rest : List ℕ) (i : ℕ) (values : List Value) (rule : FieldRule) (size : ℕ) (value : Value)
+    → ReadSoFar number rules text rest i values → drop i rules ≡ rule ∷ drop (i + 1) rules
+    → IsPlainField rest size → value_of_field number rule (take size rest) ≡ Ok value → is_line_end (drop size rest) ≡ false
+    → ReadSoFar number rules text (drop 1 (drop size rest)) (i + 1) (values ++ value ∷ [])
+read-next number rules text rest i values rule size value so_far here plain v e =
     let field = take size rest in
     let next = drop 1 (drop size rest) in
     let parts : rest ≡ field ++ 44 ∷ next = sym (take-append-drop size rest) ∙ ap (λ (l : List ℕ). field ++ l) (comma_is (drop size rest) plain.2 e) in
@@ -58,24 +58,24 @@ read-next number columns text rest i values column size value so_far here plain 
       done = so_far.done ++ field ∷ [];
       many = length-append so_far.done (field ∷ []) ∙ ap (λ (n : ℕ). n + 1) so_far.many;
       reads = so_far.reads ∙ ap (λ (l : List ℕ). next_record default_config st.StartField so_far.done [] l) parts ∙ field-comma so_far.done field next plain.1;
-      spelled = values_more number columns i values so_far.done field column value so_far.spelled here v;
+      spelled = values_more number rules i values so_far.done field rule value so_far.spelled here v;
     }
 
 -- the last field
-pub read-last : (number : ℕ) (columns : List Column) (text rest : List ℕ) (i : ℕ) (values : List Value) (column : Column) (size : ℕ) (value : Value)
-    → ReadSoFar number columns text rest i values → drop i columns ≡ column ∷ drop (i + 1) columns
-    → IsPlainField rest size → value_of_field number column (take size rest) ≡ Ok value → is_line_end (drop size rest) ≡ true
-    → number ≤ most_rows → i + 1 ≡ length columns → drop (i + 1) columns ≡ []
-    → HasRow number columns text (drop size rest) (values ++ value ∷ [])
-read-last number columns text rest i values column size value so_far here plain v e few all none =
+pub read-last : (number : ℕ) (rules : List FieldRule) (text rest : List ℕ) (i : ℕ) (values : List Value) (rule : FieldRule) (size : ℕ) (value : Value)
+    → ReadSoFar number rules text rest i values → drop i rules ≡ rule ∷ drop (i + 1) rules
+    → IsPlainField rest size → value_of_field number rule (take size rest) ≡ Ok value → is_line_end (drop size rest) ≡ true
+    → number ≤ most_rows → i + 1 ≡ length rules → drop (i + 1) rules ≡ []
+    → HasRow number rules text (drop size rest) (values ++ value ∷ [])
+read-last number rules text rest i values rule size value so_far here plain v e few all none =
     let field = take size rest in
     let fields = so_far.done ++ field ∷ [] in
-    let many : length fields ≡ length columns = length-append so_far.done (field ∷ []) ∙ ap (λ (n : ℕ). n + 1) so_far.many ∙ all in
+    let many : length fields ≡ length rules = length-append so_far.done (field ∷ []) ∙ ap (λ (n : ℕ). n + 1) so_far.many ∙ all in
     let reads = so_far.reads ∙ ap (λ (l : List ℕ). next_record default_config st.StartField so_far.done [] l) (sym (take-append-drop size rest)) in
-    let spelled = values_more number columns i values so_far.done field column value so_far.spelled here v [] in
+    let spelled = values_more number rules i values so_far.done field rule value so_far.spelled here v [] in
     record {
       fields = fields;
       first = field-end text so_far.done field (drop size rest) plain.1 e reads;
-      row = row_made number columns fields (values ++ value ∷ []) few many
-          (ap (λ (l : List (List ℕ)). values_of_fields number columns l) (sym (append-nil fields)) ∙ spelled ∙ values-end number (drop (i + 1) columns) [] (values ++ value ∷ []) none);
+      row = row_made number rules fields (values ++ value ∷ []) few many
+          (ap (λ (l : List (List ℕ)). values_of_fields number rules l) (sym (append-nil fields)) ∙ spelled ∙ values-end number (drop (i + 1) rules) [] (values ++ value ∷ []) none);
     }

@@ -5,3 +5,4 @@ pub mod Plain
 pub mod Records
 pub mod Rest
 pub mod Rows
+pub mod Rule

@@ -4,8 +4,8 @@ use Rattle.std.specs.Prelude.{drop, Some, Ok}
 use Rattle.std.specs.List.{list_all}
 use Rattle.csv.specs.declared.parser.State.{State}
 use Rattle.csv.specs.declared.parser.State.TheVariants as st
-use Rattle.bw_model.specs.declared.column.Column.{Column}
 use Rattle.bw_model.specs.Row.{Value}
+use Rattle.bw_csv.specs.declared.rule.FieldRule.{FieldRule}
 use Rattle.bw_csv.specs.declared.heading_end.Inside.{Inside}
 use Rattle.bw_csv.specs.declared.heading_end.Inside.TheVariants.{Before, Front, Bare, Quoted}
 use Rattle.bw_csv.specs.declared.heading_end.Inside.TheVariants.{Closed}
@@ -48,8 +48,8 @@ state_of Quoted = st.InQuoted
 state_of Closed = st.AfterQuote
 
 -- A text's first record has a row of these values, and `rest` is the text after the record.
-pub record HasRow (number : ℕ) (columns : List Column) (text rest : List ℕ)
+pub record HasRow (number : ℕ) (rules : List FieldRule) (text rest : List ℕ)
     (values : List Value) : Type 0 where
   pub fields : List (List ℕ)
   pub first : records_in st.StartRecord (Some text) ≡ fields ∷ records_in st.StartRecord (Some rest)
-  pub row : row_of_record number columns fields ≡ Ok values
+  pub row : row_of_record number rules fields ≡ Ok values

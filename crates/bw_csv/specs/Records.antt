@@ -1,8 +1,9 @@
 -- The records of a text that are still unread.
 use Rattle.std.specs.Prelude.{◌≡◌, ◌+◌, ℕ, List, [], length, Option, Some, None, IsSome, false}
-use Rattle.std.specs.Prelude.{true}
+use Rattle.std.specs.Prelude.{true, Bool}
 use Rattle.std.specs.Borrow.{Bor}
-use Rattle.csv.specs.Reading.{Ready, has_failed, records_from, source_of, default_config}
+use Rattle.csv.specs.Reading.{Ready, has_failed, is_flexible, records_from, source_of}
+use Rattle.csv.specs.Reading.{default_config}
 use Rattle.csv.specs.Records.{fields_of}
 use Rattle.csv.specs.declared.parser.State.{State}
 use Rattle.csv.specs.declared.parser.State.TheVariants as st
@@ -27,11 +28,12 @@ left_in reader = records_in reader.state (source_of bytes_under reader)
 unfoldable pub remaining_records : Records → List (List (List ℕ))
 remaining_records records = left_in records.reader
 
--- a reader with the crate's default settings, which takes no record as a heading of its own, and
--- hasn't failed or ended
+-- a reader with the crate's default settings, but that records may differ in length; it takes no
+-- record as a heading of its own, and hasn't failed or ended
 abbrev pub IsOpenReader : Reader (Bor (List ℕ)) → Type 0
 IsOpenReader reader = (reader.config ≡ default_config) × (reader.trim ≡ trim.None) × Ready reader
     × (has_failed reader ≡ false) × IsSome (source_of bytes_under reader)
+    × (is_flexible reader ≡ true)
 
 -- the reader is open, and if the text is followed, its records are those that the reader still has
 -- to read
@@ -39,6 +41,10 @@ unfoldable pub IsOpen : Records → Type 0
 IsOpen records = IsOpenReader records.reader
     × (records.is_followed ≡ true → records_in st.StartRecord (Some records.text.now)
     ≡ left_in records.reader)
+
+-- the csv reader has reported an error, and reads nothing more
+abbrev pub has_stopped : Records → Bool
+has_stopped records = has_failed records.reader
 
 -- the fields of the last record
 abbrev pub fields_in : Records → List (List ℕ)

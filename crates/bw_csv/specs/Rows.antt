@@ -3,7 +3,7 @@
 use Rattle.std.specs.Prelude.{◌≡◌, ◌+◌, ◌-◌, ℕ, ℤ, Bool, true, false, List, [], ◌∷◌, ◌++◌, ◌⊎◌}
 use Rattle.std.specs.Prelude.{◌||◌, ◌&&◌, not, ◌==◌, length, Option, Some, None, Result, Ok, Err}
 use Rattle.std.specs.Prelude.{IsOkAnd, IsTrue, if◌then◌else◌, codes, int_le, nat_le, nat_lt}
-use Rattle.std.specs.Prelude.{slice_index, drop, take}
+use Rattle.std.specs.Prelude.{slice_index, drop, map, take}
 use Rattle.std.specs.List.{prefix_len, suffix_len}
 use Rattle.csv.specs.Reading.{records, strip_bom, default_config}
 use Rattle.bw_model.specs.FaultTable.{NO_HEADING, HEADING, RECORD_LENGTH, NOT_A_NUMBER}
@@ -18,6 +18,8 @@ use Rattle.bw_model.specs.Limits.{most_rows}
 use Rattle.bw_text.specs.Number.{are_digits, number_of}
 use Rattle.bw_model.specs.Row.{Value}
 use Rattle.bw_text.specs.Text.{same_text}
+use Rattle.bw_csv.specs.Rule.{rule_of}
+use Rattle.bw_csv.specs.declared.rule.FieldRule.{FieldRule}
 
 -- the byte is a space or a tab
 abbrev pub is_blank : ℕ → Bool
@@ -33,19 +35,19 @@ without_end_blanks field = take (length field - suffix_len is_blank field) field
 abbrev pub without_blanks : List ℕ → List ℕ
 without_blanks field = without_end_blanks (without_front_blanks field)
 
--- a number that fits 64 bits and is within the bounds of a column, or an error at the record of
--- this number
-abbrev pub within_bounds : ℕ → Column → Option ℤ → Result Value Fault
-within_bounds number column None = Err (at_record OUT_OF_RANGE number)
-within_bounds number column (Some n) = refused_if (not (int_le column.lo n && int_le n column.hi))
+-- a number that fits 64 bits and is one that a rule allows, or an error at the record of this
+-- number
+abbrev pub within_bounds : ℕ → FieldRule → Option ℤ → Result Value Fault
+within_bounds number rule None = Err (at_record OUT_OF_RANGE number)
+within_bounds number rule (Some n) = refused_if (not (int_le rule.lo n && int_le n rule.hi))
     (at_record OUT_OF_RANGE number) (Ok (Some n))
 
 -- the number that a sign and digits spell: there is at least one digit, and the number is within
--- the column's bounds
-abbrev pub number_value : ℕ → Column → Bool → List ℕ → Result Value Fault
-number_value number column is_negative digits =
+-- the rule's bounds
+abbrev pub number_value : ℕ → FieldRule → Bool → List ℕ → Result Value Fault
+number_value number rule is_negative digits =
     refused_if (not (are_digits digits)) (at_record NOT_A_NUMBER number)
-    (within_bounds number column (number_of is_negative digits))
+    (within_bounds number rule (number_of is_negative digits))
 
 -- the text begins with a minus sign, which is byte 45, or with a plus sign, which is byte 43
 abbrev pub is_minus : List ℕ → Bool
@@ -65,33 +67,33 @@ without_sign text = if is_minus text || is_plus text then drop 1 text else text
 abbrev pub is_null_text : List ℕ → Bool
 is_null_text text = (length text == 0) || same_text text (codes "NULL")
 
--- the value that a text without blanks spells: null, if the column is nullable, or an optional sign
--- and then a number
-abbrev pub text_value : ℕ → Column → List ℕ → Result Value Fault
-text_value number column text =
-    if is_null_text text then refused_if (not column.nullable) (at_record NULL_NOT_ALLOWED number)
+-- the value that a text without blanks spells: null, if the rule allows it, or an optional sign and
+-- then a number
+abbrev pub text_value : ℕ → FieldRule → List ℕ → Result Value Fault
+text_value number rule text =
+    if is_null_text text then refused_if (not rule.nullable) (at_record NULL_NOT_ALLOWED number)
     (Ok None)
-    else number_value number column (is_minus text) (without_sign text)
+    else number_value number rule (is_minus text) (without_sign text)
 
--- the value of a field in a column, or its error at the record of this number
-unfoldable pub value_of_field : ℕ → Column → List ℕ → Result Value Fault
-value_of_field number column field = text_value number column (without_blanks field)
+-- the value of a field under a rule, or its error at the record of this number
+unfoldable pub value_of_field : ℕ → FieldRule → List ℕ → Result Value Fault
+value_of_field number rule field = text_value number rule (without_blanks field)
 
 -- the values of the fields, from the left, or the first error among them
-unfoldable pub values_of_fields : ℕ → List Column → List (List ℕ) → Result (List Value) Fault
+unfoldable pub values_of_fields : ℕ → List FieldRule → List (List ℕ) → Result (List Value) Fault
 values_of_fields number [] fields = Ok []
-values_of_fields number (column ∷ columns) [] = Err (at_record RECORD_LENGTH number)
-values_of_fields number (column ∷ columns) (field ∷ fields) =
-    value_of_field number column field >>= λ value. values_of_fields number columns fields
+values_of_fields number (rule ∷ rules) [] = Err (at_record RECORD_LENGTH number)
+values_of_fields number (rule ∷ rules) (field ∷ fields) =
+    value_of_field number rule field >>= λ value. values_of_fields number rules fields
     >>= λ values. Ok (value ∷ values)
 
 -- the row of a record, or its first error: the number of its fields, a row past 2^24, and then its
 -- fields
-unfoldable pub row_of_record : ℕ → List Column → List (List ℕ) → Result (List Value) Fault
-row_of_record number columns fields =
-    refused_if (not (length fields == length columns)) (at_record RECORD_LENGTH number)
+unfoldable pub row_of_record : ℕ → List FieldRule → List (List ℕ) → Result (List Value) Fault
+row_of_record number rules fields =
+    refused_if (not (length fields == length rules)) (at_record RECORD_LENGTH number)
     (refused_if (nat_lt most_rows number) (at_record TOO_MANY_ROWS number)
-    (values_of_fields number columns fields))
+    (values_of_fields number rules fields))
 
 -- a row, followed by the rows after it
 abbrev pub with_row : List Value → Result (List (List Value)) Fault
@@ -99,11 +101,11 @@ abbrev pub with_row : List Value → Result (List (List Value)) Fault
 with_row row more = more >>= λ rows. Ok (row ∷ rows)
 
 -- the rows of the records, the first of which has this number
-unfoldable pub rows_from : List Column → ℕ → List (List (List ℕ)) → Result (List (List Value)) Fault
-rows_from columns number [] = Ok []
-rows_from columns number (fields ∷ more) =
-    row_of_record number columns fields
-    >>= λ row. with_row row (rows_from columns (number + 1) more)
+unfoldable pub rows_from : List FieldRule → ℕ → List (List (List ℕ)) → Result (List (List Value)) Fault
+rows_from rules number [] = Ok []
+rows_from rules number (fields ∷ more) =
+    row_of_record number rules fields
+    >>= λ row. with_row row (rows_from rules (number + 1) more)
 
 -- the fields are the names of the columns in order, ignoring case
 unfoldable pub is_heading : List Column → List (List ℕ) → Bool
@@ -118,7 +120,7 @@ unfoldable pub rows_after : List Column → List (List (List ℕ)) → Result (L
 rows_after columns [] = Err (at_record NO_HEADING 0)
 rows_after columns (heading ∷ more) = refused_if (not (is_heading columns heading))
     (at_record HEADING 0)
-    (rows_from columns 1 more)
+    (rows_from (map rule_of columns) 1 more)
 
 -- the rows that a text spells, without the byte order mark at its start, if it has one, or its
 -- first error
@@ -182,7 +184,7 @@ Stops after records fault =
 -- so it is under these columns
 abbrev pub StopsUnder : List Column → List (List (List ℕ)) → Fault → Type 0
 StopsUnder columns = Stops (λ heading more fault. (is_heading columns heading ≡ true)
-    × StopsAfter (rows_from columns) more fault)
+    × StopsAfter (rows_from (map rule_of columns)) more fault)
 
 -- What a call returned is what is expected, except for exempt errors.
 abbrev pub MatchesUnlessExempt : {A B : Type 0} → (A → B) → Result A Fault → Result B Fault → Type 0

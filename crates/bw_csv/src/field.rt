@@ -6,66 +6,70 @@ ghost use Rattle.bw_csv.specs.Rows.{without_blanks, is_null_text, is_minus, afte
 ghost use Rattle.bw_csv.specs.Rows.{without_sign, number_value, text_value, within_bounds};
 ghost use Rattle.bw_csv.specs.Rows.{value_of_field, MatchesUnlessExempt, IsRowsFault, located_at};
 
-use bw_model::{Column, Fault, Value, code};
+use crate::rule::FieldRule;
+use bw_model::{Fault, Value, code};
 use bw_text::{is_same_text, number_in};
 
-/// Returns the value that a field spells in a column. Most fields are digits, maybe after a minus
+/// Returns the value that a field spells under a rule. Most fields are digits, maybe after a minus
 /// sign, which are read in one pass.
 ///
 /// Errors, at the record of this number: 204 if it isn't a whole number, 206 if it is null and the
-/// column isn't nullable, 205 if the number is outside the column's bounds.
+/// rule doesn't allow null, 205 if the number is outside the rule's bounds.
 #[tactic(auto, unfolding(crate::specs::Rows::value_of_field))]
-pub fn value_of(column: &Column, field: &[u8], number: u32) -> Result<Value, Fault>
+pub fn value_of(rule: &FieldRule, field: &[u8], number: u32) -> Result<Value, Fault>
+    ensures exact { result ≡ value_of_field number rule.now field.now }
     ensures value { MatchesUnlessExempt (λ value. value) result
-        (value_of_field number column.now field.now) }
+        (value_of_field number rule.now field.now) }
     ensures fault { IfErr result IsRowsFault }
     ensures place { IfErr result (λ fault. IsTrue (located_at number fault)) }
 {
     match number_in(is_minus(field), after_minus(field)) {
-        Some(n) => within_bounds(column, n, number),
-        None => value_of_text(column, without_blanks(field), number),
+        Some(n) => within_bounds(rule, n, number),
+        None => value_of_text(rule, without_blanks(field), number),
     }
 }
 
 /// Returns the value that a text without blanks at its ends spells.
-fn value_of_text(column: &Column, text: &[u8], number: u32) -> Result<Value, Fault>
-    ensures value { MatchesUnlessExempt (λ value. value) result
-        (text_value number column.now text.now) }
+fn value_of_text(rule: &FieldRule, text: &[u8], number: u32) -> Result<Value, Fault>
+    ensures exact { result ≡ text_value number rule.now text.now }
     ensures fault { IfErr result IsRowsFault }
     ensures place { IfErr result (λ fault. IsTrue (located_at number fault)) }
 {
     if !is_null_text(text) {
-        return number_of(column, is_minus(text), without_sign(text), number);
+        return number_of(rule, is_minus(text), without_sign(text), number);
     }
-    if column.nullable {
+    if rule.nullable {
         Ok(None)
     } else {
         Err(Fault::at_record(code::NULL_NOT_ALLOWED, number))
     }
 }
 
-/// Returns the number that a sign and digits spell in a column.
-fn number_of(column: &Column, is_negative: bool, digits: &[u8], number: u32) -> Result<Value, Fault>
-    ensures value { MatchesUnlessExempt (λ value. value) result
-        (number_value number column.now is_negative digits.now) }
+/// Returns the number that a sign and digits spell under a rule.
+fn number_of(
+    rule: &FieldRule,
+    is_negative: bool,
+    digits: &[u8],
+    number: u32,
+) -> Result<Value, Fault>
+    ensures exact { result ≡ number_value number rule.now is_negative digits.now }
     ensures fault { IfErr result IsRowsFault }
     ensures place { IfErr result (λ fault. IsTrue (located_at number fault)) }
 {
     match number_in(is_negative, digits) {
-        Some(n) => within_bounds(column, n, number),
+        Some(n) => within_bounds(rule, n, number),
         None => Err(Fault::at_record(code::NOT_A_NUMBER, number)),
     }
 }
 
-/// Returns a number if it fits 64 bits and is within the column's bounds.
-fn within_bounds(column: &Column, spelled: Option<i64>, number: u32) -> Result<Value, Fault>
-    ensures value { MatchesUnlessExempt (λ value. value) result
-        (within_bounds number column.now spelled) }
+/// Returns a number if it fits 64 bits and is within the rule's bounds.
+fn within_bounds(rule: &FieldRule, spelled: Option<i64>, number: u32) -> Result<Value, Fault>
+    ensures exact { result ≡ within_bounds number rule.now spelled }
     ensures fault { IfErr result IsRowsFault }
     ensures place { IfErr result (λ fault. IsTrue (located_at number fault)) }
 {
     match spelled {
-        Some(n) if column.lo <= n && n <= column.hi => Ok(Some(n)),
+        Some(n) if rule.lo <= n && n <= rule.hi => Ok(Some(n)),
         _ => Err(Fault::at_record(code::OUT_OF_RANGE, number)),
     }
 }

@@ -3,17 +3,16 @@
 //! The contract that the crates above use is that of [`read_rows`]: in one pass it delivers a
 //! text's rows to a [`RowConsumer`](bw_model::RowConsumer), one after another, or returns the
 //! text's first error. `specs/Rows.antt` defines the rows of a text, over the records that the
-//! `csv` crate defines for its bytes. Without a schema, [`Records`] and [`read_bare_row`] read the
-//! same rows, and the only bounds are those of 64 bits.
+//! `csv` crate defines for its bytes. A [`FieldRule`] says what a field may
+//! spell. Without a schema, [`Records`] reads the heading, and [`Rest`] the rows, with rules that
+//! allow every number of 64 bits.
 //!
 //! Read `specs/Rows.antt` first, then `rows.rt`, `row.rt` and `field.rt`. `records.rt` has the
-//! `csv` crate's reader behind a few calls, and `bare.rt` rows without a schema. Records without a
-//! quotation mark are read from the text itself, in one pass over its bytes (`plain_row.rt`,
+//! `csv` crate's reader behind a few calls. Records without a quotation mark are read from the text itself, in one pass over its bytes (`plain_row.rt`,
 //! `plain_field.rt`). `rest.rt` has both ways behind one call, by `specs/Plain.antt` and
 //! `specs/Rest.antt`.
 #![tactic(auto)]
 
-mod bare;
 mod field;
 mod heading_end;
 mod input;
@@ -26,10 +25,12 @@ mod records;
 mod rest;
 mod row;
 mod rows;
+mod rule;
 
-pub use bare::{bare_rows_are_rows, bare_value_of, read_bare_row};
 pub use field::{value_of, without_blanks};
 pub use input::read_csv;
 pub use many_fields::without_more_fields;
 pub use records::Records;
-pub use rows::{faults_stand_as_listed, read_rows, rows_are_admitted};
+pub use rest::Rest;
+pub use rows::{bare_rows_are_rows, faults_stand_as_listed, read_rows, rows_are_admitted};
+pub use rule::{FieldRule, rules_without_schema};

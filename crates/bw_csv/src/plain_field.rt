@@ -11,7 +11,8 @@ ghost use Rattle.bw_csv.specs.Rows.{after_minus, is_minus, value_of_field};
 
 use crate::field::{after_minus, is_minus, value_of};
 use crate::marks::{is_field_end, is_plain, skip_bytes};
-use bw_model::{Column, Value};
+use crate::rule::FieldRule;
+use bw_model::Value;
 use bw_text::with_sign;
 
 /// The digits with which a text begins: the number that they spell, and how many they are.
@@ -35,31 +36,31 @@ pub(crate) struct Found {
     pub(crate) len: usize,
 }
 
-/// Returns the value that a text's first field spells in a column, or None if the field isn't plain
+/// Returns the value that a text's first field spells under a rule, or None if the field isn't plain
 /// or is an error.
 #[inline(always)]
-pub(crate) fn value_at(column: &Column, text: &[u8], number: u32) -> Option<Found>
+pub(crate) fn value_at(rule: &FieldRule, text: &[u8], number: u32) -> Option<Found>
     ensures plain { IfSome result (λ found. IsPlainField text.now found.len) }
     ensures value { IfSome result
-        (λ found. value_of_field number column.now (take found.len text.now) ≡ Ok found.value) }
+        (λ found. value_of_field number rule.now (take found.len text.now) ≡ Ok found.value) }
 {
-    match number_at(column, text) {
+    match number_at(rule, text) {
         Some(found) => Some(found),
-        None => other_at(column, text, number),
+        None => other_at(rule, text, number),
     }
 }
 
 /// Returns the value of a field of a few digits, maybe after a minus sign.
 #[inline(always)]
-fn number_at(column: &Column, text: &[u8]) -> Option<Found>
+fn number_at(rule: &FieldRule, text: &[u8]) -> Option<Found>
     ensures plain { IfSome result (λ found. IsPlainField text.now found.len) }
     ensures value { IfSome result (λ found. (number : ℕ)
-        → value_of_field number column.now (take found.len text.now) ≡ Ok found.value) }
+        → value_of_field number rule.now (take found.len text.now) ≡ Ok found.value) }
 {
     let Some(spelled) = spelled_at(text) else {
         return None;
     };
-    if is_field_end(skip_bytes(text, spelled.len)) && is_within(column, spelled.number) {
+    if is_field_end(skip_bytes(text, spelled.len)) && is_within(rule, spelled.number) {
         Some(Found {
             value: Some(spelled.number),
             len: spelled.len,
@@ -72,16 +73,16 @@ fn number_at(column: &Column, text: &[u8]) -> Option<Found>
 /// Returns the value of a field of any other form. Such fields are rare, so this stays out of the
 /// loop over fields.
 #[inline(never)]
-fn other_at(column: &Column, text: &[u8], number: u32) -> Option<Found>
+fn other_at(rule: &FieldRule, text: &[u8], number: u32) -> Option<Found>
     ensures plain { IfSome result (λ found. IsPlainField text.now found.len) }
     ensures value { IfSome result
-        (λ found. value_of_field number column.now (take found.len text.now) ≡ Ok found.value) }
+        (λ found. value_of_field number rule.now (take found.len text.now) ≡ Ok found.value) }
 {
     let len = plain_len(text);
     if !is_field_end(skip_bytes(text, len)) {
         return None;
     }
-    match value_of(column, &text[..len], number) {
+    match value_of(rule, &text[..len], number) {
         Ok(value) => Some(Found { value, len }),
         Err(_) => None,
     }
@@ -136,12 +137,12 @@ fn digits_at(text: &[u8]) -> Option<Digits>
     None
 }
 
-/// Returns whether a number is within the bounds of a column.
+/// Returns whether a number is within the bounds of a rule.
 #[inline(always)]
-fn is_within(column: &Column, n: i64) -> bool
-    ensures { result ≡ (int_le column.now.lo n && int_le n column.now.hi) }
+fn is_within(rule: &FieldRule, n: i64) -> bool
+    ensures { result ≡ (int_le rule.now.lo n && int_le n rule.now.hi) }
 {
-    column.lo <= n && n <= column.hi
+    rule.lo <= n && n <= rule.hi
 }
 
 /// Returns how many bytes at the start of a text are those of a plain field.

@@ -8,27 +8,28 @@ ghost use Rattle.bw_csv.specs.Records.{records_in};
 
 use crate::marks::{ends_line, is_line_end, skip_bytes};
 use crate::plain_field::value_at;
-use bw_model::{Column, MAX_ROWS, Row};
+use crate::rule::FieldRule;
+use bw_model::{MAX_ROWS, Row};
 
-/// Writes the row of a text's next record, which has this number, into `row`. Returns the text
+/// Writes the row of a text's next record, which has this number, under the rules into `row`. Returns the text
 /// after the record, which begins with a line's end or is empty. Returns None if the record isn't
 /// plain or has an error, or if there is none.
 #[inline(always)]
 pub(crate) fn plain_row<'a>(
-    columns: &[Column],
+    rules: &[FieldRule],
     text: &'a [u8],
     number: u32,
     row: &mut Row,
 ) -> Option<&'a [u8]>
     ensures row { IfSome result
-        (λ rest. HasRow number columns.now text.now rest.now (values_of row.new)) }
+        (λ rest. HasRow number rules.now text.now rest.now (values_of row.new)) }
     ensures end { IfSome result (λ rest. is_line_end rest.now ≡ true) }
 {
     let record = after_line_ends(text);
     if number > MAX_ROWS || is_line_end(record) {
         return None;
     }
-    row_at(columns, record, number, row)
+    row_at(rules, record, number, row)
 }
 
 /// Returns a text without the line ends at its start, of which most have one or two.
@@ -46,17 +47,17 @@ fn after_line_ends(text: &[u8]) -> &[u8]
 
 /// Reads the plain record that a text begins with. Returns the text after it.
 #[inline(always)]
-fn row_at<'a>(columns: &[Column], text: &'a [u8], number: u32, row: &mut Row) -> Option<&'a [u8]>
+fn row_at<'a>(rules: &[FieldRule], text: &'a [u8], number: u32, row: &mut Row) -> Option<&'a [u8]>
     requires within_limit { number ≤ most_rows }
     requires record { is_line_end text.now ≡ false }
     ensures row { IfSome result
-        (λ rest. HasRow number columns.now text.now rest.now (values_of row.new)) }
+        (λ rest. HasRow number rules.now text.now rest.now (values_of row.new)) }
     ensures end { IfSome result (λ rest. is_line_end rest.now ≡ true) }
 {
     row.values.clear();
     let mut rest = text;
-    for (i, column) in columns.iter().enumerate() {
-        let Some(found) = value_at(column, rest, number) else {
+    for (i, rule) in rules.iter().enumerate() {
+        let Some(found) = value_at(rule, rest, number) else {
             return None;
         };
         let Ok(()) = row.values.push(found.value) else {
@@ -64,7 +65,7 @@ fn row_at<'a>(columns: &[Column], text: &'a [u8], number: u32, row: &mut Row) ->
         };
         let left = skip_bytes(rest, found.len);
         if is_line_end(left) {
-            return if i + 1 == columns.len() {
+            return if i + 1 == rules.len() {
                 Some(left)
             } else {
                 None

@@ -1,12 +1,12 @@
 //! The records of a text, one at a time.
 ghost use Rattle.std.specs.Prelude.{◌≡◌, ◌<◌, ℕ, List, [], ◌∷◌, Some, true, false, length};
 ghost use Rattle.std.specs.Prelude.{slice_index_or, IfOk, IfErr, IsTrue};
-ghost use Rattle.csv.specs.Reading.{records, strip_bom, default_config};
+ghost use Rattle.csv.specs.Reading.{records, strip_bom, default_config, has_failed};
 ghost use Rattle.csv.specs.Records.{fields_of};
 ghost use Rattle.csv.specs.declared.parser.State.TheVariants as st;
 ghost use Rattle.bw_csv.specs.Fields.{IsLonger};
 ghost use Rattle.bw_csv.specs.Records.{IsOpen, IsOpenReader, remaining_records, fields_in, left_in};
-ghost use Rattle.bw_csv.specs.Records.{records_in};
+ghost use Rattle.bw_csv.specs.Records.{has_stopped, records_in};
 ghost use Rattle.bw_csv.specs.Rows.{IsRowsFault, is_exempt, located_at, without_blanks};
 
 use crate::field::without_blanks;
@@ -50,8 +50,8 @@ impl<'a> Records<'a> {
     /// Reads the next record, which has this number. Returns whether there was one. The records
     /// must be open, as they are until the first error.
     ///
-    /// Errors: 209, an error of the reader's own; 801 if memory is refused. Then nothing more is
-    /// read.
+    /// Errors: 209, an error of the csv reader's own; 801 if memory is refused. The reader then reads
+    /// nothing more.
     #[tactic(auto, unfolding(crate::specs::Records::remaining_records))]
     pub fn next(&mut self, number: u32) -> Result<bool, Fault>
         requires { IsOpen self.old }
@@ -62,6 +62,8 @@ impl<'a> Records<'a> {
         ensures aside { IfErr result (λ fault. is_exempt fault ≡ true) }
         ensures fault { IfErr result IsRowsFault }
         ensures place { IfErr result (λ fault. IsTrue (located_at number fault)) }
+        // An error is one of the csv reader.
+        ensures stopped { IfErr result (λ _. has_stopped self.new ≡ true) }
     {
         if !read_fields(&mut self.reader, &mut self.fields, number)? {
             return Ok(false);
@@ -161,6 +163,7 @@ fn read_fields(
     ensures aside { IfErr result (λ fault. is_exempt fault ≡ true) }
     ensures fault { IfErr result IsRowsFault }
     ensures place { IfErr result (λ fault. IsTrue (located_at number fault)) }
+    ensures stopped { IfErr result (λ _. has_failed reader.new ≡ true) }
 {
     match reader.read_byte_record(fields) {
         Ok(found) => Ok(found),

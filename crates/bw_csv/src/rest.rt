@@ -1,26 +1,27 @@
 //! The rest of a text, which is still unread.
 ghost use Rattle.std.specs.Prelude.{◌≡◌, ◌≤◌, ◌∷◌, ℕ, List, [], Ok, Err, true, false, IfOk, IfErr};
 ghost use Rattle.std.specs.Prelude.{IsTrue};
-ghost use Rattle.bw_model.specs.Column.{admits_values};
 ghost use Rattle.bw_model.specs.Limits.{most_rows};
 ghost use Rattle.bw_model.specs.Row.{values_of};
 ghost use Rattle.bw_csv.specs.Bare.{records_of};
 ghost use Rattle.bw_csv.specs.Records.{remaining_records};
 ghost use Rattle.bw_csv.specs.Rest.{IsReadable, to_come};
+ghost use Rattle.bw_csv.specs.Rule.{allow_values};
 ghost use Rattle.bw_csv.specs.Rows.{is_exempt, row_of_record, rows_from, IsRowsFault, located_at};
 
 use crate::heading_end::{after_byte_order_mark, after_record};
 use crate::plain_row::plain_row;
 use crate::records::Records;
 use crate::row::read_row;
-use bw_model::{Column, Fault, Row};
+use crate::rule::FieldRule;
+use bw_model::{Fault, Row};
 use std::alloc::Global;
 
 /// The records of a text that are still unread. As long as they are plain, they are read from the
 /// text itself. The csv reader reads the first one that isn't plain or has an error, and all after
 /// it.
 #[derive(Drop)]
-pub(crate) struct Rest<'a> {
+pub struct Rest<'a> {
     alloc: Global,
     /// Whether records are read from the text itself, since each so far was plain.
     reads_text: bool,
@@ -31,8 +32,9 @@ pub(crate) struct Rest<'a> {
 }
 
 impl<'a> Rest<'a> {
-    /// Returns the records of a text after the first one, which `records` has read.
-    pub(crate) fn new(alloc: Global, text: &'a [u8], records: Records<'a>) -> Self
+    /// Returns the records of a text after the first one, which `records` has read, and nothing
+    /// else.
+    pub fn new(alloc: Global, text: &'a [u8], records: Records<'a>) -> Self
         requires { (heading : List (List ℕ))
             × (records_of text.now ≡ heading ∷ remaining_records records) }
         ensures readable { IsReadable result }
@@ -46,36 +48,42 @@ impl<'a> Rest<'a> {
         }
     }
 
-    /// Reads the next record, which has this number, and writes its row into `row`. Returns whether
-    /// there was a record. Errors: those of `read_row`.
+    /// Reads the next record, which has this number, and writes its row under the rules, one for
+    /// each field, into `row`. Returns whether there was a record. The rest must be readable, as it
+    /// is until the first error.
+    ///
+    /// Errors: the first of the record: the number of its fields (203), a row past 2^24 (207), and
+    /// then its fields from the left: 204, not a whole number; 206, a null that the rule doesn't
+    /// allow; 205, a number that it doesn't allow. 209 is an error of the reader's own; 801 if
+    /// memory is refused.
     #[inline(always)]
-    pub(crate) fn next_row(
+    pub fn next_row(
         &mut self,
-        columns: &[Column],
+        rules: &[FieldRule],
         number: u32,
         row: &mut Row,
     ) -> Result<bool, Fault>
         requires { IsReadable self.old }
         ensures nonempty { IfOk result (λ found. found ≡ true → (fields : List (List ℕ))
             × (to_come self.old ≡ fields ∷ to_come self.new)
-            × (row_of_record number columns.now fields ≡ Ok (values_of row.new))) }
+            × (row_of_record number rules.now fields ≡ Ok (values_of row.new))) }
         ensures readable { IfOk result (λ found. found ≡ true → IsReadable self.new
-            × (number ≤ most_rows) × IsTrue (admits_values columns.now (values_of row.new))) }
+            × (number ≤ most_rows) × IsTrue (allow_values rules.now (values_of row.new))) }
         ensures none { IfOk result (λ found. found ≡ false
-            → rows_from columns.now number (to_come self.old) ≡ Ok []) }
+            → rows_from rules.now number (to_come self.old) ≡ Ok []) }
         ensures row { IfErr result (λ fault. is_exempt fault ≡ false
-            → rows_from columns.now number (to_come self.old) ≡ Err fault) }
+            → rows_from rules.now number (to_come self.old) ≡ Err fault) }
         ensures fault { IfErr result IsRowsFault }
         ensures place { IfErr result (λ fault. IsTrue (located_at number fault)) }
     {
         if self.reads_text {
-            if let Some(left) = plain_row(columns, self.text, number, row) {
+            if let Some(left) = plain_row(rules, self.text, number, row) {
                 self.text = left;
                 return Ok(true);
             }
         }
         self.turn_to_reader();
-        read_row(columns, &mut self.records, number, row)
+        read_row(rules, &mut self.records, number, row)
     }
 
     /// Lets the csv reader read the rest of the text, if it doesn't yet.

@@ -6,7 +6,7 @@
 //! digit. The `csv` crate cuts the bytes into records and fields, and drops one byte order mark at
 //! the start.
 ghost use Rattle.std.specs.Prelude.{◌≡◌, ◌+◌, ◌<◌, ◌≤◌, ℕ, List, [], ◌∷◌, ◌++◌, Bool, true, OnOk};
-ghost use Rattle.std.specs.Prelude.{IfOk, Err, IfErr, IsTrue, length};
+ghost use Rattle.std.specs.Prelude.{IfOk, Err, IfErr, IsTrue, length, map};
 ghost use Rattle.std.specs.List.{list_all};
 ghost use Rattle.bw_model.specs.Column.{admits_values};
 ghost use Rattle.bw_model.specs.declared.column.Column.{Column};
@@ -16,13 +16,15 @@ ghost use Rattle.bw_model.specs.Limits.{most_rows};
 ghost use Rattle.bw_model.specs.Row.{Value, values_of};
 ghost use Rattle.bw_model.specs.FaultPlaces.{StandsAsListed};
 ghost use Rattle.bw_csv.specs.Rest.{IsReadable, to_come};
-ghost use Rattle.bw_csv.specs.Bare.{records_of};
+ghost use Rattle.bw_csv.specs.Bare.{bare_rows, records_of};
+ghost use Rattle.bw_csv.specs.Rule.{allow_values, rule_of};
 ghost use Rattle.bw_csv.specs.Rows.{rows_of, rows_from, is_reader_fault, DeliversRows, IsRowsFault};
 ghost use Rattle.bw_csv.specs.Rows.{StopsAfter, StopsUnder, located_at, stands_after};
 
 use crate::records::Records;
 use crate::rest::Rest;
 use crate::row::read_heading;
+use crate::rule::{FieldRule, rules_of};
 use bw_model::{Column, Fault, Row, RowConsumer, Schema, Value};
 use std::alloc::Global;
 
@@ -59,36 +61,37 @@ pub fn read_rows<K: RowConsumer>(
 {
     let mut records = Records::new(alloc, text);
     read_heading(&schema.columns, &mut records)?;
+    let rules = rules_of(alloc, &schema.columns)?;
     let mut rest = Rest::new(alloc, text, records);
     let mut row = Row {
         values: Vec::with_capacity(alloc, schema.columns.len())?,
     };
-    hand_rows(&schema.columns, &mut rest, &mut row, taker)
+    hand_rows(&rules, &mut rest, &mut row, taker)
 }
 
-/// Delivers the rows of the unread records, the first of which has number 1, to a consumer, in
-/// order.
+/// Delivers the rows of the unread records, the first of which has number 1, under the rules to
+/// a consumer, in order.
 #[tactic(auto, using(crate::proofs::RowLemmas::so_far))]
 fn hand_rows<K: RowConsumer>(
-    columns: &[Column],
+    rules: &[FieldRule],
     rest: &mut Rest<'_>,
     row: &mut Row,
     taker: &mut K,
 ) -> Result<(), Fault>
     requires readable { IsReadable rest.old }
-    requires takes { (row : List Value) → IsTrue (admits_values columns.now row)
+    requires takes { (row : List Value) → IsTrue (allow_values rules.now row)
         → IsTrue (K.takes taker.old row) }
     requires fresh { K.rows taker.old ≡ 0 }
     requires starts { K.led taker.old [] taker.old }
-    ensures handed { DeliversRows K.led (rows_from columns.now 1 (to_come rest.old)) taker.old
+    ensures handed { DeliversRows K.led (rows_from rules.now 1 (to_come rest.old)) taker.old
         taker.new result }
     ensures fault { IfErr result IsRowsFault }
     ensures place { IfErr result (λ fault. IsTrue (located_at (K.rows taker.new + 1) fault)) }
     ensures reader { IfErr result (λ fault. is_reader_fault fault ≡ true
-        → StopsAfter (rows_from columns.now) (to_come rest.old) fault) }
+        → StopsAfter (rows_from rules.now) (to_come rest.old) fault) }
 {
     let mut number = 1;
-    'rows: while rest.next_row(columns, number, row)? {
+    'rows: while rest.next_row(rules, number, row)? {
         taker.take(row)?;
         number += 1;
     }
@@ -108,4 +111,14 @@ pub fn rows_are_admitted()
 pub fn faults_stand_as_listed()
     ensures { (columns : List Column) (text : List ℕ) (fault : Fault) → rows_of columns text
         ≡ Err fault → StandsAsListed fault }
+{}
+
+/// A law: if columns admit the rows that are read without a schema, these are the rows of the same
+/// records under the columns.
+pub fn bare_rows_are_rows()
+    ensures { (columns : List Column) (number : ℕ) (records : List (List (List ℕ)))
+        (rows : List (List Value))
+        → bare_rows (length columns) number records ≡ Ok rows
+        → IsTrue (list_all (admits_values columns) rows)
+        → rows_from (map rule_of columns) number records ≡ Ok rows }
 {}

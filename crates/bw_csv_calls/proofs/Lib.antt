@@ -1,3 +1,15 @@
 pub mod DirectExits
 pub mod Directs
 pub mod Exits
+pub mod PrintedBounds
+pub mod PrintedText
+pub mod ColumnLemmas
+pub mod CutHeading
+pub mod ExactLemmas
+pub mod HeadingLemmas
+pub mod NarrowLemmas
+pub mod ColumnStatsLemmas
+pub mod FactLemmas
+pub mod InferExits
+pub mod InfoExits
+pub mod SizeLemmas

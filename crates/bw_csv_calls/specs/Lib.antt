@@ -1,3 +1,9 @@
 pub mod ReadInputs
 pub mod Direct
 pub mod Load
+pub mod PrintedSchema
+pub mod Heading
+pub mod Infer
+pub mod InferredSchema
+pub mod ColumnStats
+pub mod Info

@@ -1,17 +1,36 @@
-//! The calls of `bw` over a CSV text, complete over sources and sinks of bytes: [`direct`] and
-//! [`load`].
+//! The calls of `bw` that read a CSV text or write a schema text, complete over sources and sinks
+//! of bytes.
 //!
-//! The other calls are those of `bw_query`, `bw_shell` and `bw_schemas`. A law of `bw_laws` relates
-//! loading and querying. An error that names a device is returned only if that device has counted a
-//! failure.
+//! [`load`] writes the table file of a CSV's rows, and [`direct`] a query's result over them.
+//! [`infer`] writes a schema text under which a CSV text has its rows without an error, and whose
+//! columns are as narrow as those rows. [`print_schema`] returns the text of a schema, one line for
+//! each column, which spells that schema, also if comment lines follow. [`info`] reads only a table
+//! file's header. It writes the schema text that spells the table's schema, and then the header's
+//! other numbers as comment lines, so all of it is a schema text.
 //!
-//! Read `specs/Direct.antt` first, then `direct_call.rt`. Sources and sinks are those of
-//! `bw_io`.
+//! An error that names a device is returned only if that device has counted a failure. A law of
+//! `bw_laws` relates loading and querying.
+//!
+//! Read `specs/Direct.antt`, `specs/InferredSchema.antt`, `specs/PrintedSchema.antt` and
+//! `specs/Info.antt` first, then `direct_call.rt`, `infer_call.rt`, `print.rt` and `info_call.rt`.
+//! Sources and sinks are those of `bw_io`.
 #![tactic(auto)]
 
+mod column_stats;
+mod columns;
 mod direct_call;
+mod heading;
+mod infer_call;
+mod info_call;
 mod inputs;
 mod load_call;
+mod print;
+mod schema;
+mod text;
 
 pub use direct_call::direct;
+pub use infer_call::infer;
+pub use info_call::{info, tables_have_their_size};
 pub use load_call::load;
+pub use print::print_schema;
+pub use schema::inferred_schemas_are_exact;

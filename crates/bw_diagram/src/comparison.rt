@@ -1,7 +1,7 @@
 //! Comparisons of a condition's operands, as codes are compared.
 ghost use Rattle.std.specs.Prelude.{◌≡◌, ◌≤◌, ◌-ℤ◌, ◌==◌, Some, None, if◌then◌else◌};
 ghost use Rattle.bw_diagram.specs.Chain.{first_node};
-ghost use Rattle.bw_diagram.specs.Comparison.{bound_of, terminal_of, order_of};
+ghost use Rattle.bw_diagram.specs.Comparison.{literal_comparison, terminal_of, column_comparison};
 
 use crate::chain::ChainKind;
 use bw_model::Op;
@@ -9,7 +9,7 @@ use bw_model::Op;
 /// A comparison of a code with a number: the code is less than (equal to) `limit`, or isn't if it
 /// is negated.
 #[derive(Clone, Copy)]
-pub struct Bound {
+pub struct LiteralComparison {
     pub kind: ChainKind,
     pub limit: i128,
     pub negated: bool,
@@ -18,34 +18,34 @@ pub struct Bound {
 /// A comparison of the codes of two columns: that of `left` is less than (equal to) that of
 /// `right`, or isn't if it is negated.
 #[derive(Clone, Copy)]
-pub struct Order {
+pub struct ColumnComparison {
     pub kind: ChainKind,
     pub left: usize,
     pub right: usize,
     pub negated: bool,
 }
 
-impl Bound {
+impl LiteralComparison {
     /// Returns the comparison of a column's code that a comparison of the column with the literal
     /// `n` means. The column's minimum is `lo`, so the literal's code would be `n - lo`.
     pub fn of(op: Op, n: i64, lo: i64) -> Self
-        ensures { result ≡ bound_of op (n -ℤ lo) }
+        ensures { result ≡ literal_comparison op (n -ℤ lo) }
     {
         let distance = i128::from(n) - i128::from(lo);
         match op {
-            Op::Lt => Bound::new(ChainKind::Less, distance, false),
-            Op::Ge => Bound::new(ChainKind::Less, distance, true),
-            Op::Le => Bound::new(ChainKind::Less, distance + 1, false),
-            Op::Gt => Bound::new(ChainKind::Less, distance + 1, true),
-            Op::Eq => Bound::new(ChainKind::Equal, distance, false),
-            Op::Ne => Bound::new(ChainKind::Equal, distance, true),
+            Op::Lt => LiteralComparison::new(ChainKind::Less, distance, false),
+            Op::Ge => LiteralComparison::new(ChainKind::Less, distance, true),
+            Op::Le => LiteralComparison::new(ChainKind::Less, distance + 1, false),
+            Op::Gt => LiteralComparison::new(ChainKind::Less, distance + 1, true),
+            Op::Eq => LiteralComparison::new(ChainKind::Equal, distance, false),
+            Op::Ne => LiteralComparison::new(ChainKind::Equal, distance, true),
         }
     }
 
     const fn new(kind: ChainKind, limit: i128, negated: bool) -> Self
         ensures { result ≡ record { kind = kind; limit = limit; negated = negated } }
     {
-        Bound {
+        LiteralComparison {
             kind,
             limit,
             negated,
@@ -68,11 +68,11 @@ impl Bound {
     }
 }
 
-impl Order {
+impl ColumnComparison {
     /// Returns the comparison of their codes that a comparison of the columns `c` and `d` means, if
     /// both have the same minimum.
     pub const fn of(op: Op, c: usize, d: usize) -> Self
-        ensures { result ≡ order_of op c d }
+        ensures { result ≡ column_comparison op c d }
     {
         let (kind, left, right, negated) = match op {
             Op::Lt => (ChainKind::Less, c, d, false),
@@ -82,7 +82,7 @@ impl Order {
             Op::Eq => (ChainKind::Equal, c, d, false),
             Op::Ne => (ChainKind::Equal, c, d, true),
         };
-        Order {
+        ColumnComparison {
             kind,
             left,
             right,

@@ -21,7 +21,7 @@ mod references;
 mod truth_pair;
 
 pub use chain::{Chain, ChainColumns, ChainKind};
-pub use comparison::{Bound, Order};
+pub use comparison::{ColumnComparison, LiteralComparison};
 pub use diagram::{
     Diagram, accepted_lines_are_true, later_nodes_change_no_value, whole_columns_are_spelled,
 };

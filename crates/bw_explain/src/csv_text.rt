@@ -1,7 +1,7 @@
 //! Explains an error of a CSV text, and reads its records again.
 use crate::heading::{other_kind, put_heading};
 use crate::text::{Shown, Text, named, put};
-use bw_csv::{bare_value_of, value_of, without_blanks};
+use bw_csv::{FieldRule, value_of, without_blanks};
 use bw_model::{Column, Fault, MAX_COLUMNS, MAX_ROWS, Place, Schema, code};
 use csv::{ByteRecord, Reader, ReaderBuilder};
 use std::alloc::Global;
@@ -27,7 +27,7 @@ pub(crate) fn put_csv(text: &mut Text, csv: &[u8], schema: Option<&Schema>, faul
 /// Appends what is wrong with a record, and at which line a quotation mark opens a field that
 /// nothing closes, if there is one.
 fn put_place(text: &mut Text, csv: &[u8], columns: &[Column], number: u32, code: u16) {
-    let mut records = Records::new(text.alloc, csv);
+    let mut records = RecordReader::new(text.alloc, csv);
     if !records.read_heading() {
         text.put("the file has no record\n");
     } else if columns.is_empty() && (number > 0 || code == code::SCHEMA_RANGE) {
@@ -45,19 +45,19 @@ fn put_place(text: &mut Text, csv: &[u8], columns: &[Column], number: u32, code:
 
 /// The records of a CSV text: its heading, and another one.
 #[derive(Drop)]
-struct Records<'a> {
+struct RecordReader<'a> {
     csv: &'a [u8],
     reader: Reader<&'a [u8]>,
     heading: ByteRecord,
     record: ByteRecord,
 }
 
-impl<'a> Records<'a> {
+impl<'a> RecordReader<'a> {
     /// Returns the records of a text, with the settings of the calls.
     fn new(alloc: Global, csv: &'a [u8]) -> Self {
         let mut builder = ReaderBuilder::new();
         let builder = builder.has_headers(false).flexible(true);
-        Records {
+        RecordReader {
             csv,
             reader: builder.from_reader(alloc, csv),
             heading: ByteRecord::new(alloc),
@@ -96,7 +96,13 @@ fn line_of(csv: &[u8], record: &ByteRecord) -> u64 {
 
 /// Appends what is wrong with a record of a CSV text that is read under a schema: the line of the
 /// file, from 1, the column, the field, and what was expected.
-fn put_record(text: &mut Text, rows: &mut Records<'_>, columns: &[Column], number: u32, code: u16) {
+fn put_record(
+    text: &mut Text,
+    rows: &mut RecordReader<'_>,
+    columns: &[Column],
+    number: u32,
+    code: u16,
+) {
     for _ in 0..number {
         if !rows.read() {
             return;
@@ -120,7 +126,7 @@ fn put_length(text: &mut Text, here: usize, wanted: usize) {
 /// Appends what is wrong with the first field that isn't what its column accepts.
 fn put_field(text: &mut Text, record: &ByteRecord, columns: &[Column]) {
     for (column, field) in columns.iter().zip(record.iter()) {
-        if let Err(fault) = value_of(column, field, 0) {
+        if let Err(fault) = value_of(&FieldRule::of(column), field, 0) {
             put_shown(text, column.name.as_bytes(), field);
             return match fault.code {
                 code::OUT_OF_RANGE =>
@@ -167,7 +173,7 @@ struct Seen {
 /// Appends which columns aren't of whole numbers, each with its first field that isn't one, or have
 /// numbers too far apart; which record is the first with another number of fields; and how columns
 /// can be made to fit.
-fn put_columns(text: &mut Text, records: &mut Records<'_>) {
+fn put_columns(text: &mut Text, records: &mut RecordReader<'_>) {
     let mut seen = [Seen::default(); MAX_COLUMNS];
     read_rows(text, records, &mut seen);
     put_ranges(text, &records.heading, &seen);
@@ -191,7 +197,7 @@ fn put_ranges(text: &mut Text, heading: &ByteRecord, seen: &[Seen]) {
 }
 
 /// Reads the records after the heading, and reports the first with another number of fields.
-fn read_rows(text: &mut Text, records: &mut Records<'_>, seen: &mut [Seen]) {
+fn read_rows(text: &mut Text, records: &mut RecordReader<'_>, seen: &mut [Seen]) {
     let mut is_ragged = false;
     for _ in 0..MAX_ROWS {
         if !records.read() {
@@ -211,7 +217,7 @@ fn read_rows(text: &mut Text, records: &mut Records<'_>, seen: &mut [Seen]) {
 /// Reads the fields of a record, and reports each column's first one that isn't a whole number.
 fn read_row(text: &mut Text, line: u64, heading: &ByteRecord, row: &ByteRecord, seen: &mut [Seen]) {
     for ((seen, name), field) in seen.iter_mut().zip(heading.iter()).zip(row.iter()) {
-        match bare_value_of(field, 0) {
+        match value_of(&FieldRule::any_number(), field, 0) {
             Ok(Some(n)) => {
                 let (least, most) = seen.range.unwrap_or((n, n));
                 seen.range = Some((least.min(n), most.max(n)));

@@ -1,7 +1,7 @@
 //! Explains why a query used the fallback.
 use crate::text::{Text, named, put};
 use bw_model::{Column, Cond, Op, Operand, Schema};
-use bw_plan::{Reason, why_unplanned};
+use bw_plan::{Unplanned, why_unplanned};
 use bw_sql::parse;
 use std::alloc::{AllocError, Global};
 
@@ -21,15 +21,16 @@ fn put_fallback(text: &mut Text, schema: &Schema, cond: &Cond) {
     if let Some(apart) = apart_in(cond, &schema.columns) {
         put_apart(text, &apart);
     } else if !matches!(cond, Cond::Always)
-        && let Some(reason) = why_unplanned(text.alloc, schema, cond)
+        && let Some(unplanned) = why_unplanned(text.alloc, schema, cond)
     {
         text.put("the query used the fallback: there is no scan program for the condition\n");
-        text.put(match reason {
-            Reason::Length => "it takes more instructions or registers than a program may have\n",
-            Reason::Limit =>
+        text.put(match unplanned {
+            Unplanned::Length =>
+                "it takes more instructions or registers than a program may have\n",
+            Unplanned::Limit =>
                 "its certificate takes too many nodes, chains or rows, or a list is searched faster\n",
-            Reason::Uncertified => "no certificate was found for its program\n",
-            Reason::Memory => "memory was refused\n",
+            Unplanned::Uncertified => "no certificate was found for its program\n",
+            Unplanned::Memory => "memory was refused\n",
         });
     }
 }

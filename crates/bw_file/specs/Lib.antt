@@ -3,6 +3,7 @@ pub mod Blocks
 pub mod Encoder
 pub mod FileBytes
 pub mod Header
+pub mod Memory
 pub mod Reading
 pub mod SegmentBytes
 pub mod Table

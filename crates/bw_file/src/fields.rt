@@ -26,16 +26,16 @@ pub(crate) fn at_offset<T>(at: u64, said: Result<T, u16>) -> Result<T, Fault>
 
 /// A field of `N` bytes.
 pub(crate) trait Field<const N: usize> {
-    type Value;
+    type Contents;
 
     /// The value of the field's bytes, or the number of its error.
-    ghost value_of: { Self → List ℕ → Result Self.Value ℕ };
+    ghost value_of: { Self → List ℕ → Result Self.Contents ℕ };
 
     /// What holds of each value.
-    ghost valid: { Self.Value → Type 0 } = { λ _. Unit {0} };
+    ghost valid: { Self.Contents → Type 0 } = { λ _. Unit {0} };
 
     /// Returns the value of the field's bytes.
-    fn parse(&self, bytes: &[u8; N]) -> Result<Self::Value, u16>
+    fn parse(&self, bytes: &[u8; N]) -> Result<Self::Contents, u16>
         ensures value { result ≡ value_of self.now bytes.now }
         ensures valid { IfOk result valid };
 }
@@ -45,7 +45,7 @@ pub(crate) trait Field<const N: usize> {
 pub(crate) struct Magic;
 
 impl Field<8> for Magic {
-    type Value = ();
+    type Contents = ();
 
     ghost value_of = { λ _. parse_magic };
 
@@ -64,7 +64,7 @@ impl Field<8> for Magic {
 pub(crate) struct Version;
 
 impl Field<1> for Version {
-    type Value = u8;
+    type Contents = u8;
 
     ghost value_of = { λ _. parse_version };
 
@@ -84,7 +84,7 @@ impl Field<1> for Version {
 pub(crate) struct LayoutByte;
 
 impl Field<1> for LayoutByte {
-    type Value = Layout;
+    type Contents = Layout;
 
     ghost value_of = { λ _. parse_layout };
 
@@ -103,7 +103,7 @@ impl Field<1> for LayoutByte {
 pub(crate) struct ColumnCount;
 
 impl Field<2> for ColumnCount {
-    type Value = u16;
+    type Contents = u16;
 
     ghost value_of = { λ _. parse_count };
 
@@ -125,7 +125,7 @@ impl Field<2> for ColumnCount {
 pub(crate) struct RowCount;
 
 impl Field<4> for RowCount {
-    type Value = u32;
+    type Contents = u32;
 
     ghost value_of = { λ _. parse_row_count };
 
@@ -155,7 +155,7 @@ pub(crate) struct Bounds {
 pub(crate) struct ColumnBounds(pub(crate) u8);
 
 impl Field<16> for ColumnBounds {
-    type Value = Bounds;
+    type Contents = Bounds;
 
     ghost value_of = { λ field. parse_bounds field.0 };
 
@@ -208,7 +208,7 @@ pub(crate) fn are_bounds(version: u8, lo: i64, hi: i64) -> bool
 pub(crate) struct Nullable;
 
 impl Field<1> for Nullable {
-    type Value = bool;
+    type Contents = bool;
 
     ghost value_of = { λ _. parse_nullable };
 

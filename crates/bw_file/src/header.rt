@@ -19,7 +19,7 @@ use crate::fields::{
 use crate::layout::Layout;
 use crate::take::take;
 use bw_io::Source;
-use bw_model::{Column, Fault, Name, Schema, code, is_name};
+use bw_model::{Column, Fault, Name, Schema, code, has_name, is_name};
 use std::alloc::Global;
 
 /// Reads a field. Errors: its own, at its first byte.
@@ -27,7 +27,7 @@ fn read_field<F: Field<N>, S: Source, const N: usize>(
     field: &F,
     source: &mut S,
     offset: &mut u64,
-) -> Result<F::Value, Fault>
+) -> Result<F::Contents, Fault>
     requires counter_fits { (S.state source.old).failures < 2 ^ 64 - 1 }
     requires capacity { offset.old < 2 ^ 63 }
     requires small { N ≤ 16 }
@@ -83,13 +83,6 @@ fn is_new_name(before: &[Column], text: &[u8]) -> bool
         ≡ (if result then Ok text.now else Err HEADER) }
 {
     is_name(text) && !has_name(before, text)
-}
-
-/// Returns whether a column has this name, ignoring case.
-fn has_name(columns: &[Column], name: &[u8]) -> bool
-    ensures { result ≡ list_any (λ column. same_text column.name name.now) columns.now }
-{
-    columns.iter().any(|column| column.name.is(name))
 }
 
 /// Reads a column that follows these.

@@ -34,12 +34,15 @@ mod table_reader;
 mod take;
 
 pub use bw_io::{Failed, FromRead, Sink, Source, ToWrite};
+pub use bw_planes::Planes;
+pub use bw_slices::Slices;
 pub use encoder::Encoder;
 pub use laws::{
     a_file_is_of_one_table, bytes_are_read_in_one_way, what_is_read_is_a_file,
     what_is_spelled_is_read,
 };
 pub use layout::Layout;
+pub use memory::Memory;
 pub use reader_laws::{a_file_is_read_whole, bytes_were_taken};
 pub use segments::{AnySegment, placement_of};
 pub use table::{Table, decode, encode};

@@ -1,17 +1,27 @@
 //! Bytes in memory as a source that never fails.
-ghost use Rattle.std.specs.Prelude.{Some, []};
+ghost use Rattle.std.specs.Prelude.{◌≡◌, Some, []};
 ghost use Rattle.bw_io.specs.Source.{source_state};
+ghost use Rattle.bw_file.specs.Memory.{memory_state};
 
 use bw_io::{Failed, SharedBytes, Source};
 
 /// The bytes that are still unread.
 #[derive(Drop)]
-pub(crate) struct Memory<'a> {
+pub struct Memory<'a> {
     pub(crate) rest: &'a [u8],
 }
 
+impl<'a> Memory<'a> {
+    /// Returns a source of these bytes.
+    pub fn new(bytes: &'a [u8]) -> Self
+        ensures { memory_state result ≡ source_state (Some bytes.now) 0 }
+    {
+        Memory { rest: bytes }
+    }
+}
+
 impl Source for Memory<'_> {
-    ghost state = { λ memory. source_state (Some memory.rest.now) 0 };
+    ghost state = { memory_state };
 
     ghost kept = { λ _. [] };
 

@@ -9,13 +9,14 @@ ghost use Rattle.bw_segment.specs.Columns.{KeepRows};
 ghost use Rattle.bw_file.specs.Blocks.{form_of, block_size, block_fault, segment_size};
 ghost use Rattle.bw_file.specs.Blocks.{segment_bytes, IsPlaced, IsSound, rows_spelled};
 
+use crate::in_layout;
 use crate::layout::Layout;
 use bw_io::SharedBytes;
 use bw_lanes::{LANES, Plane, Selection};
 use bw_model::{Fault, Schema, Value};
-use bw_planes::{PlaneSegment, Planes};
-use bw_segment::{ColumnCodes, Placement, Segment};
-use bw_slices::{SliceSegment, Slices};
+use bw_planes::PlaneSegment;
+use bw_segment::{ColumnCodes, Extreme, PackedSegment, Placement, Segment};
+use bw_slices::SliceSegment;
 use std::alloc::Global;
 use std::rc::Rc;
 
@@ -26,12 +27,13 @@ pub enum AnySegment {
     Slices(SliceSegment),
 }
 
-/// Calls a method of the segment, whichever its layout is.
-macro_rules! either {
+/// Evaluates an expression with the segment, in whichever layout it is.
+#[macro_export]
+macro_rules! with_segment {
     ($any:expr, $segment:ident => $value:expr) => {
         match $any {
-            AnySegment::Planes($segment) => $value,
-            AnySegment::Slices($segment) => $value,
+            $crate::AnySegment::Planes($segment) => $value,
+            $crate::AnySegment::Slices($segment) => $value,
         }
     };
 }
@@ -43,53 +45,53 @@ impl Segment for AnySegment {
     ghost meaning = { any_meaning };
 
     fn schema(&self) -> &Schema {
-        either!(self, segment => segment.schema())
+        with_segment!(self, segment => segment.schema())
     }
 
     fn rows_in(&self) -> u32 {
-        either!(self, segment => segment.rows_in())
+        with_segment!(self, segment => segment.rows_in())
     }
 
     #[inline(always)]
     fn bit(&self, col: usize, bit: u32) -> Plane {
-        either!(self, segment => segment.bit(col, bit))
+        with_segment!(self, segment => segment.bit(col, bit))
     }
 
     #[inline(always)]
     fn nulls(&self, col: usize) -> Plane {
-        either!(self, segment => segment.nulls(col))
+        with_segment!(self, segment => segment.nulls(col))
     }
 
     fn byte_lt(&self, col: usize, slice: usize, c: u8) -> Plane {
-        either!(self, segment => segment.byte_lt(col, slice, c))
+        with_segment!(self, segment => segment.byte_lt(col, slice, c))
     }
 
     fn byte_eq(&self, col: usize, slice: usize, c: u8) -> Plane {
-        either!(self, segment => segment.byte_eq(col, slice, c))
+        with_segment!(self, segment => segment.byte_eq(col, slice, c))
     }
 
     fn sum_of_codes(&self, col: usize, rows: &Selection) -> u128 {
-        either!(self, segment => segment.sum_of_codes(col, rows))
+        with_segment!(self, segment => segment.sum_of_codes(col, rows))
     }
 
     fn min_code(&self, col: usize, rows: &Selection) -> Option<u64> {
-        either!(self, segment => segment.min_code(col, rows))
+        with_segment!(self, segment => segment.min_code(col, rows))
     }
 
     fn max_code(&self, col: usize, rows: &Selection) -> Option<u64> {
-        either!(self, segment => segment.max_code(col, rows))
+        with_segment!(self, segment => segment.max_code(col, rows))
     }
 
-    fn none_beyond(&self, col: usize, rows: &Selection, other: u64, greatest: bool) -> bool {
-        either!(self, segment => segment.none_beyond(col, rows, other, greatest))
+    fn none_beyond(&self, col: usize, rows: &Selection, other: u64, which: Extreme) -> bool {
+        with_segment!(self, segment => segment.none_beyond(col, rows, other, which))
     }
 
     fn codes(&self, col: usize, codes: &mut [u64; LANES]) {
-        either!(self, segment => segment.codes(col, codes))
+        with_segment!(self, segment => segment.codes(col, codes))
     }
 
     fn value(&self, col: usize, row: usize) -> Value {
-        either!(self, segment => segment.value(col, row))
+        with_segment!(self, segment => segment.value(col, row))
     }
 
     ghost is_group = { any_is_group };
@@ -133,10 +135,7 @@ pub fn placement_of(alloc: Global, layout: Layout, schema: &Schema) -> Result<Pl
     ensures placed { IfOk result (IsPlaced layout) }
     ensures only_oom { IsOkUnless result no_memory }
 {
-    match layout {
-        Layout::Planes => Placement::of::<Planes>(alloc, schema),
-        Layout::Slices => Placement::of::<Slices>(alloc, schema),
-    }
+    in_layout!(layout, Placement::of::<_>(alloc, schema))
 }
 
 /// Adds the bytes of a segment of the rows that are stored by columns.
@@ -158,10 +157,10 @@ pub(crate) fn append(
     ensures refused { OnErr result (bytes.new.items ≡ bytes.old.items) }
     ensures only_oom { IsOkUnless result no_memory }
 {
-    match layout {
-        Layout::Planes => PlaneSegment::append(alloc, bytes, placement, kept),
-        Layout::Slices => SliceSegment::append(alloc, bytes, placement, kept),
-    }
+    in_layout!(
+        layout,
+        PackedSegment::<_>::append(alloc, bytes, placement, kept)
+    )
 }
 
 /// Returns how many bytes a column's block has.
@@ -171,10 +170,7 @@ pub(crate) fn block_size(layout: Layout, placement: &Placement, col: usize) -> u
     ensures size { result ≡ block_size layout placement.now.schema.columns.items col }
     ensures bound { result ≤ 4160 }
 {
-    match layout {
-        Layout::Planes => PlaneSegment::block_size(placement, col),
-        Layout::Slices => SliceSegment::block_size(placement, col),
-    }
+    in_layout!(layout, PackedSegment::<_>::block_size(placement, col))
 }
 
 /// Returns how many bytes a segment has.
@@ -184,10 +180,7 @@ pub(crate) fn segment_size(layout: Layout, placement: &Placement) -> usize
     ensures size { result ≡ segment_size layout placement.now.schema.columns.items }
     ensures small { result ≤ 266240 }
 {
-    match layout {
-        Layout::Planes => PlaneSegment::segment_size(placement),
-        Layout::Slices => SliceSegment::segment_size(placement),
-    }
+    in_layout!(layout, PackedSegment::<_>::segment_size(placement))
 }
 
 /// Returns the number of the first error of a column's block, in a segment of `rows` rows.
@@ -204,8 +197,8 @@ pub(crate) fn block_fault(
     requires size { length block.now ≡ block_size layout placement.now.schema.columns.items col }
     ensures { result ≡ block_fault layout placement.now.schema.columns.items col rows block.now }
 {
-    match layout {
-        Layout::Planes => PlaneSegment::find_fault(placement, col, rows, block),
-        Layout::Slices => SliceSegment::find_fault(placement, col, rows, block),
-    }
+    in_layout!(
+        layout,
+        PackedSegment::<_>::find_fault(placement, col, rows, block)
+    )
 }

@@ -4,7 +4,7 @@ use Rattle.std.specs.Prelude.{length, Option, IfSome, Result, Ok, Err, MatchBool
 use Rattle.std.specs.Io.KnownBytes.{Consumes, IsAtEnd}
 use Rattle.bw_model.specs.FaultTable.{READ_FAILED}
 use Rattle.bw_model.specs.declared.fault.Fault.{Fault}
-use Rattle.bw_model.specs.Fault.{nowhere, no_memory, is_memory, stands_nowhere}
+use Rattle.bw_model.specs.Fault.{nowhere, no_memory, is_memory, is_nowhere}
 
 -- A source before or after a call: the unread bytes, if it states them, and how many reads have
 -- failed.
@@ -27,7 +27,7 @@ pub data Arrival : Type 0 where
 -- the error is a failed read; the error is one of a call that only reads: a failed read or out of
 -- memory
 abbrev pub is_read_fault : Fault → Bool
-is_read_fault fault = (fault.code == READ_FAILED) && stands_nowhere fault.place
+is_read_fault fault = (fault.code == READ_FAILED) && is_nowhere fault.place
 
 abbrev pub is_input_fault : Fault → Bool
 is_input_fault fault = is_memory fault || is_read_fault fault

@@ -27,6 +27,7 @@ use Rattle.bw_model.proofs.PlaceLemmas.{length_admitted}
 use Rattle.bw_answer.specs.Answer.{csv_text, field_of, heading_of, lists_rows, meaning, value_text}
 use Rattle.bw_answer.proofs.CountLemmas.{every_kept}
 use Rattle.bw_csv.specs.Input.{IsMadeAfter, IsMadeOf}
+use Rattle.bw_csv.specs.Rule.{rule_of}
 use Rattle.bw_csv.specs.Rows.{row_of_record, rows_from, rows_of, values_of_fields}
 use Rattle.bw_csv.proofs.RowLemmas.{rows_after-rows}
 use Rattle.bw_csv_calls.specs.ReadInputs.{IsSchemaFrom}
@@ -63,7 +64,7 @@ rows_fields rows = map row_fields rows
 
 -- the fields of a row that columns admit spell its values
 values_spelled : (number : ℕ) (columns : List Column) (row : List Value) → AreColumns columns → admits_values columns row ≡ true
-    → values_of_fields number columns (row_fields row) ≡ Ok row
+    → values_of_fields number (map rule_of columns) (row_fields row) ≡ Ok row
 unfolding values_of_fields
 values_spelled number [] [] are e = refl
 values_spelled number (column ∷ columns) (value ∷ row) are e =
@@ -72,14 +73,14 @@ values_spelled number (column ∷ columns) (value ∷ row) are e =
 values_spelled number _ _ are e = absurd (cc e)
 
 row_spelled : (number : ℕ) (columns : List Column) (row : List Value) → AreColumns columns → admits_values columns row ≡ true → number ≤ most_rows
-    → row_of_record number columns (row_fields row) ≡ Ok row
+    → row_of_record number (map rule_of columns) (row_fields row) ≡ Ok row
 unfolding row_of_record
 row_spelled number columns row are e few =
-    let wide : length (row_fields row) ≡ length columns = length-map row value_text ∙ length_admitted columns row e in
-    rw (eq-eqb (length (row_fields row)) (length columns) wide, le-ltb most_rows number few) (values_spelled number columns row are e)
+    let wide : length (row_fields row) ≡ length (map rule_of columns) = length-map row value_text ∙ length_admitted columns row e ∙ sym (length-map columns rule_of) in
+    rw (eq-eqb (length (row_fields row)) (length (map rule_of columns)) wide, le-ltb most_rows number few) (values_spelled number columns row are e)
 
 rows_spelled : (columns : List Column) (rows : Rows) (number : ℕ) → AreColumns columns → list_all (admits_values columns) rows ≡ true
-    → number + length rows ≤ most_rows + 1 → rows_from columns number (rows_fields rows) ≡ Ok rows
+    → number + length rows ≤ most_rows + 1 → rows_from (map rule_of columns) number (rows_fields rows) ≡ Ok rows
 unfolding rows_from
 rows_spelled columns [] number are e few = refl
 rows_spelled columns (row ∷ rows) number are e few =

@@ -17,7 +17,7 @@ use Rattle.bw_model.proofs.PlaceLemmas.{length_admitted}
 use Rattle.bw_answer.specs.Answer.{csv_text, record_text, value_text}
 use Rattle.bw_file.specs.declared.layout.Layout.{Layout}
 use Rattle.bw_file.specs.FileBytes.{IsFileBytes}
-use Rattle.bw_schemas.proofs.PrintedBounds.{bound_length}
+use Rattle.bw_csv_calls.proofs.PrintedBounds.{bound_length}
 use Rattle.bw_laws.specs.Backup.{table_text}
 use Rattle.bw_file.proofs.EncoderLemmas.{short_name}
 use Rattle.bw_laws.proofs.SpelledValues.{AreColumns, first_is, fits_in, others_are}

@@ -3,9 +3,9 @@
 use Rattle.std.proofs.Common.{◌≡◌, ◌∙◌, sym, ap, subst, ℕ, ℤ, zero, suc, ◌+◌, ◌^◌, ◌<◌, ◌≤◌, ◌==◌}
 use Rattle.std.proofs.Common.{Bool, true, false, not, if◌then◌else◌, nat_le, nat_lt, List, [], ◌∷◌}
 use Rattle.std.proofs.Common.{◌++◌, length, map, get_or, All, Option, Some, None, Ok, FitsSigned}
-use Rattle.std.proofs.Common.{w64, length-append, arith, refl}
-use Rattle.std.specs.List.{list_any}
-use Rattle.std.proofs.lemmas.Bool.{leb-false, not-false}
+use Rattle.std.proofs.Common.{w64, length-append, arith, refl, replicate, int_le}
+use Rattle.std.specs.List.{list_all, list_any}
+use Rattle.std.proofs.lemmas.Bool.{and_parts, leb-false, not-false}
 use Rattle.std.proofs.lemmas.Int.{ints, clamps}
 use Rattle.std.proofs.lemmas.List.{length-map}
 use Rattle.std.proofs.lemmas.List.Elements.{All-nil, All-cons, All-head, All-tail, All-push}
@@ -22,16 +22,18 @@ use Rattle.bw_model.proofs.SchemaLemmas.{are_apart-push}
 use Rattle.bw_model.proofs.TotalLemmas.{total_append}
 use Rattle.bw_model.proofs.FaultLemmas.{not_refused, bind_ok}
 use Rattle.bw_model.proofs.SchemaSpelling.{not_empty}
-use Rattle.bw_csv.specs.Bare.{bare_number, bare_row, bare_rows, bare_value, bare_values, records_of}
-use Rattle.bw_csv.specs.Bare.{within_64_bits}
-use Rattle.bw_csv.specs.Rows.{is_minus, is_null_text, without_sign, with_row, without_blanks}
-use Rattle.bw_schemas.specs.Heading.{heading_names, names_from, some_names}
-use Rattle.bw_schemas.specs.InferredSchema.{column_over, columns_over, infer_schema, inferred_after}
-use Rattle.bw_schemas.specs.InferredSchema.{or_zero, check_bounds, ranged_column, schema_over}
-use Rattle.bw_schemas.specs.InferredSchema.{table_of}
-use Rattle.bw_schemas.specs.PrintedSchema.{schema_text}
-use Rattle.bw_schemas.proofs.NarrowLemmas.{greatest_of_one, least_of_one}
-use Rattle.bw_schemas.proofs.PrintedText.{IsSound, AreSound, shape_spelled}
+use Rattle.bw_csv.specs.Bare.{bare_rows, records_of}
+use Rattle.bw_csv.specs.Rows.{without_blanks}
+use Rattle.bw_csv.specs.Rule.{allow_values, allows, any_number}
+use Rattle.bw_csv.proofs.RowLemmas.{rows_good}
+use Rattle.bw_laws.proofs.SpelledValues.{fits_between}
+use Rattle.bw_csv_calls.specs.Heading.{heading_names, names_from, some_names}
+use Rattle.bw_csv_calls.specs.InferredSchema.{column_over, columns_over, infer_schema, inferred_after}
+use Rattle.bw_csv_calls.specs.InferredSchema.{or_zero, check_bounds, ranged_column, schema_over}
+use Rattle.bw_csv_calls.specs.InferredSchema.{table_of}
+use Rattle.bw_csv_calls.specs.PrintedSchema.{schema_text}
+use Rattle.bw_csv_calls.proofs.NarrowLemmas.{greatest_of_one, least_of_one}
+use Rattle.bw_csv_calls.proofs.PrintedText.{IsSound, AreSound, shape_spelled}
 use Rattle.bw_laws.proofs.SoundSchemaLemmas.{number_fits}
 
 -- a value is null, or a number that 64 bits hold; so is each value of a row, and of rows
@@ -42,46 +44,28 @@ Fits (Some n) = FitsSigned w64 n
 abbrev RowFits : List Value → Type 0
 RowFits row = All Fits row
 
-within_fits : (number : ℕ) (spelled : Option ℤ) (value : Value) → ((n : ℤ) → spelled ≡ Some n → FitsSigned w64 n) → within_64_bits number spelled ≡ Ok value → Fits value
-within_fits number None value h e = absurd (cc e)
-within_fits number (Some n) value h e = let same : ◌≡◌ {A = Value} (Some n) value = cc e in subst Fits same (h n refl)
+allowed_fits : (value : Value) → allows any_number value ≡ true → Fits value
+allowed_fits None e = tt
+allowed_fits (Some n) e =
+    let sides = and_parts (int_le any_number.lo n) (int_le n any_number.hi) e in
+    fits_between any_number.lo any_number.hi n (omega (arith, ints)) (omega (arith, ints)) sides.0 sides.1
 
-text_fits : (number : ℕ) (text : List ℕ) (null : Bool) (value : Value) → (if null then Ok None else bare_number number (is_minus text) (without_sign text)) ≡ Ok value → Fits value
-text_fits number text true value e = let same : ◌≡◌ {A = Value} None value = cc e in subst Fits same tt
-text_fits number text false value e =
-    let spelled = number_of (is_minus text) (without_sign text) in
-    let number_read = not_refused (not (are_digits (without_sign text))) (at_record 204 number) (within_64_bits number spelled) value e in
-    within_fits number spelled value (number_fits (is_minus text) (without_sign text)) number_read.1
+values_fit : (width : ℕ) (row : List Value) → allow_values (replicate width any_number) row ≡ true → RowFits row
+values_fit zero [] e = All-nil Fits
+values_fit zero (value ∷ row) e = absurd (cc e)
+values_fit (suc width) [] e = absurd (cc e)
+values_fit (suc width) (value ∷ row) e =
+    let is = and_parts (allows any_number value) (allow_values (replicate width any_number) row) e in
+    All-cons Fits value row (allowed_fits value is.0) (values_fit width row is.1)
 
-value_fits : (number : ℕ) (field : List ℕ) (value : Value) → bare_value number field ≡ Ok value → Fits value
-unfolding bare_value
-value_fits number field value e = text_fits number (without_blanks field) (is_null_text (without_blanks field)) value e
+all_fit : (width : ℕ) (rows : List (List Value)) → list_all (allow_values (replicate width any_number)) rows ≡ true → All RowFits rows
+all_fit width [] e = All-nil RowFits
+all_fit width (row ∷ rows) e =
+    let is = and_parts (allow_values (replicate width any_number) row) (list_all (allow_values (replicate width any_number)) rows) e in
+    All-cons RowFits row rows (values_fit width row is.0) (all_fit width rows is.1)
 
-values_fit : (number : ℕ) (fields : List (List ℕ)) (values : List Value) → bare_values number fields ≡ Ok values → RowFits values
-unfolding bare_values
-values_fit number [] values e = let same : ◌≡◌ {A = List Value} [] values = cc e in subst RowFits same (All-nil Fits)
-values_fit number (field ∷ fields) values e =
-    let one = bind_ok (bare_value number field) (λ value. bare_values number fields >>= λ rest. Ok (value ∷ rest)) values e in
-    let more = bind_ok (bare_values number fields) (λ rest. Ok (one.0 ∷ rest)) values one.2 in
-    let same : one.0 ∷ more.0 ≡ values = cc more.2 in
-    subst RowFits same (All-cons Fits one.0 more.0 (value_fits number field one.0 one.1) (values_fit number fields more.0 more.1))
-
-row_fits : (number width : ℕ) (fields : List (List ℕ)) (row : List Value) → bare_row number width fields ≡ Ok row → RowFits row
-unfolding bare_row
-row_fits number width fields row e =
-    let late = refused_if (nat_lt (2 ^ 24) number) (at_record 207 number) (bare_values number fields) in
-    let one = not_refused (not (length fields == width)) (at_record 203 number) late row e in
-    let two = not_refused (nat_lt (2 ^ 24) number) (at_record 207 number) (bare_values number fields) row one.1 in
-    values_fit number fields row two.1
-
-rows_fit : (width number : ℕ) (records : List (List (List ℕ))) (rows : List (List Value)) → bare_rows width number records ≡ Ok rows → All RowFits rows
-unfolding bare_rows
-rows_fit width number [] rows e = let same : ◌≡◌ {A = List (List Value)} [] rows = cc e in subst (All RowFits) same (All-nil RowFits)
-rows_fit width number (fields ∷ more) rows e =
-    let one = bind_ok (bare_row number width fields) (λ row. with_row row (bare_rows width (number + 1) more)) rows e in
-    let others = bind_ok (bare_rows width (number + 1) more) (λ rest. Ok (one.0 ∷ rest)) rows one.2 in
-    let same : one.0 ∷ others.0 ≡ rows = cc others.2 in
-    subst (All RowFits) same (All-cons RowFits one.0 others.0 (row_fits number width fields one.0 one.1) (rows_fit width (number + 1) more others.0 others.1))
+rows_fit : (width : ℕ) (records : List (List (List ℕ))) (rows : List (List Value)) → bare_rows width 1 records ≡ Ok rows → All RowFits rows
+rows_fit width records rows e = all_fit width rows (rows_good (replicate width any_number) records 1 rows (omega arith) e).1
 
 -- so is the least, and the greatest, that rows have in a column
 value_there : (row : List Value) (i : ℕ) → RowFits row → Fits (get_or row i None)
@@ -195,7 +179,7 @@ inferred_sound table (heading ∷ more) schema named e =
     let three = bind_ok (check_bounds (columns_over rows 0 names)) (λ found. Ok (table_of table found)) schema two.2 in
     let same : table_of table three.0 ≡ schema = cc three.2 in
     let good = heading_sound heading names one.1 in
-    let columns = columns_sound rows 0 names three.0 (rows_fit (length names) 1 more rows two.1) good.0.are three.1 in
+    let columns = columns_sound rows 0 names three.0 (rows_fit (length names) more rows two.1) good.0.are three.1 in
     let count : length three.0 ≡ length names = sym (length-map three.0 (λ (column : ColumnShape). column.name)) ∙ ap length columns.1 in
     subst AreSound same (record {
       name = named;

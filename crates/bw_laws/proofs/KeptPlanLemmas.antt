@@ -9,7 +9,7 @@ use Rattle.bw_program.specs.Program.{ProgramShape}
 use Rattle.bw_cert_text.specs.CertificateShape.{CertificateShape}
 use Rattle.bw_cert.specs.FileVerdict.{Certifies}
 use Rattle.bw_cert.specs.Valid.{Valid}
-use Rattle.bw_query.specs.Plan.{IsPlan, IsPlanned}
+use Rattle.bw_shell.specs.Plan.{IsPlan, IsPlanned}
 use Rattle.bw_model.specs.declared.schema.Schema.{Schema}
 use Rattle.bw_model.specs.SchemaText.{IsSchemaText, schema_shape}
 use Rattle.bw_sql.specs.QueryShape.{query_shape}

@@ -6,6 +6,7 @@ use Rattle.std.specs.Fmt.{decimal}
 use Rattle.std.specs.List.{list_all}
 use Rattle.std.proofs.lemmas.Bool.{and_parts, eqb-true, not-true}
 use Rattle.bw_model.specs.declared.column.Column.{Column}
+use Rattle.bw_model.specs.declared.cond.Cond.{Cond}
 use Rattle.bw_model.specs.declared.fault.Fault.{Fault}
 use Rattle.bw_text.specs.Lines.{NumberedWords, begins_comment, cut_lines, is_line_feed, is_skipped}
 use Rattle.bw_text.specs.Lines.{numbered_words, numbered_from, only_of, with_first, words_of}
@@ -15,9 +16,14 @@ use Rattle.bw_program.specs.declared.instr.Instr.{Instr}
 use Rattle.bw_program.specs.PrintText.{instr_words, lines_text, print_text}
 use Rattle.bw_program.specs.Program.{ProgramShape}
 use Rattle.bw_program.specs.ProgramText.{IsProgramText, SpellsInstr, SpellsLines}
-use Rattle.bw_program.specs.ProgramText.{same, result_line, instr_line}
+use Rattle.bw_program.specs.ProgramText.{program_of, same, result_line, instr_line}
+use Rattle.bw_program.proofs.ProgramSpelling.{spelled_text as program_read}
 use Rattle.bw_cert_text.specs.CertificateFields.{CertificateFields}
 use Rattle.bw_cert_text.specs.CertificateText.{IsCertificateText, SpellsFrom}
+use Rattle.bw_cert_text.specs.CertificateShape.{CertificateShape}
+use Rattle.bw_cert_text.specs.PrintText as certificate_text
+use Rattle.bw_cert.specs.FileVerdict.{Certifies}
+use Rattle.bw_shell.specs.Plan.{IsPrinted}
 use Rattle.bw_cert.specs.ProgramFile.{after_divider, before_divider, divides, is_divider_word}
 use Rattle.bw_cert.proofs.SplitLemmas.{feed, no_lines, nothing_fed}
 
@@ -153,3 +159,11 @@ one_ok x y r a b = let both : ◌≡◌ {A = Result _ Fault} (Ok x) (Ok y) = sym
 pub certificate_by_lines : (first : ℕ) (text other : List ℕ) (certificate : CertificateFields) → cut_lines text ≡ cut_lines other → IsCertificateText first other certificate → IsCertificateText first text certificate
 certificate_by_lines first text other certificate alike of =
     subst (λ (lines : List (List ℕ)). SpellsFrom 0 (numbered_from first lines) certificate) (sym alike) of
+
+-- The checker reads in a printed file the program that was printed.
+pub shown_is : (columns : List Column) (cond : Cond) (file : List ℕ) (program : ProgramShape) (certificate : CertificateShape) (printed : IsPrinted columns file) → Certifies columns cond file program certificate → printed.shown ≡ program
+shown_is columns cond file program certificate printed certifies =
+    let shown = printed.shown in
+    let cut = cut_of columns shown (certificate_text.print_text columns printed.stated) file printed.is printed.spells in
+    let there = program_by_lines columns certifies.program_text (print_text columns shown) shown (certifies.cut.before ∙ cut.before) printed.spells in
+    one_ok shown program (program_of columns certifies.program_text) (program_read columns _ shown there) (program_read columns _ program certifies.spelled)

@@ -23,6 +23,7 @@ use Rattle.bw_text.proofs.DecimalLemmas.{Spells, decimal_spells}
 use Rattle.bw_text.proofs.WordSpelling.{same_as_itself}
 use Rattle.bw_answer.specs.Answer.{value_text}
 use Rattle.bw_csv.specs.Plain.{is_plain}
+use Rattle.bw_csv.specs.Rule.{rule_of}
 use Rattle.bw_csv.specs.Rows.{after_minus, is_blank, is_heading, is_minus, value_of_field}
 use Rattle.bw_csv.specs.Rows.{without_blanks, without_front_blanks}
 use Rattle.bw_csv.proofs.DigitsAlone.{other_than, signed_digits, ended, last_of}
@@ -61,7 +62,7 @@ signed (pos n) fits = positive n (decimal n) (omega (arith, ints)) (decimal_spel
 signed (negsuc n) fits = negative n (decimal (suc n)) (omega (arith, ints)) (decimal_spells (suc n) (omega (arith, ints)))
 
 -- a number between bounds of 64 bits has 64 bits
-fits_between : (lo hi n : ℤ) → FitsSigned w64 lo → FitsSigned w64 hi → int_le lo n ≡ true → int_le n hi ≡ true → FitsSigned w64 n
+pub fits_between : (lo hi n : ℤ) → FitsSigned w64 lo → FitsSigned w64 hi → int_le lo n ≡ true → int_le n hi ≡ true → FitsSigned w64 n
 fits_between lo hi n low high above below = grind (arith, ints)
 
 pub fits_in : (column : Column) (n : ℤ) → IsColumn (column_shape column) → admits_value column (Some n) ≡ true → FitsSigned w64 n
@@ -73,16 +74,16 @@ signed_in : (column : Column) (n : ℤ) → IsColumn (column_shape column) → a
 signed_in column n is admitted = signed n (fits_in column n is admitted)
 
 -- the text of a value that a column admits spells that value in it
-null_spelled : (number : ℕ) (column : Column) → column.nullable ≡ true → value_of_field number column (value_text None) ≡ Ok None
+null_spelled : (number : ℕ) (column : Column) → column.nullable ≡ true → value_of_field number (rule_of column) (value_text None) ≡ Ok None
 unfolding value_of_field same_text
 null_spelled number column nullable = rw nullable refl
 
 number_spelled : (number : ℕ) (column : Column) (n : ℤ) → admits_value column (Some n) ≡ true → Signed n (signed_decimal n)
-    → value_of_field number column (signed_decimal n) ≡ Ok (Some n)
-number_spelled number column n admitted spells = signed_digits number column (signed_decimal n) spells.digits ∙ rw (spells.number, admitted) refl
+    → value_of_field number (rule_of column) (signed_decimal n) ≡ Ok (Some n)
+number_spelled number column n admitted spells = signed_digits number (rule_of column) (signed_decimal n) spells.digits ∙ rw (spells.number, admitted) refl
 
 pub value_spelled : (number : ℕ) (column : Column) (value : Value) → IsColumn (column_shape column) → admits_value column value ≡ true
-    → value_of_field number column (value_text value) ≡ Ok value
+    → value_of_field number (rule_of column) (value_text value) ≡ Ok value
 value_spelled number column None is admitted = null_spelled number column admitted
 value_spelled number column (Some n) is admitted = number_spelled number column n admitted (signed_in column n is admitted)
 

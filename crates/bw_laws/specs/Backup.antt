@@ -13,7 +13,7 @@ use Rattle.bw_io.specs.Source.{Arrival, is_input_fault, source_state}
 use Rattle.bw_file.specs.declared.layout.Layout.{Layout}
 use Rattle.bw_file.specs.FileBytes.{version_for}
 use Rattle.bw_file.specs.Reading.{State, state_at}
-use Rattle.bw_schemas.specs.Info.{TellsHeader}
+use Rattle.bw_csv_calls.specs.Info.{TellsHeader}
 use Rattle.bw_laws.specs.OneAnswer.{IsArrivalOf}
 
 -- a table as a CSV text: the names of its columns, and then the values of each row

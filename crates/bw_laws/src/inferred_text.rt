@@ -2,8 +2,8 @@
 ghost use Rattle.std.specs.Prelude.{◌≡◌, true, ℕ, List, Ok};
 ghost use Rattle.bw_model.specs.Name.{is_name};
 ghost use Rattle.bw_model.specs.SchemaText.{IsSchemaText, SchemaShape};
-ghost use Rattle.bw_schemas.specs.InferredSchema.{infer_schema};
-ghost use Rattle.bw_schemas.specs.PrintedSchema.{schema_text};
+ghost use Rattle.bw_csv_calls.specs.InferredSchema.{infer_schema};
+ghost use Rattle.bw_csv_calls.specs.PrintedSchema.{schema_text};
 
 /// A theorem: if a schema is inferred from a CSV text, and the table's name is a valid name, then
 /// the text that `infer` writes spells that schema. It uses no schema in memory.

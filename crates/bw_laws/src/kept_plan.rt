@@ -10,7 +10,7 @@ ghost use Rattle.bw_file.specs.declared.layout.Layout.{Layout};
 ghost use Rattle.bw_file.specs.FileBytes.{IsFileBytes};
 ghost use Rattle.bw_sql.specs.Statement.{IsReadAs};
 ghost use Rattle.bw_report.specs.declared.served.Served.{Served};
-ghost use Rattle.bw_query.specs.Plan.{IsPlan, IsPlanned};
+ghost use Rattle.bw_shell.specs.Plan.{IsPlan, IsPlanned};
 ghost use Rattle.bw_query.specs.Served.{ByProgram, IsServed};
 ghost use Rattle.bw_query.specs.TableAnswer.{AnswersFile, by_statement};
 

@@ -1,4 +1,4 @@
-//! Theorems across crates, for users of the store: a statement over a CSV text has one answer; a
+//! Laws across crates, for users of the store: a statement over a CSV text has one answer; a
 //! loaded table gives the answers of `direct`; a table in memory gives the answers of its file; a
 //! dump is a backup; a stored plan is used; a truncated table file is rejected; a schema text
 //! spells one schema or has one error; an inferred schema is spelled by its text. No other crate
@@ -36,6 +36,6 @@ pub use one_answer::{one_reading_under_one_shape, there_is_one_answer};
 pub use one_file::there_is_one_file;
 pub use one_meaning::one_meaning_of_what_is_asked;
 pub use one_table::a_table_has_one_answer;
-pub use printed_plan::a_plan_prints_its_program;
+pub use printed_plan::{a_certified_program_is_the_given_one, a_plan_prints_its_program};
 pub use schema_text::a_schema_text_spells_one_schema_or_has_one_fault;
 pub use sound_schema::a_schema_text_spells_names_and_bounds;

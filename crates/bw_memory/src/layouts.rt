@@ -6,11 +6,9 @@ ghost use Rattle.bw_file.specs.AnySegment.{any_layout, any_meaning};
 ghost use Rattle.bw_file.specs.Blocks.{IsPlaced, form_of};
 ghost use Rattle.bw_memory.specs.StoredSegments.{AddsSegment, AreBytesOf};
 
-use bw_file::{AnySegment, Layout, placement_of};
+use bw_file::{AnySegment, Layout, in_layout, placement_of, with_segment};
 use bw_model::{Fault, Schema};
-use bw_planes::Planes;
 use bw_segment::{ColumnBlocks, Placement, no_blocks, push_blocks};
-use bw_slices::Slices;
 use std::alloc::Global;
 use std::rc::Rc;
 
@@ -41,10 +39,7 @@ pub(crate) fn no_columns(
         StoresBlocks (form_of layout) placement.now.schema.columns.items 0 columns.items) }
     ensures only_oom { IsOkUnless result no_memory }
 {
-    match layout {
-        Layout::Planes => no_blocks::<Planes>(alloc, placement),
-        Layout::Slices => no_blocks::<Slices>(alloc, placement),
-    }
+    in_layout!(layout, no_blocks::<_>(alloc, placement))
 }
 
 /// Adds the blocks of a segment, each to its column.
@@ -56,8 +51,5 @@ pub(crate) fn push_segment(columns: &mut [ColumnBlocks], segment: &AnySegment) -
         columns.new) }
     ensures only_oom { IsOkUnless result no_memory }
 {
-    match segment {
-        AnySegment::Planes(segment) => push_blocks::<Planes>(columns, segment),
-        AnySegment::Slices(segment) => push_blocks::<Slices>(columns, segment),
-    }
+    with_segment!(segment, segment => push_blocks(columns, segment))
 }

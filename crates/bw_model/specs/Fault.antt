@@ -40,15 +40,15 @@ abbrev pub no_memory : Fault
 no_memory = nowhere OUT_OF_MEMORY
 
 -- the place is none
-abbrev pub stands_nowhere : Place → Bool
-stands_nowhere Nowhere = true
-stands_nowhere (Byte at) = false
-stands_nowhere (Line at) = false
-stands_nowhere (Rec at) = false
+abbrev pub is_nowhere : Place → Bool
+is_nowhere Nowhere = true
+is_nowhere (Byte at) = false
+is_nowhere (Line at) = false
+is_nowhere (Rec at) = false
 
 -- the error is out of memory, which no rule of a format foresees
 abbrev pub is_memory : Fault → Bool
-is_memory fault = (fault.code == OUT_OF_MEMORY) && stands_nowhere fault.place
+is_memory fault = (fault.code == OUT_OF_MEMORY) && is_nowhere fault.place
 
 -- what follows from a result, or its error
 infixl 10 ◌>>=◌

@@ -1,5 +1,5 @@
 //! Errors: their numbers, their words and their places.
-ghost use Rattle.std.specs.Prelude.{◌≡◌, ◌≤◌, Some, length};
+ghost use Rattle.std.specs.Prelude.{◌≡◌, ◌≤◌, IsTrue, Some, length};
 ghost use Rattle.bw_model.specs.Fault.{no_memory, nowhere, at_byte, at_line, at_record, place_text};
 ghost use Rattle.bw_model.specs.Fault.{is_memory};
 ghost use Rattle.bw_model.specs.FaultTable.{words_of, SCHEMA_FORM, SCHEMA_NAME, SCHEMA_RANGE};
@@ -215,7 +215,8 @@ impl Fault {
 
     /// Returns whether the error is that memory was refused.
     pub const fn is_memory(self) -> bool
-        ensures { result ≡ is_memory self }
+        ensures test { result ≡ is_memory self }
+        ensures exact { IsTrue result → self ≡ no_memory }
     {
         matches!(
             self,

@@ -17,6 +17,7 @@ mod copy;
 mod equality;
 mod fault;
 mod groups;
+mod junction;
 mod laws;
 mod limits;
 mod name;
@@ -35,9 +36,11 @@ pub use groups::{
     admitted_rows_have_each_value, groups_make_the_table, kept_rows_are_selected,
     lanes_are_rows_and_zeros,
 };
+pub use junction::Junction;
 pub use laws::schema_faults_stand_as_listed;
 pub use limits::{MAX_COLUMNS, MAX_CSV_LEN, MAX_ROWS, MAX_SCHEMA_LEN};
 pub use name::{Name, is_name};
+pub use parse::{has_name, is_range};
 pub use query::{Item, Query};
 pub use row::{Row, Value};
 pub use row_consumer::RowConsumer;

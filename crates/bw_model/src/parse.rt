@@ -165,7 +165,7 @@ fn signed_digits(is_negative: bool, digits: &[u8]) -> Option<i64>
 }
 
 /// Returns whether a column has this name, ignoring case.
-fn has_name(columns: &[Column], name: &[u8]) -> bool
+pub fn has_name(columns: &[Column], name: &[u8]) -> bool
     ensures { result ≡ list_any (λ column. same_text column.name name.now) columns.now }
 {
     columns.iter().any(|column| column.name.is(name))
@@ -173,7 +173,7 @@ fn has_name(columns: &[Column], name: &[u8]) -> bool
 
 /// Returns whether the bounds are in order, and less than 2^63 apart.
 #[tactic(auto, unfolding(crate::specs::SchemaText::is_range))]
-fn is_range(lo: i64, hi: i64) -> bool
+pub fn is_range(lo: i64, hi: i64) -> bool
     ensures test { result ≡ is_range lo hi }
     ensures ordered { IsTrue result → lo ≤ℤ hi }
     ensures narrow { IsTrue result → (hi -ℤ lo) <ℤ pos (2 ^ 63) }

@@ -1,6 +1,6 @@
 //! Consumers of rows, which get the rows of a CSV text or a table file one after another.
-ghost use Rattle.std.specs.Prelude.{◌≡◌, ◌+◌, ◌<◌, ℕ, List, [], ◌∷◌, ◌++◌, Bool, OnOk, IfErr};
-ghost use Rattle.std.specs.Prelude.{IsTrue};
+ghost use Rattle.std.specs.Prelude.{◌≡◌, ◌+◌, ◌<◌, ℕ, List, [], ◌∷◌, ◌++◌, Bool, OnOk};
+ghost use Rattle.std.specs.Prelude.{IsTrue, IsOkUnless};
 ghost use Rattle.bw_model.specs.Fault.{no_memory};
 ghost use Rattle.bw_model.specs.Limits.{most_rows};
 ghost use Rattle.bw_model.specs.Row.{Value, values_of};
@@ -27,5 +27,5 @@ pub trait RowConsumer {
         ensures rows { OnOk result (rows self.new ≡ rows self.old + 1) }
         ensures led { OnOk result ((start : Self) → (before : List (List Value))
             → led start before self.old → led start (before ++ values_of row.now ∷ []) self.new) }
-        ensures only_oom { IfErr result (λ fault. fault ≡ no_memory) };
+        ensures only_oom { IsOkUnless result no_memory };
 }

@@ -2,12 +2,12 @@
 use Rattle.std.specs.Prelude.{Bool, IsTrue, ◌==◌, ◌||◌, ◌&&◌}
 use Rattle.bw_model.specs.FaultTable.{NO_PROGRAM, OUT_OF_MEMORY}
 use Rattle.bw_model.specs.declared.fault.Fault.{Fault}
-use Rattle.bw_model.specs.Fault.{stands_nowhere}
+use Rattle.bw_model.specs.Fault.{is_nowhere}
 
 -- no program within the limits, or out of memory; neither stands anywhere
 abbrev pub is_refusal : Fault → Bool
 is_refusal fault = ((fault.code == NO_PROGRAM) || (fault.code == OUT_OF_MEMORY))
-    && stands_nowhere fault.place
+    && is_nowhere fault.place
 
 abbrev pub IsRefusal : Fault → Type 0
 IsRefusal fault = IsTrue (is_refusal fault)

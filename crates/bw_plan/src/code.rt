@@ -1,15 +1,15 @@
 //! Instructions, and what their registers hold.
 use crate::limits::MAX_INSTRUCTIONS;
 use crate::plan::Plan;
-use crate::reason::Reason;
-use crate::registers::{Registers, Value};
+use crate::registers::{Content, RegisterStates};
 use crate::skips::Skips;
+use crate::unplanned::Unplanned;
 use bw_model::Schema;
 use bw_program::{Instr, Register};
 use std::alloc::Global;
 
 /// A register, unless there is no program or memory was refused.
-pub(crate) type Made = Result<Register, Reason>;
+pub(crate) type Made = Result<Register, Unplanned>;
 
 /// The instructions so far.
 #[derive(Drop)]
@@ -17,7 +17,7 @@ pub(crate) struct Code<'a> {
     pub(crate) schema: &'a Schema,
     pub(crate) plan: Plan,
     pub(crate) instrs: Vec<Instr>,
-    pub(crate) registers: Registers,
+    pub(crate) registers: RegisterStates,
     pub(crate) skips: Skips,
 }
 
@@ -28,15 +28,15 @@ impl<'a> Code<'a> {
             schema,
             plan,
             instrs: Vec::new(alloc),
-            registers: Registers::new(),
+            registers: RegisterStates::new(),
             skips: Skips::new(alloc),
         }
     }
 
     /// Appends an instruction.
-    pub(crate) fn put(&mut self, instr: Instr) -> Result<(), Reason> {
+    pub(crate) fn put(&mut self, instr: Instr) -> Result<(), Unplanned> {
         if self.instrs.len() >= MAX_INSTRUCTIONS {
-            return Err(Reason::Length);
+            return Err(Unplanned::Length);
         }
         self.instrs.push(instr)?;
         Ok(())
@@ -75,18 +75,18 @@ impl<'a> Code<'a> {
         self.set(copy, Instr::Or(copy, register, register))
     }
 
-    /// Returns a register with a value: by instructions, unless one has it already.
-    pub(crate) fn value(&mut self, value: Value) -> Made {
+    /// Returns a register that holds this: by instructions, unless one does already.
+    pub(crate) fn compute(&mut self, content: Content) -> Made {
         self.meet();
-        if let Some(register) = self.registers.reserve(value) {
+        if let Some(register) = self.registers.reserve(content) {
             return Ok(register);
         }
         let register = self.claim()?;
-        self.put(value.instr(register))?;
-        if matches!(value, Value::Values(_)) {
+        self.put(content.instr(register))?;
+        if matches!(content, Content::Values(_)) {
             self.put(Instr::Not(register, register))?;
         }
-        self.registers.hold(register, Some(value));
+        self.registers.hold(register, Some(content));
         Ok(register)
     }
 }

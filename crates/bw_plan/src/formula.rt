@@ -2,10 +2,10 @@
 //! that an AND or OR combines are one set of codes.
 use crate::columns::{index_of, is_nullable};
 use crate::limits::{MANY_LEVELS, MAX_LIST};
-use crate::reason::Reason;
 use crate::sets::Set;
-use bw_diagram::Order;
-use bw_model::{Cond, Op, Operand, Schema, Truth};
+use crate::unplanned::Unplanned;
+use bw_diagram::ColumnComparison;
+use bw_model::{Cond, Junction, Op, Operand, Schema, Truth};
 use bw_program::ColumnIndex;
 use std::alloc::Global;
 
@@ -17,31 +17,31 @@ pub(crate) enum Formula {
     /// Whether a column's code is in a set.
     Codes(Set),
     /// A comparison of two columns.
-    Columns(Order),
+    Columns(ColumnComparison),
     /// Whether a column, which may be null, is null.
     Null(ColumnIndex),
     /// Whether a part has this truth.
     Test(Box<Formula>, Truth),
     /// The opposite of a part.
     Not(Box<Formula>),
-    /// The OR of all parts, or else their AND, and how many levels of parts there are.
-    All(bool, Vec<Formula>, usize),
+    /// Joined parts, and how many levels of parts there are.
+    Joined(Junction, Vec<Formula>, usize),
 }
 
 /// A part, unless it has no program or memory was refused.
-pub(crate) type FormulaResult = Result<Formula, Reason>;
+pub(crate) type FormulaResult = Result<Formula, Unplanned>;
 
 /// Reads a condition under a schema.
 #[derive(Clone, Copy)]
-pub(crate) struct Reader<'a> {
+pub(crate) struct FormulaReader<'a> {
     pub(crate) alloc: Global,
     pub(crate) schema: &'a Schema,
     /// How many comparisons of two columns it has read.
     pub(crate) relations: usize,
 }
 
-impl Reader<'_> {
-    /// Returns a condition as instructions compute it. Refuses what [`Reader::comparison`] does, and
+impl FormulaReader<'_> {
+    /// Returns a condition as instructions compute it. Refuses what [`FormulaReader::comparison`] does, and
     /// long lists.
     #[cycle(part)]
     pub(crate) fn part_of(&mut self, cond: &Cond) -> FormulaResult {
@@ -51,8 +51,8 @@ impl Reader<'_> {
             Cond::Between(x, y, z) => self.range(*x, *y, *z),
             Cond::Among(x, items) => self.list(*x, items),
             Cond::IsNull(x) => Ok(self.null_test(*x)),
-            Cond::And(parts) => self.all_of(false, parts),
-            Cond::Or(parts) => self.all_of(true, parts),
+            Cond::And(parts) => self.join(Junction::All, parts),
+            Cond::Or(parts) => self.join(Junction::Any, parts),
             Cond::Not(part) => match self.part_of(part)? {
                 Formula::Codes(set) => Ok(Formula::Codes(set.inverse())),
                 part => Ok(Formula::Not(Box::new(self.alloc, part)?)),
@@ -64,11 +64,10 @@ impl Reader<'_> {
         }
     }
 
-    /// Returns the OR of some conditions, or else their AND. A condition is left out if it is the
-    /// same as the one before.
+    /// Returns joined conditions. A condition is left out if it is the same as the one before.
     #[cycle(part)]
-    fn all_of(&mut self, any: bool, conds: &[Cond]) -> FormulaResult {
-        let mut parts = Parts::new(self.alloc, any);
+    fn join(&mut self, junction: Junction, conds: &[Cond]) -> FormulaResult {
+        let mut parts = JoinedParts::new(self.alloc, junction);
         let mut before: Option<&Cond> = None;
         for cond in conds {
             if !before.is_some_and(|before| before.is_same(cond)) {
@@ -81,7 +80,7 @@ impl Reader<'_> {
 
     /// Returns `BETWEEN`.
     fn range(&mut self, x: Operand, y: Operand, z: Operand) -> FormulaResult {
-        let mut parts = Parts::new(self.alloc, false);
+        let mut parts = JoinedParts::new(self.alloc, Junction::All);
         parts.add(self.alloc, self.comparison(Op::Ge, x, y)?, false)?;
         parts.add(self.alloc, self.comparison(Op::Le, x, z)?, false)?;
         parts.formula()
@@ -90,9 +89,9 @@ impl Reader<'_> {
     /// Returns `IN`: first the set of the literals, however long it is, and then the other items.
     fn list(&mut self, x: Operand, items: &[Operand]) -> FormulaResult {
         if items.len() > MAX_LIST {
-            return Err(Reason::Limit);
+            return Err(Unplanned::Limit);
         }
-        let mut parts = Parts::new(self.alloc, true);
+        let mut parts = JoinedParts::new(self.alloc, Junction::Any);
         for are_literals in [true, false] {
             for item in items {
                 if matches!(item, Operand::Lit(_)) == are_literals {
@@ -114,10 +113,10 @@ impl Reader<'_> {
     }
 }
 
-/// The parts of an OR, or else of an AND, so far.
+/// The parts so far of an AND or OR.
 #[derive(Drop)]
-struct Parts {
-    any: bool,
+struct JoinedParts {
+    junction: Junction,
     parts: Vec<Formula>,
     /// How many levels of parts there are.
     levels: usize,
@@ -125,11 +124,11 @@ struct Parts {
     places: [usize; 64],
 }
 
-impl Parts {
+impl JoinedParts {
     /// Returns no parts.
-    fn new(alloc: Global, any: bool) -> Self {
-        Parts {
-            any,
+    fn new(alloc: Global, junction: Junction) -> Self {
+        JoinedParts {
+            junction,
             parts: Vec::new(alloc),
             levels: 1,
             places: [usize::MAX; 64],
@@ -138,12 +137,12 @@ impl Parts {
 
     /// Adds a part. A set is combined with the last one of its column: if the set that they are
     /// together is long, only if it may be.
-    fn add(&mut self, alloc: Global, part: Formula, may_be_long: bool) -> Result<(), Reason> {
+    fn add(&mut self, alloc: Global, part: Formula, may_be_long: bool) -> Result<(), Unplanned> {
         self.levels = self.levels.max(part.levels().saturating_add(1));
         if let Formula::Codes(set) = &part {
             let column = usize::from(set.column % 64);
             if let Some(Formula::Codes(last)) = self.parts.get_mut(self.places[column]) {
-                let both = last.joined(alloc, self.any, set)?;
+                let both = last.join(alloc, self.junction, set)?;
                 if may_be_long || !both.is_long() {
                     *last = both;
                     return Ok(());
@@ -166,9 +165,9 @@ impl Parts {
             self.parts.swap(0, deep);
         }
         if self.parts.len() > 1 {
-            return Ok(Formula::All(self.any, self.parts, self.levels));
+            return Ok(Formula::Joined(self.junction, self.parts, self.levels));
         }
-        self.parts.pop().ok_or(Reason::Limit)
+        self.parts.pop().ok_or(Unplanned::Limit)
     }
 }
 
@@ -176,7 +175,7 @@ impl Formula {
     /// Returns how many levels of parts it has.
     fn levels(&self) -> usize {
         match self {
-            Formula::All(_, _, levels) => *levels,
+            Formula::Joined(_, _, levels) => *levels,
             Formula::Test(part, _) | Formula::Not(part) => part.levels(),
             _ => 0,
         }

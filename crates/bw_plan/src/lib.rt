@@ -2,9 +2,9 @@
 //!
 //! The contract that the crates above use: [`propose`] and [`propose_in_order`] return on every
 //! condition of a schema. A program that they give fits the schema, the certificate's chains name
-//! columns of the schema, and a refusal stands nowhere. That a proposal selects the right rows, and
-//! that what its certificate states is true, is no promise of this crate: the checker says so,
-//! judging each line anew, or else the proposal isn't used.
+//! columns of the schema, and an error has no place. That a proposal selects the right rows, and
+//! that what its certificate states is true, is no promise of this crate: the checker checks each
+//! line itself, and a proposal that it doesn't accept isn't used.
 //!
 //! It is a compiler, which knows nothing of diagrams: `formula.rt` reads a condition, and
 //! `truths.rt` writes the instructions of its parts. The certificate is found by `bw_prover`. If a
@@ -26,13 +26,13 @@ mod formula;
 mod limits;
 mod plan;
 mod planner;
-mod reason;
 mod registers;
 mod relations;
 mod select;
 mod sets;
 mod skips;
 mod truths;
+mod unplanned;
 
 pub use planner::{Proposal, propose, propose_in_order, why_unplanned};
-pub use reason::Reason;
+pub use unplanned::Unplanned;

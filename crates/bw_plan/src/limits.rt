@@ -38,15 +38,15 @@ pub(crate) const MANY_LEVELS: usize = 12;
 pub(crate) const MAX_SQUARES: usize = 1000;
 
 /// The most product rows of a condition's own lines: seven columns of 63 bits that are each less
-/// than the next take 68,641, and no drawn condition of `test_conditions` that has a program takes
-/// over 54,000. With more, planning and checking take longer than the row-by-row fallback takes for
-/// 100,000 rows.
+/// than the next take 68,641, and the largest of the drawn conditions of `test_conditions` that have
+/// a program 63,160. With more, planning and checking take longer than the row-by-row fallback takes
+/// for 100,000 rows.
 pub(crate) const MAX_CONDITION_ROWS: u32 = 70_000;
 
 /// From so many product rows on, an AND or OR has no program if its parts would pass the limit by
 /// as many rows each as those so far. Without it, the conditions of `test_conditions` and of
-/// `bench.py cliffs` that have no program take twice as long in sum, and four more have one that
-/// takes as long to plan as the largest.
+/// `bench.py cliffs` that have no program took twice as long in sum, and four more had one that took
+/// as long to plan as the largest, by the planner of 2026-11-29.
 pub(crate) const FORECAST_FROM: u32 = 3000;
 
 /// The most product rows of a certificate: as many take 20 MB to plan. Seven columns of 63 bits that
@@ -55,12 +55,12 @@ pub(crate) const MAX_ROWS: u32 = 80_000;
 
 /// The number of top bytes of a number after which a comparison with it may end early. Of 512 rows
 /// hardly one has three bytes by chance; with a skip after each of eight bytes, an OR of 120 `x = n`
-/// takes half as many product rows again.
+/// took half as many product rows again, by the planner of 2026-11-29.
 pub(crate) const SKIPPED_BYTES: u8 = 3;
 
 /// A condition whose own lines take as many product rows has no skips from part to part: to prove
-/// them takes several times as many. With them, eight more conditions of `test_conditions` have
-/// no program, and certificates are 30 % longer.
+/// them takes several times as many. With them, eight more conditions of `test_conditions` had no
+/// program, and certificates were 30 % longer, by the planner of 2026-11-29.
 pub(crate) const MAX_ROWS_TO_SKIP_PARTS: u32 = 10_000;
 
 /// A condition whose own lines take as many product rows has no skips at all: too few nodes are

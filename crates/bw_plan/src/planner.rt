@@ -7,10 +7,10 @@ ghost use Rattle.bw_cert_text.specs.Columns.{has_columns};
 ghost use Rattle.bw_plan.specs.Refusal.{IsRefusal};
 
 use crate::code::Code;
-use crate::formula::{Formula, Reader};
+use crate::formula::{Formula, FormulaReader};
 use crate::limits::{FORECAST_FROM, MAX_CONDITION_ROWS, MAX_ROWS};
 use crate::plan::Plan;
-use crate::reason::Reason;
+use crate::unplanned::Unplanned;
 use bw_cert_text::Certificate;
 use bw_model::{Cond, Fault, Schema};
 use bw_program::Program;
@@ -62,7 +62,7 @@ pub fn propose_in_order<'a>(
 }
 
 /// Returns why [`propose`] proposes no program for a condition, unless it proposes one.
-pub fn why_unplanned(alloc: Global, schema: &Schema, cond: &Cond) -> Option<Reason> {
+pub fn why_unplanned(alloc: Global, schema: &Schema, cond: &Cond) -> Option<Unplanned> {
     try_plans(alloc, schema, cond, cond).err()
 }
 
@@ -72,13 +72,13 @@ fn try_plans<'a>(
     schema: &'a Schema,
     cond: &Cond,
     order: &Cond,
-) -> Result<Proposal<'a>, Reason>
+) -> Result<Proposal<'a>, Unplanned>
     ensures program { IfOk result (λ proposal.
         IsTrue (fits schema.now.columns.items proposal.program)) }
     ensures certificate { IfOk result (λ proposal.
         IsTrue (has_columns schema.now.columns.items (certificate_fields proposal.certificate))) }
 {
-    let mut reader = Reader {
+    let mut reader = FormulaReader {
         alloc,
         schema,
         relations: 0,
@@ -92,11 +92,11 @@ fn try_plans<'a>(
             Some(last) => last.with_fewer_skips(),
         };
         match proposal_by(alloc, schema, prover, &part, plan) {
-            Err(Reason::Length | Reason::Uncertified) if plan.skips => tried = Some(plan),
+            Err(Unplanned::Length | Unplanned::Uncertified) if plan.skips => tried = Some(plan),
             made => return made,
         }
     }
-    Err(Reason::Uncertified)
+    Err(Unplanned::Uncertified)
 }
 
 /// Returns a program of a condition by one plan.
@@ -106,7 +106,7 @@ fn proposal_by<'a>(
     prover: Prover<'a>,
     part: &Formula,
     plan: Plan,
-) -> Result<Proposal<'a>, Reason>
+) -> Result<Proposal<'a>, Unplanned>
     ensures program { IfOk result (λ proposal.
         IsTrue (fits schema.now.columns.items proposal.program)) }
     ensures certificate { IfOk result (λ proposal.
@@ -115,7 +115,7 @@ fn proposal_by<'a>(
     let mut code = Code::new(alloc, schema, plan);
     let answer = code.whole(part)?;
     let program = Program::new(alloc, schema, &code.instrs, answer)?;
-    let program = program.ok_or(Reason::Limit)?;
+    let program = program.ok_or(Unplanned::Limit)?;
     let certificate = prover.certify(schema, &program, MAX_ROWS)?;
     Ok(Proposal {
         program,

@@ -1,10 +1,10 @@
 //! What the registers of a program hold.
-use crate::reason::Reason;
+use crate::unplanned::Unplanned;
 use bw_program::{BitIndex, ColumnIndex, Instr, Register, SliceIndex};
 
 /// What a register may hold so that it can be used again, wherever it was computed.
 #[derive(Clone, Copy, PartialEq, Eq)]
-pub(crate) enum Value {
+pub(crate) enum Content {
     /// A bit of a column's codes.
     Bit(ColumnIndex, BitIndex),
     /// 1 if a column, which may be null, is null.
@@ -17,78 +17,78 @@ pub(crate) enum Value {
     Equal(ColumnIndex, SliceIndex, u8),
 }
 
-impl Value {
-    /// Returns the instruction that sets a register to the value: for `Values` to its opposite.
+impl Content {
+    /// Returns the instruction that sets a register to it: for `Values` to its opposite.
     pub(crate) fn instr(self, to: Register) -> Instr {
         match self {
-            Value::Bit(column, bit) => Instr::Load(to, column, bit),
-            Value::Nulls(column) | Value::Values(column) => Instr::Nulls(to, column),
-            Value::Less(column, slice, byte) => Instr::ByteLt(to, column, slice, byte),
-            Value::Equal(column, slice, byte) => Instr::ByteEq(to, column, slice, byte),
+            Content::Bit(column, bit) => Instr::Load(to, column, bit),
+            Content::Nulls(column) | Content::Values(column) => Instr::Nulls(to, column),
+            Content::Less(column, slice, byte) => Instr::ByteLt(to, column, slice, byte),
+            Content::Equal(column, slice, byte) => Instr::ByteEq(to, column, slice, byte),
         }
     }
 }
 
-/// What is known of a register: the value that it holds, if that can be used again, and whether it
+/// What is known of a register: what it holds, if that can be used again, and whether it
 /// is needed.
 #[derive(Clone, Copy, Default)]
 struct State {
-    value: Option<Value>,
+    content: Option<Content>,
     needed: bool,
 }
 
 /// The 64 registers.
 #[derive(Clone, Copy)]
-pub(crate) struct Registers {
+pub(crate) struct RegisterStates {
     states: [State; 64],
 }
 
-impl Registers {
+impl RegisterStates {
     /// Returns registers of which nothing is known.
     pub(crate) fn new() -> Self {
-        Registers {
+        RegisterStates {
             states: [State::default(); 64],
         }
     }
 
     /// Returns a register that isn't needed, preferably one that holds nothing.
-    pub(crate) fn claim(&self) -> Result<Register, Reason> {
+    pub(crate) fn claim(&self) -> Result<Register, Unplanned> {
         let empty = self.find(None);
         let free = empty.or(self.states.iter().position(|state| !state.needed));
-        Ok((free.ok_or(Reason::Length)? % 64) as Register)
+        Ok((free.ok_or(Unplanned::Length)? % 64) as Register)
     }
 
     /// Returns a register that isn't needed and holds this.
-    fn find(&self, value: Option<Value>) -> Option<usize> {
+    fn find(&self, content: Option<Content>) -> Option<usize> {
         let mut states = self.states.iter();
-        states.position(|state| !state.needed && state.value == value)
+        states.position(|state| !state.needed && state.content == content)
     }
 
-    /// Returns a register that holds a value and from now on is needed, if one isn't needed so far.
-    pub(crate) fn reserve(&mut self, value: Value) -> Option<Register> {
-        let register = (self.find(Some(value))? % 64) as Register;
-        self.hold(register, Some(value));
+    /// Returns a register that holds this and from now on is needed, if one isn't needed so far.
+    pub(crate) fn reserve(&mut self, content: Content) -> Option<Register> {
+        let register = (self.find(Some(content))? % 64) as Register;
+        self.hold(register, Some(content));
         Some(register)
     }
 
     /// Records what a register holds, which is needed.
-    pub(crate) fn hold(&mut self, register: Register, value: Option<Value>) {
+    pub(crate) fn hold(&mut self, register: Register, content: Option<Content>) {
         self.states[usize::from(register % 64)] = State {
-            value,
+            content,
             needed: true,
         };
     }
 
-    /// Records that a register isn't needed. Its value may be used again.
+    /// Records that a register isn't needed. What it holds may be used again.
     pub(crate) fn release(&mut self, register: Register) {
         self.states[usize::from(register % 64)].needed = false;
     }
 
-    /// Forgets the values that aren't the same by a skip from a place where these were known.
-    pub(crate) fn meet(&mut self, others: &Registers) {
+    /// Forgets what isn't the same by a skip from a place where these were known.
+    pub(crate) fn meet(&mut self, others: &RegisterStates) {
         for (state, other) in self.states.iter_mut().zip(others.states.iter()) {
-            if state.value != other.value {
-                state.value = None;
+            if state.content != other.content {
+                state.content = None;
             }
         }
     }

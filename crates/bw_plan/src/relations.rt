@@ -1,9 +1,9 @@
 //! Instructions that compare the codes of two columns with one another, bit by bit.
 use crate::code::{Code, Made};
 use crate::columns::{index_of, width_of};
-use crate::reason::Reason;
-use crate::registers::Value;
-use bw_diagram::{ChainKind, Order};
+use crate::registers::Content;
+use crate::unplanned::Unplanned;
+use bw_diagram::{ChainKind, ColumnComparison};
 use bw_program::{Instr, Register};
 
 /// The registers of one bit of two columns: that is 1 if the bits differ, and that is 1, if they
@@ -14,7 +14,7 @@ impl Code<'_> {
     /// Returns a register that is 1 if the code of a column is less than (equal to) that of
     /// another. Their top bits are compared from the top down, with skips to the end of the
     /// comparison if no row has them equal so far, and the bits below from the lowest one up.
-    pub(crate) fn relation(&mut self, relation: Order) -> Made {
+    pub(crate) fn relation(&mut self, relation: ColumnComparison) -> Made {
         let left = width_of(self.schema, relation.left);
         let bits = left.max(width_of(self.schema, relation.right));
         let low = bits.saturating_sub(self.plan.top_bits());
@@ -33,7 +33,7 @@ impl Code<'_> {
             }
             same = Some(now);
         }
-        let same = same.ok_or(Reason::Limit)?;
+        let same = same.ok_or(Unplanned::Limit)?;
         if low > 0 {
             let rest = self.lows(relation, low)?;
             self.set_from(rest, same, Instr::And(same, same, rest))?;
@@ -52,7 +52,7 @@ impl Code<'_> {
     /// by the bits so far, if that is wanted, and returns whether they are the same.
     fn next_below(
         &mut self,
-        relation: Order,
+        relation: ColumnComparison,
         bit: u32,
         less: Option<Register>,
         same: Option<Register>,
@@ -74,7 +74,7 @@ impl Code<'_> {
 
     /// Returns a register that is 1 if this many low bits of a column are a number less than (equal
     /// to) that of another.
-    fn lows(&mut self, relation: Order, bits: u32) -> Made {
+    fn lows(&mut self, relation: ColumnComparison, bits: u32) -> Made {
         let made = self.fill(relation.kind == ChainKind::Equal)?;
         for bit in 0..bits {
             let (differs, below) = self.bits(relation, bit)?;
@@ -100,18 +100,18 @@ impl Code<'_> {
     /// Returns the registers of one bit of two columns, of which at least one has it. The second is
     /// the first if only the right column has the bit. There is none if only the left one has it,
     /// or if only equality is wanted.
-    fn bits(&mut self, relation: Order, bit: u32) -> Result<Bits, Reason> {
-        let Order { left, right, .. } = relation;
-        let bit_of = |column| Value::Bit(index_of(column), (bit % 64) as u8);
+    fn bits(&mut self, relation: ColumnComparison, bit: u32) -> Result<Bits, Unplanned> {
+        let ColumnComparison { left, right, .. } = relation;
+        let bit_of = |column| Content::Bit(index_of(column), (bit % 64) as u8);
         let is_less = relation.kind == ChainKind::Less;
         if bit >= width_of(self.schema, right) {
-            return Ok((self.value(bit_of(left))?, None));
+            return Ok((self.compute(bit_of(left))?, None));
         }
-        let below = self.value(bit_of(right))?;
+        let below = self.compute(bit_of(right))?;
         if bit >= width_of(self.schema, left) {
             return Ok((below, is_less.then_some(below)));
         }
-        let differs = self.value(bit_of(left))?;
+        let differs = self.compute(bit_of(left))?;
         self.set(differs, Instr::Xor(differs, differs, below))?;
         if !is_less {
             self.registers.release(below);

@@ -1,9 +1,9 @@
 //! Instructions that compare a column's codes with numbers, from the most significant byte down.
 use crate::code::{Code, Made};
 use crate::limits::{MAX_LIST_ROWS, SKIPPED_BYTES};
-use crate::reason::Reason;
-use crate::registers::Value;
+use crate::registers::Content;
 use crate::sets::{Set, bounds_below, byte_of};
+use crate::unplanned::Unplanned;
 use bw_program::{Instr, Register, SliceIndex};
 
 /// What is looked for: the low bytes of a column's codes, from this one down, that have an odd number
@@ -22,7 +22,7 @@ impl Code<'_> {
     /// it. Refuses a long list whose product rows are many.
     pub(crate) fn codes(&mut self, set: &Set) -> Made {
         if set.is_long() && self.plan.rows > MAX_LIST_ROWS {
-            return Err(Reason::Limit);
+            return Err(Unplanned::Limit);
         }
         let search = Search {
             set,
@@ -62,14 +62,14 @@ impl Code<'_> {
         &mut self,
         search: Search<'_>,
         out: Option<Register>,
-    ) -> Result<Option<Register>, Reason> {
+    ) -> Result<Option<Register>, Unplanned> {
         let Search { set, slice, .. } = search;
         let inner = bounds_below(search.bounds, slice);
         let (Some(bound), Some(next)) = (inner.first(), slice.checked_sub(1)) else {
             return Ok(out);
         };
         let first = self.open_skips();
-        let same = self.value(Value::Equal(set.column, slice, byte_of(*bound, slice)))?;
+        let same = self.compute(Content::Equal(set.column, slice, byte_of(*bound, slice)))?;
         // If all bounds have the bytes so far in common, nothing else needs the mask.
         let is_prefix = out.is_none() && inner.len() == set.bounds.len();
         let same = match search.mask {
@@ -97,7 +97,7 @@ impl Code<'_> {
     }
 
     /// Returns a register that is 1 where a byte has an odd number of the bounds' bytes above it.
-    fn bytes(&mut self, search: Search<'_>) -> Result<Option<Register>, Reason> {
+    fn bytes(&mut self, search: Search<'_>) -> Result<Option<Register>, Unplanned> {
         let Search { set, slice, .. } = search;
         let groups = search
             .bounds
@@ -112,11 +112,11 @@ impl Code<'_> {
             let Some(byte) = bytes.next() else {
                 break;
             };
-            let value = match bytes.next_if(|next| byte.checked_add(1) == Some(*next)) {
-                Some(_) => Value::Equal(set.column, slice, byte),
-                None => Value::Less(set.column, slice, byte),
+            let content = match bytes.next_if(|next| byte.checked_add(1) == Some(*next)) {
+                Some(_) => Content::Equal(set.column, slice, byte),
+                None => Content::Less(set.column, slice, byte),
             };
-            let next = self.value(value)?;
+            let next = self.compute(content)?;
             made = Some(self.toggle(next, None, made)?);
         }
         Ok(made)

@@ -1,8 +1,8 @@
 //! Sets of a column's codes.
 use crate::columns::{index_of, width_of};
 use crate::limits::LONG_SET;
-use crate::reason::Reason;
-use bw_model::Schema;
+use crate::unplanned::Unplanned;
+use bw_model::{Junction, Schema};
 use bw_program::{ColumnIndex, SliceIndex};
 use std::alloc::Global;
 
@@ -26,7 +26,7 @@ impl Set {
         column: usize,
         limits: [i128; 2],
         inverted: bool,
-    ) -> Result<Self, Reason> {
+    ) -> Result<Self, Unplanned> {
         let width = width_of(schema, column).min(63);
         let mut set = Set {
             column: index_of(column),
@@ -62,12 +62,17 @@ impl Set {
         (self.bounds.len() % 2 != bound % 2) != self.inverted
     }
 
-    /// Returns the codes that it or another set of the column has or, if not `any`, that both have.
-    pub(crate) fn joined(&self, alloc: Global, any: bool, other: &Set) -> Result<Self, Reason> {
+    /// Returns the codes that both it and another set of the column have, or that either has.
+    pub(crate) fn join(
+        &self,
+        alloc: Global,
+        junction: Junction,
+        other: &Set,
+    ) -> Result<Self, Unplanned> {
         let mut bounds = Vec::new(alloc);
-        let has_all = |left: usize, right: usize| match any {
-            true => self.has_below(left) || other.has_below(right),
-            false => self.has_below(left) && other.has_below(right),
+        let has_all = |left: usize, right: usize| match junction {
+            Junction::All => self.has_below(left) && other.has_below(right),
+            Junction::Any => self.has_below(left) || other.has_below(right),
         };
         let (mut left, mut right) = (0usize, 0usize);
         let mut has = has_all(left, right);

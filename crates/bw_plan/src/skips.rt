@@ -1,21 +1,21 @@
 //! Skips: where they begin, and where they meet.
 use crate::code::Code;
-use crate::reason::Reason;
-use crate::registers::Registers;
+use crate::registers::RegisterStates;
+use crate::unplanned::Unplanned;
 use bw_program::{Instr, Register};
 use std::alloc::Global;
 
 /// A skip without a target yet: its number, and what is known of the registers there.
 #[derive(Clone, Copy)]
-struct Skip {
+struct OpenSkip {
     number: usize,
-    registers: Registers,
+    registers: RegisterStates,
 }
 
 /// The skips that have no target yet.
 #[derive(Drop)]
 pub(crate) struct Skips {
-    open: Vec<Skip>,
+    open: Vec<OpenSkip>,
     /// Those from this one on meet before the next instruction.
     meeting: usize,
     /// How many skips there are, with a target or without.
@@ -35,7 +35,7 @@ impl Skips {
 
 impl Code<'_> {
     /// Appends a skip, taken if a register is zero in every lane.
-    pub(crate) fn skip(&mut self, register: Register) -> Result<(), Reason> {
+    pub(crate) fn skip(&mut self, register: Register) -> Result<(), Unplanned> {
         if !self.plan.skips {
             return Ok(());
         }
@@ -44,7 +44,7 @@ impl Code<'_> {
         let registers = self.registers;
         self.put(Instr::Skip(register, 0))?;
         self.skips.count = self.skips.count.saturating_add(1);
-        self.skips.open.push(Skip { number, registers })?;
+        self.skips.open.push(OpenSkip { number, registers })?;
         Ok(())
     }
 

@@ -3,11 +3,11 @@ use crate::code::{Code, Made};
 use crate::columns::{index_of, is_nullable};
 use crate::formula::Formula;
 use crate::limits::{MAX_LOOKS, SKIPPED_PARTS};
-use crate::reason::Reason;
-use crate::registers::Value;
+use crate::registers::Content;
 use crate::sets::Set;
-use bw_diagram::{Order, TruthPair};
-use bw_model::Truth;
+use crate::unplanned::Unplanned;
+use bw_diagram::{ColumnComparison, TruthPair};
+use bw_model::{Junction, Truth};
 use bw_program::{ColumnIndex, Instr, Register};
 
 /// Whether the register of where a condition is TRUE is needed, and that of where it is FALSE.
@@ -17,13 +17,13 @@ type WantedTruths = TruthPair<bool>;
 type TruthRegisters = TruthPair<Option<Register>>;
 
 /// These registers, unless there is no program or memory was refused.
-type MadeTruths = Result<TruthRegisters, Reason>;
+type MadeTruths = Result<TruthRegisters, Unplanned>;
 
 impl Code<'_> {
     /// Returns the register of where a whole condition is TRUE.
     pub(crate) fn whole(&mut self, part: &Formula) -> Made {
         let made = self.truths(part, TruthPair::of(true, false))?;
-        let answer = made.yes.ok_or(Reason::Limit)?;
+        let answer = made.yes.ok_or(Unplanned::Limit)?;
         if self.skips.count == 0 {
             // A skip at the end lets counts show empty segments.
             self.skip(answer)?;
@@ -32,7 +32,7 @@ impl Code<'_> {
         self.meet();
         let looks = self.instrs.iter().filter(|instr| is_look(**instr)).count();
         if !self.plan.skips && looks > MAX_LOOKS {
-            return Err(Reason::Length);
+            return Err(Unplanned::Length);
         }
         Ok(answer)
     }
@@ -43,9 +43,9 @@ impl Code<'_> {
         match part {
             Formula::Fixed(truth) => self.constant(*truth, wanted),
             Formula::Codes(set) => self.in_set(set, wanted),
-            Formula::Columns(order) => self.compare_columns(*order, wanted),
+            Formula::Columns(compared) => self.compare_columns(*compared, wanted),
             Formula::Null(column) => {
-                let nulls = self.value(Value::Nulls(*column))?;
+                let nulls = self.compute(Content::Nulls(*column))?;
                 self.sides(nulls, &[], false, wanted)
             }
             Formula::Test(part, truth) => {
@@ -60,23 +60,29 @@ impl Code<'_> {
                 let made = self.truths(part, wanted.opposite_if(true))?;
                 Ok(made.opposite_if(true))
             }
-            Formula::All(any, parts, _) => self.all_parts(*any, parts, wanted),
+            Formula::Joined(junction, parts, _) => self.all_parts(*junction, parts, wanted),
         }
     }
 
-    /// Returns the registers of the OR of all parts, or else of their AND.
+    /// Returns the registers of joined parts: an OR is the opposite of the AND of their opposites.
     #[cycle(truths)]
-    fn all_parts(&mut self, any: bool, parts: &[Formula], wanted: WantedTruths) -> MadeTruths {
+    fn all_parts(
+        &mut self,
+        junction: Junction,
+        parts: &[Formula],
+        wanted: WantedTruths,
+    ) -> MadeTruths {
+        let is_any = junction == Junction::Any;
         let open = self.open_skips();
-        let (first, others) = parts.split_first().ok_or(Reason::Limit)?;
-        let made = self.truths(first, wanted)?.opposite_if(any);
+        let (first, others) = parts.split_first().ok_or(Unplanned::Limit)?;
+        let made = self.truths(first, wanted)?.opposite_if(is_any);
         for (number, part) in others.iter().enumerate() {
             // These take two or three instructions, so that a skip saves nothing.
             let is_quick = matches!(part, Formula::Null(_) | Formula::Fixed(_));
             if number < SKIPPED_PARTS && self.plan.between_parts && !is_quick {
                 self.skip_if_settled(made)?;
             }
-            let next = self.truths(part, wanted)?.opposite_if(any);
+            let next = self.truths(part, wanted)?.opposite_if(is_any);
             if let (Some(to), Some(other)) = (made.yes, next.yes) {
                 self.set_from(other, to, Instr::And(to, to, other))?;
             }
@@ -85,11 +91,11 @@ impl Code<'_> {
             }
         }
         self.meet_from(open);
-        Ok(made.opposite_if(any))
+        Ok(made.opposite_if(is_any))
     }
 
     /// Skips to the end of an AND if its other parts can change nothing.
-    fn skip_if_settled(&mut self, made: TruthRegisters) -> Result<(), Reason> {
+    fn skip_if_settled(&mut self, made: TruthRegisters) -> Result<(), Unplanned> {
         if let Some(excluded) = made.no {
             let left = self.claim()?;
             self.set(left, Instr::Not(left, excluded))?;
@@ -117,7 +123,7 @@ impl Code<'_> {
     fn either(&mut self, made: TruthRegisters) -> Made {
         match (made.yes, made.no) {
             (Some(yes), Some(no)) => self.set_from(no, yes, Instr::Or(yes, yes, no)),
-            (yes, no) => yes.or(no).ok_or(Reason::Limit),
+            (yes, no) => yes.or(no).ok_or(Unplanned::Limit),
         }
     }
 
@@ -135,16 +141,16 @@ impl Code<'_> {
 
     /// Returns the registers of a comparison of two columns. Its skips meet right after its own
     /// instructions: after a NOT or a null plane, "less so far" would differ by them.
-    fn compare_columns(&mut self, order: Order, wanted: WantedTruths) -> MadeTruths {
+    fn compare_columns(&mut self, compared: ColumnComparison, wanted: WantedTruths) -> MadeTruths {
         let first = self.open_skips();
-        let held = self.relation(order)?;
+        let held = self.relation(compared)?;
         self.meet_from(first);
         self.meet();
-        let columns = [index_of(order.left), index_of(order.right)];
-        let wanted = wanted.opposite_if(order.negated);
+        let columns = [index_of(compared.left), index_of(compared.right)];
+        let wanted = wanted.opposite_if(compared.negated);
         let made = self.sides(held, &columns, true, wanted)?;
         self.meet_from(first);
-        Ok(made.opposite_if(order.negated))
+        Ok(made.opposite_if(compared.negated))
     }
 
     /// Returns the registers that are 1 where all of some columns have values and a register is 1,
@@ -162,7 +168,7 @@ impl Code<'_> {
             let other = if wanted.yes { self.copy(held)? } else { held };
             for column in columns {
                 if is_nullable(self.schema, *column) {
-                    let nulls = self.value(Value::Nulls(*column))?;
+                    let nulls = self.compute(Content::Nulls(*column))?;
                     self.set_from(nulls, other, Instr::Or(other, other, nulls))?;
                 }
             }
@@ -174,7 +180,7 @@ impl Code<'_> {
                     if early && !wanted.no {
                         self.skip(held)?;
                     }
-                    let values = self.value(Value::Values(*column))?;
+                    let values = self.compute(Content::Values(*column))?;
                     self.set_from(values, held, Instr::And(held, held, values))?;
                 }
             }

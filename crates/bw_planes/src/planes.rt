@@ -6,6 +6,7 @@ ghost use Rattle.bw_lanes.specs.Lanes.{lanes_of_words};
 ghost use Rattle.bw_model.specs.Code.{has_bit};
 ghost use Rattle.bw_model.specs.Selection.{selected_items};
 ghost use Rattle.bw_model.specs.StoredCodes.{byte_of};
+ghost use Rattle.bw_segment.specs.Selected.{is_greatest};
 ghost use Rattle.bw_planes.specs.Planes.{plane_packing, planes_codes};
 
 use crate::compare::{at_least, byte_at_least, eq, equal_step};
@@ -14,7 +15,7 @@ use bw_lanes::{
     LANES, Plane, Selection, and, bytes_bit, is_zero, load, not, or, push_bit, to_bytes,
 };
 use bw_model::Fault;
-use bw_segment::{CodeLayout, push_byte, put_byte, slices_of};
+use bw_segment::{CodeLayout, Extreme, push_byte, put_byte, slices_of};
 
 /// Codes stored as planes, one for each bit, from the top bit down, 64 bytes each: bit i mod 8, the
 /// least first, of byte i / 8 is row i's.
@@ -91,11 +92,11 @@ impl CodeLayout for Planes {
     }
 
     fn least(width: u32, bytes: &[u8], lanes: &Selection) -> Option<u64> {
-        chosen_code(width, bytes, lanes, false)
+        chosen_code(width, bytes, lanes, Extreme::Least)
     }
 
     fn greatest(width: u32, bytes: &[u8], lanes: &Selection) -> Option<u64> {
-        chosen_code(width, bytes, lanes, true)
+        chosen_code(width, bytes, lanes, Extreme::Greatest)
     }
 
     fn none_beyond(
@@ -103,13 +104,13 @@ impl CodeLayout for Planes {
         bytes: &[u8],
         lanes: &Selection,
         other: u64,
-        greatest: bool,
+        which: Extreme,
     ) -> bool {
         if width <= FIRST {
             return false;
         }
         let low = width - FIRST;
-        is_zero(&and(lanes, &near(width, bytes, low, other >> low, greatest)))
+        is_zero(&and(lanes, &near(width, bytes, low, other >> low, which)))
     }
 
     #[tactic(auto, using(crate::proofs::CodeLemmas::code_steps))]
@@ -138,26 +139,27 @@ impl CodeLayout for Planes {
 /// From the top bit down, the lanes that remain are those in which the bit is 1, or 0 for the
 /// minimum, or all of them if there are none of these.
 #[inline(always)]
-fn chosen_code(width: u32, bytes: &[u8], lanes: &Selection, greatest: bool) -> Option<u64>
+fn chosen_code(width: u32, bytes: &[u8], lanes: &Selection, which: Extreme) -> Option<u64>
     requires width { (1 ≤ width) × (width ≤ 63) }
     requires size { length bytes.now ≡ 64 * width }
-    ensures chosen { result ≡ reduce (if greatest then max else min)
+    ensures chosen { result ≡ reduce (if is_greatest which then max else min)
         (selected_items (lanes_of_words lanes.now) (planes_codes width bytes.now)) }
     ensures bound { IfSome result (λ code. code < 2 ^ 63) }
 {
     if is_zero(lanes) {
         return None;
     }
+    let is_sought = which.is_greatest();
     let mut left = *lanes;
     let mut code = 0;
     for place in 0..width {
         let plane = Planes::bit(width, bytes, width - 1 - place);
-        let sought = equal_step(&left, &plane, greatest);
+        let sought = equal_step(&left, &plane, is_sought);
         code *= 2;
         if is_zero(&sought) {
-            code += u64::from(!greatest);
+            code += u64::from(!is_sought);
         } else {
-            code += u64::from(greatest);
+            code += u64::from(is_sought);
             left = sought;
         }
     }
@@ -188,22 +190,21 @@ fn none_is_near(width: u32, bytes: &[u8], most: u64) -> bool
 /// this many of its highest digits are the same as that code's, or beyond them.
 const FIRST: u32 = 6;
 
-/// Returns the lanes whose highest digits, from `low` upwards, are at least `top` or, unless
-/// `greatest`, at most `top`.
+/// Returns the lanes whose highest digits, from `low` upwards, are at least `top` or, if the least
+/// is sought, at most `top`.
 #[inline(always)]
-fn near(width: u32, bytes: &[u8], low: u32, top: u64, greatest: bool) -> Plane
+fn near(width: u32, bytes: &[u8], low: u32, top: u64, which: Extreme) -> Plane
     requires width { (1 ≤ width) × (width ≤ 63) }
     requires size { length bytes.now ≡ 64 * width }
     requires bits { low + 6 ≤ width }
     requires top { top < 2 ^ 63 }
-    ensures { lanes_of_words result ≡ map (λ code. if greatest
+    ensures { lanes_of_words result ≡ map (λ code. if is_greatest which
         then not (nat_lt (code / 2 ^ low % 2 ^ 6) top)
         else nat_lt (code / 2 ^ low % 2 ^ 6) (top + 1)) (planes_codes width bytes.now) }
 {
-    if greatest {
-        at_least(width, bytes, low, FIRST, top)
-    } else {
-        not(&at_least(width, bytes, low, FIRST, top + 1))
+    match which {
+        Extreme::Greatest => at_least(width, bytes, low, FIRST, top),
+        Extreme::Least => not(&at_least(width, bytes, low, FIRST, top + 1)),
     }
 }
 

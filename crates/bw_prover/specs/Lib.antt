@@ -1,1 +1,2 @@
 pub mod ChainNames
+pub mod Comparison

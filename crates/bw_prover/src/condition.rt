@@ -9,8 +9,8 @@ use crate::facts::Cited;
 use crate::prover::Prover;
 use crate::unproved::Unproved;
 use bw_cert_text::{ConditionEntry, Entry};
-use bw_diagram::{Bound, Connective, Order, TruthPair};
-use bw_model::{Cond, Op, Operand, Truth};
+use bw_diagram::{ColumnComparison, Connective, LiteralComparison, TruthPair};
+use bw_model::{Cond, Junction, Op, Operand, Truth};
 
 /// The node that is 1 where a condition is TRUE, and the node that is 1 where it is FALSE.
 type TruthNodes = TruthPair<u64>;
@@ -28,12 +28,12 @@ impl Prover<'_> {
             Cond::Between(x, y, z) => {
                 let lower = self.put_comparison(Op::Ge, *x, *y)?;
                 let upper = self.put_comparison(Op::Le, *x, *z)?;
-                self.put_connective(false, lower, upper)
+                self.put_connective(Junction::All, lower, upper)
             }
             Cond::Among(x, items) => self.put_list(*x, items),
             Cond::IsNull(x) => self.put_null_test(*x),
-            Cond::And(parts) => self.put_parts(false, parts),
-            Cond::Or(parts) => self.put_parts(true, parts),
+            Cond::And(parts) => self.put_parts(Junction::All, parts),
+            Cond::Or(parts) => self.put_parts(Junction::Any, parts),
             Cond::Not(part) => {
                 let made = self.steps(part)?;
                 self.put_step(ConditionEntry::Not, made.no, made.yes)
@@ -45,16 +45,16 @@ impl Prover<'_> {
         }
     }
 
-    /// Returns the nodes of the OR of all parts, or else of their AND.
+    /// Returns the nodes of joined parts.
     #[cycle(steps)]
-    fn put_parts(&mut self, any: bool, parts: &[Cond]) -> NodesResult {
+    fn put_parts(&mut self, junction: Junction, parts: &[Cond]) -> NodesResult {
         let (first, others) = parts.split_first().ok_or(Unproved::NoRule)?;
         let mut made = self.steps(first)?;
         let before = self.facts.products.count;
         for (joined, part) in others.iter().enumerate() {
             self.forecast(before, joined, others.len())?;
             let next = self.steps(part)?;
-            made = self.put_connective(any, made, next)?;
+            made = self.put_connective(junction, made, next)?;
         }
         Ok(made)
     }
@@ -79,7 +79,7 @@ impl Prover<'_> {
         let mut made = self.put_comparison(Op::Eq, x, *first)?;
         for item in others {
             let next = self.put_comparison(Op::Eq, x, *item)?;
-            made = self.put_connective(true, made, next)?;
+            made = self.put_connective(Junction::Any, made, next)?;
         }
         Ok(made)
     }
@@ -96,16 +96,16 @@ impl Prover<'_> {
         self.put_step(ConditionEntry::Fixed, u64::from(yes), u64::from(no))
     }
 
-    /// Returns the nodes of two parts, combined by OR, or else by AND.
-    fn put_connective(&mut self, any: bool, a: TruthNodes, b: TruthNodes) -> NodesResult {
-        let ops = TruthPair::of(Connective::And, Connective::Or).opposite_if(any);
+    /// Returns the nodes of two joined parts.
+    fn put_connective(&mut self, junction: Junction, a: TruthNodes, b: TruthNodes) -> NodesResult {
+        let is_any = junction == Junction::Any;
+        let ops = TruthPair::of(Connective::And, Connective::Or).opposite_if(is_any);
         let yes = self.facts.row(ops.yes, a.yes, b.yes)?;
         let no = self.facts.row(ops.no, a.no, b.no)?;
         let (i, j) = (yes.number, no.number);
-        let entry = if any {
-            ConditionEntry::Or(i, j)
-        } else {
-            ConditionEntry::And(i, j)
+        let entry = match junction {
+            Junction::All => ConditionEntry::And(i, j),
+            Junction::Any => ConditionEntry::Or(i, j),
         };
         self.put_step(entry, yes.node, no.node)
     }
@@ -144,8 +144,8 @@ impl Prover<'_> {
     fn put_comparison(&mut self, op: Op, x: Operand, y: Operand) -> NodesResult {
         match compare(self.facts.schema, op, x, y).ok_or(Unproved::NoRule)? {
             Comparison::Fixed(truth) => self.put_fixed(truth),
-            Comparison::Literal(column, bound) => self.put_literal_comparison(column, bound),
-            Comparison::Columns(order) => self.put_columns(x, y, order),
+            Comparison::Literal(column, compared) => self.put_literal_comparison(column, compared),
+            Comparison::Columns(compared) => self.put_columns(x, y, compared),
         }
     }
 
@@ -167,12 +167,16 @@ impl Prover<'_> {
     }
 
     /// Returns the nodes of a comparison of a column with a number.
-    fn put_literal_comparison(&mut self, column: usize, bound: Bound) -> NodesResult {
+    fn put_literal_comparison(
+        &mut self,
+        column: usize,
+        compared: LiteralComparison,
+    ) -> NodesResult {
         let width = width_of(self.facts.schema, column).ok_or(Unproved::NoRule)?;
         let (value, m) = self.values(Operand::Col(column))?;
-        let limit = u64::try_from(bound.limit).unwrap_or(0);
-        let link = Link::of(bound.kind, column, 0, width, limit);
-        let (chain, e) = self.facts.chain_unless(bound.terminal(width), link)?;
+        let limit = u64::try_from(compared.limit).unwrap_or(0);
+        let link = Link::of(compared.kind, column, 0, width, limit);
+        let (chain, e) = self.facts.chain_unless(compared.terminal(width), link)?;
         let TruthPair { yes, no } = self.sides(m, e)?;
         let entry = ConditionEntry::Compare {
             chain,
@@ -181,22 +185,22 @@ impl Prover<'_> {
             no: no.number,
         };
         let made = self.put_step(entry, yes.node, no.node)?;
-        Ok(made.opposite_if(bound.negated))
+        Ok(made.opposite_if(compared.negated))
     }
 
     /// Returns the nodes of a comparison of two columns, the shorter one with zeros above its top
     /// bit.
-    fn put_columns(&mut self, x: Operand, y: Operand, order: Order) -> NodesResult {
-        let width = width_of(self.facts.schema, order.left).ok_or(Unproved::NoRule)?;
-        let len = width.max(width_of(self.facts.schema, order.right).ok_or(Unproved::NoRule)?);
+    fn put_columns(&mut self, x: Operand, y: Operand, compared: ColumnComparison) -> NodesResult {
+        let width = width_of(self.facts.schema, compared.left).ok_or(Unproved::NoRule)?;
+        let len = width.max(width_of(self.facts.schema, compared.right).ok_or(Unproved::NoRule)?);
         let (left, m) = self.values(x)?;
         let (right, n) = self.values(y)?;
         let both = self.facts.row(Connective::And, m, n)?;
         let link = Link {
-            right: Some(order.right),
-            ..Link::of(order.kind, order.left, 0, len, 0)
+            right: Some(compared.right),
+            ..Link::of(compared.kind, compared.left, 0, len, 0)
         };
-        let (chain, e) = self.facts.chain_unless(order.terminal(), link)?;
+        let (chain, e) = self.facts.chain_unless(compared.terminal(), link)?;
         let TruthPair { yes, no } = self.sides(both.node, e)?;
         let entry = ConditionEntry::CompareColumns {
             chain,
@@ -207,6 +211,6 @@ impl Prover<'_> {
             no: no.number,
         };
         let made = self.put_step(entry, yes.node, no.node)?;
-        Ok(made.opposite_if(order.negated))
+        Ok(made.opposite_if(compared.negated))
     }
 }

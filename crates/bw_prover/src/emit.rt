@@ -26,9 +26,10 @@ pub(crate) fn certificate<'a>(
         IsTrue (has_columns schema.now.columns.items (certificate_fields certificate))) }
 {
     let chains = chain_lines(facts.alloc, schema, &facts.chains.entries)?;
-    let (nodes, products) = (facts.nodes, facts.products);
+    let nodes = facts.nodes.lines(facts.alloc)?;
+    let products = facts.products;
     let end = EndLine { line: NO_LINE, row };
-    Ok(Certificate::new(nodes.entries, chains, products.entries, body, end))
+    Ok(Certificate::new(nodes, chains, products.entries, body, end))
 }
 
 /// Returns the lines of chains.

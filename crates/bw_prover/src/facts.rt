@@ -2,17 +2,14 @@
 //! from. Each is added when it is first requested, as the line that states it.
 use crate::chain::Link;
 use crate::columns::null_variable;
-use crate::emit::NO_LINE;
 use crate::ledger::Ledger;
+use crate::nodes::{Branch, Nodes};
 use crate::order::VariableOrder;
 use crate::product::{MAX_PRODUCTS, Waiting};
 use crate::unproved::Unproved;
-use bw_cert_text::{NodeLine, ProductLine};
+use bw_cert_text::ProductLine;
 use bw_model::{Cond, Operand, Schema};
 use std::alloc::{AllocError, Global};
-
-/// The most nodes of a certificate, besides the two terminals.
-const MAX_NODES: u32 = 65_534;
 
 /// The most chains of a certificate.
 const MAX_CHAINS: u32 = 65_536;
@@ -29,8 +26,7 @@ pub(crate) struct Cited {
 pub(crate) struct Facts<'a> {
     pub(crate) alloc: Global,
     pub(crate) schema: &'a Schema,
-    /// The nodes from number 2 on: 0 and 1 are the terminals.
-    pub(crate) nodes: Ledger<NodeLine>,
+    pub(crate) nodes: Nodes,
     pub(crate) chains: Ledger<Link>,
     pub(crate) products: Ledger<ProductLine>,
     /// The questions that wait for the rows of others, the innermost last. Calls in calls would take
@@ -51,7 +47,7 @@ impl<'a> Facts<'a> {
         Ok(Facts {
             alloc,
             schema,
-            nodes: Ledger::new(alloc, MAX_NODES),
+            nodes: Nodes::new(alloc),
             chains: Ledger::new(alloc, MAX_CHAINS),
             products: Ledger::new(alloc, rows.min(MAX_PRODUCTS)),
             waiting: Vec::new(alloc),
@@ -59,15 +55,9 @@ impl<'a> Facts<'a> {
         })
     }
 
-    /// Returns the node of a number, unless that is a terminal's.
-    pub(crate) fn node(&self, number: u64) -> Option<NodeLine> {
-        let place = number.checked_sub(2)?;
-        self.nodes.entries.get(place as usize).copied()
-    }
-
     /// Returns a node's child for a variable's bit, if it tests that variable, else the node.
     pub(crate) fn cofactor(&self, number: u64, variable: u64, bit: bool) -> u64 {
-        match self.node(number) {
+        match self.nodes.get(number) {
             Some(node) if node.v == variable && bit => node.high,
             Some(node) if node.v == variable => node.low,
             _ => number,
@@ -76,26 +66,13 @@ impl<'a> Facts<'a> {
 
     /// Returns the node that tests a variable.
     pub(crate) fn test(&mut self, v: u64, low: u64, high: u64) -> Result<u64, Unproved> {
-        let key = (v, low << 32 | high);
-        if let Some((_, known)) = self.nodes.find(key) {
-            return Ok(known.n);
-        }
-        let (line, n) = (NO_LINE, u64::from(self.nodes.count) + 2);
-        let node = NodeLine {
-            line,
-            n,
-            v,
-            low,
-            high,
-        };
-        self.nodes.push(key, node)?;
-        Ok(n)
+        self.nodes.number_of(Branch { v, low, high })
     }
 
     /// Returns the node that has these children for a variable's bit. If they are the same node, it
     /// is that one, unless that tests the same variable.
     pub(crate) fn choice(&mut self, v: u64, low: u64, high: u64) -> Result<u64, Unproved> {
-        if low == high && !matches!(self.node(low), Some(node) if node.v == v) {
+        if low == high && !matches!(self.nodes.get(low), Some(node) if node.v == v) {
             return Ok(low);
         }
         self.test(v, low, high)

@@ -3,14 +3,14 @@ ghost use Rattle.std.specs.Prelude.{◌<◌};
 
 use crate::prover::Prover;
 use crate::unproved::Unproved;
-use crate::walk::{Edge, Held, RegisterSet, Walk, set_of};
+use crate::walk::{Arrival, Held, RegisterSet, Walk, set_of};
 use bw_cert_text::{EdgePairs, EdgeProducts, Entry, Keep};
 use bw_diagram::Connective;
 use bw_program::Register;
 
 /// A skip: its number and target, and the node of its register.
 #[derive(Clone, Copy)]
-pub(crate) struct Skip {
+pub(crate) struct KnownSkip {
     pub(crate) number: usize,
     pub(crate) target: usize,
     pub(crate) tested: u64,
@@ -21,7 +21,7 @@ impl Prover<'_> {
     /// is kept if it has the same value by each skip as on fall-through; else it isn't known.
     pub(crate) fn meet(&mut self, walk: &mut Walk, read: RegisterSet) -> Result<(), Unproved> {
         let place = walk.place;
-        if walk.edges.iter().all(|edge| edge.skip.target != place) {
+        if walk.arrivals.iter().all(|from| from.skip.target != place) {
             return Ok(());
         }
         self.put(Entry::Join(place as u64))?;
@@ -35,7 +35,7 @@ impl Prover<'_> {
                 self.keep(walk, register, node)?
             };
         }
-        walk.edges.retain(|edge| edge.skip.target != place);
+        walk.arrivals.retain(|from| from.skip.target != place);
         Ok(())
     }
 
@@ -46,7 +46,7 @@ impl Prover<'_> {
         requires { register < 64 }
     {
         let mut pairs = Vec::new(self.facts.alloc);
-        for Edge { skip, registers } in &walk.edges {
+        for Arrival { skip, registers } in &walk.arrivals {
             if skip.target != walk.place {
                 continue;
             }

@@ -3,7 +3,7 @@
 //! The contract that the crates above use: [`prove`] returns on every program and condition, and so
 //! do [`Prover`]'s functions, between which a planner can write a program for the condition. The
 //! chains of a certificate that they return name columns of the schema. This crate doesn't guarantee
-//! that the checker accepts the certificate: the checker judges each line anew.
+//! that the checker accepts the certificate: the checker checks each line itself.
 //!
 //! The condition's lines are written by recursion on the condition; then one walk over the
 //! instructions finds each register's node. Nothing is guessed, and nothing is taken back. The
@@ -23,6 +23,7 @@ mod emit;
 mod facts;
 mod join;
 mod ledger;
+mod nodes;
 mod order;
 mod product;
 mod prover;

@@ -3,7 +3,7 @@
 //! another place by place, the left column first.
 use crate::columns::width_of;
 use crate::comparison::{Comparison, compare};
-use bw_diagram::Order;
+use bw_diagram::ColumnComparison;
 use bw_model::{Cond, Op, Operand, Schema};
 use std::alloc::{AllocError, Global};
 
@@ -33,7 +33,7 @@ impl VariableOrder {
     /// Returns the order under a condition.
     pub(crate) fn new(alloc: Global, schema: &Schema, cond: &Cond) -> Result<Self, AllocError> {
         let pairs = Vec::new(alloc);
-        let mut reader = Reader { schema, pairs };
+        let mut reader = PairReader { schema, pairs };
         let mut sequence = reader.sequence_of(alloc, cond)?;
         for column in 0..64 {
             sequence.push(column)?;
@@ -133,12 +133,12 @@ impl Sequence {
 /// Reads a condition's columns, and the pairs of different ones that it compares with one another: a
 /// chain over the two tests the left one's bit first.
 #[derive(Drop)]
-struct Reader<'a> {
+struct PairReader<'a> {
     schema: &'a Schema,
     pairs: Vec<(u8, u8)>,
 }
 
-impl Reader<'_> {
+impl PairReader<'_> {
     /// Returns the columns of a condition, and adds its pairs.
     #[cycle(sequence)]
     fn sequence_of(&mut self, alloc: Global, cond: &Cond) -> Result<Sequence, AllocError> {
@@ -171,7 +171,7 @@ impl Reader<'_> {
     fn add(&mut self, to: &mut Sequence, op: Op, x: Operand, y: Operand) -> Result<(), AllocError> {
         match compare(self.schema, op, x, y) {
             Some(Comparison::Literal(column, _)) => self.append(to, column)?,
-            Some(Comparison::Columns(Order { left, right, .. })) => {
+            Some(Comparison::Columns(ColumnComparison { left, right, .. })) => {
                 self.append(to, left)?;
                 self.append(to, right)?;
                 if left != right {

@@ -2,8 +2,9 @@
 use crate::emit::NO_LINE;
 use crate::facts::{Cited, Facts};
 use crate::ledger::Key;
+use crate::nodes::Branch;
 use crate::unproved::Unproved;
-use bw_cert_text::{NodeLine, ProductLine};
+use bw_cert_text::ProductLine;
 use bw_diagram::{Connective, Reason};
 
 /// The most product rows of a certificate.
@@ -101,7 +102,7 @@ impl Facts<'_> {
     /// Returns the first variable that one of two nodes tests. Where comparisons have two bits in
     /// opposite orders, it is that of the node that leads to the other's variable, if one does.
     fn first_variable(&self, asked: Question) -> Option<u64> {
-        let (a, b) = match (self.node(asked.a), self.node(asked.b)) {
+        let (a, b) = match (self.nodes.get(asked.a), self.nodes.get(asked.b)) {
             (Some(a), Some(b)) => (a, b),
             (one, other) => return Some(one.or(other)?.v),
         };
@@ -113,8 +114,8 @@ impl Facts<'_> {
     }
 
     /// Returns whether a child of a node tests the variable of another.
-    fn leads(&self, node: NodeLine, other: NodeLine) -> bool {
-        let tests = |child| self.node(child).is_some_and(|node| node.v == other.v);
+    fn leads(&self, node: Branch, other: Branch) -> bool {
+        let tests = |child| self.nodes.get(child).is_some_and(|node| node.v == other.v);
         tests(node.low) || tests(node.high)
     }
 }

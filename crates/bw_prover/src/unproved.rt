@@ -1,4 +1,6 @@
 //! Why a program has no certificate for a condition.
+ghost use Rattle.std.specs.Prelude.{◌≡◌};
+
 use bw_model::Row;
 use bw_program::Register;
 use std::alloc::{AllocError, AllocFailed};
@@ -51,12 +53,20 @@ pub struct Witness {
 }
 
 impl From<AllocError> for Unproved {
+    ghost use Rattle.bw_prover.specs.declared.unproved.Unproved.TheVariants.{Memory};
+
+    ghost from_gives = { λ _ unproved. unproved ≡ Memory };
+
     fn from(_error: AllocError) -> Self {
         Unproved::Memory
     }
 }
 
 impl<T: Drop> From<AllocFailed<T>> for Unproved {
+    ghost use Rattle.bw_prover.specs.declared.unproved.Unproved.TheVariants.{Memory};
+
+    ghost from_gives = { λ _ unproved. unproved ≡ Memory };
+
     fn from(_error: AllocFailed<T>) -> Self {
         Unproved::Memory
     }

@@ -2,7 +2,7 @@
 //! end, which finds the registers that are read later.
 use crate::chain::Link;
 use crate::columns::{bit_variable, null_variable, width_of};
-use crate::join::Skip;
+use crate::join::KnownSkip;
 use crate::prover::Prover;
 use crate::unproved::Unproved;
 use bw_cert_text::{Entry, InstructionEntry};
@@ -18,13 +18,13 @@ use std::alloc::{AllocError, Global};
 pub(crate) enum Held {
     Nothing,
     Node(u64),
-    Lost(Skip, Option<u64>),
+    Lost(KnownSkip, Option<u64>),
 }
 
 /// A skip to a place that the walk hasn't reached, and what is known of all registers there.
 #[derive(Clone, Copy)]
-pub(crate) struct Edge {
-    pub(crate) skip: Skip,
+pub(crate) struct Arrival {
+    pub(crate) skip: KnownSkip,
     pub(crate) registers: [Held; 64],
 }
 
@@ -34,7 +34,7 @@ pub(crate) struct Edge {
 pub(crate) struct Walk {
     pub(crate) place: usize,
     pub(crate) registers: [Held; 64],
-    pub(crate) edges: Vec<Edge>,
+    pub(crate) arrivals: Vec<Arrival>,
 }
 
 /// The line of an instruction, and the node of the register that it writes, or, of a skip, that it
@@ -49,7 +49,7 @@ impl Prover<'_> {
         let mut walk = Walk {
             place: 0,
             registers: [Held::Nothing; 64],
-            edges: Vec::new(alloc),
+            arrivals: Vec::new(alloc),
         };
         for (number, read) in reads.iter().enumerate() {
             walk.place = number;
@@ -66,13 +66,13 @@ impl Prover<'_> {
         let (entry, node) = self.effect(walk, instr)?;
         self.put(Entry::Instruction(entry))?;
         if let Instr::Skip(_, target) = instr {
-            let skip = Skip {
+            let skip = KnownSkip {
                 number: walk.place,
                 target,
                 tested: node,
             };
             let registers = walk.registers;
-            walk.edges.push(Edge { skip, registers })?;
+            walk.arrivals.push(Arrival { skip, registers })?;
         } else if let Some(register) = uses(instr).1 {
             walk.registers[usize::from(register % 64)] = Held::Node(node);
         }
@@ -89,7 +89,7 @@ impl Prover<'_> {
                 register,
                 join: skip.target,
                 skip: skip.number,
-                witness: self.facts.witness(skip, differs),
+                witness: self.facts.witness(skip, differs)?,
             }),
             _ => Err(Unproved::Unwritten {
                 instruction,

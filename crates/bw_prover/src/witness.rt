@@ -2,7 +2,7 @@
 use crate::chain::Link;
 use crate::columns::{null_variable, width_of};
 use crate::facts::Facts;
-use crate::join::Skip;
+use crate::join::KnownSkip;
 use crate::unproved::{Unproved, Witness};
 use bw_diagram::{ChainKind, Connective};
 use bw_model::{Row, Schema};
@@ -21,14 +21,30 @@ impl Facts<'_> {
     }
 
     /// Returns a row on which a register differs by a skip, and one on which the skip isn't taken,
-    /// if the schema admits both.
-    pub(crate) fn witness(&mut self, skip: Skip, differs: Option<u64>) -> Option<Witness> {
+    /// if the schema admits both and they are found within the limits.
+    pub(crate) fn witness(
+        &mut self,
+        skip: KnownSkip,
+        differs: Option<u64>,
+    ) -> Result<Option<Witness>, Unproved> {
+        let Some(differs) = differs else {
+            return Ok(None);
+        };
         if !self.order.is_total {
-            return None;
+            return Ok(None);
         }
-        let through = self.row_of(skip.tested).ok()??;
-        let taken = self.row_of(differs?).ok()??;
-        Some(Witness { taken, through })
+        match self.rows_of(skip.tested, differs) {
+            Err(Unproved::Memory) => Err(Unproved::Memory),
+            found => Ok(found.ok().flatten()),
+        }
+    }
+
+    /// Returns a row on which one node is 1, and one on which another is, if the schema admits both.
+    fn rows_of(&mut self, through: u64, taken: u64) -> Result<Option<Witness>, Unproved> {
+        let Some(through) = self.row_of(through)? else {
+            return Ok(None);
+        };
+        Ok(self.row_of(taken)?.map(|taken| Witness { taken, through }))
     }
 
     /// Returns a row that the schema admits and on whose bits a node is 1, if there is one.
@@ -68,8 +84,8 @@ impl Facts<'_> {
         let mut bits = Vec::new(self.alloc);
         bits.resize(self.schema.var_count() as usize, false)?;
         let mut at = node;
-        for _ in 0..self.nodes.count {
-            let Some(node) = self.node(at) else {
+        for _ in 0..self.nodes.len() {
+            let Some(node) = self.nodes.get(at) else {
                 break;
             };
             let bit = node.low == 0;

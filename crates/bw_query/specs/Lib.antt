@@ -1,7 +1,5 @@
 pub mod ProgramChoice
-pub mod Certification
 pub mod MemoryAnswer
-pub mod Plan
 pub mod ProgramCache
 pub mod Scan
 pub mod Served

@@ -6,7 +6,6 @@ use Rattle.bw_model.specs.declared.fault.Fault.{Fault}
 use Rattle.bw_model.specs.declared.query.Query.{Query}
 use Rattle.bw_model.specs.Column.{names_of}
 use Rattle.bw_model.specs.Groups.{groups_of, together}
-use Rattle.bw_model.specs.Limits.{most_rows}
 use Rattle.bw_model.specs.Row.{Value}
 use Rattle.bw_answer.specs.Answer.{csv_text, meaning}
 use Rattle.bw_file.specs.Reading.{State}

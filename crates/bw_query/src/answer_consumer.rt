@@ -1,5 +1,5 @@
 //! An answer that consumes what a scan finds.
-ghost use Rattle.std.specs.Prelude.{◌≡◌, ◌+◌, ◌≤◌, IfErr, IfOk, length};
+ghost use Rattle.std.specs.Prelude.{◌≡◌, ◌+◌, ◌≤◌, IfOk, length, IsOkUnless};
 ghost use Rattle.bw_model.specs.Fault.{no_memory};
 ghost use Rattle.bw_model.specs.Limits.{most_rows};
 ghost use Rattle.bw_answer.specs.Progress.{query_in};
@@ -64,7 +64,7 @@ fn take_segment<S: Segment>(
     requires capacity { answer.old.rows + length (S.meaning segment.now).rows ≤ most_rows }
     ensures taken { IfOk result (AnswersGroup (S.meaning segment.now).columns scan.now answer.old
         answer.new (S.meaning segment.now).rows) }
-    ensures only_oom { IfErr result (λ fault. fault ≡ no_memory) }
+    ensures only_oom { IsOkUnless result no_memory }
 {
     match scan {
         Scan::Program(certified) => take_by_program(segment, certified, registers, answer),
@@ -85,7 +85,7 @@ fn take_by_program<S: Segment>(
     requires capacity { answer.old.rows + length (S.meaning segment.now).rows ≤ most_rows }
     ensures taken { IfOk result (AnswersGroup (S.meaning segment.now).columns
         (Program certified.now) answer.old answer.new (S.meaning segment.now).rows) }
-    ensures only_oom { IfErr result (λ fault. fault ≡ no_memory) }
+    ensures only_oom { IsOkUnless result no_memory }
 {
     certified.condition().same_meaning(&answer.query().cond);
     let (selection, counts) = certified.run_in(segment, registers);
@@ -99,7 +99,7 @@ fn take_by_fallback<S: Segment>(segment: &S, answer: &mut Answer<'_>) -> Result<
     requires capacity { answer.old.rows + length (S.meaning segment.now).rows ≤ most_rows }
     ensures taken { IfOk result (AnswersGroup (S.meaning segment.now).columns Rows answer.old
         answer.new (S.meaning segment.now).rows) }
-    ensures only_oom { IfErr result (λ fault. fault ≡ no_memory) }
+    ensures only_oom { IsOkUnless result no_memory }
 {
     answer.take_segment(segment)?;
     Ok(Counts { loads: 0, skips: 0 })

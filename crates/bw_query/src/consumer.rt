@@ -1,5 +1,5 @@
 //! What consumes the segments of a table, and makes the text of a result.
-ghost use Rattle.std.specs.Prelude.{◌≡◌, ◌≤◌, ◌+◌, ℕ, List, OnOk, IfOk, IfErr, length};
+ghost use Rattle.std.specs.Prelude.{◌≡◌, ◌≤◌, ◌+◌, ℕ, List, OnOk, IfOk, length, IsOkUnless};
 ghost use Rattle.bw_model.specs.declared.column.Column.{Column};
 ghost use Rattle.bw_model.specs.Fault.{no_memory};
 ghost use Rattle.bw_model.specs.Limits.{most_rows};
@@ -35,7 +35,7 @@ pub(crate) trait SegmentConsumer {
         requires capacity { rows self.old + length (S.meaning segment.now).rows ≤ most_rows }
         ensures consumes { OnOk result (Consumes (S.meaning segment.now).columns
             (S.meaning segment.now).rows fits rows over self.old self.new) }
-        ensures only_oom { IfErr result (λ fault. fault ≡ no_memory) };
+        ensures only_oom { IsOkUnless result no_memory };
 
     /// Returns the text of the result over the rows that it has consumed, and what was scanned for
     /// it. Errors: 801 if memory is refused.
@@ -45,5 +45,5 @@ pub(crate) trait SegmentConsumer {
         ensures text { IfOk result (λ found. (start : Self) (columns : List Column)
             (groups : List (List (List Value))) → over start columns groups self
             → gives start columns groups found) }
-        ensures only_oom { IfErr result (λ fault. fault ≡ no_memory) };
+        ensures only_oom { IsOkUnless result no_memory };
 }

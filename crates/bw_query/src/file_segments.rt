@@ -1,5 +1,5 @@
 //! The segments of a table file, from its reader.
-ghost use Rattle.std.specs.Prelude.{◌≡◌, ◌+◌, ◌-◌, ◌≤◌, IfErr, OnOk, length};
+ghost use Rattle.std.specs.Prelude.{◌≡◌, ◌+◌, ◌-◌, ◌≤◌, OnOk, length, IsOkUnless};
 ghost use Rattle.bw_model.specs.Fault.{no_memory};
 ghost use Rattle.bw_model.specs.Limits.{most_rows};
 ghost use Rattle.bw_file.specs.AnySegment.{any_meaning};
@@ -10,13 +10,15 @@ ghost use Rattle.bw_query.specs.Segments.{Consumes, HasFailed, HasGiven, HasGive
 
 use crate::consumer::SegmentConsumer;
 use crate::segments::Segments;
-use bw_file::{AnySegment, TableReader};
+use bw_file::{AnySegment, TableReader, with_segment};
 use bw_io::Source;
 use bw_model::{Fault, Schema};
 use bw_run::Registers;
 
 impl<S: Source> Segments<S> for TableReader {
     ghost table = { schema_in };
+
+    ghost stated = { rows_stated };
 
     ghost given = { rows_given };
 
@@ -77,10 +79,7 @@ fn take_either<C: SegmentConsumer>(
     requires capacity { C.rows consumer.old + length (any_meaning segment.now).rows ≤ most_rows }
     ensures consumes { OnOk result (Consumes (any_meaning segment.now).columns
         (any_meaning segment.now).rows C.fits C.rows C.over consumer.old consumer.new) }
-    ensures only_oom { IfErr result (λ fault. fault ≡ no_memory) }
+    ensures only_oom { IsOkUnless result no_memory }
 {
-    match segment {
-        AnySegment::Planes(segment) => consumer.take(segment, registers),
-        AnySegment::Slices(segment) => consumer.take(segment, registers),
-    }
+    with_segment!(segment, segment => consumer.take(segment, registers))
 }

@@ -10,14 +10,12 @@
 #![tactic(auto)]
 
 mod answer_consumer;
-mod certify_call;
 mod consumer;
 mod file_segments;
 mod file_text;
 mod match_counter;
 mod memory_calls;
 mod memory_segments;
-mod plan_call;
 mod program_cache;
 mod scan;
 mod segments;
@@ -26,8 +24,6 @@ mod table_calls;
 mod table_text;
 mod trial;
 
-pub use certify_call::certify_text;
 pub use memory_calls::{answer_in_memory, answer_with_programs};
-pub use plan_call::plan_text;
 pub use program_cache::{ProgramCache, RejectedFile};
 pub use table_calls::{answer, dump};

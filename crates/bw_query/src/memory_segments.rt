@@ -1,6 +1,7 @@
 //! The segments of a table in memory.
 ghost use Rattle.std.proofs.Props.{props};
-ghost use Rattle.std.specs.Prelude.{◌≡◌, ◌+◌, ◌-◌, ◌<◌, ◌≤◌, IfErr, IfOk, IfSome, IsTrue, length, vec_len};
+ghost use Rattle.std.specs.Prelude.{◌≡◌, ◌+◌, ◌-◌, ◌<◌, ◌≤◌, IfOk, IfSome, IsTrue, length, vec_len};
+ghost use Rattle.std.specs.Prelude.{IsOkUnless};
 ghost use Rattle.std.specs.List.{list_all};
 ghost use Rattle.bw_model.specs.Fault.{no_memory};
 ghost use Rattle.bw_model.specs.Groups.{together};
@@ -8,7 +9,7 @@ ghost use Rattle.bw_model.specs.Total.{item_within};
 ghost use Rattle.bw_sql.specs.Items.{AreOfOneKind};
 ghost use Rattle.bw_file.specs.Blocks.{form_of};
 ghost use Rattle.bw_memory.specs.MemoryTable.{groups_in, layout_of, meaning_numbered, placement_of};
-ghost use Rattle.bw_memory.specs.MemoryTable.{schema_of, segments_in};
+ghost use Rattle.bw_memory.specs.MemoryTable.{rows_of, schema_of, segments_in};
 ghost use Rattle.bw_query.specs.Scan.{IsFor};
 ghost use Rattle.bw_query.specs.SegmentLemmas.{memory_fails};
 ghost use Rattle.bw_query.specs.Segments.{IsTextOf, groups_before};
@@ -18,13 +19,11 @@ use crate::scan::Scan;
 use crate::segments::Segments;
 use crate::served::TableText;
 use crate::table_text::table_text;
-use bw_file::Layout;
+use bw_file::in_layout;
 use bw_memory::MemoryTable;
 use bw_model::{Fault, Query, Schema};
-use bw_planes::Planes;
 use bw_run::Registers;
 use bw_segment::{CodeLayout, NumberedBlocks, PackedSegment, Placement, Segment};
-use bw_slices::Slices;
 use std::alloc::Global;
 use std::marker::PhantomData;
 use std::rc::Rc;
@@ -55,7 +54,7 @@ impl<'a, L: CodeLayout> MemorySegments<'a, L> {
             segment.placement.value ≡ placement_of self.old.table.now) }
         ensures next { IfOk result (λ _. self.new.next ≡ self.old.next + 1) }
         ensures table { self.new.table.now ≡ self.old.table.now }
-        ensures only_oom { IfErr result (λ fault. fault ≡ no_memory) }
+        ensures only_oom { IsOkUnless result no_memory }
     {
         let table = self.table;
         let number = self.next;
@@ -70,6 +69,8 @@ impl<'a, L: CodeLayout> MemorySegments<'a, L> {
 
 impl<'a, L: CodeLayout> Segments<()> for MemorySegments<'a, L> {
     ghost table = { λ segments. schema_of segments.table.now };
+
+    ghost stated = { λ segments. length (rows_of segments.table.now) };
 
     ghost given = { λ segments. length (together (groups_before segments.table.now segments.next)) };
 
@@ -127,12 +128,9 @@ pub(crate) fn memory_text(
     requires scan { IsFor (schema_of table.now).columns.items query.now.cond scan.now }
     ensures text { IfOk result (λ found. IsTextOf (schema_of table.now).columns.items query.now
         scan.now (λ groups. groups ≡ groups_in table.now) found.text.items found.scanned) }
-    ensures only_oom { IfErr result (λ fault. fault ≡ no_memory) }
+    ensures only_oom { IsOkUnless result no_memory }
 {
-    match table.layout() {
-        Layout::Planes => text_in::<Planes>(alloc, table, query, scan),
-        Layout::Slices => text_in::<Slices>(alloc, table, query, scan),
-    }
+    in_layout!(table.layout(), text_in::<_>(alloc, table, query, scan))
 }
 
 /// Returns the same of a table in this layout.
@@ -150,7 +148,7 @@ fn text_in<L: CodeLayout>(
     requires scan { IsFor (schema_of table.now).columns.items query.now.cond scan.now }
     ensures text { IfOk result (λ found. IsTextOf (schema_of table.now).columns.items query.now
         scan.now (λ groups. groups ≡ groups_in table.now) found.text.items found.scanned) }
-    ensures only_oom { IfErr result (λ fault. fault ≡ no_memory) }
+    ensures only_oom { IsOkUnless result no_memory }
 {
     let mut segments = MemorySegments::<L> {
         table,

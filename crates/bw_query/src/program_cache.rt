@@ -36,11 +36,11 @@ pub struct ProgramCache {
 
 impl ProgramCache {
     ghost use Rattle.std.specs.Prelude.{All, ◌≡◌, ◌<◌, ◌⊎◌, IfOk, IfErr, IfSome, IsTrue, List};
-    ghost use Rattle.std.specs.Prelude.{None, []};
+    ghost use Rattle.std.specs.Prelude.{None, [], IsOkUnless};
     ghost use Rattle.bw_model.specs.declared.column.Column.{Column};
     ghost use Rattle.bw_model.specs.declared.cond.Cond.{Cond};
     ghost use Rattle.bw_model.specs.Cond.{names_within};
-    ghost use Rattle.bw_model.specs.Fault.{is_memory};
+    ghost use Rattle.bw_model.specs.Fault.{no_memory};
     ghost use Rattle.bw_cert.specs.FileVerdict.{is_file_fault};
     ghost use Rattle.bw_memory.specs.MemoryTable.{schema_of};
     ghost use Rattle.bw_query.specs.ProgramChoice.{IsChosenAmong, IsFileRead, texts_of};
@@ -103,7 +103,7 @@ impl ProgramCache {
             ⊎ IsAdded self.old.kept.items self.new.kept.items cond.now number) }
         ensures serves { Serves (schema_of table.now).columns.items self.new }
         ensures files { files_of self.new ≡ files_of self.old }
-        ensures only_oom { IfErr result (λ fault. IsTrue (is_memory fault)) }
+        ensures only_oom { IsOkUnless result no_memory }
     {
         certificates_serve_equal_conditions();
         match self.find(cond) {
@@ -150,7 +150,7 @@ impl ProgramCache {
             (IsAdded self.old.kept.items self.new.kept.items cond.now) }
         ensures serves { Serves (schema_of table.now).columns.items self.new }
         ensures files { files_of self.new ≡ files_of self.old }
-        ensures only_oom { IfErr result (λ fault. IsTrue (is_memory fault)) }
+        ensures only_oom { IsOkUnless result no_memory }
     {
         certificates_serve_equal_conditions();
         let scan = choose(alloc, table, cond, &self.files)?;

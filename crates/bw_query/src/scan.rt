@@ -1,10 +1,11 @@
 //! Chooses what finds the rows of a query.
 ghost use Rattle.std.specs.Prelude.{◌≡◌, false, IfOk, IfErr, IsTrue, List, None, length};
+ghost use Rattle.std.specs.Prelude.{IsOkUnless};
 ghost use Rattle.bw_model.specs.declared.column.Column.{Column};
 ghost use Rattle.bw_model.specs.declared.cond.Cond.{Cond};
 ghost use Rattle.bw_model.specs.Cond.{names_within};
 ghost use Rattle.bw_model.specs.CondTree.{tree_of};
-ghost use Rattle.bw_model.specs.Fault.{is_memory};
+ghost use Rattle.bw_model.specs.Fault.{is_memory, no_memory};
 ghost use Rattle.bw_program.specs.Program.{ProgramShape};
 ghost use Rattle.bw_cert_text.specs.CertificateShape.{CertificateShape};
 ghost use Rattle.bw_cert.specs.FileVerdict.{is_file_fault};
@@ -54,7 +55,7 @@ pub(crate) fn scan_for(
     // If the program file is accepted for a condition of the same tree, only memory can fail.
     ensures accepted { (same : Cond) → tree_of same ≡ tree_of cond.now
         → IsUsable (given_file program.entry) schema.now.columns.items same
-        → IfErr result (λ fault. IsTrue (is_memory fault)) }
+        → IsOkUnless result no_memory }
 {
     match program {
         Some(file) => Ok(Scan::Program(check_file(alloc, schema, cond, file)?.certified)),
@@ -75,7 +76,7 @@ pub(crate) fn choose(
     ensures certified { IfOk result (IsFor (schema_of table.now).columns.items cond.now) }
     ensures chosen { IfOk result
         (IsChosenAmong (texts_of files.now) (schema_of table.now).columns.items cond.now) }
-    ensures only_oom { IfErr result (λ fault. IsTrue (is_memory fault)) }
+    ensures only_oom { IsOkUnless result no_memory }
 {
     let schema = table.schema();
     for number in 0..files.len() {
@@ -108,7 +109,7 @@ fn certify_by_file(
 ) -> Result<Option<Certified>, Fault>
     requires { IsTrue (names_within (length schema.now.columns.items) cond.now) }
     ensures found { IfOk result (IsYield file.now schema.now.columns.items cond.now) }
-    ensures only_oom { IfErr result (λ fault. IsTrue (is_memory fault)) }
+    ensures only_oom { IsOkUnless result no_memory }
 {
     match check_file(alloc, schema, cond, file) {
         Ok(found) => Ok(Some(found.certified)),
@@ -129,7 +130,7 @@ pub(crate) fn plan_and_certify(
     requires { IsTrue (names_within (length schema.now.columns.items) cond.now) }
     ensures certified { IfOk result (IsFor schema.now.columns.items cond.now) }
     ensures chosen { IfOk result (IsChosen None schema.now.columns.items cond.now) }
-    ensures only_oom { IfErr result (λ fault. IsTrue (is_memory fault)) }
+    ensures only_oom { IsOkUnless result no_memory }
 {
     scan_by(certify_plan(alloc, schema, cond, order))
 }

@@ -19,6 +19,9 @@ pub(crate) trait Segments<I> {
     /// The table's schema.
     ghost table: { Self → Schema };
 
+    /// How many rows it has, or states.
+    ghost stated: { Self → ℕ };
+
     /// How many rows came so far.
     ghost given: { Self → ℕ };
 
@@ -40,7 +43,8 @@ pub(crate) trait Segments<I> {
         ensures { result.now ≡ table self.now };
 
     /// Returns how many rows the table has, or states.
-    fn rows(&self) -> u32;
+    fn rows(&self) -> u32
+        ensures { result ≡ stated self.now };
 
     /// Hands the next segment to a consumer, which must have consumed the rows that came so far.
     /// Returns whether there was one: after the last segment the consumer stays as it was.

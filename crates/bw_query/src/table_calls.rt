@@ -1,6 +1,7 @@
 //! Runs queries over a table file.
 ghost use Rattle.std.specs.Prelude.{◌≡◌, ◌-◌, ◌^◌, ◌<◌, ◌≤◌, ℕ, List, Option, Result, Ok, Err};
 ghost use Rattle.std.specs.Prelude.{None, Some, false, length, vec_len, IsTrue, IfOk, IfErr, OnOk};
+ghost use Rattle.std.specs.Prelude.{IsOkUnless};
 ghost use Rattle.std.specs.Io.KnownBytes.{Appends};
 ghost use Rattle.std.specs.List.{list_all};
 ghost use Rattle.bw_model.specs.declared.fault.Fault.{Fault};
@@ -8,7 +9,7 @@ ghost use Rattle.bw_model.specs.declared.query.Query.{Query};
 ghost use Rattle.bw_model.specs.declared.schema.Schema.{Schema};
 ghost use Rattle.bw_model.specs.Total.{item_within};
 ghost use Rattle.bw_sql.specs.Items.{AreOfOneKind};
-ghost use Rattle.bw_model.specs.Fault.{no_memory, is_memory};
+ghost use Rattle.bw_model.specs.Fault.{is_memory, no_memory};
 ghost use Rattle.bw_model.specs.Row.{Value};
 ghost use Rattle.bw_model.specs.SchemaText.{schema_shape};
 ghost use Rattle.bw_file.specs.declared.layout.Layout.{Layout};
@@ -121,7 +122,7 @@ pub(crate) fn prepare(
     // accepted for its condition, only memory can fail.
     ensures accepted { (other : Schema) (query : Query) → schema_shape schema.now
         ≡ schema_shape other → by_statement (given_file program.entry) sql.now other (Ok query)
-        → IfErr result (λ fault. IsTrue (is_memory fault)) }
+        → IsOkUnless result no_memory }
 {
     schemas_of_one_shape();
     one_query_of_a_text();
@@ -168,7 +169,7 @@ fn every_row(alloc: Global, schema: &Schema) -> Result<Query, Fault>
         (vec_len schema.now.columns)) query.items.items)) }
     ensures nonempty { IfOk result (λ query. 1 ≤ length query.items.items) }
     ensures kinds { IfOk result (λ query. AreOfOneKind query.items.items) }
-    ensures only_oom { IfErr result (λ fault. fault ≡ no_memory) }
+    ensures only_oom { IsOkUnless result no_memory }
 {
     let mut items = Vec::with_capacity(alloc, schema.columns.len())?;
     for column in 0..schema.columns.len() {

@@ -3,25 +3,31 @@
 //!
 //! All programs that the checker accepts for a condition select the same rows, so any of them may
 //! serve. The one with the fewest loads does.
-ghost use Rattle.std.specs.Prelude.{◌≡◌, ◌<◌, ◌≤◌, ◌⊎◌, min, IfOk, IfErr, IsTrue, None, length};
+ghost use Rattle.std.specs.Prelude.{◌≡◌, ◌<◌, ◌≤◌, ◌⊎◌, min, IfOk, IsTrue, None, length};
+ghost use Rattle.std.specs.Prelude.{IsOkUnless, List, ℕ};
+ghost use Rattle.std.specs.List.{sum_by};
 ghost use Rattle.bw_cert.specs.declared.certified.Certified.{Certified};
-ghost use Rattle.bw_memory.specs.MemoryTable.{meaning_numbered, schema_of, segments_in};
+ghost use Rattle.bw_file.specs.Blocks.{form_of};
+ghost use Rattle.bw_memory.specs.MemoryTable.{layout_of, schema_of};
+ghost use Rattle.bw_model.specs.declared.column.Column.{Column};
 ghost use Rattle.bw_model.specs.declared.cond.Cond.{Cond};
 ghost use Rattle.bw_model.specs.Cond.{names_within};
-ghost use Rattle.bw_model.specs.Fault.{is_memory};
+ghost use Rattle.bw_model.specs.Fault.{no_memory};
 ghost use Rattle.bw_query.specs.Scan.{IsChosen, IsFor, loads_in};
-ghost use Rattle.bw_query.specs.Trial.{trial_loads};
+ghost use Rattle.bw_model.specs.Row.{Value};
+ghost use Rattle.bw_model.specs.Selection.{matching_rows};
+ghost use Rattle.bw_rowwise.specs.Filter.{IsPreparedFrom};
+ghost use Rattle.bw_query.specs.Trial.{trial_groups, trial_loads, trial_rows};
 ghost use Rattle.bw_query.specs.declared.scan.Scan.TheVariants.{Program};
 
 use crate::scan::{Scan, plan_and_certify};
 use bw_cert::Certified;
-use bw_file::Layout;
+use bw_file::in_layout;
 use bw_lanes::count;
 use bw_memory::MemoryTable;
 use bw_model::{Cond, Fault};
-use bw_planes::Planes;
 use bw_rowwise::Filter;
-use bw_slices::Slices;
+use bw_segment::{CodeLayout, Segment};
 use std::alloc::Global;
 
 /// A trial runs over this many segments, or over all if there are fewer.
@@ -48,7 +54,7 @@ pub(crate) fn plan_for_table(alloc: Global, table: &MemoryTable, cond: &Cond) ->
     requires { IsTrue (names_within (length (schema_of table.now).columns.items) cond.now) }
     ensures certified { IfOk result (IsFor (schema_of table.now).columns.items cond.now) }
     ensures chosen { IfOk result (IsChosen None (schema_of table.now).columns.items cond.now) }
-    ensures only_oom { IfErr result (λ fault. IsTrue (is_memory fault)) }
+    ensures only_oom { IsOkUnless result no_memory }
 {
     match plan_and_certify(alloc, table.schema(), cond, cond)? {
         Scan::Program(written) => {
@@ -76,7 +82,7 @@ fn try_another_order(
         cond.now (Program program)) }
     ensures at_most { IfOk result (λ program. trial_loads table.now (Program program)
         ≤ trial_loads table.now (Program written)) }
-    ensures only_oom { IfErr result (λ fault. IsTrue (is_memory fault)) }
+    ensures only_oom { IsOkUnless result no_memory }
 {
     if written.program().len() > MOST_INSTRUCTIONS {
         return Ok(written);
@@ -98,48 +104,96 @@ fn cheaper(table: &MemoryTable, first: Certified, second: Certified) -> Result<C
     ensures one { IfOk result (λ program. (program ≡ first) ⊎ (program ≡ second)) }
     ensures fewest { IfOk result (λ program. trial_loads table.now (Program program)
         ≡ min (trial_loads table.now (Program first)) (trial_loads table.now (Program second))) }
-    ensures only_oom { IfErr result (λ fault. IsTrue (is_memory fault)) }
+    ensures only_oom { IsOkUnless result no_memory }
 {
-    let loads = loads_of(table, &first)?;
-    let fewer = loads_of(table, &second)?;
+    let loads = count_in_trial(table, &mut LoadCount { certified: &first })?;
+    let fewer = count_in_trial(table, &mut LoadCount { certified: &second })?;
     if fewer < loads { Ok(second) } else { Ok(first) }
 }
 
-/// Returns how many planes and bytes a program loads in the first 32 segments. Errors: 801 if
-/// memory is refused.
-fn loads_of(table: &MemoryTable, certified: &Certified) -> Result<u64, Fault>
-    requires { certified.now.schema.columns.items ≡ (schema_of table.now).columns.items }
-    ensures loads { IfOk result (λ loads. loads ≡ trial_loads table.now (Program certified.now)) }
-    ensures only_oom { IfErr result (λ fault. IsTrue (is_memory fault)) }
-{
-    let mut loads = 0;
-    for number in 0..table.segments().min(TRIAL_SEGMENTS) {
-        loads += loads_in_segment(table, number, certified)? as u64;
-    }
-    Ok(loads)
+/// What is counted in each segment of a trial.
+trait TrialCount {
+    /// It can count in segments of these columns.
+    ghost fits: { Self → List Column → Type 0 };
+
+    /// How many it counts in a group of rows of these columns.
+    ghost counts: { Self → List Column → List (List Value) → ℕ };
+
+    /// Returns how many it counts in a segment.
+    fn count_in<S: Segment>(&mut self, segment: &S) -> usize
+        requires { fits self.old (S.meaning segment.now).columns }
+        ensures count { result
+            ≡ counts self.old (S.meaning segment.now).columns (S.meaning segment.now).rows }
+        ensures bounded { result ≤ 4096 }
+        ensures fits { (columns : List Column) → fits self.old columns → fits self.new columns }
+        ensures same { counts self.new ≡ counts self.old };
 }
 
-/// Returns how many planes and bytes a program loads in the segment of a number. Errors: 801 if
-/// memory is refused.
-#[tactic(auto, unfolding(bw_file::specs::Blocks::form_of))]
-fn loads_in_segment(table: &MemoryTable, number: u32, certified: &Certified) -> Result<usize, Fault>
-    requires columns { certified.now.schema.columns.items ≡ (schema_of table.now).columns.items }
-    requires number { number < segments_in table.now }
-    ensures loads { IfOk result (λ loads. loads ≡ loads_in (schema_of table.now).columns.items
-        (Program certified.now) (meaning_numbered table.now number).rows) }
-    ensures bounded { IfOk result (λ loads. loads ≤ 4096) }
-    ensures only_oom { IfErr result (λ fault. IsTrue (is_memory fault)) }
-{
-    match table.layout() {
-        Layout::Planes => {
-            let segment = table.segment::<Planes>(number)?;
-            Ok(certified.run_segment(&segment).1.loads)
-        }
-        Layout::Slices => {
-            let segment = table.segment::<Slices>(number)?;
-            Ok(certified.run_segment(&segment).1.loads)
-        }
+/// Counts the planes and bytes that a program loads.
+#[derive(Drop)]
+struct LoadCount<'a> {
+    certified: &'a Certified,
+}
+
+impl<'a> TrialCount for LoadCount<'a> {
+    ghost fits = { λ count columns. count.certified.now.schema.columns.items ≡ columns };
+
+    ghost counts = { λ count columns rows. loads_in columns (Program count.certified.now) rows };
+
+    fn count_in<S: Segment>(&mut self, segment: &S) -> usize {
+        self.certified.run_segment(segment).1.loads
     }
+}
+
+/// Counts the rows on which a condition is TRUE.
+#[derive(Drop)]
+struct MatchCount<'a> {
+    cond: &'a Cond,
+    filter: Filter,
+    ghost prepared: { IsPreparedFrom cond.now filter },
+}
+
+impl<'a> TrialCount for MatchCount<'a> {
+    ghost fits = { λ count columns. Unit {0} };
+
+    ghost counts = { λ count columns rows. length (matching_rows count.cond.now rows) };
+
+    fn count_in<S: Segment>(&mut self, segment: &S) -> usize {
+        count(&self.filter.matching_lanes(segment)) as usize
+    }
+}
+
+/// Returns what is counted in the first 32 segments, all together. The layout is looked up once.
+/// Errors: 801 if memory is refused.
+#[tactic(auto, unfolding(bw_file::specs::Blocks::form_of))]
+fn count_in_trial<C: TrialCount>(table: &MemoryTable, counter: &mut C) -> Result<u64, Fault>
+    requires { C.fits counter.old (schema_of table.now).columns.items }
+    ensures total { IfOk result (λ total. total
+        ≡ sum_by (C.counts counter.old (schema_of table.now).columns.items)
+        (trial_groups table.now)) }
+    ensures only_oom { IsOkUnless result no_memory }
+{
+    in_layout!(table.layout(), count_in_layout::<_, C>(table, counter))
+}
+
+/// Returns the same of a table in this layout.
+fn count_in_layout<L: CodeLayout, C: TrialCount>(
+    table: &MemoryTable,
+    counter: &mut C,
+) -> Result<u64, Fault>
+    requires layout { form_of (layout_of table.now) ≡ L.packing }
+    requires fits { C.fits counter.old (schema_of table.now).columns.items }
+    ensures total { IfOk result (λ total. total
+        ≡ sum_by (C.counts counter.old (schema_of table.now).columns.items)
+        (trial_groups table.now)) }
+    ensures only_oom { IsOkUnless result no_memory }
+{
+    let mut total = 0;
+    for number in 0..table.segments().min(TRIAL_SEGMENTS) {
+        let segment = table.segment::<L>(number)?;
+        total += counter.count_in(&segment) as u64;
+    }
+    Ok(total)
 }
 
 /// Returns a condition with its parts in another order, if it is an AND or an OR of at most 16
@@ -147,27 +201,34 @@ fn loads_in_segment(table: &MemoryTable, number: u32, certified: &Certified) -> 
 /// which they are TRUE in the first 32 segments, those of an OR by descending share. None if they
 /// are written in this order. Errors: 801 if memory is refused.
 fn order_by_share(alloc: Global, table: &MemoryTable, cond: &Cond) -> Result<Option<Cond>, Fault>
-    ensures only_oom { IfErr result (λ fault. IsTrue (is_memory fault)) }
+    ensures only_oom { IsOkUnless result no_memory }
 {
     if table.segments() < LEAST_SEGMENTS {
         return Ok(None);
     }
     match cond {
-        Cond::And(parts) => Ok(by_share(alloc, table, parts, false)?.map(Cond::And)),
-        Cond::Or(parts) => Ok(by_share(alloc, table, parts, true)?.map(Cond::Or)),
+        Cond::And(parts) => { Ok(by_share(alloc, table, parts, First::Rarest)?.map(Cond::And)) }
+        Cond::Or(parts) => { Ok(by_share(alloc, table, parts, First::MostFrequent)?.map(Cond::Or)) }
         _ => Ok(None),
     }
 }
 
-/// Returns parts by ascending share of rows in the first 32 segments, or by descending share; None
-/// if they are in this order, or more than 16. Errors: 801 if memory is refused.
+/// Which parts are taken first, by the share of rows on which they are TRUE.
+#[derive(Clone, Copy)]
+enum First {
+    Rarest,
+    MostFrequent,
+}
+
+/// Returns parts by their share of rows in the first 32 segments; None if they are in this order,
+/// or more than 16. Errors: 801 if memory is refused.
 fn by_share(
     alloc: Global,
     table: &MemoryTable,
     parts: &[Cond],
-    most_first: bool,
+    first: First,
 ) -> Result<Option<Vec<Cond>>, Fault>
-    ensures only_oom { IfErr result (λ fault. IsTrue (is_memory fault)) }
+    ensures only_oom { IsOkUnless result no_memory }
 {
     if parts.len() as u64 > MOST_PARTS {
         return Ok(None);
@@ -175,10 +236,9 @@ fn by_share(
     let mut ranks = Vec::new(alloc);
     for (number, part) in parts.iter().enumerate() {
         let rows = rows_in_trial(alloc, table, part)?;
-        let share = if most_first {
-            MOST_ROWS.saturating_sub(rows)
-        } else {
-            rows
+        let share = match first {
+            First::Rarest => rows,
+            First::MostFrequent => MOST_ROWS.saturating_sub(rows),
         };
         ranks.push(
             share
@@ -202,32 +262,9 @@ fn by_share(
 /// Returns on how many rows of the first 32 segments a condition is TRUE. Errors: 801 if memory is
 /// refused.
 fn rows_in_trial(alloc: Global, table: &MemoryTable, cond: &Cond) -> Result<u64, Fault>
-    ensures only_oom { IfErr result (λ fault. IsTrue (is_memory fault)) }
+    ensures rows { IfOk result (λ rows. rows ≡ trial_rows table.now cond.now) }
+    ensures only_oom { IsOkUnless result no_memory }
 {
-    let mut filter = Filter::new(alloc, cond)?;
-    let mut rows: u64 = 0;
-    for number in 0..table.segments().min(TRIAL_SEGMENTS) {
-        let more = rows_in_segment(table, number, &mut filter)?;
-        rows = rows.saturating_add(u64::from(more));
-    }
-    Ok(rows)
-}
-
-/// Returns how many rows of the segment of a number a filter keeps. Errors: 801 if memory is
-/// refused.
-#[tactic(auto, unfolding(bw_file::specs::Blocks::form_of))]
-fn rows_in_segment(table: &MemoryTable, number: u32, filter: &mut Filter) -> Result<u32, Fault>
-    requires { number < segments_in table.now }
-    ensures only_oom { IfErr result (λ fault. IsTrue (is_memory fault)) }
-{
-    match table.layout() {
-        Layout::Planes => {
-            let segment = table.segment::<Planes>(number)?;
-            Ok(count(&filter.matching_lanes(&segment)))
-        }
-        Layout::Slices => {
-            let segment = table.segment::<Slices>(number)?;
-            Ok(count(&filter.matching_lanes(&segment)))
-        }
-    }
+    let filter = Filter::new(alloc, cond)?;
+    count_in_trial(table, &mut MatchCount { cond, filter })
 }

@@ -6,6 +6,7 @@ ghost use Rattle.bw_model.specs.Cond.{truth_of, is_match, names_within, is_withi
 ghost use Rattle.bw_model.specs.Selection.{matching_rows};
 ghost use Rattle.bw_model.specs.Row.{Value, values_of};
 ghost use Rattle.bw_model.specs.Fault.{no_memory};
+ghost use Rattle.bw_model.specs.declared.cond.Cond.TheVariants.{Always};
 
 use crate::logic::{between, both, compare_values, either, opposite};
 use bw_model::{Cond, Fault, Op, Operand, Row, Truth, Value};
@@ -37,7 +38,8 @@ pub fn truth(cond: &Cond, row: &Row) -> Truth
 /// Returns whether a condition is the one that matches every row.
 #[tactic(auto, using(bw_model::proofs::CondLemmas::truths))]
 pub fn matches_all(cond: &Cond) -> bool
-    ensures { result ≡ true → (values : List Value) → IsTrue (is_match cond.now values) }
+    ensures every { result ≡ true → (values : List Value) → IsTrue (is_match cond.now values) }
+    ensures always { cond.now ≡ Always → result ≡ true }
 {
     matches!(cond, Cond::Always)
 }

@@ -5,9 +5,27 @@ ghost use Rattle.std.specs.Prelude.{if◌then◌else◌};
 ghost use Rattle.std.specs.List.{reduce};
 ghost use Rattle.bw_lanes.specs.Lanes.{lanes_of_words};
 ghost use Rattle.bw_model.specs.Selection.{selected_items};
+ghost use Rattle.bw_segment.specs.Selected.{is_greatest};
 
 use crate::layout::CodeLayout;
 use bw_lanes::{LANES, Selection, count, last_between};
+
+/// Which of several codes is sought.
+#[derive(Clone, Copy)]
+pub enum Extreme {
+    Least,
+    Greatest,
+}
+
+impl Extreme {
+    /// Returns whether it is the greatest.
+    #[inline(always)]
+    pub fn is_greatest(self) -> bool
+        ensures { result ≡ is_greatest self }
+    {
+        matches!(self, Extreme::Greatest)
+    }
+}
 
 /// If there are at most this many lanes, their codes are read one by one.
 const FEW: u32 = 4;
@@ -22,7 +40,7 @@ pub(crate) fn least_in<L: CodeLayout>(width: u32, bytes: &[u8], lanes: &Selectio
     ensures bound { IfSome result (λ code. code < 2 ^ 63) }
 {
     if count(lanes) <= FEW {
-        extreme_of_few::<L>(width, bytes, lanes, false)
+        extreme_of_few::<L>(width, bytes, lanes, Extreme::Least)
     } else {
         L::least(width, bytes, lanes)
     }
@@ -38,7 +56,7 @@ pub(crate) fn greatest_in<L: CodeLayout>(width: u32, bytes: &[u8], lanes: &Selec
     ensures bound { IfSome result (λ code. code < 2 ^ 63) }
 {
     if count(lanes) <= FEW {
-        extreme_of_few::<L>(width, bytes, lanes, true)
+        extreme_of_few::<L>(width, bytes, lanes, Extreme::Greatest)
     } else {
         L::greatest(width, bytes, lanes)
     }
@@ -50,12 +68,12 @@ fn extreme_of_few<L: CodeLayout>(
     width: u32,
     bytes: &[u8],
     lanes: &Selection,
-    greatest: bool,
+    which: Extreme,
 ) -> Option<u64>
     requires width { (1 ≤ width) × (width ≤ 63) }
     requires size { length bytes.now ≡ L.packing.size width }
     requires small { All (λ code. code < 2 ^ width) (L.packing.codes width bytes.now) }
-    ensures extreme { result ≡ reduce (if greatest then max else min)
+    ensures extreme { result ≡ reduce (if is_greatest which then max else min)
         (selected_items (lanes_of_words lanes.now) (L.packing.codes width bytes.now)) }
     ensures bound { IfSome result (λ code. code < 2 ^ 63) }
 {
@@ -65,7 +83,7 @@ fn extreme_of_few<L: CodeLayout>(
     while let Some(lane) = last_between(lanes, 0, end) {
         let code = L::code(width, bytes, lane);
         extreme = Some(match extreme {
-            Some(other) => extreme_of(code, other, greatest),
+            Some(other) => extreme_of(code, other, which),
             None => code,
         });
         end = lane;
@@ -75,12 +93,11 @@ fn extreme_of_few<L: CodeLayout>(
 
 /// Returns the greater of two codes, or the smaller one.
 #[inline(always)]
-fn extreme_of(code: u64, other: u64, greatest: bool) -> u64
-    ensures { result ≡ (if greatest then max else min) code other }
+fn extreme_of(code: u64, other: u64, which: Extreme) -> u64
+    ensures { result ≡ (if is_greatest which then max else min) code other }
 {
-    if greatest {
-        code.max(other)
-    } else {
-        code.min(other)
+    match which {
+        Extreme::Greatest => code.max(other),
+        Extreme::Least => code.min(other),
     }
 }

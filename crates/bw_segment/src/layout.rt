@@ -9,8 +9,9 @@ ghost use Rattle.bw_model.specs.Fault.{no_memory};
 ghost use Rattle.bw_model.specs.Selection.{selected_items};
 ghost use Rattle.bw_model.specs.StoredCodes.{byte_of};
 ghost use Rattle.bw_segment.specs.Packing.{Packing, IsPacking};
-ghost use Rattle.bw_segment.specs.Selected.{is_beyond};
+ghost use Rattle.bw_segment.specs.Selected.{is_beyond, is_greatest};
 
+use crate::extremes::Extreme;
 use bw_lanes::{LANES, Plane, Selection};
 use bw_model::Fault;
 
@@ -115,15 +116,14 @@ pub trait CodeLayout {
             (packing.codes width bytes.now)) }
         ensures bound { IfSome result (λ code. code < 2 ^ 63) };
 
-    /// Returns true only if no code in these lanes is above `other` or, unless `greatest`, below
-    /// it.
-    /// It may return false then too: only a few of the highest digits are read.
-    fn none_beyond(width: u32, bytes: &[u8], lanes: &Selection, other: u64, greatest: bool) -> bool
+    /// Returns true only if no code in these lanes is beyond `other`: above it, or below it if the
+    /// least is sought. It may return false then too: only a few of the highest digits are read.
+    fn none_beyond(width: u32, bytes: &[u8], lanes: &Selection, other: u64, which: Extreme) -> bool
         requires width { (1 ≤ width) × (width ≤ 63) }
         requires size { length bytes.now ≡ packing.size width }
         requires small { All (λ code. code < 2 ^ width) (packing.codes width bytes.now) }
         requires other { other < 2 ^ 63 }
-        ensures { result ≡ true → list_any (is_beyond greatest other)
+        ensures { result ≡ true → list_any (is_beyond (is_greatest which) other)
             (selected_items (lanes_of_words lanes.now) (packing.codes width bytes.now)) ≡ false };
 
     /// Returns the code in a lane.

@@ -47,6 +47,7 @@ pub use blocks::Blocks;
 pub use codes::{bytes_of, push_byte, put_byte, slices_of};
 pub use column_blocks::ColumnBlocks;
 pub use columns::{ColumnCodes, clear_rows, columns_of, keep_row, no_rows};
+pub use extremes::Extreme;
 pub use group::is_group;
 pub use lanes::lanes_hold_codes;
 pub use layout::CodeLayout;

@@ -8,7 +8,7 @@ ghost use Rattle.bw_segment.specs.Packing.{segment_bytes};
 ghost use Rattle.bw_segment.specs.Packed.{HoldBlocks, IsPacked, IsPlaced};
 
 use crate::blocks::Blocks;
-use crate::extremes::{greatest_in, least_in};
+use crate::extremes::{Extreme, greatest_in, least_in};
 use crate::layout::CodeLayout;
 use crate::placement::Placement;
 use crate::segment::Segment;
@@ -92,9 +92,9 @@ impl<L: CodeLayout, B: Blocks> Segment for PackedSegment<L, B> {
     }
 
     #[tactic(auto, unfolding(crate::specs::Selected::codes_in))]
-    fn none_beyond(&self, col: usize, rows: &Selection, other: u64, greatest: bool) -> bool {
+    fn none_beyond(&self, col: usize, rows: &Selection, other: u64, which: Extreme) -> bool {
         let (width, codes) = self.column_codes(col);
-        L::none_beyond(width, codes, rows, other, greatest)
+        L::none_beyond(width, codes, rows, other, which)
     }
 
     fn codes(&self, col: usize, codes: &mut [u64; LANES]) {

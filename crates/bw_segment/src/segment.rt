@@ -9,8 +9,9 @@ ghost use Rattle.bw_model.specs.Row.{value_in};
 ghost use Rattle.bw_model.specs.Variable.{bit_variable, null_variable, variables_of};
 ghost use Rattle.bw_segment.specs.Meaning.{Meaning, IsGroup, variable_lanes, byte_lanes};
 ghost use Rattle.bw_segment.specs.Meaning.{code_lanes, null_bits};
-ghost use Rattle.bw_segment.specs.Selected.{bit_lanes, codes_in, is_beyond};
+ghost use Rattle.bw_segment.specs.Selected.{bit_lanes, codes_in, is_beyond, is_greatest};
 
+use crate::extremes::Extreme;
 use bw_lanes::{LANES, Plane, Selection};
 use bw_model::{Schema, Value};
 
@@ -79,14 +80,14 @@ pub trait Segment {
             ≡ reduce max (codes_in (meaning self.now) col (lanes_of_words rows.now)) }
         ensures bound { IfSome result (λ code. code < 2 ^ 63) };
 
-    /// Returns true only if no code of a column in these rows is above `other` or, unless
-    /// `greatest`, below it. It may return false then too: where many rows or most digits would
+    /// Returns true only if no code of a column in these rows is beyond `other`: above it, or below
+    /// it if the least is sought. It may return false then too: where many rows or most digits would
     /// have to be read, the maximum or the minimum is found as fast. Null, and the rows past the
     /// last one, have code 0.
-    fn none_beyond(&self, col: usize, rows: &Selection, other: u64, greatest: bool) -> bool
+    fn none_beyond(&self, col: usize, rows: &Selection, other: u64, which: Extreme) -> bool
         requires column { col < length (meaning self.now).columns }
         requires other { other < 2 ^ 63 }
-        ensures { result ≡ true → list_any (is_beyond greatest other)
+        ensures { result ≡ true → list_any (is_beyond (is_greatest which) other)
             (codes_in (meaning self.now) col (lanes_of_words rows.now)) ≡ false };
 
     /// Sets `codes` to the stored codes of a column in the 512 lanes: lane i has that of row i.

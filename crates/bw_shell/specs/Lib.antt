@@ -1,1 +1,3 @@
 pub mod CheckText
+pub mod Plan
+pub mod Certification

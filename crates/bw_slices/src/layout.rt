@@ -11,7 +11,7 @@ use bw_lanes::{
     sum_in,
 };
 use bw_model::Fault;
-use bw_segment::{CodeLayout, bytes_of, push_byte, put_byte};
+use bw_segment::{CodeLayout, Extreme, bytes_of, push_byte, put_byte};
 
 /// The most lanes whose codes are added one by one, which takes less time than to add the bytes of
 /// all lanes.
@@ -91,11 +91,11 @@ impl CodeLayout for Slices {
     }
 
     fn least(width: u32, bytes: &[u8], lanes: &Selection) -> Option<u64> {
-        chosen_code(width, bytes, lanes, false)
+        chosen_code(width, bytes, lanes, Extreme::Least)
     }
 
     fn greatest(width: u32, bytes: &[u8], lanes: &Selection) -> Option<u64> {
-        chosen_code(width, bytes, lanes, true)
+        chosen_code(width, bytes, lanes, Extreme::Greatest)
     }
 
     fn none_beyond(
@@ -103,11 +103,11 @@ impl CodeLayout for Slices {
         bytes: &[u8],
         lanes: &Selection,
         other: u64,
-        greatest: bool,
+        which: Extreme,
     ) -> bool {
         let slice = slices_in(width) - 1;
         let top = other >> (8 * slice);
-        none_near(slice_of(width, bytes, slice), lanes, top, greatest)
+        none_near(slice_of(width, bytes, slice), lanes, top, which)
     }
 
     #[tactic(auto, using(crate::proofs::CodeLemmas::code_steps))]

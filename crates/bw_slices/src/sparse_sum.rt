@@ -4,12 +4,12 @@ ghost use Rattle.std.specs.Int.{bit_at};
 ghost use Rattle.std.specs.Prelude.{drop, length, slice_index, slice_index_or, sum, take};
 ghost use Rattle.bw_lanes.specs.Lanes.{bits_from_least, lanes_of_words};
 ghost use Rattle.bw_model.specs.Selection.{selected_items};
-ghost use Rattle.bw_segment.specs.Selected.{is_beyond};
+ghost use Rattle.bw_segment.specs.Selected.{is_beyond, is_greatest};
 ghost use Rattle.bw_slices.specs.Slices.{slices_codes};
 
 use crate::layout::Slices;
 use bw_lanes::{LANES, Selection};
-use bw_segment::CodeLayout;
+use bw_segment::{CodeLayout, Extreme};
 
 /// Returns the sum of the codes in these lanes.
 #[tactic(auto, using(crate::proofs::CodeLemmas::few_sums))]
@@ -48,14 +48,15 @@ fn sum_of_word(width: u32, bytes: &[u8], word: usize, rows: u64) -> u128
     sum
 }
 
-/// Returns whether, in each of few lanes, the byte is below `top` or, unless `greatest`, above it.
-pub(crate) fn none_near(bytes: &[u8; LANES], lanes: &Selection, top: u64, greatest: bool) -> bool
+/// Returns whether, in each of few lanes, the byte is below `top` or, if the least is sought, above
+/// it.
+pub(crate) fn none_near(bytes: &[u8; LANES], lanes: &Selection, top: u64, which: Extreme) -> bool
     ensures { result ≡ true → (lane : ℕ)
         → slice_index_or (lanes_of_words lanes.now) lane false ≡ true
-        → is_beyond (not greatest) top (slice_index bytes.now lane) ≡ true }
+        → is_beyond (not (is_greatest which)) top (slice_index bytes.now lane) ≡ true }
 {
     for word in 0..8 {
-        if !none_near_in_word(bytes, word, lanes[word], top, greatest) {
+        if !none_near_in_word(bytes, word, lanes[word], top, which) {
             return false;
         }
     }
@@ -64,15 +65,15 @@ pub(crate) fn none_near(bytes: &[u8; LANES], lanes: &Selection, top: u64, greate
 
 /// Returns this for the 64 lanes of a word; `rows` has their bits.
 #[inline(always)]
-fn none_near_in_word(bytes: &[u8; LANES], word: usize, rows: u64, top: u64, greatest: bool) -> bool
+fn none_near_in_word(bytes: &[u8; LANES], word: usize, rows: u64, top: u64, which: Extreme) -> bool
     requires { word < 8 }
     ensures { result ≡ true → (row : ℕ) → row < 64 → bit_at rows row ≡ 1
-        → is_beyond (not greatest) top (slice_index bytes.now (64 * word + row)) ≡ true }
+        → is_beyond (not (is_greatest which)) top (slice_index bytes.now (64 * word + row)) ≡ true }
 {
     let mut left = rows;
     while left != 0 {
         let row = left.trailing_zeros();
-        if is_near(u64::from(bytes[64 * word + row as usize]), top, greatest) {
+        if is_near(u64::from(bytes[64 * word + row as usize]), top, which) {
             return false;
         }
         left &= !(1 << row);
@@ -80,10 +81,13 @@ fn none_near_in_word(bytes: &[u8; LANES], word: usize, rows: u64, top: u64, grea
     true
 }
 
-/// Returns whether a byte is at least `top` or, unless `greatest`, at most `top`.
+/// Returns whether a byte is at least `top` or, if the least is sought, at most `top`.
 #[inline(always)]
-fn is_near(byte: u64, top: u64, greatest: bool) -> bool
-    ensures { result ≡ not (is_beyond (not greatest) top byte) }
+fn is_near(byte: u64, top: u64, which: Extreme) -> bool
+    ensures { result ≡ not (is_beyond (not (is_greatest which)) top byte) }
 {
-    if greatest { byte >= top } else { byte <= top }
+    match which {
+        Extreme::Greatest => byte >= top,
+        Extreme::Least => byte <= top,
+    }
 }

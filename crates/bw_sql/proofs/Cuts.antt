@@ -19,7 +19,7 @@ use Rattle.bw_sql.proofs.Spellings.{follows, is_run, known, NoLong, delimiter_of
 use Rattle.bw_sql.proofs.Spellings.{no_long_at_end, long_longest, short_longest, none_begins}
 use Rattle.std.proofs.Math.Seq.{take-append_seam, drop-append_seam}
 use Rattle.bw_text.specs.Number.{are_digits}
-use Rattle.bw_sql.specs.declared.token.Placed.{Placed}
+use Rattle.bw_sql.specs.declared.token.PlacedToken.{PlacedToken}
 use Rattle.bw_sql.specs.Cut.{IsCut, Spot, spot, spots, ended, stopped, gap, token}
 
 -- all of what passes from the front on passes
@@ -216,7 +216,7 @@ shrinks rest after piece longest =
     let some = some_front longest.front piece longest.is in
     omega (arith, ap length longest.cut, length-append longest.front after)
 
-pub spots_push : (xs ys : List Placed) (placed : Placed) (tokens : List Spot) → ys ≡ xs ++ placed ∷ [] →
+pub spots_push : (xs ys : List PlacedToken) (placed : PlacedToken) (tokens : List Spot) → ys ≡ xs ++ placed ∷ [] →
     spots ys ++ tokens ≡ spots xs ++ spot placed ∷ tokens
 spots_push xs ys placed tokens e = rw (e, map-append, append_assoc) refl
 

@@ -8,7 +8,7 @@ use Rattle.std.proofs.lemmas.Bool.Decides.{nat_tests}
 use Rattle.std.proofs.Math.Bool.{or-true}
 use Rattle.bw_text.specs.declared.keyword.Keyword.TheVariants as word
 use Rattle.bw_model.specs.declared.schema.Schema.{Schema}
-use Rattle.bw_sql.specs.declared.condition.Connective.TheVariants as connective
+use Rattle.bw_model.specs.declared.junction.Junction.TheVariants as junction
 use Rattle.bw_sql.specs.declared.items.Aggregate.TheVariants as aggregate
 use Rattle.bw_sql.specs.declared.reader.Refusal.{Refusal}
 use Rattle.bw_sql.specs.declared.reader.Refusal.TheVariants.{Syntax, Literal}
@@ -57,7 +57,7 @@ is_orderly t Stop = true
 decide_orderly : (s : Symbol) (t : Lexeme) → is_orderly t (decide s t) ≡ true
 unfolding decide
 decide_orderly (AWord w) (Reserved found) = bool_cases (same_keyword found w) (λ e. rw e refl) (λ e. rw e refl)
-decide_orderly (PartTail connective.And depth) (Reserved word.And) = refl
+decide_orderly (PartTail junction.All depth) (Reserved word.And) = refl
 decide_orderly (AnArgument aggregate.Count) (Punct mark.Star) = refl
 decide_orderly _ (Punct mark.Plus) = refl
 decide_orderly _ (Reserved word.Not) = refl

@@ -8,8 +8,8 @@ use Rattle.bw_text.specs.declared.keyword.Keyword.TheVariants as word
 use Rattle.bw_model.specs.declared.schema.Schema.{Schema}
 use Rattle.bw_sql.specs.declared.reader.Refusal.{Refusal}
 use Rattle.bw_sql.specs.declared.reader.Refusal.TheVariants.{Syntax, Literal}
-use Rattle.bw_sql.specs.declared.condition.Connective.{Connective}
-use Rattle.bw_sql.specs.declared.condition.Connective.TheVariants as connective
+use Rattle.bw_model.specs.declared.junction.Junction.{Junction}
+use Rattle.bw_model.specs.declared.junction.Junction.TheVariants as junction
 use Rattle.bw_sql.specs.declared.items.Aggregate.{Aggregate}
 use Rattle.bw_sql.specs.declared.items.Aggregate.TheVariants as aggregate
 use Rattle.bw_sql.specs.declared.token.Mark.TheVariants as mark
@@ -40,7 +40,7 @@ pub data Symbol : Type 0 where
   TestTail : Symbol
   TruthTail : Symbol
   NotTruthTail : Symbol
-  PartTail : Connective → ℕ → Symbol
+  PartTail : Junction → ℕ → Symbol
   ItemList : Symbol
   AnItem : Bool → Symbol
   AnArgument : Aggregate → Symbol
@@ -65,12 +65,12 @@ one_of None = AnOperand
 one_of (Some first) = AnItem first
 
 -- a factor, or a term, and then what follows it
-abbrev pub a_part : Connective → ℕ → List Symbol → List Symbol
-a_part connective.And depth after = AFactor depth ∷ after
-a_part connective.Or depth after = AFactor depth ∷ PartTail connective.And depth ∷ after
+abbrev pub a_part : Junction → ℕ → List Symbol → List Symbol
+a_part junction.All depth after = AFactor depth ∷ after
+a_part junction.Any depth after = AFactor depth ∷ PartTail junction.All depth ∷ after
 
 abbrev pub in_brackets : ℕ → List Symbol → List Symbol
-in_brackets depth after = a_part connective.Or depth (PartTail connective.Or depth ∷ Closing ∷ after)
+in_brackets depth after = a_part junction.Any depth (PartTail junction.Any depth ∷ Closing ∷ after)
 
 -- an operand, and then what follows it
 abbrev pub operand_choice : List Symbol → Lexeme → Choice
@@ -133,8 +133,8 @@ decide TestTail t = Pass
 decide TruthTail (Reserved word.Not) = Take (NotTruthTail ∷ [])
 decide TruthTail t = truth_choice t
 decide NotTruthTail t = truth_choice t
-decide (PartTail connective.And depth) (Reserved word.And) = Take (a_part connective.And depth (PartTail connective.And depth ∷ []))
-decide (PartTail connective.Or depth) (Reserved word.Or) = Take (a_part connective.Or depth (PartTail connective.Or depth ∷ []))
+decide (PartTail junction.All depth) (Reserved word.And) = Take (a_part junction.All depth (PartTail junction.All depth ∷ []))
+decide (PartTail junction.Any depth) (Reserved word.Or) = Take (a_part junction.Any depth (PartTail junction.Any depth ∷ []))
 decide (PartTail by depth) t = Pass
 decide ItemList (Punct mark.Star) = Take []
 decide ItemList (Name text) = Ask (NamesColumn text ∷ []) (CommaTail (Some true) ∷ [])
@@ -144,7 +144,7 @@ decide (AnItem first) t = aggregate_choice (OfOneKind first false ∷ []) [] t
 decide (AnArgument aggregate.Count) (Punct mark.Star) = Take []
 decide (AnArgument kind) (Name text) = Ask (NamesColumn text ∷ []) []
 decide ATable (Name text) = Ask (NamesTable text ∷ []) []
-decide ASelection (Reserved word.Where) = Take (a_part connective.Or 0 (PartTail connective.Or 0 ∷ []))
+decide ASelection (Reserved word.Where) = Take (a_part junction.Any 0 (PartTail junction.Any 0 ∷ []))
 decide ASelection t = Pass
 decide AnEnd (Punct mark.Semicolon) = Take []
 decide AStatement (Reserved word.Select) = Take (ItemList ∷ AWord word.From ∷ ATable ∷ ASelection ∷ AnEnd ∷ [])

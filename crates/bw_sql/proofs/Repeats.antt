@@ -5,11 +5,11 @@ use Rattle.std.proofs.lemmas.List.{append-nil}
 use Rattle.bw_sql.specs.declared.reader.Stop.{Stop}
 use Rattle.bw_sql.specs.declared.reader.Stop.TheVariants.{Refused, OutOfMemory}
 use Rattle.bw_sql.specs.Reader.{Halts}
-use Rattle.bw_sql.specs.declared.token.Placed.{Placed}
+use Rattle.bw_sql.specs.declared.token.PlacedToken.{PlacedToken}
 use Rattle.bw_sql.specs.Reading.{Halt, read_many, with_front, more_after}
 use Rattle.bw_sql.specs.Token.{Lexeme, lexemes}
 
-pub length-lexemes : (tokens : List Placed) → length (lexemes tokens) ≡ length tokens
+pub length-lexemes : (tokens : List PlacedToken) → length (lexemes tokens) ≡ length tokens
 length-lexemes [] = refl
 length-lexemes (placed ∷ tokens) = ap suc (length-lexemes tokens)
 

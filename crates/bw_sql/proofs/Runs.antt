@@ -11,8 +11,8 @@ use Rattle.bw_model.specs.declared.query.Item.TheVariants.{Plain}
 use Rattle.bw_model.specs.declared.schema.Schema.{Schema}
 use Rattle.bw_text.specs.Number.{number_of}
 use Rattle.bw_text.specs.Text.{same_text}
-use Rattle.bw_sql.specs.declared.condition.Connective.{Connective}
-use Rattle.bw_sql.specs.declared.condition.Connective.TheVariants as connective
+use Rattle.bw_model.specs.declared.junction.Junction.{Junction}
+use Rattle.bw_model.specs.declared.junction.Junction.TheVariants as junction
 use Rattle.bw_sql.specs.declared.items.Aggregate.{Aggregate}
 use Rattle.bw_sql.specs.declared.items.Aggregate.TheVariants as aggregate
 use Rattle.bw_sql.specs.declared.reader.Refusal.{Refusal}
@@ -265,16 +265,16 @@ module _ (schema : Schema) (n depth : ℕ) (level : LevelRuns schema depth (nest
   test_chosen after stack passed t tokens = primary_chosen (TestTail ∷ after) stack passed t tokens
       ∙ chain (primary_in schema (nested_readers schema n) (t ∷ tokens)) _ _ _ (λ c e. test_tail schema c.0 (after ++ stack) c.1)
 
-  factor_runs : Runs schema (a_part connective.And depth) (part_in schema (nested_readers schema n) connective.And)
+  factor_runs : Runs schema (a_part junction.All depth) (part_in schema (nested_readers schema n) junction.All)
   unfolding run step decide all_may_end may_end factor_in after_keyword part_in test_in primary_in after_mark predicate_at operand_at literal_at digits_at sign_at
   factor_runs stack [] = refl
   factor_runs stack (Reserved word.Not ∷ tokens) = level.negated_runs stack tokens
   factor_runs stack (t ∷ tokens) = test_chosen [] stack (step (is_met schema) stack t) t tokens
 
-  abbrev PartLaws : Connective → Type 0
+  abbrev PartLaws : Junction → Type 0
   PartLaws by = TailLaws schema (PartTail by depth) (a_part by depth) (after_keyword (word_of by)) (part_in schema (nested_readers schema n) by)
 
-  part_laws : (by : Connective) → Runs schema (a_part by depth) (part_in schema (nested_readers schema n) by) → PartLaws by
+  part_laws : (by : Junction) → Runs schema (a_part by depth) (part_in schema (nested_readers schema n) by) → PartLaws by
   unfolding run step decide all_may_end may_end after_keyword
   part_laws by runs = record {
     one_runs = runs;
@@ -284,33 +284,33 @@ module _ (schema : Schema) (n depth : ℕ) (level : LevelRuns schema depth (nest
     goes_on = goes_on by;
   }
     where
-      ends : (by : Connective) (stack : List Symbol) (tokens : List Lexeme) → after_keyword (word_of by) tokens ≡ None →
+      ends : (by : Junction) (stack : List Symbol) (tokens : List Lexeme) → after_keyword (word_of by) tokens ≡ None →
           run schema false (PartTail by depth ∷ stack) tokens ≡ run schema false stack tokens
-      ends connective.And stack (Reserved word.And ∷ tokens) e = cc
-      ends connective.Or stack (Reserved word.Or ∷ tokens) e = cc
+      ends junction.All stack (Reserved word.And ∷ tokens) e = cc
+      ends junction.Any stack (Reserved word.Or ∷ tokens) e = cc
       ends _ stack _ e = refl
 
-      goes_on : (by : Connective) (stack : List Symbol) (next : List Lexeme) → run schema false (PartTail by depth ∷ stack)
+      goes_on : (by : Junction) (stack : List Symbol) (next : List Lexeme) → run schema false (PartTail by depth ∷ stack)
           (Reserved (word_of by) ∷ next) ≡ run schema false (a_part by depth (PartTail by depth ∷ stack)) next
-      goes_on connective.And stack next = refl
-      goes_on connective.Or stack next = refl
+      goes_on junction.All stack next = refl
+      goes_on junction.Any stack next = refl
 
-  series_runs : (by : Connective) → PartLaws by → Runs schema (λ stack. a_part by depth (PartTail by depth ∷ stack))
+  series_runs : (by : Junction) → PartLaws by → Runs schema (λ stack. a_part by depth (PartTail by depth ∷ stack))
       (joined_in schema (nested_readers schema n) by)
   unfolding joined_in
   series_runs by laws = joined_runs schema (PartTail by depth) _ (word_of by) (part_in schema (nested_readers schema n) by) laws (join_of by)
 
-  term_runs : Runs schema (a_part connective.Or depth) (part_in schema (nested_readers schema n) connective.Or)
+  term_runs : Runs schema (a_part junction.Any depth) (part_in schema (nested_readers schema n) junction.Any)
   unfolding joined_in part_in
-  term_runs = series_runs connective.And (part_laws connective.And factor_runs)
+  term_runs = series_runs junction.All (part_laws junction.All factor_runs)
 
-  pub part_runs : (by : Connective) → Runs schema (a_part by depth) (part_in schema (nested_readers schema n) by)
-  part_runs connective.And = factor_runs
-  part_runs connective.Or = term_runs
+  pub part_runs : (by : Junction) → Runs schema (a_part by depth) (part_in schema (nested_readers schema n) by)
+  part_runs junction.All = factor_runs
+  part_runs junction.Any = term_runs
 
-  condition_runs : Runs schema (λ stack. a_part connective.Or depth (PartTail connective.Or depth ∷ stack)) (condition_in schema (nested_readers schema n))
+  condition_runs : Runs schema (λ stack. a_part junction.Any depth (PartTail junction.Any depth ∷ stack)) (condition_in schema (nested_readers schema n))
   unfolding condition_in
-  condition_runs = series_runs connective.Or (part_laws connective.Or term_runs)
+  condition_runs = series_runs junction.Any (part_laws junction.Any term_runs)
 
 pub level_runs : (schema : Schema) (n depth : ℕ) → n + depth ≡ deepest_nesting → LevelRuns schema depth (nested_readers schema n)
 unfolding nested_readers meets

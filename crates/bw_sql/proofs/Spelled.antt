@@ -9,8 +9,8 @@ use Rattle.bw_text.specs.declared.keyword.Keyword.TheVariants as word
 use Rattle.bw_model.specs.declared.query.Item.{Item}
 use Rattle.bw_model.specs.declared.schema.Schema.{Schema}
 use Rattle.bw_text.specs.Number.{digits_value, number_of}
-use Rattle.bw_sql.specs.declared.condition.Connective.{Connective}
-use Rattle.bw_sql.specs.declared.condition.Connective.TheVariants as connective
+use Rattle.bw_model.specs.declared.junction.Junction.{Junction}
+use Rattle.bw_model.specs.declared.junction.Junction.TheVariants as junction
 use Rattle.bw_sql.specs.declared.items.Aggregate.{Aggregate}
 use Rattle.bw_sql.specs.declared.items.Aggregate.TheVariants as kind
 use Rattle.bw_sql.specs.declared.reader.Refusal.TheVariants.{UnknownColumn, Literal}
@@ -62,19 +62,19 @@ fitting false digits n e =
     bool_cases (nat_lt (digits_value digits) (2 ^ 63)) (λ b. let f = rw b at e in cc) (λ b. let f = rw b at e in cc)
 
 -- After a test no IS comes, after a term no AND, and after a condition no OR.
-abbrev PartEnds : Connective → List Lexeme → Type 0
-PartEnds connective.And rest = after_keyword word.Is rest ≡ None
-PartEnds connective.Or rest = (after_keyword word.Is rest ≡ None) × (after_keyword word.And rest ≡ None)
+abbrev PartEnds : Junction → List Lexeme → Type 0
+PartEnds junction.All rest = after_keyword word.Is rest ≡ None
+PartEnds junction.Any rest = (after_keyword word.Is rest ≡ None) × (after_keyword word.And rest ≡ None)
 
-abbrev JoinedEnds : Connective → List Lexeme → Type 0
+abbrev JoinedEnds : Junction → List Lexeme → Type 0
 JoinedEnds by rest = PartEnds by rest × (after_keyword (word_of by) rest ≡ None)
 
 -- a connective's word is found, and ends a part
-word_comes : (by : Connective) (next : List Lexeme) →
+word_comes : (by : Junction) (next : List Lexeme) →
     (after_keyword (word_of by) (Reserved (word_of by) ∷ next) ≡ Some next) × PartEnds by (Reserved (word_of by) ∷ next)
 unfolding after_keyword
-word_comes connective.And next = (refl, refl)
-word_comes connective.Or next = (refl, (refl, refl))
+word_comes junction.All next = (refl, refl)
+word_comes junction.Any next = (refl, (refl, refl))
 
 aggregate_comes : (of : Aggregate) (next : List Lexeme) →
     after_aggregate (Reserved (aggregate_word of) ∷ next) ≡ Some (of, next)
@@ -167,7 +167,7 @@ module _ (schema : Schema) (met : Demand → Bool) where
   primary_begins (bracket m c) = refl
 
   -- what may follow a part
-  parts_begin : {by : Connective} {depth : ℕ} {tokens rest : List Lexeme} {cs : List CondTree} →
+  parts_begin : {by : Junction} {depth : ℕ} {tokens rest : List Lexeme} {cs : List CondTree} →
       MoreParts columns met by depth tokens rest cs → PartEnds by rest → PartEnds by tokens
   parts_begin last_part e = e
   parts_begin (next_part {by = by} {tokens = next} c cs) e = (word_comes by next).1
@@ -175,7 +175,7 @@ module _ (schema : Schema) (met : Demand → Bool) where
   mutual
     unfolding joined_in part_in condition_in factor_in test_in primary_in truth_test_at read_many after_keyword after_mark mark_at nested_readers meets predicate_at
 
-    joined_read : {by : Connective} {depth : ℕ} {tokens rest : List Lexeme} {c : CondTree} →
+    joined_read : {by : Junction} {depth : ℕ} {tokens rest : List Lexeme} {c : CondTree} →
         JoinedIs columns met by depth tokens rest c → (n : ℕ) → n + depth ≡ deepest_nesting → JoinedEnds by rest →
         Outcome schema met (joined_in schema (nested_readers schema n) by tokens) (c, rest)
     joined_read (parts c last_part) n h e = and_then _ (part_read c n h e.0) (rw e.1 (reads refl))
@@ -183,7 +183,7 @@ module _ (schema : Schema) (met : Demand → Bool) where
         and_then _ (part_read c n h (word_comes by next).1) (rw (word_comes by next).0
         (and_then _ (and_then _ (parts_read (next_part d ds) n h (suc (length next)) (omega arith) e) (reads refl)) (reads refl)))
 
-    parts_read : {by : Connective} {depth : ℕ} {tokens rest : List Lexeme} {cs : List CondTree} →
+    parts_read : {by : Junction} {depth : ℕ} {tokens rest : List Lexeme} {cs : List CondTree} →
         MoreParts columns met by depth tokens rest cs → (n : ℕ) → n + depth ≡ deepest_nesting → (fuel : ℕ) →
         length tokens ≤ fuel → JoinedEnds by rest →
         Outcome schema met (read_many fuel (after_keyword (word_of by)) (part_in schema (nested_readers schema n) by) tokens) (cs, rest)
@@ -196,7 +196,7 @@ module _ (schema : Schema) (met : Demand → Bool) where
         let less = takes schema _ (part_in schema (nested_readers schema n) by) runs _ _ _ f in
         and_then _ (parts_read cs n h fuel (omega (arith, less)) e) (reads refl)))
 
-    part_read : {by : Connective} {depth : ℕ} {tokens rest : List Lexeme} {c : CondTree} →
+    part_read : {by : Junction} {depth : ℕ} {tokens rest : List Lexeme} {c : CondTree} →
         PartIs columns met by depth tokens rest c → (n : ℕ) → n + depth ≡ deepest_nesting → PartEnds by rest →
         Outcome schema met (part_in schema (nested_readers schema n) by tokens) (c, rest)
     part_read (factor c) n h e = factor_read c n h e
@@ -268,7 +268,7 @@ module _ (schema : Schema) (met : Demand → Bool) where
       (and_then _ (commas_read _ (next_read first) (takes schema _ (next_item_at schema first) (next_item_runs schema first)) xs (length others) (omega arith) e) (reads refl)))
 
   end_read : {last : List Lexeme} → EndIs last →
-      (end_at last ≡ Ok tt) × (after_keyword word.Where last ≡ None) × JoinedEnds connective.Or last
+      (end_at last ≡ Ok tt) × (after_keyword word.Where last ≡ None) × JoinedEnds junction.Any last
   unfolding end_at after_keyword after_mark
   end_read bare = (refl, refl, ((refl, refl), refl))
   end_read _ = (refl, refl, ((refl, refl), refl))

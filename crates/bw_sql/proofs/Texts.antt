@@ -14,7 +14,7 @@ use Rattle.bw_sql.specs.declared.reader.Refusal.TheVariants.{Syntax, UnknownTabl
 use Rattle.bw_sql.specs.declared.reader.Refusal.TheVariants.{Literal, MixedItems, Nesting}
 use Rattle.bw_sql.specs.declared.reader.Stop.{Stop}
 use Rattle.bw_sql.specs.declared.reader.Stop.TheVariants.{Refused, OutOfMemory}
-use Rattle.bw_sql.specs.declared.token.Placed.{Placed}
+use Rattle.bw_sql.specs.declared.token.PlacedToken.{PlacedToken}
 use Rattle.bw_sql.specs.QueryShape.{QueryShape, query_shape}
 use Rattle.bw_sql.specs.Cut.{IsCut, Spot, spots}
 use Rattle.bw_sql.specs.Demand.{is_met}
@@ -61,17 +61,17 @@ same_query schema tokens query other a b =
     sym (query_read schema tokens query a) ∙ query_read schema tokens other b in cc
 
 -- from what the readers answer to what a text is read as
-tokens_are : (items : List Placed) → tokens_of (spots items) ≡ lexemes items
+tokens_are : (items : List PlacedToken) → tokens_of (spots items) ≡ lexemes items
 tokens_are [] = refl
 tokens_are (placed ∷ items) = ap (λ tokens. lexeme placed.token ∷ tokens) (tokens_are items)
 
-pub read_so : (schema : Schema) (text : List ℕ) (items : List Placed) (stop : Option ℕ) → IsCut 0 text (spots items) stop →
+pub read_so : (schema : Schema) (text : List ℕ) (items : List PlacedToken) (stop : Option ℕ) → IsCut 0 text (spots items) stop →
     (reading : Result QueryShape Halt) (outcome : Result QueryShape Fault) → statement_at schema (lexemes items) ≡ reading →
     outcome ≡ parse_verdict (spots items) stop (length text) reading → IsRead schema text outcome
 read_so schema text items stop cut reading outcome e f =
     record { tokens = spots items; stop = stop; cut = cut; is = f ∙ (rw (tokens_are items, e) refl) }
 
-pub refused_so : (schema : Schema) (text : List ℕ) (items : List Placed) (stop : Option ℕ) → IsCut 0 text (spots items) stop →
+pub refused_so : (schema : Schema) (text : List ℕ) (items : List PlacedToken) (stop : Option ℕ) → IsCut 0 text (spots items) stop →
     (why : Stop) (fault : Fault) → Reads query_shape (Err why) (statement_at schema (lexemes items)) →
     IsFaultOf (spots items) stop (length text) why fault → Answers schema text (Err fault)
 refused_so schema text items stop cut (Refused why left) fault read is m = read_so schema text items stop cut _ (Err fault) read (ap Err is)

@@ -16,7 +16,7 @@ use Rattle.bw_model.specs.declared.schema.Schema.{Schema}
 use Rattle.bw_text.specs.Number.{digits_value, number_of}
 use Rattle.bw_text.specs.Text.{same_text}
 use Rattle.bw_text.proofs.WordSpelling.{same_as_itself}
-use Rattle.bw_sql.specs.declared.condition.Connective.TheVariants as connective
+use Rattle.bw_model.specs.declared.junction.Junction.TheVariants as junction
 use Rattle.bw_sql.specs.declared.items.Aggregate.{Aggregate}
 use Rattle.bw_sql.specs.declared.items.Aggregate.TheVariants as aggregate
 use Rattle.bw_sql.specs.declared.reader.Refusal.{Refusal}
@@ -224,8 +224,8 @@ module _ (columns : List Column) (met : Demand → Bool) where
   fair TruthTail (Reserved word.Not) = λ m more rest q. q
   fair TruthTail t = truth_fair TruthTail t (λ more v q c. (Test c v, is q))
   fair NotTruthTail t = truth_fair NotTruthTail t (λ more v q c. (Not (Test c v), is_not q))
-  fair (PartTail connective.And depth) (Reserved word.And) = λ m more a c b cs. (c.0 ∷ cs.0, next_part (factor c.1) cs.1)
-  fair (PartTail connective.Or depth) (Reserved word.Or) = λ m more a c b cs d ds.
+  fair (PartTail junction.All depth) (Reserved word.And) = λ m more a c b cs. (c.0 ∷ cs.0, next_part (factor c.1) cs.1)
+  fair (PartTail junction.Any depth) (Reserved word.Or) = λ m more a c b cs d ds.
       (_, next_part (term (parts (factor c.1) cs.1)) ds.1)
   fair (PartTail by depth) t = λ tokens. ([], last_part)
   fair ItemList (Punct mark.Star) = λ m more. (every_column columns, star)

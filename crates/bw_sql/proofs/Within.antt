@@ -17,8 +17,8 @@ use Rattle.bw_model.specs.CondTree.{CondTree, And, trees_of, tree_within, trees_
 use Rattle.bw_model.specs.CondTree.{is_whole_tree, are_whole_trees, count_of}
 use Rattle.bw_model.specs.Total.{item_within}
 use Rattle.bw_model.proofs.NameLemmas.{named_column_is_there}
-use Rattle.bw_sql.specs.declared.condition.Connective.{Connective}
-use Rattle.bw_sql.specs.declared.condition.Connective.TheVariants as connective
+use Rattle.bw_model.specs.declared.junction.Junction.{Junction}
+use Rattle.bw_model.specs.declared.junction.Junction.TheVariants as junction
 use Rattle.bw_sql.specs.declared.items.Aggregate.TheVariants as kind
 use Rattle.bw_sql.specs.QueryShape.{QueryShape, query_shape}
 use Rattle.bw_sql.specs.Demand.{NamesColumn, OfOneKind, column_number, column_or_first, is_met}
@@ -53,10 +53,10 @@ several_good columns c d ds g gs =
     let all = more_good columns c (d ∷ ds) g gs in
     (all.0, and_from _ _ (le-leb 2 (count_of (trees_of (c ∷ d ∷ ds))) (omega arith)) all.1)
 
-joined_good : (columns : ℕ) (by : Connective) (c : CondTree) (cs : List CondTree) → Good columns c → AreGood columns cs →
+joined_good : (columns : ℕ) (by : Junction) (c : CondTree) (cs : List CondTree) → Good columns c → AreGood columns cs →
     Good columns (fold_operands (join_of by) c cs)
 joined_good columns by c [] g gs = g
-joined_good columns connective.And c (d ∷ ds) g gs = several_good columns c d ds g gs
+joined_good columns junction.All c (d ∷ ds) g gs = several_good columns c d ds g gs
 joined_good columns _ c (d ∷ ds) g gs = several_good columns c d ds g gs
 
 -- every column is a column of the schema
@@ -111,16 +111,16 @@ module _ (schema : Schema) where
   compared_good h is_not_null = (h, refl)
 
   mutual
-    parts_good : {by : Connective} {depth : ℕ} {tokens rest : List Lexeme} {c : CondTree} →
+    parts_good : {by : Junction} {depth : ℕ} {tokens rest : List Lexeme} {c : CondTree} →
         JoinedIs cs (is_met schema) by depth tokens rest c → Good n c
     parts_good (parts {by = by} {c = c} {cs = more} p ps) = joined_good n by c more (part_good p) (more_parts_good ps)
 
-    more_parts_good : {by : Connective} {depth : ℕ} {tokens rest : List Lexeme} {more : List CondTree} →
+    more_parts_good : {by : Junction} {depth : ℕ} {tokens rest : List Lexeme} {more : List CondTree} →
         MoreParts cs (is_met schema) by depth tokens rest more → AreGood n more
     more_parts_good last_part = (refl, refl)
     more_parts_good (next_part {c = c} {cs = more} p ps) = more_good n c more (part_good p) (more_parts_good ps)
 
-    part_good : {by : Connective} {depth : ℕ} {tokens rest : List Lexeme} {c : CondTree} →
+    part_good : {by : Junction} {depth : ℕ} {tokens rest : List Lexeme} {c : CondTree} →
         PartIs cs (is_met schema) by depth tokens rest c → Good n c
     part_good (factor p) = factor_good p
     part_good (term p) = parts_good p

@@ -1,6 +1,6 @@
 -- How a text is cut into tokens.
 use Rattle.std.specs.Prelude.{◌<◌, ℕ, ◌+◌, List, [], ◌∷◌, map, length, Option, Some, None}
-use Rattle.bw_sql.specs.declared.token.Placed.{Placed}
+use Rattle.bw_sql.specs.declared.token.PlacedToken.{PlacedToken}
 use Rattle.bw_sql.specs.Piece.{Gap, Token, IsLongest, BeginsNoPiece}
 use Rattle.bw_sql.specs.Token.{Lexeme, lexeme}
 
@@ -9,10 +9,10 @@ pub record Spot : Type 0 where
   pub token : Lexeme
   pub at : ℕ
 
-abbrev pub spot : Placed → Spot
+abbrev pub spot : PlacedToken → Spot
 spot placed = record { token = lexeme placed.token; at = placed.at }
 
-abbrev pub spots : List Placed → List Spot
+abbrev pub spots : List PlacedToken → List Spot
 spots tokens = map spot tokens
 
 -- A text that begins at this byte is cut into tokens piece by piece, the longest first, up to its

@@ -12,8 +12,8 @@ use Rattle.bw_text.specs.declared.keyword.Keyword.TheVariants as word
 use Rattle.bw_model.specs.declared.query.Item.{Item}
 use Rattle.bw_model.specs.declared.query.Item.TheVariants.{Plain, CountAll}
 use Rattle.bw_model.specs.declared.schema.Schema.{Schema}
-use Rattle.bw_sql.specs.declared.condition.Connective.{Connective}
-use Rattle.bw_sql.specs.declared.condition.Connective.TheVariants as connective
+use Rattle.bw_model.specs.declared.junction.Junction.{Junction}
+use Rattle.bw_model.specs.declared.junction.Junction.TheVariants as junction
 use Rattle.bw_sql.specs.declared.items.Aggregate.{Aggregate}
 use Rattle.bw_sql.specs.declared.token.Mark.TheVariants as mark
 use Rattle.bw_sql.specs.QueryShape.{QueryShape}
@@ -104,34 +104,34 @@ pub data TestedIs (c : CondTree) : List Lexeme → List Lexeme → CondTree → 
 mutual
   -- cond = term { OR term }, and term = factor { AND factor }: a part, alone or joined with further
   -- parts
-  pub data JoinedIs (columns : List Column) (met : Demand → Bool) : Connective → ℕ → List Lexeme
+  pub data JoinedIs (columns : List Column) (met : Demand → Bool) : Junction → ℕ → List Lexeme
       → List Lexeme → CondTree → Type 0 where
-    parts : {by : Connective} {depth : ℕ} {tokens others rest : List Lexeme} {c : CondTree}
+    parts : {by : Junction} {depth : ℕ} {tokens others rest : List Lexeme} {c : CondTree}
         {cs : List CondTree} →
         PartIs columns met by depth tokens others c →
         MoreParts columns met by depth others rest cs →
         JoinedIs columns met by depth tokens rest (fold_operands (join_of by) c cs)
 
   -- { OR term }, or { AND factor }
-  pub data MoreParts (columns : List Column) (met : Demand → Bool) : Connective → ℕ → List Lexeme
+  pub data MoreParts (columns : List Column) (met : Demand → Bool) : Junction → ℕ → List Lexeme
       → List Lexeme → List CondTree → Type 0 where
-    last_part : {by : Connective} {depth : ℕ} {rest : List Lexeme}
+    last_part : {by : Junction} {depth : ℕ} {rest : List Lexeme}
         → MoreParts columns met by depth rest rest []
-    next_part : {by : Connective} {depth : ℕ} {tokens others rest : List Lexeme} {c : CondTree}
+    next_part : {by : Junction} {depth : ℕ} {tokens others rest : List Lexeme} {c : CondTree}
         {cs : List CondTree} →
         PartIs columns met by depth tokens others c →
         MoreParts columns met by depth others rest cs →
         MoreParts columns met by depth (Reserved (word_of by) ∷ tokens) rest (c ∷ cs)
 
   -- the parts of a term are factors, and those of a condition are terms
-  pub data PartIs (columns : List Column) (met : Demand → Bool) : Connective → ℕ → List Lexeme
+  pub data PartIs (columns : List Column) (met : Demand → Bool) : Junction → ℕ → List Lexeme
       → List Lexeme → CondTree → Type 0 where
     factor : {depth : ℕ} {tokens rest : List Lexeme} {c : CondTree} →
         FactorIs columns met depth tokens rest c
-        → PartIs columns met connective.And depth tokens rest c
+        → PartIs columns met junction.All depth tokens rest c
     term : {depth : ℕ} {tokens rest : List Lexeme} {c : CondTree} →
-        JoinedIs columns met connective.And depth tokens rest c
-        → PartIs columns met connective.Or depth tokens rest c
+        JoinedIs columns met junction.All depth tokens rest c
+        → PartIs columns met junction.Any depth tokens rest c
 
   -- factor = [ NOT ] test
   pub data FactorIs (columns : List Column) (met : Demand → Bool) : ℕ → List Lexeme → List Lexeme
@@ -158,7 +158,7 @@ mutual
         PredicateIs columns met tokens rest c → PrimaryIs columns met depth tokens rest c
     bracket : {depth : ℕ} {tokens rest : List Lexeme} {c : CondTree} →
         IsTrue (met (Depth (suc depth))) →
-        JoinedIs columns met connective.Or (suc depth) tokens (Punct mark.Close ∷ rest) c →
+        JoinedIs columns met junction.Any (suc depth) tokens (Punct mark.Close ∷ rest) c →
         PrimaryIs columns met depth (Punct mark.Open ∷ tokens) rest c
 
 -- item = name | COUNT ( * ) | ( COUNT | SUM | MIN | MAX ) ( name ), and whether it is a plain
@@ -199,7 +199,7 @@ pub data SelectionIs (columns : List Column) (met : Demand → Bool) : List Lexe
     → CondTree → Type 0 where
   all_rows : {rest : List Lexeme} → SelectionIs columns met rest rest Always
   rows_where : {tokens rest : List Lexeme} {c : CondTree} →
-      JoinedIs columns met connective.Or 0 tokens rest c →
+      JoinedIs columns met junction.Any 0 tokens rest c →
       SelectionIs columns met (Reserved word.Where ∷ tokens) rest c
 
 -- [ ; ] and the end

@@ -1,6 +1,6 @@
 -- What the lexer found, as a piece.
-use Rattle.bw_sql.specs.declared.lexer.Piece.{Piece as Found}
-use Rattle.bw_sql.specs.declared.lexer.Piece.TheVariants as found
+use Rattle.bw_sql.specs.declared.lexer.LexedPiece.{LexedPiece as Found}
+use Rattle.bw_sql.specs.declared.lexer.LexedPiece.TheVariants as found
 use Rattle.bw_sql.specs.Piece.{Piece, Gap, Token}
 use Rattle.bw_sql.specs.Token.{lexeme}
 

@@ -4,7 +4,7 @@ use Rattle.std.specs.Borrow.{Bor}
 use Rattle.bw_sql.specs.declared.reader.Refusal.{Refusal}
 use Rattle.bw_sql.specs.declared.reader.Stop.{Stop}
 use Rattle.bw_sql.specs.declared.reader.Stop.TheVariants.{Refused, OutOfMemory}
-use Rattle.bw_sql.specs.declared.token.Placed.{Placed}
+use Rattle.bw_sql.specs.declared.token.PlacedToken.{PlacedToken}
 use Rattle.bw_sql.specs.Reading.{Halt, ReadResult}
 use Rattle.bw_sql.specs.Token.{Lexeme, lexemes}
 
@@ -24,7 +24,7 @@ Reads view (Err stop) reading = Halts stop reading
 
 -- A reader of these tokens returned what the reading function returns for them: a thing, seen by
 -- `view`, and the tokens after it.
-abbrev pub ReadsFrom : {X A : Type 0} → (X → A) → List Placed →
-    Result (X × Bor (List Placed)) Stop → (List Lexeme → ReadResult A) → Type 0
+abbrev pub ReadsFrom : {X A : Type 0} → (X → A) → List PlacedToken →
+    Result (X × Bor (List PlacedToken)) Stop → (List Lexeme → ReadResult A) → Type 0
 ReadsFrom view tokens result reading = Reads (λ read. (view read.0, lexemes read.1.now)) result
     (reading (lexemes tokens))

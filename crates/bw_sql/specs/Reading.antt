@@ -19,8 +19,8 @@ use Rattle.bw_text.specs.Text.{same_text}
 use Rattle.bw_sql.specs.QueryShape.{QueryShape}
 use Rattle.bw_model.specs.CondTree.{CondTree, CondTrees, Always, Cmp, Between, Among, IsNull, And}
 use Rattle.bw_model.specs.CondTree.{Not, Test, trees_of}
-use Rattle.bw_sql.specs.declared.condition.Connective.{Connective}
-use Rattle.bw_sql.specs.declared.condition.Connective.TheVariants as connective
+use Rattle.bw_model.specs.declared.junction.Junction.{Junction}
+use Rattle.bw_model.specs.declared.junction.Junction.TheVariants as junction
 use Rattle.bw_sql.specs.declared.items.Aggregate.{Aggregate}
 use Rattle.bw_sql.specs.declared.items.Aggregate.TheVariants as aggregate
 use Rattle.bw_sql.specs.declared.reader.Refusal.{Refusal}
@@ -310,17 +310,17 @@ series_at word join one tokens = do
   series_after word join one first.0 (after_keyword word first.1) first.1
 
 -- the parts of either connective: a term's are factors, and a condition's are terms
-unfoldable pub part_in : Schema → NestedReaders → Connective → List Lexeme → ReadResult CondTree
-part_in schema inner connective.And = factor_in schema inner
-part_in schema inner connective.Or = series_at word.And And (factor_in schema inner)
+unfoldable pub part_in : Schema → NestedReaders → Junction → List Lexeme → ReadResult CondTree
+part_in schema inner junction.All = factor_in schema inner
+part_in schema inner junction.Any = series_at word.And And (factor_in schema inner)
 
-unfoldable pub joined_in : Schema → NestedReaders → Connective → List Lexeme → ReadResult CondTree
+unfoldable pub joined_in : Schema → NestedReaders → Junction → List Lexeme → ReadResult CondTree
 joined_in schema inner c tokens = series_at (word_of c) (join_of c) (part_in schema inner c) tokens
 
 unfoldable pub condition_in : Schema → NestedReaders → List Lexeme → ReadResult CondTree
-condition_in schema inner tokens = joined_in schema inner connective.Or tokens
+condition_in schema inner tokens = joined_in schema inner junction.Any tokens
 
-abbrev pub more_parts_in : Schema → NestedReaders → Connective → List Lexeme
+abbrev pub more_parts_in : Schema → NestedReaders → Junction → List Lexeme
     → ReadResult (List CondTree)
 more_parts_in schema inner c tokens = read_many (length tokens) (after_keyword (word_of c)) (part_in
     schema inner c) tokens

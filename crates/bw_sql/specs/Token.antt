@@ -6,7 +6,7 @@ use Rattle.bw_text.specs.Keyword.{keyword_of}
 use Rattle.bw_sql.specs.declared.token.Mark.{Mark}
 use Rattle.bw_sql.specs.declared.token.Token.{Token}
 use Rattle.bw_sql.specs.declared.token.Token.TheVariants as token
-use Rattle.bw_sql.specs.declared.token.Placed.{Placed}
+use Rattle.bw_sql.specs.declared.token.PlacedToken.{PlacedToken}
 
 -- a token, wherever its bytes lie in memory
 pub data Lexeme : Type 0 where
@@ -23,7 +23,7 @@ lexeme (token.Keyword word) = Reserved word
 lexeme (token.Compare op) = Compare op
 lexeme (token.Mark mark) = Punct mark
 
-abbrev pub lexemes : List Placed → List Lexeme
+abbrev pub lexemes : List PlacedToken → List Lexeme
 lexemes tokens = map (λ placed. lexeme placed.token) tokens
 
 -- what a word is: a reserved word, ignoring case, or else a name

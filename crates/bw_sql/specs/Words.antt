@@ -5,19 +5,19 @@ use Rattle.bw_text.specs.declared.keyword.Keyword.TheVariants as word
 use Rattle.bw_model.specs.declared.query.Item.{Item}
 use Rattle.bw_model.specs.declared.query.Item.TheVariants.{Count, Sum, Min, Max}
 use Rattle.bw_model.specs.CondTree.{CondTree, CondTrees, And, Or}
-use Rattle.bw_sql.specs.declared.condition.Connective.{Connective}
-use Rattle.bw_sql.specs.declared.condition.Connective.TheVariants as connective
+use Rattle.bw_model.specs.declared.junction.Junction.{Junction}
+use Rattle.bw_model.specs.declared.junction.Junction.TheVariants as junction
 use Rattle.bw_sql.specs.declared.items.Aggregate.{Aggregate}
 use Rattle.bw_sql.specs.declared.items.Aggregate.TheVariants as aggregate
 
 -- a connective's word, and the condition that parts make with it
-abbrev pub word_of : Connective → Keyword
-word_of connective.And = word.And
-word_of connective.Or = word.Or
+abbrev pub word_of : Junction → Keyword
+word_of junction.All = word.And
+word_of junction.Any = word.Or
 
-abbrev pub join_of : Connective → CondTrees → CondTree
-join_of connective.And parts = And parts
-join_of connective.Or parts = Or parts
+abbrev pub join_of : Junction → CondTrees → CondTree
+join_of junction.All parts = And parts
+join_of junction.Any parts = Or parts
 
 -- an aggregate's word, and the item that it makes of a column
 abbrev pub aggregate_word : Aggregate → Keyword

@@ -21,38 +21,29 @@ ghost use Rattle.bw_sql.specs.Words.{join_of, word_of};
 
 use crate::predicate::{negation, predicate};
 use crate::reader::{Left, Read, Refusal, Stop, after_keyword, after_mark, mark};
-use crate::token::{Mark, Placed};
-use bw_model::{Cond, Schema, Truth};
+use crate::token::{Mark, PlacedToken};
+use bw_model::{Cond, Junction, Schema, Truth};
 use bw_text::Keyword;
 use std::alloc::{AllocError, Global};
 
-/// A connective of a condition's parts.
-#[derive(Clone, Copy)]
-enum Connective {
-    And,
-    Or,
+/// Returns the word between joined parts.
+fn keyword(junction: Junction) -> Keyword
+    ensures { result ≡ word_of junction }
+{
+    match junction {
+        Junction::All => Keyword::And,
+        Junction::Any => Keyword::Or,
+    }
 }
 
-impl Connective {
-    /// Returns the word between the parts.
-    fn keyword(self) -> Keyword
-        ensures { result ≡ word_of self }
-    {
-        match self {
-            Connective::And => Keyword::And,
-            Connective::Or => Keyword::Or,
-        }
-    }
-
-    /// Returns the condition of two or more parts.
-    #[tactic(auto, unfolding(bw_model::specs::CondTree::tree_of))]
-    fn join(self, parts: Vec<Cond>) -> Cond
-        ensures { tree_of result ≡ join_of self (trees_of (map tree_of parts.items)) }
-    {
-        match self {
-            Connective::And => Cond::And(parts),
-            Connective::Or => Cond::Or(parts),
-        }
+/// Returns the condition of two or more parts.
+#[tactic(auto, unfolding(bw_model::specs::CondTree::tree_of))]
+fn join(junction: Junction, parts: Vec<Cond>) -> Cond
+    ensures { tree_of result ≡ join_of junction (trees_of (map tree_of parts.items)) }
+{
+    match junction {
+        Junction::All => Cond::And(parts),
+        Junction::Any => Cond::Or(parts),
     }
 }
 
@@ -63,16 +54,16 @@ pub fn condition<'t>(
     alloc: Global,
     schema: &Schema,
     levels: usize,
-    tokens: &'t [Placed<'t>],
+    tokens: &'t [PlacedToken<'t>],
 ) -> Read<'t, Cond>
     ensures read { ReadsFrom tree_of tokens.now result
         (condition_in schema.now (nested_readers schema.now levels)) }
     ensures consumes_input { IfOk result (λ read. length read.1.now ≤ length tokens.now) }
 {
-    read_connected(alloc, schema, levels, Connective::Or, tokens)
+    read_connected(alloc, schema, levels, Junction::Any, tokens)
 }
 
-/// Reads a required part and those after it, each behind the connective's word: a condition of
+/// Reads a required part and those after it, each behind the word that joins them: a condition of
 /// terms, or a term of factors.
 #[cycle(condition)]
 #[tactic(auto, unfolding(crate::specs::Reading::joined_in))]
@@ -80,40 +71,40 @@ fn read_connected<'t>(
     alloc: Global,
     schema: &Schema,
     levels: usize,
-    connective: Connective,
-    tokens: &'t [Placed<'t>],
+    junction: Junction,
+    tokens: &'t [PlacedToken<'t>],
 ) -> Read<'t, Cond>
     ensures read { ReadsFrom tree_of tokens.now result
-        (joined_in schema.now (nested_readers schema.now levels) connective) }
+        (joined_in schema.now (nested_readers schema.now levels) junction) }
     ensures consumes_input { IfOk result (λ read. length read.1.now ≤ length tokens.now) }
 {
-    let (first, rest) = part(alloc, schema, levels, connective, tokens)?;
-    if after_keyword(connective.keyword(), rest).is_none() {
+    let (first, rest) = part(alloc, schema, levels, junction, tokens)?;
+    if after_keyword(keyword(junction), rest).is_none() {
         return Ok((first, rest));
     }
     let parts = vec![in alloc; first]?;
-    let (parts, rest) = more_parts(alloc, schema, levels, connective, parts, rest)?;
-    Ok((connective.join(parts), rest))
+    let (parts, rest) = more_parts(alloc, schema, levels, junction, parts, rest)?;
+    Ok((join(junction, parts), rest))
 }
 
-/// Reads further parts, each behind the connective's word, and returns them with those before.
+/// Reads further parts, each behind the word that joins them, and returns them with those before.
 #[cycle(condition)]
 fn more_parts<'t>(
     alloc: Global,
     schema: &Schema,
     levels: usize,
-    connective: Connective,
+    junction: Junction,
     mut parts: Vec<Cond>,
-    tokens: &'t [Placed<'t>],
+    tokens: &'t [PlacedToken<'t>],
 ) -> Read<'t, Vec<Cond>>
     ensures read { ReadsFrom (λ parts. map tree_of parts.items) tokens.now result
         (λ tokens. with_front (map tree_of parts.items)
-        (more_parts_in schema.now (nested_readers schema.now levels) connective tokens)) }
+        (more_parts_in schema.now (nested_readers schema.now levels) junction tokens)) }
     ensures consumes_input { IfOk result (λ read. length read.1.now ≤ length tokens.now) }
 {
     let mut left = Left { tokens };
-    while let Some(next) = after_keyword(connective.keyword(), left.tokens) {
-        let (another, after) = part(alloc, schema, levels, connective, next)?;
+    while let Some(next) = after_keyword(keyword(junction), left.tokens) {
+        let (another, after) = part(alloc, schema, levels, junction, next)?;
         parts.push(another)?;
         left = Left { tokens: after };
     }
@@ -127,16 +118,16 @@ fn part<'t>(
     alloc: Global,
     schema: &Schema,
     levels: usize,
-    connective: Connective,
-    tokens: &'t [Placed<'t>],
+    junction: Junction,
+    tokens: &'t [PlacedToken<'t>],
 ) -> Read<'t, Cond>
     ensures read { ReadsFrom tree_of tokens.now result
-        (part_in schema.now (nested_readers schema.now levels) connective) }
+        (part_in schema.now (nested_readers schema.now levels) junction) }
     ensures consumes_input { IfOk result (λ read. length read.1.now ≤ length tokens.now) }
 {
-    match connective {
-        Connective::And => factor(alloc, schema, levels, tokens),
-        Connective::Or => read_connected(alloc, schema, levels, Connective::And, tokens),
+    match junction {
+        Junction::All => factor(alloc, schema, levels, tokens),
+        Junction::Any => read_connected(alloc, schema, levels, Junction::All, tokens),
     }
 }
 
@@ -147,7 +138,7 @@ fn factor<'t>(
     alloc: Global,
     schema: &Schema,
     levels: usize,
-    tokens: &'t [Placed<'t>],
+    tokens: &'t [PlacedToken<'t>],
 ) -> Read<'t, Cond>
     ensures read { ReadsFrom tree_of tokens.now result
         (factor_in schema.now (nested_readers schema.now levels)) }
@@ -170,7 +161,7 @@ fn test<'t>(
     alloc: Global,
     schema: &Schema,
     levels: usize,
-    tokens: &'t [Placed<'t>],
+    tokens: &'t [PlacedToken<'t>],
 ) -> Read<'t, Cond>
     ensures read { ReadsFrom tree_of tokens.now result
         (test_in schema.now (nested_readers schema.now levels)) }
@@ -182,7 +173,7 @@ fn test<'t>(
 
 /// Returns the condition, or a test of its truth value if IS follows.
 #[tactic(auto, unfolding(crate::specs::Reading::truth_test_at, bw_model::specs::CondTree::tree_of))]
-fn truth_test<'t>(alloc: Global, cond: Cond, tokens: &'t [Placed<'t>]) -> Read<'t, Cond>
+fn truth_test<'t>(alloc: Global, cond: Cond, tokens: &'t [PlacedToken<'t>]) -> Read<'t, Cond>
     ensures read { ReadsFrom tree_of tokens.now result (truth_test_at (tree_of cond)) }
     ensures consumes_input { IfOk result (λ read. length read.1.now ≤ length tokens.now) }
 {
@@ -197,7 +188,7 @@ fn truth_test<'t>(alloc: Global, cond: Cond, tokens: &'t [Placed<'t>]) -> Read<'
 }
 
 /// Reads a truth value's word, which is required here, and returns the test for it.
-fn value_test<'t>(alloc: Global, cond: Cond, tokens: &'t [Placed<'t>]) -> Read<'t, Cond>
+fn value_test<'t>(alloc: Global, cond: Cond, tokens: &'t [PlacedToken<'t>]) -> Read<'t, Cond>
     ensures read { ReadsFrom tree_of tokens.now result (value_test_at (tree_of cond)) }
     ensures consumes_input { IfOk result (λ read. length read.1.now ≤ length tokens.now) }
 {
@@ -215,7 +206,7 @@ fn test_condition(alloc: Global, cond: Cond, t: Truth) -> Result<Cond, AllocErro
 
 /// Reads a truth value's word, which is required here.
 #[tactic(auto, unfolding(crate::specs::Reading::truth_value_at))]
-fn truth_value<'t>(tokens: &'t [Placed<'t>]) -> Read<'t, Truth>
+fn truth_value<'t>(tokens: &'t [PlacedToken<'t>]) -> Read<'t, Truth>
     ensures read { ReadsFrom (λ x. x) tokens.now result truth_value_at }
     ensures consumes_input { IfOk result (λ read. length read.1.now < length tokens.now) }
 {
@@ -238,7 +229,7 @@ fn primary<'t>(
     alloc: Global,
     schema: &Schema,
     levels: usize,
-    tokens: &'t [Placed<'t>],
+    tokens: &'t [PlacedToken<'t>],
 ) -> Read<'t, Cond>
     ensures read { ReadsFrom tree_of tokens.now result
         (primary_in schema.now (nested_readers schema.now levels)) }

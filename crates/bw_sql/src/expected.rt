@@ -32,7 +32,7 @@ impl Expected {
 
 /// A part of a statement that is still to come.
 #[derive(Clone, Copy, PartialEq, Eq)]
-enum Part {
+enum Symbol {
     Statement,
     Items,
     MoreColumns,
@@ -60,25 +60,25 @@ enum Part {
     Semicolon,
 }
 
-impl Part {
+impl Symbol {
     /// Returns whether a statement may do without the part.
     fn is_optional(self) -> bool {
         matches!(
             self,
-            Part::MoreColumns
-                | Part::MoreAggregates
-                | Part::Where
-                | Part::MoreTerms
-                | Part::MoreFactors
-                | Part::Not
-                | Part::Test
-                | Part::MoreOperands
-                | Part::Semicolon
+            Symbol::MoreColumns
+                | Symbol::MoreAggregates
+                | Symbol::Where
+                | Symbol::MoreTerms
+                | Symbol::MoreFactors
+                | Symbol::Not
+                | Symbol::Test
+                | Symbol::MoreOperands
+                | Symbol::Semicolon
         )
     }
 
     /// Returns the parts that are to come after a token that begins this one, if it does.
-    fn after(self, token: Token<'_>) -> Option<&'static [Part]> {
+    fn after(self, token: Token<'_>) -> Option<&'static [Symbol]> {
         for (part, firsts, then) in &GRAMMAR {
             if *part == self && firsts.iter().any(|first| first.admits(token)) {
                 return Some(then);
@@ -89,22 +89,22 @@ impl Part {
 }
 
 /// The parts of a condition.
-const CONDITION: [Part; 5] = [
-    Part::Not,
-    Part::Primary,
-    Part::Test,
-    Part::MoreFactors,
-    Part::MoreTerms,
+const CONDITION: [Symbol; 5] = [
+    Symbol::Not,
+    Symbol::Primary,
+    Symbol::Test,
+    Symbol::MoreFactors,
+    Symbol::MoreTerms,
 ];
 
 /// The parts of a condition in brackets, after the opening one.
-const IN_BRACKETS: [Part; 6] = [
-    Part::Not,
-    Part::Primary,
-    Part::Test,
-    Part::MoreFactors,
-    Part::MoreTerms,
-    Part::Close,
+const IN_BRACKETS: [Symbol; 6] = [
+    Symbol::Not,
+    Symbol::Primary,
+    Symbol::Test,
+    Symbol::MoreFactors,
+    Symbol::MoreTerms,
+    Symbol::Close,
 ];
 
 /// The aggregates that have no `*`.
@@ -130,126 +130,159 @@ const TRUTH_VALUES: [Expected; 3] = [
 ];
 
 /// A part, tokens that begin it, and the parts that follow each of them.
-const GRAMMAR: [(Part, &[Expected], &[Part]); 37] = [
+const GRAMMAR: [(Symbol, &[Expected], &[Symbol]); 37] = [
     (
-        Part::Statement,
+        Symbol::Statement,
         &[Expected::Keyword(Keyword::Select)],
         &[
-            Part::Items,
-            Part::From,
-            Part::Name,
-            Part::Where,
-            Part::Semicolon,
+            Symbol::Items,
+            Symbol::From,
+            Symbol::Name,
+            Symbol::Where,
+            Symbol::Semicolon,
         ],
     ),
-    (Part::Items, &[Expected::Mark(Mark::Star)], &[]),
+    (Symbol::Items, &[Expected::Mark(Mark::Star)], &[]),
     (
-        Part::Items,
+        Symbol::Items,
         &[Expected::Keyword(Keyword::Count)],
-        &[Part::Open, Part::Counted, Part::Close, Part::MoreAggregates],
+        &[
+            Symbol::Open,
+            Symbol::Counted,
+            Symbol::Close,
+            Symbol::MoreAggregates,
+        ],
     ),
     (
-        Part::Items,
+        Symbol::Items,
         &SUMS,
-        &[Part::Open, Part::Name, Part::Close, Part::MoreAggregates],
+        &[
+            Symbol::Open,
+            Symbol::Name,
+            Symbol::Close,
+            Symbol::MoreAggregates,
+        ],
     ),
-    (Part::Items, &[Expected::Name], &[Part::MoreColumns]),
+    (Symbol::Items, &[Expected::Name], &[Symbol::MoreColumns]),
     (
-        Part::MoreColumns,
+        Symbol::MoreColumns,
         &[Expected::Mark(Mark::Comma)],
-        &[Part::Name, Part::MoreColumns],
+        &[Symbol::Name, Symbol::MoreColumns],
     ),
     (
-        Part::MoreAggregates,
+        Symbol::MoreAggregates,
         &[Expected::Mark(Mark::Comma)],
-        &[Part::Aggregate, Part::MoreAggregates],
+        &[Symbol::Aggregate, Symbol::MoreAggregates],
     ),
     (
-        Part::Aggregate,
+        Symbol::Aggregate,
         &[Expected::Keyword(Keyword::Count)],
-        &[Part::Open, Part::Counted, Part::Close],
+        &[Symbol::Open, Symbol::Counted, Symbol::Close],
     ),
     (
-        Part::Aggregate,
+        Symbol::Aggregate,
         &SUMS,
-        &[Part::Open, Part::Name, Part::Close],
+        &[Symbol::Open, Symbol::Name, Symbol::Close],
     ),
     (
-        Part::Counted,
+        Symbol::Counted,
         &[Expected::Mark(Mark::Star), Expected::Name],
         &[],
     ),
-    (Part::From, &[Expected::Keyword(Keyword::From)], &[]),
-    (Part::Name, &[Expected::Name], &[]),
+    (Symbol::From, &[Expected::Keyword(Keyword::From)], &[]),
+    (Symbol::Name, &[Expected::Name], &[]),
     (
-        Part::Where,
+        Symbol::Where,
         &[Expected::Keyword(Keyword::Where)],
         &CONDITION,
     ),
     (
-        Part::MoreTerms,
+        Symbol::MoreTerms,
         &[Expected::Keyword(Keyword::Or)],
         &CONDITION,
     ),
     (
-        Part::MoreFactors,
+        Symbol::MoreFactors,
         &[Expected::Keyword(Keyword::And)],
-        &[Part::Not, Part::Primary, Part::Test, Part::MoreFactors],
+        &[
+            Symbol::Not,
+            Symbol::Primary,
+            Symbol::Test,
+            Symbol::MoreFactors,
+        ],
     ),
-    (Part::Not, &[Expected::Keyword(Keyword::Not)], &[]),
-    (Part::Primary, &[Expected::Mark(Mark::Open)], &IN_BRACKETS),
-    (Part::Primary, &UNSIGNED, &[Part::Predicate]),
-    (Part::Primary, &SIGNS, &[Part::Digits, Part::Predicate]),
+    (Symbol::Not, &[Expected::Keyword(Keyword::Not)], &[]),
+    (Symbol::Primary, &[Expected::Mark(Mark::Open)], &IN_BRACKETS),
+    (Symbol::Primary, &UNSIGNED, &[Symbol::Predicate]),
     (
-        Part::Test,
+        Symbol::Primary,
+        &SIGNS,
+        &[Symbol::Digits, Symbol::Predicate],
+    ),
+    (
+        Symbol::Test,
         &[Expected::Keyword(Keyword::Is)],
-        &[Part::Not, Part::TruthValue],
+        &[Symbol::Not, Symbol::TruthValue],
     ),
-    (Part::TruthValue, &TRUTH_VALUES, &[]),
-    (Part::Predicate, &[Expected::Comparison], &[Part::Operand]),
+    (Symbol::TruthValue, &TRUTH_VALUES, &[]),
     (
-        Part::Predicate,
+        Symbol::Predicate,
+        &[Expected::Comparison],
+        &[Symbol::Operand],
+    ),
+    (
+        Symbol::Predicate,
         &[Expected::Keyword(Keyword::Between)],
-        &[Part::Operand, Part::And, Part::Operand],
+        &[Symbol::Operand, Symbol::And, Symbol::Operand],
     ),
     (
-        Part::Predicate,
+        Symbol::Predicate,
         &[Expected::Keyword(Keyword::In)],
-        &[Part::Open, Part::Operand, Part::MoreOperands, Part::Close],
+        &[
+            Symbol::Open,
+            Symbol::Operand,
+            Symbol::MoreOperands,
+            Symbol::Close,
+        ],
     ),
     (
-        Part::Predicate,
+        Symbol::Predicate,
         &[Expected::Keyword(Keyword::Is)],
-        &[Part::Not, Part::Null],
+        &[Symbol::Not, Symbol::Null],
     ),
     (
-        Part::Predicate,
+        Symbol::Predicate,
         &[Expected::Keyword(Keyword::Not)],
-        &[Part::Range],
+        &[Symbol::Range],
     ),
     (
-        Part::Range,
+        Symbol::Range,
         &[Expected::Keyword(Keyword::Between)],
-        &[Part::Operand, Part::And, Part::Operand],
+        &[Symbol::Operand, Symbol::And, Symbol::Operand],
     ),
     (
-        Part::Range,
+        Symbol::Range,
         &[Expected::Keyword(Keyword::In)],
-        &[Part::Open, Part::Operand, Part::MoreOperands, Part::Close],
+        &[
+            Symbol::Open,
+            Symbol::Operand,
+            Symbol::MoreOperands,
+            Symbol::Close,
+        ],
     ),
-    (Part::Operand, &UNSIGNED, &[]),
-    (Part::Operand, &SIGNS, &[Part::Digits]),
+    (Symbol::Operand, &UNSIGNED, &[]),
+    (Symbol::Operand, &SIGNS, &[Symbol::Digits]),
     (
-        Part::MoreOperands,
+        Symbol::MoreOperands,
         &[Expected::Mark(Mark::Comma)],
-        &[Part::Operand, Part::MoreOperands],
+        &[Symbol::Operand, Symbol::MoreOperands],
     ),
-    (Part::Digits, &[Expected::Digits], &[]),
-    (Part::And, &[Expected::Keyword(Keyword::And)], &[]),
-    (Part::Null, &[Expected::Keyword(Keyword::Null)], &[]),
-    (Part::Open, &[Expected::Mark(Mark::Open)], &[]),
-    (Part::Close, &[Expected::Mark(Mark::Close)], &[]),
-    (Part::Semicolon, &[Expected::Mark(Mark::Semicolon)], &[]),
+    (Symbol::Digits, &[Expected::Digits], &[]),
+    (Symbol::And, &[Expected::Keyword(Keyword::And)], &[]),
+    (Symbol::Null, &[Expected::Keyword(Keyword::Null)], &[]),
+    (Symbol::Open, &[Expected::Mark(Mark::Open)], &[]),
+    (Symbol::Close, &[Expected::Mark(Mark::Close)], &[]),
+    (Symbol::Semicolon, &[Expected::Mark(Mark::Semicolon)], &[]),
 ];
 
 /// Returns the tokens with which a statement can go on after the longest beginning of a text with
@@ -257,7 +290,7 @@ const GRAMMAR: [(Part, &[Expected], &[Part]); 37] = [
 /// levels of brackets aren't looked at.
 pub fn expected_tokens(alloc: Global, text: &[u8]) -> Result<Vec<Expected>, AllocError> {
     let lexed = lex(alloc, text)?;
-    let mut parts = vec![in alloc; Part::Statement]?;
+    let mut parts = vec![in alloc; Symbol::Statement]?;
     for placed in &lexed.tokens {
         if !goes_on(&mut parts, placed.token)? {
             break;
@@ -268,7 +301,7 @@ pub fn expected_tokens(alloc: Global, text: &[u8]) -> Result<Vec<Expected>, Allo
 
 /// Replaces the last of the parts to come, which is the next one, by those after a token. Returns
 /// whether the token can be the next one.
-fn goes_on(parts: &mut Vec<Part>, token: Token<'_>) -> Result<bool, AllocError> {
+fn goes_on(parts: &mut Vec<Symbol>, token: Token<'_>) -> Result<bool, AllocError> {
     for left in (0..parts.len()).rev() {
         let part = parts[left];
         if let Some(then) = part.after(token) {
@@ -286,7 +319,7 @@ fn goes_on(parts: &mut Vec<Part>, token: Token<'_>) -> Result<bool, AllocError> 
 }
 
 /// Returns the tokens with which the parts to come can begin.
-fn beginnings(alloc: Global, parts: &[Part]) -> Result<Vec<Expected>, AllocError> {
+fn beginnings(alloc: Global, parts: &[Symbol]) -> Result<Vec<Expected>, AllocError> {
     let mut found = Vec::new(alloc);
     for next in parts.iter().rev() {
         for (part, firsts, _) in &GRAMMAR {

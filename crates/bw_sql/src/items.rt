@@ -18,14 +18,18 @@ ghost use Rattle.bw_sql.specs.Words.{of_column};
 
 use crate::operand::{begins_with_name, column};
 use crate::reader::{Left, Read, Refusal, Stop, after_keyword, after_mark, mark};
-use crate::token::{Mark, Placed};
+use crate::token::{Mark, PlacedToken};
 use bw_model::{Item, Schema};
 use bw_text::Keyword;
 use std::alloc::{AllocError, Global};
 
 /// Reads the select list, which is required here.
 #[tactic(auto, unfolding(crate::specs::Reading::items_at))]
-pub fn items<'t>(alloc: Global, schema: &Schema, tokens: &'t [Placed<'t>]) -> Read<'t, Vec<Item>>
+pub fn items<'t>(
+    alloc: Global,
+    schema: &Schema,
+    tokens: &'t [PlacedToken<'t>],
+) -> Read<'t, Vec<Item>>
     ensures { ReadsFrom (λ xs. xs.items) tokens.now result (items_at schema.now) }
 {
     if let Some(rest) = after_mark(Mark::Star, tokens) {
@@ -51,7 +55,7 @@ fn more_items<'t>(
     schema: &Schema,
     are_columns: bool,
     mut items: Vec<Item>,
-    tokens: &'t [Placed<'t>],
+    tokens: &'t [PlacedToken<'t>],
 ) -> Read<'t, Vec<Item>>
     ensures { ReadsFrom (λ xs. xs.items) tokens.now result
         (λ tokens. with_front items.items (more_items schema.now are_columns tokens)) }
@@ -67,7 +71,11 @@ fn more_items<'t>(
 
 /// Reads a required item of this kind.
 #[tactic(auto, unfolding(crate::specs::Reading::next_item_at))]
-fn next_item<'t>(schema: &Schema, are_columns: bool, tokens: &'t [Placed<'t>]) -> Read<'t, Item>
+fn next_item<'t>(
+    schema: &Schema,
+    are_columns: bool,
+    tokens: &'t [PlacedToken<'t>],
+) -> Read<'t, Item>
     ensures read { ReadsFrom (λ x. x) tokens.now result (next_item_at schema.now are_columns) }
     ensures consumes_input { IfOk result (λ read. length read.1.now < length tokens.now) }
 {
@@ -78,7 +86,7 @@ fn next_item<'t>(schema: &Schema, are_columns: bool, tokens: &'t [Placed<'t>]) -
 /// Rejects an item that begins like one of the other kind. Its first token determines the kind; a
 /// column that isn't the schema's is the earlier error.
 #[tactic(auto, unfolding(crate::specs::Reading::of_one_kind))]
-fn of_one_kind(schema: &Schema, are_columns: bool, tokens: &[Placed<'_>]) -> Result<(), Stop>
+fn of_one_kind(schema: &Schema, are_columns: bool, tokens: &[PlacedToken<'_>]) -> Result<(), Stop>
     ensures { Reads (λ same. same) result
         (of_one_kind schema.now are_columns (lexemes tokens.now)) }
 {
@@ -106,7 +114,7 @@ enum Aggregate {
 
 /// Returns the aggregate whose word is first, and the tokens after it.
 #[tactic(auto, unfolding(crate::specs::Reading::after_aggregate))]
-fn after_aggregate<'t>(tokens: &'t [Placed<'t>]) -> Option<(Aggregate, &'t [Placed<'t>])>
+fn after_aggregate<'t>(tokens: &'t [PlacedToken<'t>]) -> Option<(Aggregate, &'t [PlacedToken<'t>])>
     ensures is { option_map (λ found. (found.0, lexemes found.1.now)) result
         ≡ after_aggregate (lexemes tokens.now) }
     ensures consumes_input { IfSome result (λ found. length found.1.now < length tokens.now) }
@@ -126,7 +134,7 @@ fn after_aggregate<'t>(tokens: &'t [Placed<'t>]) -> Option<(Aggregate, &'t [Plac
 
 /// Reads a required item.
 #[tactic(auto, unfolding(crate::specs::Reading::item_at))]
-fn item<'t>(schema: &Schema, tokens: &'t [Placed<'t>]) -> Read<'t, Item>
+fn item<'t>(schema: &Schema, tokens: &'t [PlacedToken<'t>]) -> Read<'t, Item>
     ensures read { ReadsFrom (λ x. x) tokens.now result (item_at schema.now) }
     ensures consumes_input { IfOk result (λ read. length read.1.now < length tokens.now) }
 {
@@ -141,7 +149,11 @@ fn item<'t>(schema: &Schema, tokens: &'t [Placed<'t>]) -> Read<'t, Item>
 }
 
 /// Reads an aggregate's argument in brackets, which is required here.
-fn argument<'t>(schema: &Schema, aggregate: Aggregate, tokens: &'t [Placed<'t>]) -> Read<'t, Item>
+fn argument<'t>(
+    schema: &Schema,
+    aggregate: Aggregate,
+    tokens: &'t [PlacedToken<'t>],
+) -> Read<'t, Item>
     ensures read { ReadsFrom (λ x. x) tokens.now result (argument_at schema.now aggregate) }
     ensures consumes_input { IfOk result (λ read. length read.1.now < length tokens.now) }
 {
@@ -156,7 +168,7 @@ fn argument<'t>(schema: &Schema, aggregate: Aggregate, tokens: &'t [Placed<'t>])
 fn read_aggregate<'t>(
     schema: &Schema,
     aggregate: Aggregate,
-    tokens: &'t [Placed<'t>],
+    tokens: &'t [PlacedToken<'t>],
 ) -> Read<'t, Item>
     ensures read { ReadsFrom (λ x. x) tokens.now result (aggregated_at schema.now aggregate) }
     ensures consumes_input { IfOk result (λ read. length read.1.now < length tokens.now) }

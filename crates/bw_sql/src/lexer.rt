@@ -11,7 +11,7 @@ ghost use Rattle.bw_sql.specs.Piece.{BeginsNoPiece, is_short_delimiter, is_long_
 ghost use Rattle.bw_sql.specs.Piece.{is_blank, is_in_comment, begins_comment};
 ghost use Rattle.bw_sql.specs.Token.{Compare, lexeme, word_lexeme};
 
-use crate::token::{Mark, Placed, Token};
+use crate::token::{Mark, PlacedToken, Token};
 use bw_model::Op;
 use bw_text::{Keyword, begins_word, goes_on_in_word};
 use std::alloc::{AllocError, Global};
@@ -20,13 +20,13 @@ use std::alloc::{AllocError, Global};
 /// comment.
 #[derive(Drop)]
 pub struct Lexed<'a> {
-    pub tokens: Vec<Placed<'a>>,
+    pub tokens: Vec<PlacedToken<'a>>,
     pub stopped: Option<usize>,
 }
 
 /// A piece of a text: a blank or a comment, or a token.
 #[derive(Clone, Copy)]
-enum Piece<'a> {
+enum LexedPiece<'a> {
     Gap,
     Token(Token<'a>),
 }
@@ -45,8 +45,8 @@ pub fn lex(alloc: Global, text: &[u8]) -> Result<Lexed<'_>, AllocError>
                 stopped: Some(at),
             });
         };
-        if let Piece::Token(token) = piece {
-            tokens.push(Placed { token, at })?;
+        if let LexedPiece::Token(token) = piece {
+            tokens.push(PlacedToken { token, at })?;
         }
         rest = after;
     }
@@ -65,7 +65,7 @@ pub fn has_no_token(text: &[u8]) -> bool
         let Some((piece, after)) = first_piece(rest) else {
             return false;
         };
-        if let Piece::Token(_) = piece {
+        if let LexedPiece::Token(_) = piece {
             return false;
         }
         rest = after;
@@ -74,25 +74,25 @@ pub fn has_no_token(text: &[u8]) -> bool
 }
 
 /// Returns the longest piece that begins a text, and the text after it.
-fn first_piece(text: &[u8]) -> Option<(Piece<'_>, &[u8])>
+fn first_piece(text: &[u8]) -> Option<(LexedPiece<'_>, &[u8])>
     ensures { MatchOption result (BeginsNoPiece text.now)
         (λ found. IsLongest text.now found.1.now (piece found.0)) }
 {
     let (first, rest) = text.split_first()?;
     if is_blank(*first) {
-        Some((Piece::Gap, rest))
+        Some((LexedPiece::Gap, rest))
     } else if begins_word(*first) {
         let (word, after) = text.split_at(word_len(text));
-        Some((Piece::Token(word_token(word)), after))
+        Some((LexedPiece::Token(word_token(word)), after))
     } else if first.is_ascii_digit() {
         let (digits, after) = text.split_at(digits_len(text));
-        Some((Piece::Token(Token::Digits(digits)), after))
+        Some((LexedPiece::Token(Token::Digits(digits)), after))
     } else if begins_comment(text) {
         let (_, after) = text.split_at(comment_len(text));
-        Some((Piece::Gap, after))
+        Some((LexedPiece::Gap, after))
     } else {
         let (token, after) = delimiter(text)?;
-        Some((Piece::Token(token), after))
+        Some((LexedPiece::Token(token), after))
     }
 }
 

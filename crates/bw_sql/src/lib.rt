@@ -107,7 +107,7 @@ fn read(alloc: Global, schema: &Schema, text: &[u8]) -> Result<Query, Fault>
     }
 }
 
-/// A theorem: a text is cut into tokens in one way.
+/// A law: a text is cut into tokens in one way.
 #[tactic(auto, using(crate::proofs::Cuts::one_cut_of))]
 pub fn one_cut()
     ensures { (at : ℕ) (text : List ℕ) (tokens others : List Spot) (stop other : Option ℕ)
@@ -115,7 +115,7 @@ pub fn one_cut()
         → (tokens ≡ others) × (stop ≡ other) }
 {}
 
-/// A theorem: the reading functions read a query from the tokens that spell it, and no other.
+/// A law: the reading functions read a query from the tokens that spell it, and no other.
 #[tactic(auto, using(crate::proofs::Spelled::query_read, crate::proofs::Texts::query_spelled))]
 pub fn read_as_spelled()
     ensures read { (schema : Schema) (tokens : List Lexeme) (query : QueryShape)
@@ -124,20 +124,20 @@ pub fn read_as_spelled()
         → statement_at schema tokens ≡ Ok query → IsQuery schema tokens query }
 {}
 
-/// A theorem: a list of tokens spells at most one query.
+/// A law: a list of tokens spells at most one query.
 #[tactic(auto, using(crate::proofs::Texts::same_query))]
 pub fn one_query()
     ensures { (schema : Schema) (tokens : List Lexeme) (query other : QueryShape)
         → IsQuery schema tokens query → IsQuery schema tokens other → query ≡ other }
 {}
 
-/// A theorem: a text spells at most one query.
+/// A law: a text spells at most one query.
 pub fn one_query_of_a_text()
     ensures { (schema : Schema) (text : List ℕ) (query other : QueryShape)
         → Spells schema text query → Spells schema text other → query ≡ other }
 {}
 
-/// A theorem: schemas of one shape have the same columns, and a text spells the same query under
+/// A law: schemas of one shape have the same columns, and a text spells the same query under
 /// both.
 #[tactic(auto, using(crate::proofs::SameNames::columns_too, crate::proofs::SameNames::spells_too))]
 pub fn schemas_of_one_shape()
@@ -148,7 +148,7 @@ pub fn schemas_of_one_shape()
         → Spells schema text query → Spells other text query }
 {}
 
-/// A theorem: a text has at most one error, and none if it spells a query.
+/// A law: a text has at most one error, and none if it spells a query.
 pub fn one_fault()
     ensures one { (schema : Schema) (text : List ℕ) (fault other : Fault)
         → IsFault schema text fault → IsFault schema text other → fault ≡ other }
@@ -156,14 +156,14 @@ pub fn one_fault()
         → Spells schema text query → IsFault schema text fault → ⊥ }
 {}
 
-/// A theorem: a text's error is where the table of errors lists it: at a byte.
+/// A law: a text's error is where the table of errors lists it: at a byte.
 #[tactic(auto, using(crate::proofs::FaultPlaceLemmas::fault_listed))]
 pub fn faults_stand_as_listed()
     ensures { (schema : Schema) (text : List ℕ) (fault : Fault)
         → IsFault schema text fault → StandsAsListed fault }
 {}
 
-/// A theorem: every text spells a query or has an error.
+/// A law: every text spells a query or has an error.
 pub fn query_or_fault()
     ensures { (schema : Schema) (text : List ℕ) → SpellsOrFails schema text }
 {}

@@ -6,13 +6,13 @@ ghost use Rattle.bw_sql.specs.Token.{lexemes};
 
 use crate::literal::literal;
 use crate::reader::{Read, Refusal, Stop, after_keyword, name};
-use crate::token::{Placed, Token};
+use crate::token::{PlacedToken, Token};
 use bw_model::{Operand, Schema};
 use bw_text::Keyword;
 
 /// Reads a required operand: a column, a literal or NULL.
 #[tactic(auto, unfolding(crate::specs::Reading::operand_at))]
-pub fn operand<'t>(schema: &Schema, tokens: &'t [Placed<'t>]) -> Read<'t, Operand>
+pub fn operand<'t>(schema: &Schema, tokens: &'t [PlacedToken<'t>]) -> Read<'t, Operand>
     ensures read { ReadsFrom (λ x. x) tokens.now result (operand_at schema.now) }
     ensures consumes_input { IfOk result (λ read. length read.1.now < length tokens.now) }
 {
@@ -29,7 +29,7 @@ pub fn operand<'t>(schema: &Schema, tokens: &'t [Placed<'t>]) -> Read<'t, Operan
 
 /// Reads a column's name, which is required here, and returns the column's number.
 #[tactic(auto, unfolding(crate::specs::Reading::column_at))]
-pub fn column<'t>(schema: &Schema, tokens: &'t [Placed<'t>]) -> Read<'t, usize>
+pub fn column<'t>(schema: &Schema, tokens: &'t [PlacedToken<'t>]) -> Read<'t, usize>
     ensures read { ReadsFrom (λ x. x) tokens.now result (column_at schema.now) }
     ensures consumes_input { IfOk result (λ read. length read.1.now < length tokens.now) }
 {
@@ -41,7 +41,7 @@ pub fn column<'t>(schema: &Schema, tokens: &'t [Placed<'t>]) -> Read<'t, usize>
 }
 
 /// Returns whether a name is first.
-pub fn begins_with_name(tokens: &[Placed<'_>]) -> bool
+pub fn begins_with_name(tokens: &[PlacedToken<'_>]) -> bool
     ensures { result ≡ begins_with_name (lexemes tokens.now) }
 {
     if let Some(first) = tokens.first()

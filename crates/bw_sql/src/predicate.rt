@@ -21,14 +21,18 @@ ghost use Rattle.bw_sql.specs.Token.{lexemes};
 
 use crate::operand::operand;
 use crate::reader::{Left, Read, after_keyword, after_mark, keyword, mark};
-use crate::token::{Mark, Placed, Token};
+use crate::token::{Mark, PlacedToken, Token};
 use bw_model::{Cond, Op, Operand, Schema};
 use bw_text::Keyword;
 use std::alloc::{AllocError, Global};
 
 /// Reads a required predicate.
 #[tactic(auto, unfolding(crate::specs::Reading::predicate_at, bw_model::specs::CondTree::tree_of))]
-pub fn predicate<'t>(alloc: Global, schema: &Schema, tokens: &'t [Placed<'t>]) -> Read<'t, Cond>
+pub fn predicate<'t>(
+    alloc: Global,
+    schema: &Schema,
+    tokens: &'t [PlacedToken<'t>],
+) -> Read<'t, Cond>
     ensures read { ReadsFrom tree_of tokens.now result (predicate_at schema.now) }
     ensures consumes_input { IfOk result (λ read. length read.1.now ≤ length tokens.now) }
 {
@@ -42,7 +46,7 @@ fn predicate_of<'t>(
     alloc: Global,
     schema: &Schema,
     x: Operand,
-    tokens: &'t [Placed<'t>],
+    tokens: &'t [PlacedToken<'t>],
 ) -> Read<'t, Cond>
     ensures read { ReadsFrom tree_of tokens.now result (predicate_of schema.now x) }
     ensures consumes_input { IfOk result (λ read. length read.1.now ≤ length tokens.now) }
@@ -63,7 +67,7 @@ fn predicate_of<'t>(
 
 /// Returns the comparison that is first, and the tokens after it.
 #[tactic(auto, unfolding(crate::specs::Reading::after_comparison))]
-fn after_comparison<'t>(tokens: &'t [Placed<'t>]) -> Option<(Op, &'t [Placed<'t>])>
+fn after_comparison<'t>(tokens: &'t [PlacedToken<'t>]) -> Option<(Op, &'t [PlacedToken<'t>])>
     ensures is { option_map (λ found. (found.0, lexemes found.1.now)) result
         ≡ after_comparison (lexemes tokens.now) }
     ensures consumes_input { IfSome result (λ found. length found.1.now < length tokens.now) }
@@ -86,7 +90,7 @@ pub fn negation(alloc: Global, cond: Cond) -> Result<Cond, AllocError>
 
 /// Reads `[ NOT ] NULL`, which is required here, and returns the test for null.
 #[tactic(auto, unfolding(crate::specs::Reading::null_test_at, bw_model::specs::CondTree::tree_of))]
-fn null_test<'t>(alloc: Global, x: Operand, tokens: &'t [Placed<'t>]) -> Read<'t, Cond>
+fn null_test<'t>(alloc: Global, x: Operand, tokens: &'t [PlacedToken<'t>]) -> Read<'t, Cond>
     ensures read { ReadsFrom tree_of tokens.now result (null_test_at x) }
     ensures consumes_input { IfOk result (λ read. length read.1.now ≤ length tokens.now) }
 {
@@ -104,7 +108,7 @@ fn range_or_list<'t>(
     alloc: Global,
     schema: &Schema,
     x: Operand,
-    tokens: &'t [Placed<'t>],
+    tokens: &'t [PlacedToken<'t>],
 ) -> Read<'t, Cond>
     ensures read { ReadsFrom tree_of tokens.now result (range_or_list_at schema.now x) }
     ensures consumes_input { IfOk result (λ read. length read.1.now ≤ length tokens.now) }
@@ -117,7 +121,7 @@ fn range_or_list<'t>(
 
 /// Reads the bounds of an operand's range, which are required here.
 #[tactic(auto, unfolding(bw_model::specs::CondTree::tree_of))]
-fn range<'t>(schema: &Schema, x: Operand, tokens: &'t [Placed<'t>]) -> Read<'t, Cond>
+fn range<'t>(schema: &Schema, x: Operand, tokens: &'t [PlacedToken<'t>]) -> Read<'t, Cond>
     ensures read { ReadsFrom tree_of tokens.now result (range_at schema.now x) }
     ensures consumes_input { IfOk result (λ read. length read.1.now ≤ length tokens.now) }
 {
@@ -129,7 +133,12 @@ fn range<'t>(schema: &Schema, x: Operand, tokens: &'t [Placed<'t>]) -> Read<'t, 
 
 /// Reads the list in brackets after IN, which is required here.
 #[tactic(auto, unfolding(bw_model::specs::CondTree::tree_of))]
-fn list<'t>(alloc: Global, schema: &Schema, x: Operand, tokens: &'t [Placed<'t>]) -> Read<'t, Cond>
+fn list<'t>(
+    alloc: Global,
+    schema: &Schema,
+    x: Operand,
+    tokens: &'t [PlacedToken<'t>],
+) -> Read<'t, Cond>
     ensures read { ReadsFrom tree_of tokens.now result (list_at schema.now x) }
     ensures consumes_input { IfOk result (λ read. length read.1.now ≤ length tokens.now) }
 {
@@ -141,7 +150,11 @@ fn list<'t>(alloc: Global, schema: &Schema, x: Operand, tokens: &'t [Placed<'t>]
 }
 
 /// Reads a required operand and those after it, each behind a comma.
-fn operands<'t>(alloc: Global, schema: &Schema, tokens: &'t [Placed<'t>]) -> Read<'t, Vec<Operand>>
+fn operands<'t>(
+    alloc: Global,
+    schema: &Schema,
+    tokens: &'t [PlacedToken<'t>],
+) -> Read<'t, Vec<Operand>>
     ensures read { ReadsFrom (λ xs. xs.items) tokens.now result (operands_at schema.now) }
     ensures consumes_input { IfOk result (λ read. length read.1.now ≤ length tokens.now) }
 {
@@ -153,7 +166,7 @@ fn operands<'t>(alloc: Global, schema: &Schema, tokens: &'t [Placed<'t>]) -> Rea
 fn more_operands<'t>(
     schema: &Schema,
     mut items: Vec<Operand>,
-    tokens: &'t [Placed<'t>],
+    tokens: &'t [PlacedToken<'t>],
 ) -> Read<'t, Vec<Operand>>
     ensures read { ReadsFrom (λ xs. xs.items) tokens.now result
         (λ tokens. with_front items.items (more_operands schema.now tokens)) }

@@ -8,7 +8,7 @@ ghost use Rattle.bw_sql.specs.Reading.{after_keyword, after_mark, keyword_at, ma
 ghost use Rattle.bw_sql.specs.Refusal.{code_of};
 ghost use Rattle.bw_sql.specs.Token.{lexemes};
 
-use crate::token::{Mark, Placed, Token};
+use crate::token::{Mark, PlacedToken, Token};
 use bw_model::code;
 use bw_text::Keyword;
 use std::alloc::{AllocError, AllocFailed};
@@ -51,7 +51,7 @@ pub enum Stop {
 
 impl Stop {
     /// Returns a refusal at the first of these tokens.
-    pub fn at(why: Refusal, tokens: &[Placed<'_>]) -> Self
+    pub fn at(why: Refusal, tokens: &[PlacedToken<'_>]) -> Self
         ensures { result ≡ refusal_stop why (length tokens.now) }
     {
         Stop::Refused {
@@ -62,12 +62,12 @@ impl Stop {
 }
 
 /// What a reader returns: what it read, and the tokens after it.
-pub type Read<'t, T> = Result<(T, &'t [Placed<'t>]), Stop>;
+pub type Read<'t, T> = Result<(T, &'t [PlacedToken<'t>]), Stop>;
 
 /// The tokens that a loop still has to read.
 #[derive(Clone, Copy)]
 pub struct Left<'t> {
-    pub tokens: &'t [Placed<'t>],
+    pub tokens: &'t [PlacedToken<'t>],
 }
 
 impl From<AllocError> for Stop {
@@ -88,7 +88,10 @@ impl<T: Drop> From<AllocFailed<T>> for Stop {
 
 /// Returns the tokens after a keyword, if it is first.
 #[tactic(auto, unfolding(crate::specs::Reading::after_keyword))]
-pub fn after_keyword<'t>(word: Keyword, tokens: &'t [Placed<'t>]) -> Option<&'t [Placed<'t>]>
+pub fn after_keyword<'t>(
+    word: Keyword,
+    tokens: &'t [PlacedToken<'t>],
+) -> Option<&'t [PlacedToken<'t>]>
     ensures is { option_map (λ rest. lexemes rest.now) result
         ≡ after_keyword word (lexemes tokens.now) }
     ensures consumes_input { IfSome result (λ rest. length rest.now < length tokens.now) }
@@ -104,7 +107,7 @@ pub fn after_keyword<'t>(word: Keyword, tokens: &'t [Placed<'t>]) -> Option<&'t 
 
 /// Returns the tokens after a mark, if it is first.
 #[tactic(auto, unfolding(crate::specs::Reading::after_mark))]
-pub fn after_mark<'t>(mark: Mark, tokens: &'t [Placed<'t>]) -> Option<&'t [Placed<'t>]>
+pub fn after_mark<'t>(mark: Mark, tokens: &'t [PlacedToken<'t>]) -> Option<&'t [PlacedToken<'t>]>
     ensures is { option_map (λ rest. lexemes rest.now) result
         ≡ after_mark mark (lexemes tokens.now) }
     ensures consumes_input { IfSome result (λ rest. length rest.now < length tokens.now) }
@@ -120,7 +123,10 @@ pub fn after_mark<'t>(mark: Mark, tokens: &'t [Placed<'t>]) -> Option<&'t [Place
 
 /// Returns the tokens after a keyword, which is required here.
 #[tactic(auto, unfolding(crate::specs::Reading::keyword_at))]
-pub fn keyword<'t>(word: Keyword, tokens: &'t [Placed<'t>]) -> Result<&'t [Placed<'t>], Stop>
+pub fn keyword<'t>(
+    word: Keyword,
+    tokens: &'t [PlacedToken<'t>],
+) -> Result<&'t [PlacedToken<'t>], Stop>
     ensures read { Reads (λ rest. lexemes rest.now) result (keyword_at word (lexemes tokens.now)) }
     ensures consumes_input { IfOk result (λ rest. length rest.now < length tokens.now) }
 {
@@ -129,7 +135,7 @@ pub fn keyword<'t>(word: Keyword, tokens: &'t [Placed<'t>]) -> Result<&'t [Place
 
 /// Returns the tokens after a mark, which is required here.
 #[tactic(auto, unfolding(crate::specs::Reading::mark_at))]
-pub fn mark<'t>(mark: Mark, tokens: &'t [Placed<'t>]) -> Result<&'t [Placed<'t>], Stop>
+pub fn mark<'t>(mark: Mark, tokens: &'t [PlacedToken<'t>]) -> Result<&'t [PlacedToken<'t>], Stop>
     ensures read { Reads (λ rest. lexemes rest.now) result (mark_at mark (lexemes tokens.now)) }
     ensures consumes_input { IfOk result (λ rest. length rest.now < length tokens.now) }
 {
@@ -138,7 +144,7 @@ pub fn mark<'t>(mark: Mark, tokens: &'t [Placed<'t>]) -> Result<&'t [Placed<'t>]
 
 /// Reads a required name, and returns it with the tokens after it.
 #[tactic(auto, unfolding(crate::specs::Reading::name_at))]
-pub fn name<'t>(tokens: &'t [Placed<'t>]) -> Read<'t, &'t [u8]>
+pub fn name<'t>(tokens: &'t [PlacedToken<'t>]) -> Read<'t, &'t [u8]>
     ensures read { ReadsFrom (λ text. text.now) tokens.now result name_at }
     ensures consumes_input { IfOk result (λ read. length read.1.now < length tokens.now) }
 {

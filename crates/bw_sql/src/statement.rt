@@ -14,7 +14,7 @@ ghost use Rattle.bw_sql.specs.Token.{lexemes};
 use crate::condition::condition;
 use crate::items::items;
 use crate::reader::{Read, Refusal, Stop, after_keyword, after_mark, keyword, name};
-use crate::token::{Mark, Placed};
+use crate::token::{Mark, PlacedToken};
 use bw_model::{Cond, Query, Schema};
 use bw_text::Keyword;
 use std::alloc::Global;
@@ -24,7 +24,7 @@ const MAX_NESTING: usize = 100;
 
 /// Returns the query that all tokens spell under a schema.
 #[tactic(auto, unfolding(crate::specs::Reading::statement_at))]
-pub fn statement(alloc: Global, schema: &Schema, tokens: &[Placed<'_>]) -> Result<Query, Stop>
+pub fn statement(alloc: Global, schema: &Schema, tokens: &[PlacedToken<'_>]) -> Result<Query, Stop>
     ensures { Reads query_shape result (statement_at schema.now (lexemes tokens.now)) }
 {
     let rest = keyword(Keyword::Select, tokens)?;
@@ -36,7 +36,11 @@ pub fn statement(alloc: Global, schema: &Schema, tokens: &[Placed<'_>]) -> Resul
 
 /// Reads the table after FROM, and the condition on its rows.
 #[tactic(auto, unfolding(crate::specs::Reading::table_expression_at))]
-fn table_expression<'t>(alloc: Global, schema: &Schema, tokens: &'t [Placed<'t>]) -> Read<'t, Cond>
+fn table_expression<'t>(
+    alloc: Global,
+    schema: &Schema,
+    tokens: &'t [PlacedToken<'t>],
+) -> Read<'t, Cond>
     ensures { ReadsFrom tree_of tokens.now result (table_expression_at schema.now) }
 {
     let rest = keyword(Keyword::From, tokens)?;
@@ -46,7 +50,7 @@ fn table_expression<'t>(alloc: Global, schema: &Schema, tokens: &'t [Placed<'t>]
 
 /// Returns the tokens after the schema's name, which is required here.
 #[tactic(auto, unfolding(crate::specs::Reading::table_at))]
-fn table<'t>(schema: &Schema, tokens: &'t [Placed<'t>]) -> Result<&'t [Placed<'t>], Stop>
+fn table<'t>(schema: &Schema, tokens: &'t [PlacedToken<'t>]) -> Result<&'t [PlacedToken<'t>], Stop>
     ensures { Reads (λ rest. lexemes rest.now) result (table_at schema.now (lexemes tokens.now)) }
 {
     let (text, rest) = name(tokens)?;
@@ -59,7 +63,7 @@ fn table<'t>(schema: &Schema, tokens: &'t [Placed<'t>]) -> Result<&'t [Placed<'t
 
 /// Reads the condition after WHERE. Without WHERE all rows match.
 #[tactic(auto, unfolding(crate::specs::Reading::selection_at, bw_model::specs::CondTree::tree_of))]
-fn selection<'t>(alloc: Global, schema: &Schema, tokens: &'t [Placed<'t>]) -> Read<'t, Cond>
+fn selection<'t>(alloc: Global, schema: &Schema, tokens: &'t [PlacedToken<'t>]) -> Read<'t, Cond>
     ensures { ReadsFrom tree_of tokens.now result (selection_at schema.now) }
 {
     match after_keyword(Keyword::Where, tokens) {
@@ -70,7 +74,7 @@ fn selection<'t>(alloc: Global, schema: &Schema, tokens: &'t [Placed<'t>]) -> Re
 
 /// Reads the end of a statement, after an optional semicolon.
 #[tactic(auto, unfolding(crate::specs::Reading::end_at))]
-fn end(tokens: &[Placed<'_>]) -> Result<(), Stop>
+fn end(tokens: &[PlacedToken<'_>]) -> Result<(), Stop>
     ensures { Reads (λ ended. ended) result (end_at (lexemes tokens.now)) }
 {
     let rest = after_mark(Mark::Semicolon, tokens).unwrap_or(tokens);

@@ -27,7 +27,7 @@ pub enum Token<'a> {
 
 /// A token, and the byte at which it begins.
 #[derive(Clone, Copy)]
-pub struct Placed<'a> {
+pub struct PlacedToken<'a> {
     pub token: Token<'a>,
     pub at: usize,
 }

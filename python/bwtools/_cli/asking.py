@@ -6,20 +6,44 @@ import io
 import os
 import sys
 import time
-from typing import Iterable, Sequence
+from typing import Callable, Iterable, Sequence, TextIO, cast
 
 from .. import command
 from .._database import Database, Settings
 from .._output import Writer, writer_of
 from .._result import Result
-from ..failed import Failed
+from ..failed import failure_of, is_failure
 from ..naming import is_name
 from .._sql.tables import name_of, open_catalog
 from ..telling import Refused, counted
 from ..waiting import Waiting
 from .options import AnswerOptions
 
+# so many characters of an answer are held until it is whole; a longer one is written as it comes
+MOST_HELD = 1 << 20
 WAYS = {1: "by statements of bw", 2: "by SQLite, over what bw listed"}
+
+
+class Held:
+    """What is written of an answer, held until the files that it is made of are compared: before it
+    is written, and of a long one before each part is."""
+
+    def __init__(self, out: TextIO, compare: Callable[[], None]) -> None:
+        self.out, self.compare = out, compare
+        self.parts, self.size = list[str](), 0
+
+    def write(self, text: str) -> int:
+        self.parts.append(text)
+        self.size += len(text)
+        if self.size > MOST_HELD:
+            self.flush()
+        return len(text)
+
+    def flush(self) -> None:
+        """Writes what is held. Raises Failed if a file changed, and then writes nothing."""
+        self.compare()
+        parts, self.parts, self.size = self.parts, [], 0
+        self.out.write("".join(parts))
 
 
 class Asking:
@@ -44,17 +68,25 @@ class Asking:
         if self.is_plain:
             result.drop_styles()
         if path:
-            write_file(path, writer_of(self.form), result)
+            write_file(path, self.written, result)
             return
-        write, width = writer_of(self.form), width_of_terminal()
+        width = width_of_terminal()
         # rows at a terminal show themselves that they come
         with contextlib.nullcontext() if width else waiting.shown("the answer is written"):
-            count = write(result, sys.stdout, width)
+            count = self.written(result, sys.stdout, width)
         took = f", {time.monotonic() - begun:.2f} s" if self.is_timed else ""
         if self.form == "table" or took:
             where = sys.stdout if self.form == "table" else sys.stderr
             print(f"{counted(count, 'row')}{took}", file=where)
         sys.stdout.flush()
+
+    def written(self, result: Result, out: TextIO, width: int | None) -> int:
+        """Writes a result. Returns the number of rows."""
+        held, write = Held(out, self.database.refuse_changed), writer_of(self.form)
+        # a writer needs nothing else of a file
+        count = self.database.compared(lambda: write(result, cast(TextIO, held), width))
+        held.flush()
+        return count
 
     def ask_all(self, lines: Iterable[str]) -> int:
         """Runs the statements in these lines. Each answer is followed by an empty line; one that is
@@ -77,8 +109,13 @@ class Asking:
         except Refused as refused:
             print(f"{command.own_name()}: {refused}", file=sys.stderr)
             return 3
-        except Failed as failed:
-            return failed.report()
+        except OSError:
+            # the answer can't be written, nor the next one
+            raise
+        except Exception as error:
+            if not is_failure(error):
+                raise
+            return failure_of(error).report()
 
 
 def write_file(path: str, write: Writer, result: Result) -> None:
@@ -159,12 +196,8 @@ def ask(given: AnswerOptions, tables: Iterable[tuple[str, str]], statement: str 
         asking = Asking(database, form, given.is_plain, given.is_told,
                         is_terminal and form == "table")
         if statement is not None:
-            try:
-                asking.ask(statement)
-                return 0
-            except Failed as failed:
-                sys.stdout.flush()
-                return failed.report()
+            asking.ask(statement)
+            return 0
         if sys.stdin and os.isatty(sys.stdin.fileno()) and is_terminal:
             from .shell import Shell
             return Shell(asking).run()

@@ -13,6 +13,7 @@ empty field."""
 from __future__ import annotations
 
 import argparse
+import contextlib
 import io
 import os
 import sys
@@ -30,13 +31,14 @@ def work(given: argparse.Namespace) -> None:
     command.write_utf8()
     answer = io.TextIOWrapper(sys.stdin.buffer if sys.stdin else io.BytesIO(), encoding="utf-8",
                               newline="")
-    found = Store(given.columns)
-    table = given.columns.removesuffix(".columns")
-    if found.files and os.path.exists(table) and table != given.columns:
-        with open_regular(table) as file:
-            if not pairs.is_of(found.files[0], file):
-                raise pairs.foreign(given.columns, table)
-    turn_back(found.columns, answer, sys.stdout)
+    with contextlib.closing(Store(given.columns)) as found:
+        table = given.columns.removesuffix(".columns")
+        if found.files and os.path.exists(table) and table != given.columns:
+            with open_regular(table) as file:
+                if not pairs.is_of(found.files[0], file):
+                    raise pairs.foreign(given.columns, table)
+        turn_back(found.columns, answer, sys.stdout)
+        pairs.refuse_changed(found.watched)
 
 
 def parser_of() -> argparse.ArgumentParser:

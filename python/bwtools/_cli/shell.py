@@ -9,7 +9,7 @@ from typing import TYPE_CHECKING, Callable, Iterable, Iterator
 
 from .. import command
 from .._output import FORMATS
-from ..failed import Failed
+from ..failed import failure_of, is_failure
 from ..naming import is_name
 from .._sql.tables import Table
 from ..telling import Refused, counted
@@ -93,10 +93,12 @@ class Shell:
             print(f"there is no command {name}: type .help for a list", file=sys.stderr)
 
     def print_tables(self, _: str) -> None:
-        for table in self.tables:
-            rows = self.asking.database.engine(table).totals(
-                [f"SELECT COUNT(*) FROM {table.bw_name}"])[0][0]
-            print(f"{table.name}  {counted(rows or 0, 'row')}")
+        database = self.asking.database
+        found = database.compared(lambda: [
+            database.engine(table).totals([f"SELECT COUNT(*) FROM {table.bw_name}"])[0][0] or 0
+            for table in self.tables])
+        for table, rows in zip(self.tables, found):
+            print(f"{table.name}  {counted(rows, 'row')}")
 
     def print_schema(self, name: str) -> None:
         found = self.asking.database.catalog.get(name) if name else None
@@ -161,15 +163,12 @@ def reported() -> Iterator[None]:
     """Prints why a file can't be read or written, or a command can't be done."""
     try:
         yield
-    except Failed as failed:
-        failed.report()
-    except Refused as refused:
+    except (Refused, UnicodeError) as refused:
         print(f"{command.own_name()}: {refused}", file=sys.stderr)
-    except UnicodeError as error:
-        print(f"{command.own_name()}: {error}", file=sys.stderr)
-    except OSError as error:
-        where = f"{error.filename}: " if error.filename else ""
-        print(f"{command.own_name()}: {where}{error.strerror}", file=sys.stderr)
+    except Exception as error:
+        if not is_failure(error):
+            raise
+        failure_of(error).report()
 
 
 def described(table: Table) -> Iterator[str]:

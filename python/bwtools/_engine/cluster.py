@@ -7,6 +7,7 @@ import contextlib
 import importlib
 import importlib.util
 import logging
+import os
 import pickle
 import sys
 from typing import Any, Callable, Iterator, Sequence
@@ -29,7 +30,7 @@ class Cluster:
     def __init__(self, scheduler: str) -> None:
         if not is_installed():
             raise Refused(f"--scheduler: {MISSING.format(sys.executable)}")
-        self.scheduler = scheduler
+        self.scheduler, self.owner = scheduler, os.getpid()
         # Dask's client
         self.client: Any = None
         self.stack = contextlib.ExitStack()
@@ -81,8 +82,9 @@ class Cluster:
             return 5, f"the cluster returned no result: {told}", b""
 
     def close(self) -> None:
-        """Leaves the cluster."""
-        self.stack.close()
+        """Leaves the cluster, which a fork leaves to its parent."""
+        if self.owner == os.getpid():
+            self.stack.close()
 
 
 def is_installed() -> bool:
@@ -110,7 +112,7 @@ class Scheduled:
     def rows(self, statement: str) -> list[Part]:
         return list(map(Part, self.answers([statement])))
 
-    def beginnings(self, statement: str, rows: int) -> list[Part]:
+    def beginnings(self, statement: str, rows: int, skipped: int) -> list[Part]:
         return self.rows(statement)
 
     def answers(self, statements: Sequence[str]) -> Iterator[bytes]:

@@ -9,7 +9,7 @@ import os
 from typing import (TYPE_CHECKING, Any, BinaryIO, Callable, Iterable, Iterator, Protocol, Sequence,
                     TypeVar, Union)
 
-from ..failed import Failed
+from ..failed import FILES, MEMORY, Failed
 from ..telling import Refused
 from .process import AT_ONCE, Query, Session
 
@@ -59,13 +59,16 @@ def names_of(columns: Sequence[Column]) -> str:
 
 
 class Part:
-    """The rows of one file of a table as bw wrote them: a heading, and a line for each row. Each
-    reader has a place of its own."""
+    """The rows of one file of a table as bw wrote them: a heading, and a line for each row, without
+    the first ones if some were skipped. Each reader has a place of its own."""
 
-    def __init__(self, data: bytes = b"", file: BinaryIO | None = None) -> None:
+    def __init__(self, data: bytes = b"", file: BinaryIO | None = None, skipped: int = 0) -> None:
         # a file is unnamed, and never moved in: only `os.pread` reads it
-        self.data, self.file = data, file
+        self.data, self.file, self.skipped = data, file, skipped
         self.start = self.lines(0).find(b"\n") + 1
+
+    def __del__(self) -> None:
+        self.close()
 
     def lines(self, place: int) -> bytes:
         """Returns whole lines, many at a time, from a place on; nothing at the end."""
@@ -115,9 +118,9 @@ class Asker(Protocol):
     def rows(self, statement: str) -> list[Part]:
         """Returns the results of a statement of rows, one for each file."""
 
-    def beginnings(self, statement: str, rows: int) -> list[Part]:
+    def beginnings(self, statement: str, rows: int, skipped: int) -> list[Part]:
         """Returns the results of a statement of rows, of which some after so many may be missing,
-        for each file."""
+        for each file; of the first one so many rows may be skipped."""
 
     def close(self) -> None:
         """Ends what it has started."""
@@ -151,11 +154,12 @@ class Engine:
         self.asked.append(statement)
         return self.asker.rows(statement)
 
-    def beginning(self, statement: str, rows: int) -> list[Part]:
+    def beginning(self, statement: str, rows: int, skipped: int = 0) -> list[Part]:
         """Returns the results of a statement of rows as `rows` does; those after so many of a file
-        may be missing. A file that can't be asked is an exception here, too."""
+        may be missing, and so many of the first file may be skipped. A file that can't be asked is
+        an exception here, too."""
         self.asked.append(statement)
-        return self.asker.beginnings(statement, rows)
+        return self.asker.beginnings(statement, rows, skipped)
 
     def close(self) -> None:
         """Ends the sessions. A later statement begins others."""
@@ -213,11 +217,15 @@ class Local:
             self.tell(told)
         return [result for result, _ in found]
 
-    def beginnings(self, statement: str, rows: int) -> list[Part]:
+    def beginnings(self, statement: str, rows: int, skipped: int) -> list[Part]:
         if self.options:
             # what they print comes at the end
             return self.rows(statement)
-        return self.queries(statement, (), ROWS_AT_ONCE, lambda query: Part(query.beginning(rows)))
+        # of other files it isn't known yet how many
+        skips = iter([skipped])
+        found = self.queries(statement, (), ROWS_AT_ONCE,
+                             lambda query: query.beginning(rows, next(skips, 0)))
+        return [Part(data, None, count) for data, count in found]
 
     def queries(self, statement: str, options: Sequence[str], at_once: int,
                 read: Callable[[Query], T]) -> list[T]:
@@ -359,8 +367,11 @@ def memory() -> int:
 
 def refusal(told: str) -> Exception:
     """Returns what a statement without an answer raises: that bw rejected it, for a reason."""
-    if told:
+    if told.startswith("bw: 4"):
         return Refused(told.rstrip("\n"))
+    if told:
+        # refused memory, as of a statement
+        return Failed("", told, MEMORY if told.startswith("bw: 8") else FILES)
     return Failed("bw session gave no answer and no reason")
 
 

@@ -8,7 +8,6 @@ from __future__ import annotations
 
 import contextlib
 import io
-import itertools
 import os
 import re
 import signal
@@ -167,15 +166,28 @@ class Query(Process):
         result: bytes = self.ends[0].readall()
         return result, self.ended()
 
-    def beginning(self, rows: int) -> bytes:
-        """Returns its result's heading and first rows, up to so many, as `result` does. If there
-        are more of them, it is ended by `close`."""
-        found = list(itertools.islice(io.BufferedReader(self.ends[0], AT_ONCE), rows + 1))
-        if len(found) <= rows:
+    def beginning(self, rows: int, skipped: int = 0) -> tuple[bytes, int]:
+        """Returns its result's heading and first rows, up to so many, as `result` does, but for the
+        first ones, which are skipped; and how many these are. If there are more rows, it is ended
+        by `close`."""
+        found, seen, part = list[bytes](), 0, self.ends[0].read(AT_ONCE)
+        while part and b"\n" not in part:
+            part = part + self.ends[0].read(AT_ONCE)
+        end = part.find(b"\n") + 1
+        found.append(part[:end])
+        part = part[end:] or self.ends[0].read(AT_ONCE)
+        while part and seen < rows:
+            count = part.count(b"\n")
+            start = after(part, skipped - seen) if seen < skipped <= seen + count else \
+                len(part) * (seen < skipped)
+            found.append(part[start:after(part, rows - seen) if seen + count >= rows else None])
+            seen += count
+            part = self.ends[0].read(AT_ONCE)
+        if seen < rows:
             self.ended()
-        if not found:
+        if not end:
             raise Failed("bw query gave no answer and no reason")
-        return b"".join(found)
+        return b"".join(found), min(seen, skipped)
 
     def ended(self) -> str:
         """Waits for its end. Returns what it printed on standard error, and raises as `result`
@@ -189,6 +201,14 @@ class Query(Process):
         if status:
             raise Failed("" if lines else f"bw query ended with status {status}", lines, status)
         return lines
+
+
+def after(lines: bytes, count: int) -> int:
+    """Returns the place after so many lines."""
+    end = 0
+    for _ in range(count):
+        end = lines.index(b"\n", end) + 1
+    return end
 
 
 class SessionOutput(io.RawIOBase):

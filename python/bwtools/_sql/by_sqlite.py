@@ -8,7 +8,7 @@ from typing import Callable, Iterable, Mapping
 from .._aggregation import NeedsExact
 from .._engine.executor import Engine
 from .._result import Result, ValueRows
-from ..failed import Failed
+from ..failed import Failed, failure_of, is_of_system
 from ..telling import Refused
 from ..waiting import Waiting
 from .listing import Listing
@@ -16,10 +16,8 @@ from .prepare import reads_of, told
 from .pushdown import pushed
 from .render import Renderer
 from .statement import Statement
-from .sums import sum_text
-from .syntax import Call, Node
 from .tables import Catalog, Table
-from .validate import is_exact, refuse_doubles, refuse_sums
+from .validate import inner_sum, is_exact, refuse_doubles, whole_sums
 
 # so many rows are listed without being asked for, and so many conditions' rows are kept
 MOST_ROWS, MOST_CONDITIONS = 4_000_000, 8
@@ -64,8 +62,7 @@ class BySqlite:
         try:
             return self.run(listing, statement, sql, asked)
         except NeedsExact:
-            refuse_sums(statement.tree)
-        return self.run(listing, statement, text_of(statement, True), asked, True)
+            raise inner_sum(statement.tree) from None
 
     def tables(self) -> Mapping[str, Table]:
         return {table.name: table for table in self.catalog.tables.values()}
@@ -96,10 +93,9 @@ class BySqlite:
             self.parts.popitem(last=False)[1].close()
         return found
 
-    def run(self, listing: Listing, statement: Statement, sql: str, asked: list[str],
-            are_blobs: bool = False) -> Result:
+    def run(self, listing: Listing, statement: Statement, sql: str, asked: list[str]) -> Result:
         """Runs a statement over what is listed. Raises NeedsExact if a double isn't a sum of
-        decimals, unless these are integers as `blob_of` has them."""
+        decimals that an expression has."""
         guard = listing.guard
         self.waiting.begin("SQLite computes")
         guard.denied, guard.read, guard.is_off = "", {}, False
@@ -111,6 +107,8 @@ class BySqlite:
                 rows = cursor.fetchall()
         except sqlite3.Error as error:
             guard.is_off = True
+            if is_of_system(error):
+                raise failure_of(error) from None
             raise Refused(self.failure(listing, statement, str(error))) from None
         finally:
             guard.is_off = True
@@ -119,11 +117,8 @@ class BySqlite:
         if len(outputs) != len(names):
             # integers that stand for decimals must not be taken for numbers
             raise Failed(f"SQLite returned {len(names)} columns, expected {len(outputs)}")
-        exact = [place for place, each in enumerate(outputs)
-                 if is_exact(each) or are_blobs and each.is_total and each.kind]
-        if are_blobs and any(isinstance(value, bytes) for row in rows
-                             for place, value in enumerate(row) if place not in exact):
-            raise Failed("SQLite returned the bytes of a sum for an expression")
+        exact = [place for place, each in enumerate(outputs) if is_exact(each) or each.is_total
+                 and each.kind and any(isinstance(row[place], bytes) for row in rows)]
         return Result([each.heading for each in outputs], [each.kind for each in outputs],
                       ValueRows(rows, exact), 2, asked)
 
@@ -134,10 +129,6 @@ class BySqlite:
         return listing.guard.denied or told(statement.tree, message)
 
 
-def text_of(statement: Statement, are_blobs: bool = False) -> str:
-    """Returns a statement's text for SQLite, with exact sums; those of decimals may be as `blob_of`
-    has them."""
-    def sums(call: Call, text: Callable[[Node], str]) -> str | None:
-        return sum_text(call, text, are_blobs)
-
-    return Renderer(statement.written, sums).text(statement.tree)
+def text_of(statement: Statement) -> str:
+    """Returns a statement's text for SQLite, with exact sums."""
+    return Renderer(statement.written, whole_sums(statement.tree)).text(statement.tree)

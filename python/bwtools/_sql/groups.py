@@ -20,6 +20,7 @@ from .._result import Limits, Value, ValueRows, affinity, is_long
 from ..column import Column
 from ..failed import Failed
 from ..kind import Kind
+from ..kinds import undressed
 from ..telling import Refused
 from .cost import groups_at_most, is_sqlite_quicker
 from .lexer import quoted_name
@@ -34,6 +35,9 @@ from .validate import NO_DOUBLE, refuse_doubles
 # so many groups are counted by statements at most, and only if the rows that those scan are no more
 # than so many times the rows that would be listed: which takes as long
 MOST_STATEMENTS, LISTED_COST, LONG = 1000, 2000, 200
+# so many rows are scanned for a sum of floats at most, for each row that would be listed: a
+# statement counts as this many more
+FLOAT_COST, STATEMENT_COST = 200, 20_000
 # the doubles of so many columns of all rows, or of those of a condition, are kept
 MOST_KEPT = 8
 # the totals of all rows by their names
@@ -100,8 +104,9 @@ def groups_of(engine: Engine, wanted: Wanted, coarse: Coarse | None = None) -> G
         made, places = coarse(made)
         found = found.coarser(places, len(made[0]))
     count = len(found.totals[COUNT])
-    # of each column the doubles, or the number of its values, in each group
-    doubles: dict[str, Sequence[Sequence[float]]] = {}
+    # of each column the sum and the number of its doubles, or the number of its values, in each
+    # group
+    sums: dict[str, Sequence[tuple[float, int]]] = {}
     distinct: dict[str, Mapping[Key, int]] = {}
     results = list[Sequence[Value]]()
     for each in wanted.aggregates:
@@ -110,11 +115,11 @@ def groups_of(engine: Engine, wanted: Wanted, coarse: Coarse | None = None) -> G
                 distinct[each.column.name] = distinct_of(engine, wanted, each.column)
             results.append([distinct[each.column.name].get(key, 0) for key in keys])
         elif each.column and each.is_float_sum:
-            if each.column.name not in doubles:
-                of_keys = doubles_of(engine, wanted, each.column)
-                doubles[each.column.name] = together(of_keys, keys, places, count)
-            results.append([float_total(each.function, part)
-                            for part in doubles[each.column.name]])
+            if each.column.name not in sums:
+                sums[each.column.name] = sums_of_floats(engine, wanted, each.column, keys, places,
+                                                        count)
+            results.append([float_total(each.function, *found)
+                            for found in sums[each.column.name]])
         else:
             results.append(of_column(len(made) + len(results), each.column, each.kind,
                                      values_of(each, found.totals), exact,
@@ -133,6 +138,44 @@ def of_column(place: int, column: Column | None, kind: Kind | None, numbers: Seq
     found, is_exact = values_for_sqlite(kind, numbers, is_sum)
     exact += [place] * is_exact
     return found
+
+
+def sums_of_floats(engine: Engine, wanted: Wanted, column: Column, keys: Sequence[Key],
+                   places: Sequence[int], count: int) -> Sequence[tuple[float, int]]:
+    """Returns the sum and the number of a column's doubles in each of so many groups, as
+    `together` does."""
+    found = None if wanted.keys else sum_by_statements(engine, wanted, column)
+    if found:
+        return [found]
+    doubles = together(doubles_of(engine, wanted, column), keys, places, count)
+    return [(counted.float_sum(part), len(part)) for part in doubles]
+
+
+def sum_by_statements(engine: Engine, wanted: Wanted, column: Column) -> tuple[float, int] | None:
+    """Returns the sum and the number of a column's doubles, by a statement for each exponent that
+    they have; or None if so many would take longer than to list them."""
+    plain: Any = undressed(column.kind)
+    if plain.name != "floats":
+        return None
+    name, parts = column.name, list[tuple[int, int]]()
+    ends = f"COUNT({name}), MIN({name}), MAX({name})"
+    signs = engine.totals([wanted.select(ends, f"{name} >= 1"), wanted.select(ends, f"{name} < 0")])
+    for _, least, greatest in signs:
+        if least is not None and greatest is not None:
+            parts += counted.binades(plain.gap, least, greatest)
+    present, scanned = engine.totals([wanted.select(f"COUNT({name}), {COUNT}"),
+                                      select(f"COUNT({name}), {COUNT}", wanted.table, "")])
+    scan = (scanned[1] or 0) * (1 + len(wanted.where) // LONG)
+    if len(parts) * (scan + STATEMENT_COST) > FLOAT_COST * (present[0] or 0):
+        return None
+    found = engine.totals([wanted.select(f"COUNT({name}), SUM({name})",
+                                         f"{name} BETWEEN {first} AND {last}")
+                           for first, last in parts])
+    totals = [(first, number or 0, total or 0)
+              for (first, _), (number, total) in zip(parts, found)]
+    if sum(number for _, number, _ in totals) != sum(each[0] or 0 for each in signs):
+        raise Failed(f"the numbers of {name} don't add up to those of all rows")
+    return counted.sum_of_binades(column.kind, totals), present[0] or 0
 
 
 def together(doubles: Mapping[Key, Sequence[float]], keys: Sequence[Key], places: Sequence[int],

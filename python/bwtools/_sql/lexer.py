@@ -26,6 +26,11 @@ PATTERN = re.compile(rf"""(?P<gap>[ \t\n\f\r\ufeff]+|--[^\n]*|/\*(?:.*?\*/|.+\Z)
 # what looks like a number or a blob, and isn't one
 ODD = re.compile(rf"[0-9.]+{NAME}*|[xX]'[^']*'?")
 
+# the longest numeral of digits that is surely within 64 bits
+MOST_SHORT = 18
+# the words and signs of a statement at most, each of which takes 10 to 80 microseconds: those of a
+# list of as many parameters as SQLite takes
+MOST_TOKENS = 70_000
 # so many characters of a statement are in a message
 MOST_SHOWN = 80
 TOO_LONG = re.compile("0[xX]0*[1-9A-Fa-f][0-9A-Fa-f]{16}")
@@ -89,17 +94,20 @@ def tokens_of(sql: str) -> list[Token]:
     if "\0" in sql or not is_unicode(sql):
         raise Refused("the statement has a character that isn't text")
     tokens, at = list[Token](), 0
-    while at < len(sql):
-        found = PATTERN.match(sql, at)
-        if not found:
-            raise odd(sql, at)
-        kind = str(found.lastgroup)
-        if kind == "number" and TOO_LONG.match(found.group()):
-            raise Refused(f"{short(found.group())} at character {at} of the statement has more "
-                          "than 64 bits")
+    for found in PATTERN.finditer(sql):
+        if found.start() > at:
+            break
+        kind, text = str(found.lastgroup), found.group()
+        if kind == NUMBER and text[:2] in ("0x", "0X") and TOO_LONG.match(text):
+            raise Refused(f"{short(text)} at character {at} of the statement has more than 64 bits")
         if kind != "gap":
-            tokens.append(Token(kind, found.group(), at))
-        at = found.end()
+            tokens.append(Token(kind, text, at))
+            if len(tokens) > MOST_TOKENS:
+                raise Refused(f"the statement has more than {MOST_TOKENS:,} words and signs: "
+                              "import a long list as a table, and use IN (SELECT ...)")
+        at += len(text)
+    if at < len(sql):
+        raise odd(sql, at)
     tokens.append(Token(END, "", len(sql)))
     return tokens
 

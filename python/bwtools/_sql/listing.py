@@ -206,7 +206,9 @@ class Listing:
         try:
             yield
         except BaseException:
-            self.database.execute("ROLLBACK")
+            # SQLite itself has undone it if its memory or disk is full
+            if self.database.in_transaction:
+                self.database.execute("ROLLBACK")
             raise
         self.database.execute("COMMIT")
 

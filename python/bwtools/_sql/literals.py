@@ -17,7 +17,7 @@ from ..kind import GREATEST, LEAST
 from ..kinds import Styled, undressed
 from ..stored_list import is_unicode
 from ..telling import Refused
-from .lexer import BLOB, NUMBER, TEXT, WORD, text_literal
+from .lexer import BLOB, MOST_SHORT, NUMBER, TEXT, WORD, text_literal
 from .syntax import ColumnName, Literal, Node, Unary
 
 if TYPE_CHECKING:
@@ -27,8 +27,8 @@ NUMERAL = re.compile("-?(0[xX][0-9A-Fa-f]+|[0-9.]+([eE][+-]?[0-9]+)?)")
 # the digits of a number that are read: it is beyond all columns, or nearer to 0 than any, if its
 # first one is further away from the point
 MOST_DIGITS = 400
-# the longest numeral of digits that is surely within 64 bits
-MOST_SHORT = 18
+# integers of more bits aren't in a message
+MOST_BITS = 256
 # the longest numeral of which SQLite reads the nearest double
 MOST_SURE = 17
 # integers up to it, and a half beside each, are doubles
@@ -79,7 +79,7 @@ def constant_of(node: Node) -> Constant | None:
 
 
 def is_integral(text: str) -> bool:
-    return text.lstrip("-").isdecimal() or text[:2].lower() == "0x"
+    return text.isdecimal() or text.lstrip("-").isdecimal() or text[:2].lower() == "0x"
 
 
 def evaluate(literal: Literal) -> None:
@@ -163,9 +163,22 @@ def form_of(column: Column, constant: Constant, sign: str) -> str:
 def are_same(form: str, other: str, constant: Constant) -> bool:
     """Returns whether two texts for SQLite of a literal mean the same; an empty one is what was
     written."""
+    if form == other:
+        return True
     texts = [each or constant.text for each in (form, other)]
-    return form == other or all(map(NUMERAL.fullmatch, texts)) and \
-        exact(texts[0]) == exact(texts[1])
+    return all(map(NUMERAL.fullmatch, texts)) and \
+        read_by_sqlite(texts[0]) == read_by_sqlite(texts[1])
+
+
+def read_by_sqlite(text: str) -> int | float:
+    """Returns the number that SQLite reads: an integer of 64 bits, or the nearest double."""
+    value = exact(text)
+    if is_integral(text) and LEAST <= value <= GREATEST:
+        return int(value)
+    try:
+        return float(value)
+    except OverflowError:
+        return math.inf if value > 0 else -math.inf
 
 
 def text_form(column: Column, value: str) -> str:
@@ -314,7 +327,9 @@ def numeral(value: Any, what: str) -> str | None:
     import decimal
     import operator
     if isinstance(value, decimal.Decimal):
-        found, is_finite = f"{value:f}", value.is_finite()
+        # of few digits, but for zeros: the text of 1E+300000000 has 300 MB
+        is_short = not value or abs(value.adjusted()) <= MOST_DIGITS
+        found, is_finite = f"{value:{'f' if is_short else 'e'}}", value.is_finite()
     elif isinstance(value, float) or is_of_numpy(value, "f"):
         found, is_finite = repr(float(value)), math.isfinite(value)
     else:
@@ -324,7 +339,9 @@ def numeral(value: Any, what: str) -> str | None:
         except TypeError:
             return None
         if not LEAST <= whole <= GREATEST:
-            raise Refused(f"{what} is outside the range of 64 bits: {whole}")
+            is_long = whole.bit_length() > MOST_BITS
+            shown = "" if is_long else f": {whole}"
+            raise Refused(f"{what} is outside the range of 64 bits{shown}")
         return str(whole)
     if not is_finite:
         raise Refused(f"{what} is {value}, which isn't a number")

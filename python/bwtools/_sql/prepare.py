@@ -21,7 +21,9 @@ from .tables import Catalog, missing
 
 # actions of SQLite that Python's module doesn't name
 RECURSIVE = 33
-# SQLite's functions without those of files and extensions, and ours
+# the instructions of SQLite that open a table and read a column
+READS = (b"OpenRead", b"Column")
+# SQLite's functions without those of files and extensions
 FUNCTIONS = frozenset(
     "abs char coalesce concat concat_ws format glob hex if ifnull iif instr length like "
     "likelihood likely lower ltrim max min nullif octet_length printf quote random randomblob "
@@ -33,8 +35,7 @@ FUNCTIONS = frozenset(
     "atanh ceil ceiling cos cosh degrees exp floor ln log log10 log2 mod pi pow power radians sin "
     "sinh sqrt tan tanh trunc json json_array json_array_length json_extract json_insert "
     "json_object json_patch json_remove json_replace json_set json_type json_valid json_quote "
-    "json_group_array json_group_object json_error_position json_pretty -> ->>".split()) | \
-    frozenset(_aggregation.FUNCTIONS)
+    "json_group_array json_group_object json_error_position json_pretty -> ->>".split())
 
 
 class Guard:
@@ -65,7 +66,8 @@ class Guard:
             self.denied = f"{first} can't be read: a statement reads the tables " \
                           f"{', '.join(self.catalog.names())}"
         elif action == sqlite3.SQLITE_FUNCTION:
-            if str(second).lower() in FUNCTIONS:
+            # ours are in the text of a statement that was accepted without them
+            if str(second).lower() in FUNCTIONS or second in _aggregation.FUNCTIONS:
                 return sqlite3.SQLITE_OK
             self.denied = f"the function {second} can't be used: it isn't one of SQLite's " \
                           "without files and extensions"
@@ -159,7 +161,8 @@ def declared(column: Column) -> str:
 
 def explain(database: sqlite3.Connection, guard: Guard, sql: str, is_wanted: bool = True
             ) -> list[tuple[Any, ...]]:
-    """Has SQLite read a statement, which it doesn't run. Returns its program, if that is wanted."""
+    """Has SQLite read a statement, which it doesn't run. Returns what its program reads, if that is
+    wanted."""
     guard.read, guard.denied, guard.is_off = {}, "", False
     # Python keeps statements by their text, and SQLite doesn't authorize one again that was kept
     guard.explained += 1
@@ -170,8 +173,7 @@ def explain(database: sqlite3.Connection, guard: Guard, sql: str, is_wanted: boo
         if not is_wanted:
             found.close()
             return []
-        return [tuple(each.decode("utf-8", "replace") if isinstance(each, bytes) else each
-                      for each in row) for row in found]
+        return [row for row in found if row[1] in READS]
     finally:
         database.text_factory, guard.is_off = str, True
 
@@ -198,9 +200,9 @@ def program_reads(database: sqlite3.Connection, catalog: Catalog,
     """Yields the tables and the columns that a program of SQLite reads, in lower case."""
     pages = {page: catalog.get(name) for name, page
              in database.execute("SELECT name, rootpage FROM sqlite_master WHERE type = 'table'")}
-    opened = {row[2]: pages.get(row[3]) for row in program if row[1] == "OpenRead" and not row[4]}
+    opened = {row[2]: pages.get(row[3]) for row in program if row[1] == READS[0] and not row[4]}
     for row in program:
-        table = opened.get(row[2]) if row[1] == "Column" else None
+        table = opened.get(row[2]) if row[1] == READS[1] else None
         if table and row[3] < len(table.columns):
             yield table.name, table.columns[row[3]].name.lower()
 

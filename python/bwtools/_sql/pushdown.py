@@ -211,7 +211,7 @@ def runs_like(column: Column, words: str, wanted: tuple[str, ...]) -> str:
     """Returns the runs of numbers of which the values fulfil an SQL condition."""
     if column.kind.name == "texts" and isinstance(column.kind.listed, StoredList):
         count = len(column.kind.listed)
-        codes: Iterable[int] = [code for code, _ in column.kind.listed.rows(words, wanted)]
+        codes: Iterable[int] = list(column.kind.listed.matching(words, wanted))
     elif values.affinity(column.kind) == values.TEXT:
         numbers = range_of(column)
         if len(numbers) > MOST_MOMENTS:

@@ -5,21 +5,18 @@ from __future__ import annotations
 
 from typing import Sequence
 
-from .. import kinds
-from .._aggregation import kind_of_sum
-from ..column import Column
-from ..kind import Kind
 from ..telling import Refused
-from .syntax import (Call, ColumnName, Common, FromItem, Item, Literal, Name, NestedSources, Node,
-                     Output, Query, QuerySource, Scope, Select, Source, Subquery, TableSource,
-                     Unary, bare, children)
+from .expressions import meaning
+from .syntax import (ColumnName, Common, FromItem, Item, Literal, Name, NestedSources, Node,
+                     Output, Query, QuerySource, Scope, Select, Source, TableSource, Unary, bare,
+                     children)
 from .tables import Catalog, missing
 
 # how the names of SQLite's own tables begin
 HIDDEN = ("sqlite_", "pragma_")
 # the quotes of a name that may be a heading
 QUOTES = ('"', "`", "[")
-TOTALS, ROWIDS = ("COUNT", "SUM", "AVG", "TOTAL"), ("rowid", "oid", "_rowid_")
+ROWIDS = ("rowid", "oid", "_rowid_")
 
 
 def resolve(tree: Query, catalog: Catalog, written: str) -> None:
@@ -270,36 +267,6 @@ def distinct_names(outputs: Sequence[Output]) -> list[Output]:
         taken.add(name.lower())
         found.append(output if name == output.name else output.called(name))
     return found
-
-
-def meaning(node: Node) -> Output | None:
-    """Returns what an expression means that is a column, the minimum or maximum of one, a total or
-    a query of one column; None for another expression."""
-    if isinstance(node, ColumnName):
-        return node.output
-    if isinstance(node, Subquery) and not node.is_exists:
-        return node.query.outputs[0] if len(node.query.outputs) == 1 else None
-    if not isinstance(node, Call) or node.over or node.is_bare:
-        return None
-    if node.name in TOTALS:
-        return Output(node.name, node.name, Column(node.name, node.name, kind_of_total(node)), True)
-    if node.name in ("MIN", "MAX") and len(node.arguments) == 1:
-        return meaning(node.arguments[0])
-    return None
-
-
-def kind_of_total(call: Call) -> Kind:
-    """Returns the kind with which a total is compared: a sum of decimals is one of decimals."""
-    if call.name == "COUNT":
-        return kinds.Whole()
-    column = column_of(call.arguments[0]) if call.name == "SUM" and call.arguments else None
-    return column and kind_of_sum(column.kind) or kinds.Floats(0)
-
-
-def column_of(node: Node) -> Column | None:
-    """Returns the column of a table whose values an expression has, or None."""
-    found = meaning(node)
-    return found.plain if found else None
 
 
 def place_of(node: Node, count: int) -> int | None:

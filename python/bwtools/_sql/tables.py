@@ -7,8 +7,8 @@ from typing import BinaryIO, Iterable, Sequence
 
 from ..column import Column
 from ..naming import name_like
-from ..pairs import is_of, open_pair
-from ..regular import open_regular
+from ..pairs import are_columns_of, is_of, open_pair, refuse_changed, watch
+from ..regular import Watched, open_regular
 from ..store import TableFile
 from ..telling import Refused, shown
 
@@ -23,12 +23,14 @@ class TablePart:
 
 class Table:
     """A table: its name in statements, the one by which bw knows it, its columns, its files in the
-    rows' order, and the number of its rows if the columns file has it."""
+    rows' order, the number of its rows if the columns file has it, and the files that must not
+    change, since its answers are made of them."""
 
     def __init__(self, name: str, bw_name: str, columns: Sequence[Column],
-                 parts: Sequence[TablePart], rows: int | None = None) -> None:
+                 parts: Sequence[TablePart], rows: int | None = None,
+                 watched: Sequence[Watched] = ()) -> None:
         self.name, self.bw_name, self.columns = name, bw_name, columns
-        self.parts, self.rows = parts, rows
+        self.parts, self.rows, self.watched = parts, rows, watched
         # what is closed with the table
         self.stack = contextlib.ExitStack()
 
@@ -71,6 +73,11 @@ class Catalog:
     def names(self) -> list[str]:
         return [table.name for table in self.tables.values()]
 
+    def refuse_changed(self) -> None:
+        """Raises Failed if a file of a table changed after it was opened."""
+        for table in self.tables.values():
+            refuse_changed(*table.watched)
+
     def close(self) -> None:
         self.stack.close()
         for table in self.tables.values():
@@ -86,7 +93,8 @@ def open_table(name: str, path: str, is_local: bool = True) -> Table:
 def open_file(name: str, path: str) -> Table:
     pair = open_pair(path)
     part = TablePart(path, pair.store.files[0], pair.store.path, pair.file)
-    table = Table(name, pair.store.name, pair.store.columns, [part])
+    table = Table(name, pair.store.name, pair.store.columns, [part], None,
+                  [pair.watched, pair.store.watched])
     table.stack.enter_context(pair)
     return table
 
@@ -97,16 +105,19 @@ def open_folder(name: str, path: str, is_local: bool) -> Table:
     folder = Folder(path)
     with contextlib.ExitStack() as stack:
         stack.callback(folder.close)
-        parts = list[TablePart]()
+        parts, watched = list[TablePart](), [folder.store.watched]
         for place, record in enumerate(folder.shards):
-            file = None
+            path, file = folder.path_of(place), None
             if is_local:
-                file = stack.enter_context(open_regular(folder.path_of(place)))
+                file = stack.enter_context(open_regular(path))
+                watched.append(watch(Watched(path, file), record))
                 if not is_of(record, file):
-                    raise Refused(f"{folder.path_of(place)} {FOREIGN.format(folder.file)}")
-            parts.append(TablePart(folder.path_of(place), record, folder.file, file))
+                    raise Refused(f"{path} {FOREIGN.format(folder.file)}")
+                if not are_columns_of(folder.columns, file):
+                    raise folder.store.foreign(f"its columns aren't those of {path}")
+            parts.append(TablePart(path, record, folder.file, file))
         rows = sum(record.rows for record in folder.shards)
-        table = Table(name, folder.name, folder.columns, parts, rows)
+        table = Table(name, folder.name, folder.columns, parts, rows, watched)
         table.stack = stack.pop_all()
     return table
 

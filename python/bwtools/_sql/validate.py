@@ -16,7 +16,8 @@ from ..telling import Refused
 from .lexer import TEXT as TEXT_TOKEN
 from .lexer import short
 from .literals import Constant, are_same, constant_of, form_of
-from .resolve import column_of, meaning, place_of
+from .expressions import choices, column_of, exact_of, meaning
+from .resolve import place_of
 from .syntax import (Between, Call, Case, ColumnName, Comparison, InList, InQuery, Item, Like,
                      Literal, Node, NullTest, Operation, OrderTerm, Output, Query, Row, Select,
                      Source, Subquery, TableSource, Unary, Window, bare, children)
@@ -77,8 +78,23 @@ class Checks:
             self.conditions([when.condition for when in node.whens])
         elif isinstance(node, Like):
             self.pattern(node)
+        if isinstance(node, InList):
+            self.members(node)
+            return
         for left, sign, right in comparisons(node):
             self.comparison(left, sign, right)
+
+    def members(self, node: InList) -> None:
+        """Checks the members of a list: literals beside a column by themselves, since there may be
+        many."""
+        found = meaning(bare(node.operand))
+        column = found.column if found else None
+        for left, sign, right in comparisons(node):
+            constant = constant_of(right) if column and isinstance(right, Literal) else None
+            if not column or not constant:
+                self.comparison(left, sign, right)
+            elif constant.value is not None:
+                self.literal(column, constant, sign)
 
     def conditions(self, nodes: Sequence[Node | None]) -> None:
         """Rejects columns of texts, dates and times as conditions: to SQLite a text is true if it
@@ -310,6 +326,9 @@ def digits_of(output: Output | None) -> int:
 def refuse_doubles(tree: Query) -> None:
     """Raises Refused if a statement computes with the double of decimals of many digits."""
     nodes = list(resolved(tree))
+    tables = [node.table for node in nodes if isinstance(node, TableSource) and node.table]
+    if not any(is_long(column) for table in tables for column in table.columns):
+        return
     windows = [node for node in nodes if isinstance(node, Window)]
     ordered = [found for node in windows for term in node.orders
                if is_exact(found := meaning(bare(term.expression)))]
@@ -318,6 +337,7 @@ def refuse_doubles(tree: Query) -> None:
         raise no_double(ordered[0])
     allowed = {child for node in nodes for child in allowed_in(node)}
     for node in nodes:
+        refuse_compared(node)
         for child in children(node):
             found = meaning(child)
             if found and is_exact(found) and child not in allowed:
@@ -334,6 +354,15 @@ def refuse_doubles(tree: Query) -> None:
         for one, other in pairs:
             if digits_of(one) != digits_of(other):
                 raise no_double(one if is_exact(one) else other)
+
+
+def refuse_compared(node: Node) -> None:
+    """Raises Refused if decimals of many digits are compared with an expression, or a column, whose
+    values SQLite has in another form."""
+    for left, _, right in comparisons(node):
+        one, other = meaning(left), meaning(right)
+        if digits_of(one) != digits_of(other) and not constant_of(left) and not constant_of(right):
+            raise no_double(one if one and is_exact(one) else other or Output("", "", None))
 
 
 def no_double(output: Output) -> Refused:
@@ -360,23 +389,44 @@ def allowed_in(node: Node) -> Iterator[Node]:
             isinstance(node, Unary) and node.sign == "NOT":
         yield from children(node)
     elif isinstance(node, Call) and not node.over and len(node.arguments) == 1 and (
-            node.name in ("COUNT", "SUM", "AVG", "MIN", "MAX")):
+            node.name in ("COUNT", "SUM", "AVG", "TOTAL", "MIN", "MAX")):
         yield from node.arguments
+        exact = exact_of(node.arguments[0]) if node.name in ("SUM", "AVG", "TOTAL") else None
+        if exact and exact.is_scaled:
+            yield from choices(node.arguments[0])
+    # others were refused
     for left, _, right in comparisons(node):
-        found = [meaning(left), meaning(right)]
-        constants = [constant_of(each) for each in (left, right)]
-        if digits_of(found[0]) == digits_of(found[1]) or constants[0] or constants[1]:
-            yield from (left, right)
+        yield from (left, right)
 
 
-def refuse_sums(tree: Query) -> None:
-    """Raises Refused if a statement has a sum of decimals anywhere but as an item of its result, or
-    as a term of its order: the sum has more digits than a double."""
-    plain = list[Node]()
-    if len(tree.selects) == 1:
-        plain = [item.expression for item in tree.selects[0].items if item.expression]
-        plain += [term.expression for term in tree.orders]
+def shown_sums(tree: Query) -> list[Node]:
+    """Returns the expressions that are items of a result, or terms of its order."""
+    if len(tree.selects) > 1:
+        return []
+    return [*(item.expression for item in tree.selects[0].items if item.expression),
+            *(term.expression for term in tree.orders)]
+
+
+def inner_sums(tree: Query) -> Iterator[tuple[Node, Output]]:
+    """Yields the sums of decimals that are anywhere else: an expression needs their doubles."""
+    shown = set(shown_sums(tree))
     for node in resolved(tree):
         found = meaning(node) if isinstance(node, (Call, ColumnName, Subquery)) else None
-        if found and found.is_total and found.kind and not any(node is each for each in plain):
-            raise Refused(NO_DOUBLE.format(found.name))
+        if found and found.is_total and found.kind and node not in shown:
+            yield node, found
+
+
+def whole_sums(tree: Query) -> set[Node]:
+    """Returns the sums of decimals that are shown with all their digits: none if an expression
+    calls one by its alias."""
+    if any(isinstance(node, ColumnName) for node, _ in inner_sums(tree)):
+        return set()
+    return {node for node in shown_sums(tree) if isinstance(node, Call)
+            and (found := meaning(node)) and found.is_total and found.kind}
+
+
+def inner_sum(tree: Query) -> Refused:
+    """Returns the refusal of a sum of decimals that has more digits than a double, in an
+    expression."""
+    found = [output for _, output in inner_sums(tree)]
+    return no_double(found[0] if found else Output("a sum", "", None))

@@ -1,6 +1,6 @@
 use Rattle.std.proofs.Common.{◌≡◌, drop}
 use Rattle.bw_cert_text.specs.BodyLines.{body_lines}
-use Rattle.bw_cert_rules.specs.declared.steps.Junction.TheVariants.{Any}
+use Rattle.bw_model.specs.declared.junction.Junction.TheVariants.{Any}
 use Rattle.bw_cert_rules.specs.Pair.{joined_parts, more_parts, equations}
 use Rattle.bw_cert_rules.proofs.steps.read_list.Given as goal
 

@@ -12,4 +12,4 @@ returns-then-is_within-clause-plain c =
 pub returns-then-is_within-clause-value : goal.returns-then-is_within-clause-value
 returns-then-is_within-clause-value c = λ number.
     let field = take c.in-Some.spelled.len c.args.text.now in
-    number_found number c.args.column.now field c.in-Some.spelled.number c.in-Some.ensures.digits c.in-Some.ensures.number (sym c.is_within.ensures ∙ c.if-is_within.true)
+    number_found number c.args.rule.now field c.in-Some.spelled.number c.in-Some.ensures.digits c.in-Some.ensures.number (sym c.is_within.ensures ∙ c.if-is_within.true)

@@ -18,6 +18,7 @@ returns-in-Ok-clause-open c = λ found.
       inl (c.in-Ok.ensures.ready c.requires.1),
       c.in-Ok.ensures.goes ∙ c.requires.3,
       more.1,
+      c.in-Ok.ensures.flexible ∙ c.requires.5,
     )
 
 pub returns-in-Ok-clause-none : goal.returns-in-Ok-clause-none

@@ -11,7 +11,7 @@ invariant-rows g l = record {
   takes : g.K.RowConsumer.takes l.taker ≡ g.K.RowConsumer.takes l.initial.taker;
   count : g.K.RowConsumer.rows l.taker + 1 ≡ l.number;
   within : l.number ≤ 2 ^ 24 + 1;
-  so_far : LedSoFar g.K.RowConsumer.led l.initial.taker l.taker l.columns (to_come l.initial.rest) l.number (to_come l.rest);
+  so_far : LedSoFar g.K.RowConsumer.led l.initial.taker l.taker l.rules (to_come l.initial.rest) l.number (to_come l.rest);
 }
 
 abbrev pub decreases-rows : goal.decreases-rows

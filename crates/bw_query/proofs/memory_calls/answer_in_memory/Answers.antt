@@ -69,7 +69,7 @@ returns-clause-served g c =
 pub returns-in_err-prepared-clause-accepted : goal.returns-in_err-prepared-clause-accepted
 returns-in_err-prepared-clause-accepted g c =
     let accepted = rw c.schema.ensures at c.in_err-prepared.ensures.accepted in
-    rw (err_passed_on _ c.from_residual.ensures.1) (λ query asks. memory_output c.in_err-prepared.field-0.0 (accepted (schema_of c.args.table.now) query refl asks))
+    rw (err_passed_on _ c.from_residual.ensures.1) (λ query asks. memory_output c.in_err-prepared.field-0.0 (ap is_memory (accepted (schema_of c.args.table.now) query refl asks)))
 
 pub returns-in_err-found-clause-accepted : goal.returns-in_err-found-clause-accepted
 returns-in_err-found-clause-accepted g c =

@@ -24,7 +24,7 @@ returns-in_err-query-clause-answer g c =
 pub returns-in_err-number-clause-answer : goal.returns-in_err-number-clause-answer
 returns-in_err-number-clause-answer g c =
     let fault = c.in_err-number.field-0.0 in
-    let memory = c.in_err-number.ensures.only_oom in
+    let memory = ap is_memory c.in_err-number.ensures.only_oom in
     rw (err_passed_on _ c.from_residual-in_err-number.ensures.1) (Err fault, any_memory c.args.table.now (by_statement None c.args.sql.now) fault memory, refused Served _ _ (no_write_fault is_memory fault memory refl))
 
 pub returns-in_err-found-clause-answer : goal.returns-in_err-found-clause-answer
@@ -88,7 +88,7 @@ returns-in_err-query-clause-accepted g c =
 
 pub returns-in_err-number-clause-accepted : goal.returns-in_err-number-clause-accepted
 returns-in_err-number-clause-accepted g c =
-    rw (err_passed_on _ c.from_residual-in_err-number.ensures.1) (λ query asks. memory_output c.in_err-number.field-0.0 c.in_err-number.ensures.only_oom)
+    rw (err_passed_on _ c.from_residual-in_err-number.ensures.1) (λ query asks. memory_output c.in_err-number.field-0.0 (ap is_memory c.in_err-number.ensures.only_oom))
 
 pub returns-in_err-found-clause-accepted : goal.returns-in_err-found-clause-accepted
 returns-in_err-found-clause-accepted g c =

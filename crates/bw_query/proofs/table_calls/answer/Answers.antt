@@ -1,6 +1,7 @@
 -- Each exit, by the contracts of its calls.
-use Rattle.std.proofs.Common.{[], Ok, Err}
+use Rattle.std.proofs.Common.{[], Ok, Err, ap}
 use Rattle.bw_model.proofs.ErrLemmas.{err_passed_on}
+use Rattle.bw_model.specs.Fault.{is_memory}
 use Rattle.bw_report.specs.declared.served.Served.{Served}
 use Rattle.bw_file.specs.TableReader.{bytes_taken, schema_in}
 use Rattle.bw_query.specs.Scan.{given_file}
@@ -116,7 +117,7 @@ returns-in_err-prepared-clause-accepted g c =
     let accepted = rw c.schema.ensures at c.in_err-prepared.ensures.accepted in
     rw (err_passed_on _ c.from_residual-in_err-prepared.ensures.1) (λ bytes layout schema rows query known file asks.
     let gave = c.a_file_is_read_whole.ensures.groups bytes layout schema rows file _ _ c.in_ok-reader.reader [] known c.in_ok-reader.ensures.began in
-    memory_verdict c.in_err-prepared.field-0.0 (accepted schema query gave.schema asks))
+    memory_verdict c.in_err-prepared.field-0.0 (ap is_memory (accepted schema query gave.schema asks)))
 
 pub returns-in_err-found-clause-accepted : goal.returns-in_err-found-clause-accepted
 returns-in_err-found-clause-accepted g c =

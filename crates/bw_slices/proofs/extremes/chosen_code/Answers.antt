@@ -9,6 +9,7 @@ use Rattle.bw_segment.proofs.SelectedLemmas.{all_selected, selected_where}
 use Rattle.bw_segment.proofs.DescentLemmas.{choice, descended_as, descent_begins, descent_ends}
 use Rattle.bw_segment.proofs.DescentLemmas.{none_chosen}
 use Rattle.bw_slices.specs.Slices.{slices_codes}
+use Rattle.bw_segment.specs.Selected.{is_greatest}
 use Rattle.bw_slices.proofs.CodeLemmas.{all_within, byte_more, bytes_before, none_left}
 use Rattle.bw_slices.proofs.ChosenLemmas.{blank, blank_small, chosen_selected, next_chosen}
 use Rattle.bw_slices.proofs.ChosenLemmas.{chosen_below}
@@ -17,7 +18,7 @@ use Rattle.bw_slices.proofs.extremes.chosen_code.Goals as goal
 pub returns-then-is_zero-clause-chosen : goal.returns-then-is_zero-clause-chosen
 returns-then-is_zero-clause-chosen c =
     let slices = (c.args.width + 7) / 8 in
-    none_chosen (choice c.args.greatest) (selected_items (lanes_of_words c.args.lanes.now) (slices_codes slices c.args.bytes.now))
+    none_chosen (choice (is_greatest c.args.which)) (selected_items (lanes_of_words c.args.lanes.now) (slices_codes slices c.args.bytes.now))
     (sym (none_left c.args.bytes.now c.args.lanes.now slices c.told-lanes) ∙ sym c.is_zero.ensures ∙ c.if-is_zero.true)
 
 pub loop-place-init : goal.loop-place-init
@@ -27,7 +28,7 @@ loop-place-init c =
     let lanes = lanes_of_words c.args.lanes.now in
     let bits = 8 * (c.slices_in-slices.result - 0) in
     let some = sym (none_left c.args.bytes.now c.args.lanes.now slices c.told-lanes) ∙ sym c.is_zero.ensures ∙ c.if-is_zero.false in
-    (lanes, c.bytes_of_plane-left.ensures, descent_begins c.args.greatest (selected_items lanes codes) bits (all_selected _ lanes codes (all_within c.args.width bits codes (omega arith) c.requires.small)) some)
+    (lanes, c.bytes_of_plane-left.ensures, descent_begins (is_greatest c.args.which) (selected_items lanes codes) bits (all_selected _ lanes codes (all_within c.args.width bits codes (omega arith) c.requires.small)) some)
 
 pub overflow_mul-code : goal.overflow_mul-code
 overflow_mul-code c = bytes_before c.loop-place.code c.loop-place.place c.loop-place.invariant.2.small (omega arith)
@@ -37,7 +38,7 @@ overflow_add-code c = byte_more c.loop-place.code c.from.result c.loop-place.pla
 
 pub loop-place-preserved : goal.loop-place-preserved
 loop-place-preserved c =
-    let g = c.args.greatest in
+    let g = (is_greatest c.args.which) in
     let codes = slices_codes ((c.args.width + 7) / 8) c.args.bytes.now in
     let lanes = c.loop-place.invariant.0 in
     let are = c.loop-place.invariant.1 in
@@ -56,10 +57,10 @@ pub returns-clause-chosen : goal.returns-clause-chosen
 returns-clause-chosen c =
     let code = c.loop-place.code in
     let end : 8 * (c.slices_in-slices.result - c.loop-place.place) ≡ 0 = omega arith in
-    descent_ends c.args.greatest _ _ _ code (descended_as c.args.greatest _ _ _ _ 0 _ code code refl end refl c.loop-place.invariant.2)
+    descent_ends (is_greatest c.args.which) _ _ _ code (descended_as (is_greatest c.args.which) _ _ _ _ 0 _ code code refl end refl c.loop-place.invariant.2)
 
 pub returns-clause-bound : goal.returns-clause-bound
 returns-clause-bound c =
     let lanes = lanes_of_words c.args.lanes.now in
     let codes = slices_codes ((c.args.width + 7) / 8) c.args.bytes.now in
-    chosen_below c.args.greatest (2 ^ 63) c.loop-place.code (selected_items lanes codes) (all_selected _ lanes codes (all_within c.args.width 63 codes (omega arith) c.requires.small)) (returns-clause-chosen c)
+    chosen_below (is_greatest c.args.which) (2 ^ 63) c.loop-place.code (selected_items lanes codes) (all_selected _ lanes codes (all_within c.args.width 63 codes (omega arith) c.requires.small)) (returns-clause-chosen c)

@@ -26,7 +26,7 @@ returns c =
     let read = c.read_row.ensures in
     let old = sym turned.to_come ∙ reader-to_come _ turned.reader in
     record {
-      nonempty = rw old (found_still (λ fields. row_of_record c.args.number c.args.columns.now fields ≡ Ok (values_of c.read_row.new.row)) c.read_row.result _ _ turned.reader read.nonempty);
+      nonempty = rw old (found_still (λ fields. row_of_record c.args.number c.args.rules.now fields ≡ Ok (values_of c.read_row.new.row)) c.read_row.result _ _ turned.reader read.nonempty);
       readable = readable_still _ _ c.read_row.result _ turned.reader read.open;
       none = rw old read.none;
       row = rw old read.row;

@@ -1,5 +1,5 @@
 -- The answer gets the numbers of the rows and of the matching ones.
-use Rattle.std.proofs.Common.{◌≡◌, ◌∙◌, [], List, ap, arith, length, subst, sym}
+use Rattle.std.proofs.Common.{◌∙◌, [], ap, arith, length, subst, sym}
 use Rattle.bw_answer.specs.Progress.{GoesOver, query_in}
 use Rattle.bw_answer.specs.declared.answer.Answer.{Answer}
 use Rattle.bw_model.specs.Groups.{together}

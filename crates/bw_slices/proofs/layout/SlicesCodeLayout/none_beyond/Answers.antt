@@ -3,14 +3,14 @@ use Rattle.std.proofs.Common.{arith}
 use Rattle.std.proofs.lemmas.List.{get_or-map}
 use Rattle.bw_lanes.specs.Lanes.{lanes_of_words}
 use Rattle.bw_model.specs.StoredCodes.{byte_of}
-use Rattle.bw_segment.specs.Selected.{is_beyond}
+use Rattle.bw_segment.specs.Selected.{is_beyond, is_greatest}
 use Rattle.bw_slices.specs.Slices.{slices_codes}
 use Rattle.bw_slices.proofs.FarLemmas.{far_apart, none_selected}
 use Rattle.bw_slices.proofs.layout.SlicesCodeLayout.none_beyond.Goals as goal
 
 pub returns : goal.returns
 returns c = λ found.
-    let greatest = c.args.greatest in
+    let greatest = (is_greatest c.args.which) in
     let other = c.args.other in
     let slice = c.slices_in-slice.result - 1 in
     let codes = slices_codes ((c.args.width + 7) / 8) c.args.bytes.now in

@@ -1,5 +1,0 @@
-use Rattle.bw_csv.proofs.BareLemmas.{rows_are}
-use Rattle.bw_csv.proofs.bare.bare_rows_are_rows.Goals as goal
-
-pub returns : goal.returns
-returns c = λ columns number records rows e admitted. rows_are columns number records rows e admitted

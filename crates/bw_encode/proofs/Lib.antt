@@ -1,0 +1,13 @@
+pub mod AdmitLemmas
+pub mod CodeLemmas
+pub mod CodedTableLemmas
+pub mod CountLemmas
+pub mod EncodeLemmas
+pub mod FuelLemmas
+pub mod NameLemmas
+pub mod NumberLemmas
+pub mod ReadLemmas
+pub mod RowLemmas
+pub mod SeenLemmas
+pub mod TableLemmas
+pub mod SetLemmas

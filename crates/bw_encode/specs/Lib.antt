@@ -1,0 +1,15 @@
+pub mod Coded
+pub mod CodedTable
+pub mod Column
+pub mod Dialect
+pub mod Dictionary
+pub mod Encode
+pub mod Fields
+pub mod FieldSet
+pub mod FieldsText
+pub mod Number
+pub mod Place
+pub mod Records
+pub mod Rows
+pub mod Seen
+pub mod Table

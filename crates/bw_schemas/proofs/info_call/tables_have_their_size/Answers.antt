@@ -1,9 +1,0 @@
-use Rattle.bw_model.proofs.GroupLemmas.{groups_of-count}
-use Rattle.bw_schemas.proofs.SizeLemmas.{table_sized}
-use Rattle.bw_schemas.proofs.info_call.tables_have_their_size.Goals as goal
-
-pub returns-clause-size : goal.returns-clause-size
-returns-clause-size c = λ version layout schema rows are. table_sized version layout schema rows are
-
-pub returns-clause-segments : goal.returns-clause-segments
-returns-clause-segments c = λ rows. groups_of-count rows

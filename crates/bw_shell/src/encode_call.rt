@@ -1,0 +1,70 @@
+//! A CSV text of any fields, encoded as a table file.
+ghost use Rattle.std.specs.Prelude.{◌-◌, ◌^◌, ◌<◌, ◌+◌};
+ghost use Rattle.bw_model.specs.Limits.{longest_csv};
+ghost use Rattle.bw_io.specs.Source.{Arrival, ReadOutcome, SourceEffect};
+ghost use Rattle.bw_encode.specs.Encode.{EncodeOutcome};
+ghost use Rattle.bw_file.specs.FileBytes.{file_bytes};
+
+use bw_encode::{CodedTable, Dialect, TableMaker, encode_text};
+use bw_file::{Encoder, Layout};
+use bw_io::{Sink, Source};
+use bw_model::Fault;
+use std::alloc::Global;
+use std::hash::RandomState;
+
+/// Makes the table file of coded columns, in a layout.
+#[derive(Clone, Copy)]
+struct FileMaker {
+    layout: Layout,
+}
+
+impl TableMaker for FileMaker {
+    ghost use Rattle.bw_file.specs.FileBytes.{file_bytes};
+
+    ghost bytes_of = { λ maker. file_bytes maker.layout };
+
+    fn make(&self, alloc: Global, table: &CodedTable<'_>) -> Result<Vec<u8>, Fault> {
+        let schema = table.schema(alloc)?;
+        let mut encoder = Encoder::new(alloc, self.layout, &schema)?;
+        table.deliver(alloc, &mut encoder)?;
+        encoder.finish()
+    }
+}
+
+/// Writes two texts of a CSV text whose fields may be any bytes: what the codes of its columns stand
+/// for, and then the table file of its numbers and codes, in a layout. Nothing is written before all
+/// else has succeeded. Fields are found by hashes that depend on the hasher's keys. Each device's
+/// count of failures must be less than 2^64 - 1.
+///
+/// Errors, in this order: the CSV's source (701) and length (208); its first wrong record (201,
+/// 209, 105, 203, 207); the first sink (702), and then the second (702). 801 at any time, if memory
+/// is refused.
+pub fn encode<C: Source, F: Sink, K: Sink>(
+    alloc: Global,
+    hasher: RandomState,
+    dialect: Dialect,
+    layout: Layout,
+    csv_source: &mut C,
+    fields_sink: &mut F,
+    sink: &mut K,
+) -> Result<(), Fault>
+    requires csv { (C.state csv_source.old).failures < 2 ^ 64 - 1 }
+    requires fields { (F.state fields_sink.old).failures < 2 ^ 64 - 1 }
+    requires sink { (K.state sink.old).failures < 2 ^ 64 - 1 }
+    ensures encoded { (csv : Arrival)
+        × ReadOutcome longest_csv (C.state csv_source.old) (C.state csv_source.new) csv
+        × EncodeOutcome dialect (file_bytes layout) csv (F.state fields_sink.old)
+        (F.state fields_sink.new) (K.state sink.old) (K.state sink.new) result }
+    ensures csv { SourceEffect (longest_csv + 1) (C.state csv_source.old)
+        (C.state csv_source.new) result }
+{
+    encode_text(
+        alloc,
+        hasher,
+        dialect,
+        &FileMaker { layout },
+        csv_source,
+        fields_sink,
+        sink,
+    )
+}
