@@ -13,6 +13,7 @@ from ._sql.statement import Parameters, Statement
 from ._sql.tables import Catalog, Table
 from .column import Column
 from .failed import Failed
+from .regular import ATTEMPTS
 from .telling import Refused
 from .waiting import Waiting
 
@@ -114,6 +115,13 @@ class Database:
         """Returns the result of a statement. Raises Refused for a statement that is rejected, and
         Failed if bw fails, or if a file of the tables changed after it was opened."""
         self.refuse_changed()
+        for _ in range(ATTEMPTS):
+            try:
+                return self.compared(lambda: self.found(sql, parameters))
+            except Failed as failed:
+                # bw also fails if an import moves a file away while it reads it
+                if not failed.is_unread():
+                    raise
         return self.compared(lambda: self.found(sql, parameters))
 
     def compared(self, call: Callable[[], T]) -> T:

@@ -8,6 +8,8 @@ from . import command
 
 # the statuses of bw: of a file that can't be read or written, and of refused memory
 FILES, MEMORY = 5, 6
+# how error 701 begins
+UNREAD = "bw: 701 "
 MEMORIES = ("out of memory", "can't start new thread", "failed to map segment",
             "cannot allocate memory", "Cannot allocate memory")
 
@@ -28,6 +30,10 @@ class Failed(Exception):
         if str(self):
             print(f"{command.own_name()}: {self}", file=sys.stderr)
         return self.status
+
+    def is_unread(self) -> bool:
+        """Returns whether it is an input that bw couldn't read, or that changed meanwhile."""
+        return UNREAD in f"{self.told}{self}"
 
     def of(self, name: str) -> Failed:
         """Returns the failure with the name of what it is about."""

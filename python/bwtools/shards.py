@@ -14,9 +14,9 @@ import shutil
 import subprocess
 from typing import Sequence
 
-from .failed import FILES
+from .failed import FILES, UNREAD
 from .pairs import is_of, watch
-from .regular import Watched
+from .regular import ATTEMPTS, Watched
 from .store import FOLDERS, OtherVersion, Store, TableFile
 from .telling import Refused
 
@@ -68,11 +68,15 @@ def ask_shard(program: str, path: str, record: TableFile, columns: str, options:
             watched = watch(Watched(path, table), record)
             if not is_of(record, table):
                 return 3, FOREIGN.format(columns), b""
-            done = subprocess.run([found, "query", *options, f"/dev/fd/{table.fileno()}",
-                                   statement], stdin=subprocess.DEVNULL,
-                                  capture_output=True, pass_fds=[table.fileno()], check=False)
-            if watched.has_changed():
-                return FILES, CHANGED, b""
+            for _ in range(ATTEMPTS):
+                done = subprocess.run([found, "query", *options, f"/dev/fd/{table.fileno()}",
+                                       statement], stdin=subprocess.DEVNULL,
+                                      capture_output=True, pass_fds=[table.fileno()], check=False)
+                if watched.has_changed():
+                    return FILES, CHANGED, b""
+                # bw also fails if the file is moved away while it reads it
+                if not done.stderr.startswith(UNREAD.encode()):
+                    break
     except OSError as error:
         where = f"{error.filename}: " if error.filename != path else ""
         return 5, f"{where}{error.strerror}", b""

@@ -161,6 +161,23 @@ class Connections(Changes):
             with self.subTest(name), self.failing(path):
                 connection.execute("SELECT COUNT(*) FROM t")
 
+    def test_a_file_that_is_moved_away_while_bw_reads_it(self):
+        """bw takes it for one that changed, and is asked again."""
+        wanted = {way: self.connect().execute(sql).fetchall() for way, sql in STATEMENTS.items()}
+        program = self.moving()
+        for way, sql in STATEMENTS.items():
+            (self.folder / "moved").unlink(missing_ok=True)
+            connection = self.connect()
+            with mock.patch.dict(os.environ, {"BW": str(program)}), self.subTest(way):
+                self.assertEqual(connection.execute(sql).fetchall(), wanted[way])
+                self.assertTrue((self.folder / "moved").exists())
+
+    def moving(self):
+        """Returns a bw that once fails as if its table had changed."""
+        return write_script(self.folder / "bw", f"cd '{self.folder}'; [ -e moved ] || {{ touch "
+                                                "moved; echo 'bw: 701 read failed' >&2; exit 5; }; "
+                                                f"exec {BW} \"$@\"")
+
     def test_readers_of_a_pair_that_is_replaced_again_and_again(self):
         rights = []
         for words in WORDS:
@@ -203,6 +220,10 @@ class Connections(Changes):
         self.assertEqual(shards.ask_shard(str(program), *ask), (5, shards.CHANGED, b""))
         # the next one finds another table
         self.assertEqual(shards.ask_shard(str(BW), *ask)[0], 3)
+        self.setUp()
+        ask[:2] = [str(self.table), open_catalog([("t", str(self.table))]).only.parts[0].record]
+        self.assertEqual(shards.ask_shard(str(self.moving()), *ask), (0, "", b"COUNT(*)\n60\n"))
+        self.assertTrue((self.folder / "moved").exists())
 
 
 class Programs(Changes):
