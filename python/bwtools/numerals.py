@@ -33,6 +33,8 @@ DRESSED = (
     rf"(?P<suffix>{SUFFIX})?(?P<close>\))?")
 # a code such as 1E3, which is also a number
 CODE = re.compile("[0-9]+[eE][0-9]+")
+# a telephone number with the sign of a country's code, which is also a number
+PHONE = re.compile(r"\+[1-9][0-9 \u00a0\u202f]*")
 # a number with a larger power of ten than this doesn't fit
 MOST_SHIFT = 400
 SIMPLE = re.compile("-?(?:0|[1-9][0-9]*)")

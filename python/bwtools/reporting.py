@@ -44,6 +44,8 @@ def notes(column: Column, tally: Tally) -> Iterator[str]:
         for word, count in words_in(tally):
             null = option('--null', f'{column.heading}={word}')
             yield f"{shown(word)} is a text in {counted(count, 'field')}, and null by {null}"
+    if "%y" in getattr(undressed(column.kind), "form", ""):
+        yield "years of 69 to 99 are 1969 to 1999, those of 00 to 68 are 2000 to 2068"
     if counts.padded:
         yield f"blanks dropped in {counted(counts.padded, 'field')}"
     if counts.zeros:

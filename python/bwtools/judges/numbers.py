@@ -49,6 +49,7 @@ class NumberJudge:
             for texts in column.bare():
                 self.survey.add(texts)
             self.survey.add(list(column.plain.samples.values()))
+            self.survey.add([str(least) for least, _ in column.plain.spans.ends.values()])
         return self.survey
 
     def signs(self, column: Fields) -> set[str]:
@@ -63,8 +64,12 @@ class NumberJudge:
         if survey.zeros and not wishes.is_number:
             return with_zeros(survey, wishes.heading)
         is_wanted = wishes.is_number or wishes.digits is not None
-        if survey.has_codes_alone() and not column.plain.forms and not is_wanted:
-            return Question("{0} may be a code, or a number with a power of ten", (survey.first,),
+        if survey.phone and not survey.has_minus and not is_wanted:
+            drop = option("--number", wishes.heading)
+            return Decision(None, f"{shown(survey.phone)} and others have a leading +, which "
+                                  f"{drop} drops")
+        if survey.code and not survey.no_code and are_whole(column) and not is_wanted:
+            return Question("{0} may be a code, or a number with a power of ten", (survey.code,),
                             both(wishes.heading))
         sign = self.decimal_sign(column, signs)
         if isinstance(sign, Question):
@@ -93,9 +98,19 @@ class NumberJudge:
             return mark
         if len(signs) == 1:
             return next(iter(signs))
+        if mark == "." and is_separator and not signs:
+            # decimals have a comma only if something else separates the fields
+            return mark
         return Question(f"{{0}} may be {text.replace(mark, '')} or {text.replace(mark, '.')}",
                         (text,),
-                        (option("--thousands", mark), *both(heading)))
+                        (f"--thousands '{mark}'" if mark == "," else option("--thousands", mark),
+                         *both(heading)))
+
+
+def are_whole(column: Fields) -> bool:
+    """Returns whether the fields that are stored as numbers are whole ones."""
+    spans = column.plain.spans
+    return not spans.is_float and not spans.digits
 
 
 def both(heading: str) -> tuple[str, str]:
