@@ -35,7 +35,7 @@ def report_lines(columns: Sequence[Column], counts: Sequence[Counts],
 
 def notes(column: Column, tally: Tally) -> Iterator[str]:
     """Yields the notes on a column: why it is one of texts, and what isn't printed as it was."""
-    counts = tally.counts
+    counts, is_float = tally.counts, undressed(column.kind).plural == "floats"
     if column.why:
         yield f"texts{', though ' if column.looks_like else ': '}{column.why}"
     if column.looks_like:
@@ -53,9 +53,9 @@ def notes(column: Column, tally: Tally) -> Iterator[str]:
     if counts.rounded:
         # of an exponent of thousands no zeros are printed
         change = f"{counts.change:{'f' if counts.change.adjusted() > -SHORT else '.0e'}}"
-        yield f"{counted(counts.rounded, 'field')} rounded, by at most {change}"
+        near = " to the nearest doubles" if is_float else ""
+        yield f"{counted(counts.rounded, 'field')} rounded{near}, by at most {change}"
     if counts.changed:
-        is_float = undressed(column.kind).plural == "floats"
         where = "in the shortest spelling" if is_float else "values kept"
         yield f"spelling changed in {counted(counts.changed, 'field')}, {where}"
 

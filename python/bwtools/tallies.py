@@ -12,6 +12,7 @@ from .keeping import Coded, Numbered, spread, values_of
 from .kind import Kind
 from .kinds import Decimals, Floats, Ranked, Times, undressed
 from .plain import texts_of
+from .rounding import change_in_double
 from .textual import Sorted
 from .written_run import WrittenRun, learn_texts, learn_values
 
@@ -64,7 +65,17 @@ class Tally:
         numbers = numbers_of(kept, kind, counts)
         counts.widen(min(numbers), max(numbers))
         counts.changed += changed_of(kept, kind)
+        if isinstance(kind, (Floats, Ranked)) and kept.form == "number":
+            self.count_rounded(kept)
         return list(spread(list(map(str, numbers)), kept.nulls, [self.null] * len(words)))
+
+    def count_rounded(self, kept: Numbered) -> None:
+        """Counts the stored numbers that no double is, which aren't only spelled in another way."""
+        changes = [change for text in texts_of(kept)
+                   if (change := change_in_double(text.replace(",", ".")))]
+        self.counts.rounded += len(changes)
+        self.counts.changed -= len(changes)
+        self.counts.change = max([self.counts.change, *changes])
 
 
 def numbers_of(kept: Numbered, kind: Kind, counts: Counts) -> Sequence[int]:

@@ -88,11 +88,12 @@ def note(run: WrittenRun, code: int, bare: str, number: int, decision: Decision)
     """Notes what changes of a text."""
     kind = decision.kind
     assert kind is not None
-    change = decision.rounding.change(bare) if decision.rounding else None
+    is_same = kind.text(number) == bare
+    change = None if is_same else decision.change(bare)
     if change:
         run.odd["rounded"].add(code)
         run.change = max(run.change, change)
-    elif kind.text(number) != bare:
+    elif not is_same:
         run.odd["changed"].add(code)
     if number == 0 and bare[:1] == "-" and isinstance(undressed(kind), (Floats, Ranked)):
         run.odd["zeros"].add(code)

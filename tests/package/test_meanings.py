@@ -28,6 +28,18 @@ READ = [
      ["1001.0", "1000.0", "20.5"], "shortest spelling"),
     ("codes by name", "c\n1001\n10E2\n2001\n", ("--text", "c"), "texts",
      ["1001", "10E2", "2001"], "by --text"),
+    ("a fraction that no double is", "n\n1.000000000000000001\n1234.5\n", (), "floats",
+     ["1.0", "1234.5"],
+     "  1 field rounded to the nearest doubles, by at most 0.000000000000000001\n"),
+    ("a power below all doubles", "n\n1e-400\n1e-3\n", (), "floats", ["0.0", "0.001"],
+     "1 field rounded to the nearest doubles, by at most 1e-400"),
+    ("all digits of a double", "n\n0.30000000000000004\n1.7976931348623157e+308\n", (), "floats",
+     ["0.30000000000000004", "1.7976931348623157e+308"], "floats in their order"),
+    ("a whole number that is no double, by name", "n\n9007199254740993\n1.5e3\n",
+     ("--number", "n"), "floats", ["9007199254740992.0", "1500.0"],
+     "1 field rounded to the nearest doubles, by at most 1.0; spelling changed in 1 field"),
+    ("a whole number that is no double, by its digits", "n\n9007199254740993\n1.5e3\n",
+     ("--digits", "n=0"), "whole", ["9007199254740993", "1500"], "spelling changed in 1 field"),
     ("three digits after a point", "a,b\n23.110,x\n1.250,y\n", (), "decimals texts",
      ["23.110,x", "1.250,y"], "decimals times 10^3"),
 ]
@@ -37,6 +49,11 @@ REFUSED = [
     ("codes among whole numbers", "c\n1001\n10E2\n2001\n", (),
      "column 'c': '10E2' in line 3 may be a code, or a number with a power of ten: use --number c, "
      "or --text c"),
+    ("a whole number that is no double", "n\n9007199254740993\n1.5e3\n", (),
+     "column 'n': '9007199254740993' in line 2 is no double: the nearest is 9007199254740992: use "
+     "--digits n=0, or --text n"),
+    ("a large number that is no double", "n\n123456789012345678901\n1.5e-3\n", (),
+     "is no double: the nearest is 123456789012345683968: use --text n"),
     ("versions or dates", "v\n1.10.12\n2.4.10\n3.1.15\n", (),
      "column 'v': '1.10.12' in line 2 may be a date or a version: use --date v=%d.%m.%y, or "
      "--text v"),

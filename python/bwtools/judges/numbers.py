@@ -1,10 +1,13 @@
 """Numbers: whole numbers, decimals and floats, in one style."""
 from __future__ import annotations
 
+import decimal
+import itertools
 import math
 from dataclasses import dataclass
 from typing import ClassVar, Optional, Sequence, Union
 
+from ..keeping import Numbered
 from ..kind import GREATEST, LEAST
 from ..kind import Kind
 from ..kinds.decimals import Decimals
@@ -12,9 +15,10 @@ from ..kinds.floats import Floats
 from ..kinds.styled import Numbers, Styled
 from ..kinds.whole import Whole
 from ..naming import option
-from ..numerals import SIMPLE, STARTS, ZEROS, is_number, like_number
-from ..rounding import Rounding
-from ..spans import Spans
+from ..numerals import SIMPLE, STARTS, WHOLE, ZEROS, is_number, like_number
+from ..plain import texts_of
+from ..rounding import SHORT, Rounding, change_in_double
+from ..spans import MOST_DIGITS, Spans
 from ..style import Style
 from ..telling import shown
 from .fields import Fields
@@ -147,6 +151,11 @@ def in_style(column: Fields, style: Style) -> Verdict:
             return Question("{0} is too large for a double", (text,),
                             (option("--null", f"{wishes.heading}={text}"),
                              option("--text", wishes.heading)))
+        text = None if wishes.is_number else no_double(column, style)
+        if text is not None:
+            near = f"{float(style.bare(text) or 0):.0f}"
+            return Question(f"{{0}} is no double: the nearest is {near}", (text,),
+                            (*digits_for(column, style), option("--text", wishes.heading)))
         number = Floats(0)
     return Decision(dressed(number, style))
 
@@ -180,6 +189,31 @@ def rounded(column: Fields, style: Style, digits: int) -> Verdict:
                          option("--text", column.wishes.heading)))
     number: Numbers = Decimals(digits, 0) if digits else Whole()
     return Decision(dressed(number, style), rounding=rounding)
+
+
+def no_double(column: Fields, style: Style) -> Optional[str]:
+    """Returns a whole number that isn't a double, such as an id, if there is one."""
+    kept = (column.store.fields(place) for place in (column.places if column.plain.forms else ()))
+    stored = (texts_of(each) for each in kept if isinstance(each, Numbered) and
+              each.form == "number" and not each.digits)
+    for texts in itertools.chain(column.bare(), stored):
+        for text in texts:
+            plain = style.bare(text) if len(text) > SHORT else None
+            if plain and WHOLE.fullmatch(plain) and change_in_double(plain):
+                return text
+    return None
+
+
+def digits_for(column: Fields, style: Style) -> tuple[str, ...]:
+    """Returns the option that rounds numbers to as many digits as they have, or as fit 64 bits, if
+    any do."""
+    needed, most = 0, 0
+    for texts in column.bare():
+        for number in (decimal.Decimal(style.bare(text) or 0) for text in texts):
+            needed = max(needed, -int(number.as_tuple().exponent))
+            most = max(most, number.adjusted() + 1 if number else 0)
+    digits = min(needed, MOST_DIGITS - most)
+    return (option("--digits", f"{column.wishes.heading}={digits}"),) if digits >= 0 else ()
 
 
 def too_large(column: Fields, style: Style) -> Optional[str]:
