@@ -7,6 +7,7 @@ from .judges.clocks import ClockJudge
 from .judges.dates import DateJudge
 from .judges.fields import Fields
 from .judges.judge import Judge
+from .judges.likeness import likeness
 from .judges.numbers import NumberJudge
 from .judges.truths import TruthJudge
 from .judges.verdict import Decision, Question, Verdict
@@ -69,7 +70,7 @@ class Court:
             return Decision(None, "by --text")
         if wishes.form is not None or wishes.is_number or wishes.digits is not None:
             return self.asked_for()
-        return self.mostly() or Decision(None)
+        return self.mostly() or likeness(self.column) or Decision(None)
 
     def asked_for(self) -> Question:
         """Returns why a column isn't what an option says."""

@@ -40,6 +40,20 @@ READ = [
      "1 field rounded to the nearest doubles, by at most 1.0; spelling changed in 1 field"),
     ("a whole number that is no double, by its digits", "n\n9007199254740993\n1.5e3\n",
      ("--digits", "n=0"), "whole", ["9007199254740993", "1500"], "spelling changed in 1 field"),
+    ("an offset after a blank", "t\n2024-05-01 10:00 +0200\n2024-05-02 10:00 -05:00\n", (), "times",
+     ["2024-05-01 08:00Z", "2024-05-02 15:00Z"], "times of UTC as seconds since 1970"),
+    ("UTC by name", "t\n2024-05-01 10:00:00.5 UTC\n2024-05-02T10:00:00 GMT\n", (), "times",
+     ["2024-05-01T10:00:00.5Z", "2024-05-02T10:00:00.0Z"], "times of UTC"),
+    ("UTC by --date", "t\n01/05/2024 10:00 UTC\n", ("--date", "t=%d/%m/%Y %H:%M %z"), "times",
+     ["01/05/2024 10:00Z"], "times %d/%m/%Y %H:%M of UTC"),
+    ("times of mails", 't\n"Wed, 01 May 2024 10:00:00 +0200"\n"Thu, 2 May 2024 23:30:00 -0100 (AZOT)"'
+     "\n", (), "times", ["01 May 2024 08:00:00Z", "03 May 2024 00:30:00Z"],
+     "times %d %b %Y %H:%M:%S of UTC as seconds since 1970"),
+    ("times without signs", "t\n20240501T123000Z\n20240502T003000+0200\n", (), "times",
+     ["20240501T123000Z", "20240501T223000Z"], "times %Y%m%dT%H%M%S of UTC"),
+    ("times without signs, with parts", "t\n20240501T123000.25\n20240502T123000\n", (), "times",
+     ["20240501T123000.25", "20240502T123000.00"], "times %Y%m%dT%H%M%S as seconds times 10^2"),
+    ("crowns", "c\n5 kr\n12 kr\n", (), "whole", ["5 kr", "12 kr"], "with 'kr'"),
     ("three digits after a point", "a,b\n23.110,x\n1.250,y\n", (), "decimals texts",
      ["23.110,x", "1.250,y"], "decimals times 10^3"),
 ]
@@ -54,6 +68,9 @@ REFUSED = [
      "--digits n=0, or --text n"),
     ("a large number that is no double", "n\n123456789012345678901\n1.5e-3\n", (),
      "is no double: the nearest is 123456789012345683968: use --text n"),
+    ("a wrong weekday", 't\n"Wed, 01 May 2024"\n"Wed, 02 May 2024"\n"Sat, 03 Feb 2024"\n', (),
+     "column 't': 'Wed, 02 May 2024' in line 3 isn't a date, as 2 of 3 fields are: use --null "
+     "'t=Wed, 02 May 2024', or --text t"),
     ("versions or dates", "v\n1.10.12\n2.4.10\n3.1.15\n", (),
      "column 'v': '1.10.12' in line 2 may be a date or a version: use --date v=%d.%m.%y, or "
      "--text v"),
@@ -63,6 +80,41 @@ REFUSED = [
      "column 'a': '1,000' in line 2 may be 1000 or 1.000: use --thousands ',', or --number a, or "
      "--text a"),
 ]
+
+# columns that are texts, and what the report says they look like
+LOOK = [
+    ("months in German", "dates", ["1. Mai 2024", "2. Juni 2024", "13. März 2024"]),
+    ("months in French", "dates", ["1er mai 2024", "2 juin 2024", "14 févr. 2024"]),
+    ("months in Spanish", "dates", ["1 de mayo de 2024", "2 de enero de 2024"]),
+    ("months and years", "dates", ["May 2024", "Jan 2023", "Sep 2022"]),
+    ("months by number", "dates", ["05/2024", "11/2023"]),
+    ("quarters", "dates", ["Q1 2024", "Q3 2023"]),
+    ("a zone by name", "dates", ["2024-05-01 10:00 CEST", "2024-11-01 10:00 CET"]),
+    ("sizes", "numbers with units", ["10K", "5M", "1.5G"]),
+    ("sizes of one length", "numbers with units", ["10K", "50M", "15G"]),
+    ("an unknown unit", "numbers with units", ["5 Lek", "12 Lek"]),
+    ("more than a day", "lengths of time", ["25:10", "100:30"]),
+    ("minutes and parts", "lengths of time", ["0:45.25", "61:30.5", "10:30.5"]),
+    ("lengths in words", "lengths of time", ["1h 30m", "2h", "45 min"]),
+    ("lengths of ISO 8601", "lengths of time", ["PT1H30M", "P3D"]),
+    ("words", "", ["May I", "no 12 monkeys", "Boeing 747", "Area 51"]),
+    ("seats", "", ["12A", "14C", "09F"]),
+]
+
+
+class Looks(unittest.TestCase):
+    def test_what_texts_look_like(self):
+        for name, wanted, texts in LOOK:
+            with self.subTest(name):
+                found = Import("".join(f"{text}\n" for text in ["t", *texts]), "--separator", "tab")
+                self.assertEqual((found.refusal, found.kinds, found.rows), ("", ["texts"], texts))
+                self.assertEqual(found.columns[0].looks_like, wanted)
+                self.assertEqual("so not ordered, unless by --text t" in found.report,
+                                 bool(wanted))
+
+    def test_by_name_they_are_texts(self):
+        found = Import("t\n10K\n5M\n1.5G\n", "--text", "t")
+        self.assertEqual((found.kinds, found.columns[0].looks_like), (["texts"], ""))
 
 
 class Meanings(unittest.TestCase):
