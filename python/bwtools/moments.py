@@ -33,7 +33,8 @@ WEEKDAYS = ("Mon", "Tue", "Wed", "Thu", "Fri", "Sat", "Sun")
 # the name of a weekday before a date, and what a mail has behind its time, beside the zone
 DAY_NAME, ZONE_NAME = re.compile(f"({'|'.join(WEEKDAYS)}),? "), re.compile(r" \([A-Za-z]{1,5}\)$")
 # a time in the basic format of ISO 8601
-BASIC, BASIC_DATE, BASIC_CLOCK = re.compile("([0-9]{8})T([0-9]{6})([-+.,:0-9 UTCGMZ]*)"), "%Y%m%d", "%H%M%S"
+BASIC = re.compile("([0-9]{8})T([0-9]{6})([-+.,:0-9 UTCGMZ]*)")
+BASIC_DATE, BASIC_CLOCK = "%Y%m%d", "%H%M%S"
 # lines that may be dates and times, and times of day
 DATE_LINES = re.compile(
     rf"^(?:[0-9]{{8}}T[0-9]{{6}}[^\n]{{0,20}}|(?:(?:{'|'.join(WEEKDAYS)}),? )?(?:"

@@ -5,7 +5,7 @@ import argparse
 from typing import Any, Sequence
 
 # separators of fields that have a name
-SEPARATORS = {"comma": ",", "semicolon": ";", "tab": "\t", "bar": "|", "\\t": "\t"}
+SEPARATORS = {"comma": ",", "semicolon": ";", "tab": "\t", "bar": "|", "space": " ", "\\t": "\t"}
 
 # options that stand alone, or with =COLUMN, and what the latter are for the parser: it would take a
 # name after the former for the column
@@ -59,8 +59,8 @@ def add_options(parser: argparse.ArgumentParser) -> None:
 def add_form(parser: argparse.ArgumentParser) -> None:
     """Adds the options that say how a file is written."""
     parser.add_argument("--separator", type=one_character,
-                        help="the separator of fields: comma, semicolon, tab, bar or a character "
-                             "(default: detected in the heading)")
+                        help="the separator of fields: comma, semicolon, tab, bar, space (any run "
+                             "of blanks) or a character (default: chosen by the first rows)")
     parser.add_argument("--encoding", help="the encoding, such as cp1252 or latin-1 (default: by "
                                            "the byte order mark, or UTF-8)")
     parser.add_argument("--quote", type=one_character, default='"',

@@ -7,8 +7,9 @@ import io
 import os
 import re
 import sys
-from typing import BinaryIO, Iterable, Iterator, NoReturn, TextIO
+from typing import BinaryIO, Iterable, Iterator, NoReturn
 
+from . import separators
 from .comments import reader_of
 from .inputs import Positioned, name_of, open_input
 from .options import SEPARATORS
@@ -21,6 +22,8 @@ MARKS = ((b"\xef\xbb\xbf", "utf-8-sig"), (b"\xff\xfe", "utf-16"), (b"\xfe\xff", 
 # the bytes that cp1252 has no character for
 NO_CP1252 = bytes((0x81, 0x8d, 0x8f, 0x90, 0x9d))
 BYTES_AT_ONCE = 1 << 18
+# the characters of the first rows by which the separator is chosen, and of a line after them
+SAMPLE, LONGEST = 1 << 16, 1 << 20
 SAID = re.compile('"?sep=(.)"?[\r\n]*', re.IGNORECASE)
 
 csv.field_size_limit(1 << 30)
@@ -41,7 +44,9 @@ class Text:
         self.signs = Signs(quote=given.quote, escape=given.escape, comment=given.comment)
         said = self.said_separator()
         named = SEPARATORS.get(given.separator, given.separator) or said
-        self.signs = self.signs._replace(separator=named or self.most_frequent())
+        self.is_guessed = not named
+        self.signs = self.signs._replace(
+            separator=named or self.chosen_separator(given.heading is not False))
 
     def encoding_of(self, given: argparse.Namespace) -> str:
         """Returns the encoding: the given one, or that of the byte order mark, or UTF-8."""
@@ -82,28 +87,20 @@ class Text:
         self.skipped += int(found is not None)
         return found.group(1) if found else None
 
-    def most_frequent(self) -> str:
-        """Returns the separator that is most frequent in the heading, outside of quotes."""
-        text, counts, quoted = self.decoded(), dict.fromkeys(",;\t|", 0), False
+    def chosen_separator(self, has_heading: bool) -> str:
+        """Returns the separator that the first rows show. Raises Refused if they show two."""
+        text = self.decoded()
         try:
-            for character in self.uncommented(text).lstrip("\r\n"):
-                quoted ^= character == self.signs.quote
-                if not quoted and character in "\r\n":
-                    break
-                if not quoted and character in counts:
-                    counts[character] += 1
+            first = text.read(SAMPLE)
+            first += text.readline(LONGEST)
+            is_cut = bool(text.read(1))
         except UnicodeError:
             self.undecoded()
         text.detach()
-        return max(counts, key=counts.__getitem__)
-
-    def uncommented(self, text: TextIO) -> str:
-        """Returns the begin of a text, from the first line that isn't empty or a comment."""
-        line = text.readline(1 << 20)
-        while line and (not line.strip("\r\n") or self.signs.comment
-                        and line.startswith(self.signs.comment)):
-            line = text.readline(1 << 20)
-        return line + text.read(1 << 20)
+        found = separators.chosen(first, self.signs, is_cut, has_heading)
+        if isinstance(found, separators.Tie):
+            raise Refused(f"{self.path}: {found.told()}")
+        return found
 
     def undecoded(self) -> NoReturn:
         """Rejects the file at the first line that isn't in the encoding."""

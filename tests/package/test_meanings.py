@@ -40,14 +40,14 @@ READ = [
      "1 field rounded to the nearest doubles, by at most 1.0; spelling changed in 1 field"),
     ("a whole number that is no double, by its digits", "n\n9007199254740993\n1.5e3\n",
      ("--digits", "n=0"), "whole", ["9007199254740993", "1500"], "spelling changed in 1 field"),
-    ("an offset after a blank", "t\n2024-05-01 10:00 +0200\n2024-05-02 10:00 -05:00\n", (), "times",
-     ["2024-05-01 08:00Z", "2024-05-02 15:00Z"], "times of UTC as seconds since 1970"),
+    ("an offset after a blank", "t\n2024-05-01 10:00 +0200\n2024-05-02 10:00 -05:00\n", (),
+     "times", ["2024-05-01 08:00Z", "2024-05-02 15:00Z"], "times of UTC as seconds since 1970"),
     ("UTC by name", "t\n2024-05-01 10:00:00.5 UTC\n2024-05-02T10:00:00 GMT\n", (), "times",
      ["2024-05-01T10:00:00.5Z", "2024-05-02T10:00:00.0Z"], "times of UTC"),
     ("UTC by --date", "t\n01/05/2024 10:00 UTC\n", ("--date", "t=%d/%m/%Y %H:%M %z"), "times",
      ["01/05/2024 10:00Z"], "times %d/%m/%Y %H:%M of UTC"),
-    ("times of mails", 't\n"Wed, 01 May 2024 10:00:00 +0200"\n"Thu, 2 May 2024 23:30:00 -0100 (AZOT)"'
-     "\n", (), "times", ["01 May 2024 08:00:00Z", "03 May 2024 00:30:00Z"],
+    ("times of mails",
+     't\n"Wed, 01 May 2024 10:00:00 +0200"\n"Thu, 2 May 2024 23:30:00 -0100 (AZOT)"\n', (), "times", ["01 May 2024 08:00:00Z", "03 May 2024 00:30:00Z"],
      "times %d %b %Y %H:%M:%S of UTC as seconds since 1970"),
     ("times without signs", "t\n20240501T123000Z\n20240502T003000+0200\n", (), "times",
      ["20240501T123000Z", "20240501T223000Z"], "times %Y%m%dT%H%M%S of UTC"),
@@ -115,6 +115,58 @@ class Looks(unittest.TestCase):
     def test_by_name_they_are_texts(self):
         found = Import("t\n10K\n5M\n1.5G\n", "--text", "t")
         self.assertEqual((found.kinds, found.columns[0].looks_like), (["texts"], ""))
+
+
+# the separator of each file
+SEPARATORS = [
+    ("a;b,c;d\n1;2;3\n", ";"), ("a,b;c\n1,2\n3,4\n", ","), ("a;b\n1,5;2,5\n", ";"),
+    ("a\tb, c\nx, y\t2\nz\t3\n", "\t"), ('a,"b;c;d"\n1,2\n', ","),
+    ("name\nJohn Smith\nMary Jones\n", ","),
+    ("url\nhttp://a\nhttp://b\n", ","), ("t\nx; y\nz\nw\n", ","), ("a,b,c;d\n", ","),
+]
+
+# each file with the options, and what the refusal says
+TIES = [
+    ("a tie", "a,b;c\n1,2;3\n", (),
+     "the separator may be ',' (2 fields) or ';' (2 fields): use --separator comma, or --separator "
+     "semicolon"),
+    ("a tie of a heading", "a,b;c\n", (), "the separator may be ',' (2 fields) or ';'"),
+    ("a heading with more of another", "size (a, b, c);n\n1;2\n", (),
+     "the separator may be ';' (2 fields) or ',' (3 fields): use --separator semicolon, or "
+     "--separator comma"),
+    ("a heading with another", "a,b,c\n1;2;3\n4;5;6\n", (),
+     "the separator may be ';' (3 fields) or ',' (3 fields)"),
+    ("a title above semicolons", "Sales\na;b\n1;2\n", (),
+     "lines 2 and 3 have 2 and 2 fields, and the heading has 1: --skip 1 skips the line above the "
+     "heading, if that is a title"),
+    ("comments above bars", "# a, b, c\n# d, e, f\na|b\n1|2\n", (),
+     "--comment '#' skips lines that begin so"),
+    ("a title above tabs", "Sales, in all\na\tb\tc\n1\t2\t3\n", (), "--skip 1 skips the line"),
+    ("a table of blanks", "a b c\n1  2 3\n1 22 3\n", (),
+     "column 'a b c': all its rows have 2 ' ', which may separate fields: use --separator space, "
+     "or --text 'a b c'"),
+    ("colons", "root:x:0:0\nbin:x:1:1\nsys:y:2:2\n", (),
+     "all its rows have 3 ':', which may separate fields: use --separator :, or --text root:x:0:0"),
+    ("carets", "a^b\nx^y\nz^w\n", ("--no-heading",), "use --separator '^', or --text c1"),
+]
+
+
+class Separators(unittest.TestCase):
+    def test_chosen(self):
+        for data, wanted in SEPARATORS:
+            with self.subTest(data):
+                self.assertIn(f"separated by {wanted!r}, in utf-8", Import(data).report)
+
+    def test_refused(self):
+        for name, data, words, told in TIES:
+            with self.subTest(name):
+                self.assertIn(told, Import(data, *words).refusal)
+
+    def test_by_name(self):
+        for sign in ("comma", "semicolon"):
+            self.assertEqual(Import("a,b;c\n1,2;3\n", "--separator", sign).refusal, "")
+        self.assertEqual(Import("x:y\na:b\nc:d\n", "--text", "x:y").rows, ["a:b", "c:d"])
+        self.assertEqual(Import("x:y\na:b\nc:d\n", "--separator", "comma").rows, ["a:b", "c:d"])
 
 
 class Meanings(unittest.TestCase):
