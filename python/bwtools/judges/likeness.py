@@ -4,15 +4,14 @@ from __future__ import annotations
 
 import re
 from dataclasses import dataclass
-from typing import Callable, Optional, Sequence
+from typing import Callable, ClassVar, Iterable, Sequence
 
 from ..moments import DATE_LINES
-from ..telling import counted
 from .fields import Fields
-from .verdict import Decision
+from .verdict import Decision, Verdict
 
-# of a run so many texts are tried first
-TRIED = 64
+# of more texts than these, so many are tried first
+MANY, TRIED = 1 << 12, 64
 # how the names of months begin in the languages of Europe
 STARTS = frozenset(
     "jan jän ene gen sty led feb fév fev lut úno mar mär mrt mac bře apr avr abr kwi dub may mai "
@@ -43,46 +42,51 @@ def is_amount(text: str) -> bool:
     return AMOUNT.fullmatch(text) is not None
 
 
+def never(texts: Iterable[str]) -> bool:
+    return False
+
+
 def is_length(text: str) -> bool:
     return LENGTH.fullmatch(text) is not None
 
 
 @dataclass(frozen=True)
 class Likeness:
-    """What texts may look like, and which do."""
+    """A judge of what texts look like, which decides nothing. `has_order` says of those of a column
+    that look so whether code points order them."""
     plural: str
     is_like: Callable[[str], bool]
+    forms: tuple[str, ...] = ()
+    has_order: Callable[[Iterable[str]], bool] = never
+    singular: ClassVar[str] = ""
+    is_shared: ClassVar[bool] = False
 
-    def likes(self, texts: Sequence[str]) -> list[str]:
-        """Returns the texts that look so; none if few of those do that are tried first."""
-        tried = texts[::-(-len(texts) // TRIED) or 1]
-        if sum(map(self.is_like, tried)) * 4 < len(tried):
+    def like(self, texts: Sequence[str]) -> list[str]:
+        """Returns the texts that look so. Of many none do if few of those do that are tried
+        first."""
+        if len(texts) > MANY and sum(map(self.is_like, texts[::len(texts) // TRIED])) * 4 < TRIED:
             return []
         return list(filter(self.is_like, texts))
 
+    def signs(self, column: Fields) -> set[str]:
+        return set()
 
-LIKENESSES = (Likeness("lengths of time", is_length), Likeness("dates", is_date),
-              Likeness("numbers with units", is_amount))
-
-
-def likeness(column: Fields) -> Optional[Decision]:
-    """Returns the decision for a column of texts most of which look like something else, if they
-    do."""
-    count, found = 0, [list[str]() for _ in LIKENESSES]
-    for texts in column.bare():
-        count += len(texts)
-        for known, each in zip(found, LIKENESSES):
-            known += each.likes(texts)
-    for known, each in zip(found, LIKENESSES):
-        if len(known) * 2 > count and not (each.is_like is is_amount and are_codes(known)):
-            why = f"{len(known):,} of {counted(count, 'distinct text')} look like {each.plural}"
-            return Decision(None, why, each.plural)
-    return None
+    def decide(self, column: Fields, signs: set[str]) -> Verdict:
+        return Decision(None)
 
 
-def are_codes(texts: Sequence[str]) -> bool:
-    """Returns whether numbers with units may be codes of one length, such as the seats 12A and 14C,
-    which code points order."""
-    units = {found[1] for text in texts if (found := AMOUNT.fullmatch(text))}
-    return len(set(map(len, texts))) == 1 and \
+def are_codes(texts: Iterable[str]) -> bool:
+    """Returns whether numbers, some with units, are without any, or may be codes of one length,
+    such as the seats 12A and 14C."""
+    lengths, units = set[int](), set[str]()
+    for text in texts:
+        found = AMOUNT.fullmatch(text)
+        if found:
+            lengths.add(len(text))
+            units.add(found[1])
+    return units == {""} or len(lengths) == 1 and \
         (len(units) < 2 or not all(map(SIZE.fullmatch, units)))
+
+
+LIKENESSES = (Likeness("lengths of time", is_length), Likeness("dates", is_date, ("time",)),
+              Likeness("numbers with units", is_amount, ("number",), are_codes))
