@@ -157,4 +157,4 @@ class NumberTable:
         source, counts = self.source, self.source.counts
         skipped = f"; {counted(counts.empty, 'empty line')} skipped" if counts.empty else ""
         print(f"{counted(counts.rows, 'row')}, separated by {source.separator!r}, "
-              f"in {source.text.encoding.removesuffix('-sig')}{skipped}")
+              f"in {source.text.written[1]}{skipped}")

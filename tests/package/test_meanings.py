@@ -1,10 +1,14 @@
 """Files whose columns could become something else: each is read as what it means, named in the
 report, or refused with the options that load it."""
+import io
 import unittest
+import zipfile
 
 import bwtools
 
-from tests.support import Import, Imported
+from bwtools.telling import Refused
+
+from tests.support import Import, Imported, table_of
 
 # each file with the options, the kinds of its columns, its rows as they come back, and a part of
 # the report
@@ -150,6 +154,114 @@ TIES = [
      "all its rows have 3 ':', which may separate fields: use --separator :, or --text root:x:0:0"),
     ("carets", "a^b\nx^y\nz^w\n", ("--no-heading",), "use --separator '^', or --text c1"),
 ]
+
+# each file that is refused, with what is said, and for each option that is named for it the rows
+NAMED = [
+    ("a padded title", "Sales,,\n,,\nid,city,n\n1,Bern,2\n2,Ulm,3\n",
+     "the first line has 'Sales' and empty fields: use --skip 2 if it is a title, or --heading",
+     {("--skip", "2"): ["1,Bern,2", "2,Ulm,3"]}),
+    ("a padded title above two columns", "Sales,\nid,n\n1,2\n", "use --skip 1 if it is a title",
+     {("--skip", "1"): ["1,2"]}),
+    ("row names", "a,b\nr1,1,2\nr2,3,4\n",
+     "lines 2 and 3 have 3 and 3 fields, and the heading has 2: --row-names reads a first column "
+     "that the heading lacks",
+     {("--row-names",): ["r1,1,2", "r2,3,4"]}),
+    ("separators at the end of rows", "a,b\n1,2,\n3,4,\n",
+     "--trailing-separators drops the empty field at the end of rows",
+     {("--trailing-separators",): ["1,2", "3,4"]}),
+    ("separators at the end of some rows", "a,b\n1,2,\n3,4\n", "--trailing-separators drops",
+     {("--trailing-separators",): ["1,2", "3,4"]}),
+    ("rows short and long", "a,b\n1,2,5\n3\n",
+     "--widen adds columns for long rows, and empty fields to the others",
+     {("--widen",): ["1,2,5", "3,,"]}),
+    ("a title or one column", "Sales\nid;n\n1;2\n3;4\n",
+     "--skip 1 skips the line above the heading, if that is a title; --separator bar reads "
+     "each line as one field",
+     {("--skip", "1"): ["1,2", "3,4"], ("--separator", "bar"): ["id;n", "1;2", "3;4"]}),
+    ("row names or a title", "x\nr1;1\nr2;2\n", "--row-names reads a first column that the heading "
+     "lacks; --skip 1 skips the line above the heading, if that is a title",
+     {("--row-names",): ["r1,1", "r2,2"]}),
+    ("text after a quote", 'a,b\n1,"x"y\n3,z\n',
+     "use --lenient, which reads 'xy', or --quote none, which reads '\"x\"y'",
+     {("--lenient",): ["1,xy", "3,z"], ("--quote", "none"): ['1,"x"y', "3,z"]}),
+    ("an escaped quote", 'a,b\n1,"x\\"y"\n3,z\n',
+     "use --escape '\\', which reads 'x\"y', or --lenient, which reads",
+     {("--escape", "\\"): ['1,x"y', "3,z"]}),
+    ("an open quote", 'a,b\n1,"x\n3,z\n',
+     "unexpected end of data: use --quote none, which reads '\"x', or --lenient, which reads",
+     {("--quote", "none"): ['1,"x', "3,z"]}),
+    ("many columns", ",".join(f"k{n}" for n in range(70)) + "\n" + ",".join(map(str, range(70))),
+     "70 columns: a table has at most 64: use --columns k0,k1, with the headings to pick",
+     {("--columns", "k0,k1"): ["0,1"], ("--columns", "k69", "--columns", "k3,k5"): ["3,5,69"]}),
+    ("many columns without a heading", "1," * 69 + "1\n" + "2," * 69 + "2\n", "70 columns",
+     {("--no-heading", "--columns", "c2,c70"): ["1,1", "2,2"]}),
+    ("a column that isn't there", "a,b,c\n1,2\n", "--fill adds",
+     {("--columns", "a,c", "--fill"): ["1,"], ("--columns", "b", "--fill"): ["2"]}),
+    ("blanks", "a  b c\n 1 2   x\n3\t4 y \n\n5 6 'u  v'\n", "",
+     {("--separator", " ", "--quote", "'"): ["1,2,x", "3,4,y", "5,6,u  v"]}),
+]
+
+
+class Named(unittest.TestCase):
+    def test_what_a_refusal_names_loads_the_file(self):
+        for name, data, told, options in NAMED:
+            with self.subTest(name):
+                self.assertIn(told, Import(data).refusal)
+                for words, rows in options.items():
+                    found = Import(data, *words)
+                    self.assertEqual((found.refusal, found.rows), ("", rows))
+
+    def test_columns_are_picked_after_rows_are_counted(self):
+        data = "a,b,c\n1,2,3\n4,5\n"
+        self.assertIn("line 3 has 2 fields, and the heading has 3: --fill adds",
+                      Import(data, "--columns", "a,b").refusal)
+        self.assertIn("--columns: no column has the heading 'x'; there are 'a', 'b', 'c'",
+                      Import(data, "--columns", "x").refusal)
+
+    def test_lines_are_the_files_own(self):
+        data = '\n"x  \n y" b\n\n1 2\n3 "4\n5"\n?  6\n7 8\n9 10\n'
+        self.assertIn("'?' in line 8 isn't a number, as 4 of 5 fields are",
+                      Import(data, "--separator", "space").refusal)
+
+    def test_encodings(self):
+        for text, name in (("日本語", "shift_jis"), ("カタカナとひらがな", "shift_jis"),
+                           ("中华人民共和国", "gb18030"), ("한국어", "euc_kr"), ("Gäu", "cp1252")):
+            with self.subTest(name):
+                data = f"a,b\n{text},1\n".encode(name)
+                self.assertIn(f"it may be {name}: use --encoding {name}, which reads '{text},1'",
+                              Import(data).refusal)
+                self.assertEqual(Import(data, "--encoding", name).rows, [f"{text},1"])
+        data = "a,b\nZürich,1\nBärn,2\n".encode() + b"G\xe4u,3\n"
+        self.assertIn("line 4, byte 2 isn't utf-8: it may be utf-8+cp1252: use --encoding "
+                      "utf-8+cp1252, which reads 'Gäu,3', or another one", Import(data).refusal)
+        self.assertEqual(Import(data, "--encoding", "utf-8+cp1252").rows,
+                         ["Zürich,1", "Bärn,2", "Gäu,3"])
+
+    def test_archives(self):
+        for names, told in ((["a.csv"], ""), (["a/", "a/b.csv"], ""),
+                            (["a.csv", "b.csv"], "is a zip archive of 2 files: pipe one, as unzip "
+                             "-p FILE a.csv | bw-import - TABLE.bw"),
+                            (["[Content_Types].xml", "b.xml"], "is a spreadsheet: export it")):
+            with self.subTest(names):
+                out = io.BytesIO()
+                with zipfile.ZipFile(out, "w", zipfile.ZIP_DEFLATED) as archive:
+                    for name in names:
+                        archive.writestr(name, "" if name.endswith("/") else "a,b\n1,x\n")
+                data = out.getvalue()
+                if told:
+                    self.refuse(data, told)
+                else:
+                    self.assertEqual(Import(data).rows, ["1,x"])
+                    self.refuse(data[:-30], "can't be unpacked")
+                if names == ["a.csv"]:
+                    self.refuse(data[:40] + b"xx" + data[42:], "can't be unpacked")
+        self.refuse(b"\x28\xb5\x2f\xfd\x04\x00",
+                    "is a zstd file: pipe it, as zstd -dc FILE | bw-import - TABLE.bw")
+
+    def refuse(self, data, told):
+        with self.assertRaises(Refused) as refused:
+            table_of(data)
+        self.assertIn(told, str(refused.exception))
 
 
 class Separators(unittest.TestCase):
