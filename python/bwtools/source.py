@@ -43,7 +43,7 @@ class Source:
         self.has_heading = given.heading is not False
         self.counts = RowCounts()
         self.headings = self.read_headings()
-        if given.heading is None:
+        if given.heading is None and ragged.is_padded(self.headings):
             self.refuse_title()
 
     @property
@@ -143,7 +143,8 @@ class Source:
 
     def refuse_longer(self, line: int) -> NoReturn:
         raise Refused(f"{self.path}: line {line}, or one after it, has a field of more than "
-                      f"{MOST_CHARACTERS:,} characters, or one in quotes that doesn't end")
+                      f"{MOST_CHARACTERS:,} characters, or one in quotes that doesn't end: use "
+                      "--quote none if fields have no quotation marks around them")
 
     def to_next_quote(self, file: TextIO) -> str:
         """Returns the next lines of the file, up to the end of one that has a quote, or some

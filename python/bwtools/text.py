@@ -2,6 +2,7 @@
 from __future__ import annotations
 
 import argparse
+import contextlib
 import csv
 import io
 import os
@@ -167,7 +168,9 @@ class Text:
         except csv.Error as error:
             raise quoting.Unreadable(self.skipped + before + 1, error) from None
         finally:
-            text.detach()
+            # the file may be closed by now
+            with contextlib.suppress(ValueError):
+                text.detach()
 
     def refuse_nul(self, text: str, line: int) -> None:
         """Rejects a text with a NUL, unless the encoding was given."""
