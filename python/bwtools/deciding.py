@@ -74,13 +74,21 @@ def exact(column: Fields, decision: Decision) -> Decision:
         return decision
     kind, plain = decision.kind, column.plain
     lengths = plain.spans.lengths
-    is_odd = any(text.strip(BLANKS) not in column.wishes.words and
-                 kind.text(kind.number(text.strip(BLANKS)) or 0) != text
+    is_odd = any(is_changed(kind, column, text)
                  for texts in column.runs.each(column.store) for text in texts)
     if not is_odd and not plain.padded and not (len(lengths) > 1 and plain.spans.has_zero) and \
             all(restores(kind, shape) for shape in plain.shapes):
         return decision
     return Decision(None, "some fields wouldn't be restored exactly", kind.plural)
+
+
+def is_changed(kind: Kind, column: Fields, text: str) -> bool:
+    """Returns whether a field comes back as another one. One that is null comes back as nothing,
+    which the report says of words."""
+    bare = text.strip(BLANKS)
+    if bare in column.wishes.words:
+        return not bare and bool(text) and column.wishes.rules.keeps_blanks
+    return kind.text(kind.number(bare) or 0) != text
 
 
 def restores(kind: Kind, shape: tuple[str, bool, int, str]) -> bool:

@@ -1,6 +1,8 @@
 """Files whose columns could become something else: each is read as what it means, named in the
 report, or refused with the options that load it."""
+import csv
 import io
+import random
 import unittest
 import zipfile
 
@@ -311,6 +313,35 @@ class Meanings(unittest.TestCase):
         for name, data, words, told in REFUSED:
             with self.subTest(name):
                 self.assertIn(told, Import(data, *words).refusal)
+
+
+# fields that may come back in another spelling
+FIELDS = ["1", "-0", "+5", "007", "1.50", "2.0", "1.25", "1e5", "1E+3", "1.5e3", "-0.0", "1,5",
+          "9007199254740993", "1.000", "1,234.50", "$5", "(12)", "5 %", "NA", "-", "null", "", "  ",
+          " 1", "1 ", "x", "y ", "True", "true", "FALSE", "2024-05-01", "01.05.2024", "1.5.24",
+          "03/04/2024", "2024-05-01 10:00", "2024-05-01T10:00:00Z", "2024-05-01 10:00 +0200",
+          "10:30", "9:05", "1:30 PM", "10:30:15.5", "Wed, 01 May 2024 10:00:00 +0200", "1 May 2024",
+          "20240501T103000Z", "0.1234567890123456789", "1e-400", ".5", "5.", "12,34,567", "1'000"]
+
+
+class Spellings(unittest.TestCase):
+    def test_all_are_kept_or_named(self):
+        draw, loaded = random.Random(93), 0
+        for _ in range(600):
+            kinds = draw.sample(FIELDS, draw.choice([1, 2, 2, 3, 4]))
+            fields = draw.choices(kinds, k=draw.randrange(1, 7))
+            out = io.StringIO()
+            csv.writer(out, "excel-tab").writerows([["a", "b"], *([each, "x"] for each in fields)])
+            found = Import(out.getvalue(), "--separator", "tab", "--keep-spelling", "--keep-blanks")
+            if found.refusal:
+                continue
+            loaded += 1
+            note = found.report.splitlines()[1]
+            for field, row in zip(fields, found.rows):
+                if row != f"{field},x":
+                    self.assertEqual(row, ",x", fields)
+                    self.assertIn(repr(field.strip()), note.partition("can't be kept")[0], fields)
+        self.assertGreater(loaded, 300)
 
 
 class Headings(Imported):
