@@ -14,9 +14,11 @@ import io
 import pathlib
 import re
 import shlex
+import shutil
 import subprocess
 import sys
 import tarfile
+import tempfile
 import traceback
 from dataclasses import dataclass, field
 from typing import Iterator, Sequence
@@ -185,6 +187,11 @@ def attempts(path: pathlib.Path) -> list[Outcome]:
     while waiting and len(found) < MOST_TRIALS and not (found and not found[-1].refusal):
         words = waiting.pop()
         found.append(import_one(path, words))
+        if "pipe it, as zstd -dc FILE" in found[-1].refusal and shutil.which("zstd"):
+            with tempfile.NamedTemporaryFile() as plain:
+                subprocess.run(["zstd", "-dc", path], stdout=plain, check=True)
+                found += attempts(pathlib.Path(plain.name))
+            found[-1].words = ("zstd", "-dc", *found[-1].words)
         # the options that are named first are tried first, with all that follows
         more = [(*words, *each) for each in alternatives(found[-1].refusal)
                 if not set(each) <= set(words)]

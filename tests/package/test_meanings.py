@@ -161,6 +161,8 @@ TIES = [
     ("a table of blanks", "a b c\n1  2 3\n1 22 3\n", (),
      "column 'a b c': all its rows have 2 ' ', which may separate fields: use --separator space, "
      "or --text 'a b c'"),
+    ("a line of numbers", "1.001 0.994 0.9951\n", (),
+     "the only line has 2 ' ', which may separate fields: use --separator space"),
     ("colons", "root:x:0:0\nbin:x:1:1\nsys:y:2:2\n", (),
      "all its rows have 3 ':', which may separate fields: use --separator :, or --text root:x:0:0"),
     ("carets", "a^b\nx^y\nz^w\n", ("--no-heading",), "use --separator '^', or --text c1"),

@@ -53,7 +53,6 @@ class NumberJudge:
             for texts in column.bare():
                 self.survey.add(texts)
             self.survey.add(list(column.plain.samples.values()))
-            self.survey.add([str(least) for least, _ in column.plain.spans.ends.values()])
         return self.survey
 
     def signs(self, column: Fields) -> set[str]:
@@ -68,7 +67,7 @@ class NumberJudge:
         if survey.zeros and not wishes.is_number:
             return with_zeros(survey, wishes.heading)
         is_wanted = wishes.is_number or wishes.digits is not None
-        if survey.phone and not survey.has_minus and not is_wanted:
+        if survey.phone and not is_wanted and not has_minus(column):
             drop = option("--number", wishes.heading)
             return Decision(None, f"{shown(survey.phone)} and others have a leading +, which "
                                   f"{drop} drops")
@@ -110,6 +109,13 @@ class NumberJudge:
             [f"--thousands '{mark}'" if mark == "," else option("--thousands", mark)]
         return Question(f"{{0}} may be {text.replace(mark, '')} or {text.replace(mark, '.')}",
                         (text,), (*between, *both(heading)))
+
+
+def has_minus(column: Fields) -> bool:
+    """Returns whether a number is spelled with a minus sign."""
+    spans = column.plain.spans
+    return spans.reach[1] < 0 or any(least < 0 for least, _ in spans.ends.values()) or \
+        any(text[0] == "-" for texts in column.bare() for text in texts)
 
 
 def are_whole(column: Fields) -> bool:
@@ -199,7 +205,7 @@ def no_double(column: Fields, style: Style) -> Optional[str]:
               each.form == "number" and not each.digits)
     for texts in itertools.chain(column.bare(), stored):
         for text in texts:
-            plain = style.bare(text) if len(text) > SHORT else None
+            plain = style.bare(text) if len(text) > SHORT and style.mark not in text else None
             if plain and WHOLE.fullmatch(plain) and change_in_double(plain):
                 return text
     return None
