@@ -35,7 +35,8 @@ SOURCES = ("pandas miller r-cran-data.table libcommons-csv-java libtext-csv-xs-p
            "libtext-csv-perl libopencsv-java datamash r-cran-readxl q-text-as-data r-cran-haven "
            "golang-github-gocarina-gocsv golang-github-jszwec-csvutil seaborn dask gnumeric "
            "r-cran-tidyr r-cran-dplyr php-league-csv haskell-cassava r-cran-readr csvkit "
-           "python-agate ruby-csv sqlite-utils rust-csv visidata python-tablib").split()
+           "python-agate ruby-csv sqlite-utils rust-csv visidata python-tablib ocaml-csv libcsv "
+           "intake node-d3-dsv csv2latex").split()
 PROGRAMS = "r-cran-readr r-cran-vroom python3-statsmodels python3-sklearn".split()
 ENDS = re.compile(r"\.(csv|tsv|psv|ssv)(\.(gz|bz2|xz|zip|zst))?$", re.IGNORECASE)
 MOST_BYTES, MOST_TRIALS = 1 << 24, 60
