@@ -47,30 +47,34 @@ LOOSE = re.compile(r"[^\w\s]?[A-Za-z$]{0,3}\s?[-+(]?\d[\d.,:/'\s-]*\)?\s?[\w%/.]
 def fetch(folder: pathlib.Path) -> None:
     """Downloads packages into a folder, and copies the files to import to its folder `files`."""
     apt, packages = folder / "apt", folder / "packages"
-    for each in (apt / "lists" / "partial", apt / "cache" / "archives" / "partial", packages):
+    for each in (apt / "deb-src" / "partial", apt / "deb" / "partial",
+                 apt / "cache" / "archives" / "partial", packages):
         each.mkdir(parents=True, exist_ok=True)
     key = "/usr/share/keyrings/debian-archive-keyring.gpg"
-    (apt / "sources.list").write_text("".join(
-        f"{kind} [signed-by={key}] http://deb.debian.org/debian {suite} main\n"
-        for kind, suites in (("deb-src", SUITES), ("deb", SUITES[:1])) for suite in suites))
-    places = (f"Dir::Etc::SourceList={apt}/sources.list", "Dir::Etc::SourceParts=/dev/null",
-              f"Dir::State::Lists={apt}/lists", f"Dir::Cache={apt}/cache",
-              "APT::Sandbox::User=root")
+    # apt takes versions of sources from binaries, if it knows these
+    for kind, suites in (("deb-src", SUITES), ("deb", SUITES[:1])):
+        (apt / f"{kind}.list").write_text("".join(
+            f"{kind} [signed-by={key}] http://deb.debian.org/debian {suite} main\n"
+            for suite in suites))
 
-    def call(*words: str) -> bool:
+    def call(kind: str, *words: str) -> bool:
+        places = (f"Dir::Etc::SourceList={apt}/{kind}.list", "Dir::Etc::SourceParts=/dev/null",
+                  f"Dir::State::Lists={apt}/{kind}", f"Dir::Cache={apt}/cache",
+                  "APT::Sandbox::User=root")
         options = [word for place in places for word in ("-o", place)]
         return not subprocess.run(["apt-get", *options, "--quiet=2", *words], cwd=packages,
                                   stdout=subprocess.DEVNULL, stderr=subprocess.DEVNULL,
                                   check=False).returncode
 
-    call("update")
+    call("deb-src", "update")
     for name in SOURCES:
         # a mirror may lack some
-        if not any(call("source", "--tar-only", "--download-only", f"{name}/{suite}")
+        if not any(call("deb-src", "source", "--tar-only", "--download-only", f"{name}/{suite}")
                    for suite in SUITES):
             print(f"no source of {name}")
+    call("deb", "update")
     for name in PROGRAMS:
-        if not call("download", name):
+        if not call("deb", "download", name):
             print(f"no package {name}")
     for package in sorted(packages.iterdir()):
         unpack(package, folder / "files")
