@@ -39,6 +39,8 @@ SOURCES = ("pandas miller r-cran-data.table libcommons-csv-java libtext-csv-xs-p
            "intake node-d3-dsv csv2latex").split()
 PROGRAMS = "r-cran-readr r-cran-vroom python3-statsmodels python3-sklearn".split()
 ENDS = re.compile(r"\.(csv|tsv|psv|ssv)(\.(gz|bz2|xz|zip|zst))?$", re.IGNORECASE)
+# what is written for a null
+NULLS = ("", "NULL")
 MOST_BYTES, MOST_TRIALS = 1 << 24, 60
 # what looks like a number or a date, though a column of it may be one of texts
 LOOSE = re.compile(r"[^\w\s]?[A-Za-z$]{0,3}\s?[-+(]?\d[\d.,:/'\s-]*\)?\s?[\w%/.]{0,6}")
@@ -125,8 +127,8 @@ def import_one(path: pathlib.Path, words: tuple[str, ...]) -> Outcome:
     lines = found.report.splitlines()[1:]
     for place, (column, numbers) in enumerate(zip(table.columns, columns)):
         raw = [row[place] if place < len(row) else "" for row in rows]
-        back = ["" if number in ("", "NULL") else column.kind.text(int(number))
-                for number in numbers]
+        spelled = iter(column.kind.spell([int(each) for each in numbers if each not in NULLS]))
+        back = ["" if number in NULLS else next(spelled) for number in numbers]
         note = lines[place]
         if any(is_lost(*each, note) for each in zip(raw, back)) or len(raw) != len(back):
             found.lost.append(column.name)

@@ -12,7 +12,7 @@ from typing import Any, BinaryIO, Iterator, NoReturn
 from . import processes
 from .column import Column
 from .counts import Counts
-from .deciding import decide, refuse_heading
+from .deciding import decide
 from .naming import names_of
 from .progress import Progress
 from .reading import read
@@ -42,9 +42,7 @@ class NumberTable:
         self.marks = self.source.text.marks()
         headings = [heading.strip(BLANKS) for heading in self.source.headings]
         fields = read(self.source, wishes_of(given, headings, self.source.separator), folder)
-        decisions = decide(self.source, fields)
-        if self.source.has_heading and given.heading is None:
-            refuse_heading(self.source, headings, fields, decisions)
+        decisions = decide(self.source, fields, given.heading is None)
         null = "NULL" if len(fields) == 1 else ""
         self.columns, self.tallies = list[Column](), list[Tally]()
         for name, column, decision in zip(names_of(headings), fields, decisions):

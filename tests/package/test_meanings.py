@@ -180,6 +180,9 @@ NAMED = [
      {("--skip", "1", "--fill"): ["x,1,", "y,2,"]}),
     ("a padded title above two columns", "Sales,\nid,n\n1,2\n", "use --skip 1 if it is a title",
      {("--skip", "1"): ["1,2"]}),
+    ("a row that is asked about", "6.000;7.5\n1.000;2.5\n",
+     "the first line has '6.000' above a column of such fields: use --no-heading if it is a row",
+     {("--no-heading", "--number", "c1"): ["6.000,7.5", "1.000,2.5"]}),
     ("row names", "a,b\nr1,1,2\nr2,3,4\n",
      "lines 2 and 3 have 3 and 3 fields, and the heading has 2: --row-names reads a first column "
      "that the heading lacks",
@@ -327,7 +330,8 @@ class Drawn(unittest.TestCase):
         width = draw.randrange(2, 5)
         heading = [f"h{place}{draw.choice(['', ' of x', ' (a, b)', ';c'])}"
                    for place in range(width)]
-        return [heading, *([draw.choice(fields) for _ in heading] for _ in range(draw.randrange(6)))]
+        count = draw.randrange(6)
+        return [heading, *([draw.choice(fields) for _ in heading] for _ in range(count))]
 
     def imported(self, text, *words):
         return Import(text, "--keep-spelling", "--keep-blanks", "--heading", *words)
