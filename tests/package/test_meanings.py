@@ -178,6 +178,10 @@ NAMED = [
     ("a title above a heading with a separator at its end", 'Clicks\n"a","b",\nx,1\ny,2\n',
      "--skip 1 skips the line above the heading",
      {("--skip", "1", "--fill"): ["x,1,", "y,2,"]}),
+    ("a separator at the end of the heading", 'a,b,\nx,1\ny,2\n',
+     "lines 2 and 3 have 2 and 2 fields, and the heading has 3: --fill adds empty fields to short "
+     "rows",
+     {("--fill",): ["x,1,", "y,2,"]}),
     ("a padded title above two columns", "Sales,\nid,n\n1,2\n", "use --skip 1 if it is a title",
      {("--skip", "1"): ["1,2"]}),
     ("a row that is asked about", "6.000;7.5\n1.000;2.5\n",
