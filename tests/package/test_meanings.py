@@ -187,6 +187,11 @@ NAMED = [
     ("a row that is asked about", "6.000;7.5\n1.000;2.5\n",
      "the first line has '6.000' above a column of such fields: use --no-heading if it is a row",
      {("--no-heading", "--number", "c1"): ["6.000,7.5", "1.000,2.5"]}),
+    ("a heading like an option", "-x,b\n1,x\n?,y\n3,z\n",
+     "use --null='-x=?', or --text=-x",
+     {("--null=-x=?",): ["1,x", ",y", "3,z"], ("--text=-x",): ["1,x", "?,y", "3,z"]}),
+    ("a heading that ends in a comma", '"a,",b\n1,x\n?,y\n3,z\n',
+     "use --null 'a,=?', or --text 'a,'", {("--text", "a,"): ["1,x", "?,y", "3,z"]}),
     ("row names", "a,b\nr1,1,2\nr2,3,4\n",
      "lines 2 and 3 have 3 and 3 fields, and the heading has 2: --row-names reads a first column "
      "that the heading lacks",
