@@ -55,9 +55,10 @@ def notes(column: Column, tally: Tally) -> Iterator[str]:
         yield f"-0.0 in {counted(counts.zeros, 'field')} is 0.0"
     if counts.rounded:
         # of an exponent of thousands no zeros are printed
-        change = f"{counts.change:{'f' if counts.change.adjusted() > -SHORT else '.0e'}}"
+        change = counts.change.normalize()
+        told = f"{change:{'f' if change.adjusted() > -SHORT else '.0e'}}"
         near = " to the nearest doubles" if is_float else ""
-        yield f"{counted(counts.rounded, 'field')} rounded{near}, by at most {change}"
+        yield f"{counted(counts.rounded, 'field')} rounded{near}, by at most {told}"
     if counts.changed:
         where = "in the shortest spelling" if is_float else "values kept"
         yield f"spelling changed in {counted(counts.changed, 'field')}, {where}"

@@ -45,7 +45,7 @@ READ = [
      ["0.30000000000000004", "1.7976931348623157e+308"], "floats in their order"),
     ("a whole number that is no double, by name", "n\n9007199254740993\n1.5e3\n",
      ("--number", "n"), "floats", ["9007199254740992.0", "1500.0"],
-     "1 field rounded to the nearest doubles, by at most 1.0; spelling changed in 1 field"),
+     "1 field rounded to the nearest doubles, by at most 1; spelling changed in 1 field"),
     ("a whole number that is no double, by its digits", "n\n9007199254740993\n1.5e3\n",
      ("--digits", "n=0"), "whole", ["9007199254740993", "1500"], "spelling changed in 1 field"),
     ("an offset after a blank", "t\n2024-05-01 10:00 +0200\n2024-05-02 10:00 -05:00\n", (),
