@@ -157,8 +157,15 @@ class Text:
         except UnicodeError:
             self.undecoded()
         except quoting.Unreadable as error:
-            raise Refused(f"{self.path}: line {error.line}: {error}"
-                          f"{quoting.advice(self.records_by, self.signs, error)}") from None
+            self.refuse_unreadable(error)
+
+    def refuse_unreadable(self, error: quoting.Unreadable) -> NoReturn:
+        """Rejects the file for a record that isn't CSV."""
+        try:
+            use = quoting.advice(self.records_by, self.signs, error)
+        except UnicodeError:
+            self.undecoded()
+        raise Refused(f"{self.path}: line {error.line}: {error}{use}") from None
 
     def records_by(self, signs: Signs, is_strict: bool) -> Iterator[Record]:
         """Yields the records as signs, and whether it is strict, have them read."""

@@ -273,6 +273,8 @@ class Named(unittest.TestCase):
                 self.assertIn(f"it may be {name}: use --encoding {name}, which reads '{text},1'",
                               Import(data).refusal)
                 self.assertEqual(Import(data, "--encoding", name).rows, [f"{text},1"])
+        self.assertIn("line 3, byte 2 isn't utf-8",
+                      Import(b'a,b\n1,"x"y\nG\xe4u,2\n').refusal)
         data = "a,b\nZürich,1\nBärn,2\n".encode() + b"G\xe4u,3\n"
         self.assertIn("line 4, byte 2 isn't utf-8: it may be utf-8+cp1252: use --encoding "
                       "utf-8+cp1252, which reads 'Gäu,3', or another one", Import(data).refusal)
