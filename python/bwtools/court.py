@@ -16,7 +16,6 @@ from .moments import is_like_date
 from .naming import option
 from .opinion import DRAWN, MOST_WORDS, Opinion, count_fields, others_of
 from .telling import counted, shown
-from .wishes import BLANKS
 
 # of a run of more texts than these, some are drawn first
 MANY = 1 << 14
@@ -36,18 +35,18 @@ class Court:
         self.opinions = [] if wishes.is_text else list(map(Opinion, judges))
         self.count = 0
         may_leave = not is_asked and not column.plain.forms
-        for run, (texts, bare) in enumerate(column.each_run()):
-            self.count += len(bare)
-            drawn = column.drawn(run, texts, DRAWN) if may_leave and len(bare) > MANY else []
+        for number, run in enumerate(column.runs()):
+            self.count += len(run.bare)
+            drawn = column.drawn(run, DRAWN) if may_leave and len(run.bare) > MANY else []
             for opinion in self.opinions:
-                if not drawn or not opinion.leaves(run, bare, drawn):
-                    opinion.add(run, texts, bare)
+                if not drawn or not opinion.leaves(number, run.bare, drawn):
+                    opinion.add(run)
         # if other runs have some, all are counted
         late = [opinion for opinion in self.opinions if opinion.left and opinion.likes]
-        for run, (texts, bare) in enumerate(column.each_run() if late else ()):
+        for number, run in enumerate(column.runs() if late else ()):
             for opinion in late:
-                if run in opinion.left:
-                    opinion.add(run, texts, bare)
+                if number in opinion.left:
+                    opinion.add(run)
 
     def winner(self) -> Optional[Judge]:
         """Returns the first judge to whom all fields are like its own, if there are any."""
@@ -127,6 +126,4 @@ def nothing(column: Fields) -> Decision:
 
 def words_of(column: Fields) -> list[str]:
     """Returns the words for null that occur in a column."""
-    found = {text.strip(BLANKS) for texts in column.runs.each(column.store)
-             for text in texts} | set(column.plain.nulls)
-    return [word for word in column.wishes.words if word in found]
+    return [word for word in column.wishes.words if word in column.words]

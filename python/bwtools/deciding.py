@@ -55,7 +55,7 @@ def exact(column: Fields, decision: Decision) -> Decision:
     lengths = plain.spans.lengths
     is_odd = any(text.strip(BLANKS) not in column.wishes.words and
                  kind.text(kind.number(text.strip(BLANKS)) or 0) != text
-                 for texts in column.runs.each(column.store) for text in texts)
+                 for texts in column.unkept() for text in texts)
     if not is_odd and not plain.padded and not (len(lengths) > 1 and plain.spans.has_zero) and \
             all(restores(kind, shape) for shape in plain.shapes):
         return decision

@@ -74,10 +74,9 @@ def doubles_of(column: Fields, style: Style) -> Iterator[float]:
     """Yields the doubles of a column, each of them once or more."""
     for texts in column.bare():
         yield from (float(style.bare(text) or 0) for text in texts)
-    for place in column.places if column.plain.forms else ():
-        kept = column.store.fields(place)
-        if isinstance(kept, Numbered):
-            yield from numbered_doubles(kept)
+    for part in column.parts:
+        if part.kept:
+            yield from numbered_doubles(part.kept)
 
 
 def numbered_doubles(kept: Numbered) -> Sequence[float]:

@@ -6,11 +6,13 @@ import argparse
 import contextlib
 import os
 import pathlib
-from . import command, inputs, options, pairs, placing
-from .importing_straight import Imported, import_straight
+import tempfile
+
+from . import command, inputs, options, pairs, placing, processes, sharding
+from .loader.table import Table
 from .putting import put_many, put_one, refuse_out
 from .regular import Watched, open_regular
-from .shards import FILE, Folder
+from .shards import FILE, Folder, shard_file
 from .store import MOST_TABLES, Store, TableFile
 from .table_limits import MOST_ROWS
 from .telling import Refused
@@ -18,9 +20,8 @@ from .telling import Refused
 
 def dry_run(given: argparse.Namespace) -> None:
     """Prints the kind of each column, and writes nothing."""
-    # a file that is loaded as it is needs none of what an import by columns does
-    from . import importing_columns
-    importing_columns.dry_run(given)
+    with tempfile.TemporaryDirectory() as folder:
+        Table(given.csv, given, pathlib.Path(folder)).report()
 
 
 def import_file(given: argparse.Namespace, out: str, is_folder: bool) -> None:
@@ -36,30 +37,30 @@ def import_file(given: argparse.Namespace, out: str, is_folder: bool) -> None:
     command.program()
     is_folder = is_folder or os.path.isdir(path)
     with placing.new_folder(path) as room, inputs.open_input(given.csv) as file:
-        straight = import_straight(given, file, room, name, is_folder)
-        if straight:
-            put_straight(straight, room, name, path, is_folder)
-            return
-        from .importing_columns import import_columns
-        table, told = import_columns(given, file, room, name, path, is_folder)
+        table = Table(given.csv, given, room, file, is_folder)
+        if len(table.coded.parts) == 1 and not is_folder:
+            table.write(0, name, room / "table.bw")
+            told = put_one(room / "table.bw", table.columns, room, name, path)
+        else:
+            told = put_many(load_shards(table, room, name), table.columns, room, name, path)
     # last, since its reader may stop early, as head does
     table.report()
     print(told)
 
 
-def put_straight(found: Imported, room: pathlib.Path, name: str, path: str,
-                 is_folder: bool) -> None:
-    """Moves what was loaded as it is to its place, and prints what an import reports."""
-    record = found.records[0]
-    if len(found.records) == 1 and not is_folder:
-        alone = TableFile("", 0, record.size, record.changed, record.inode,
-                          record.sha256, record.header)
-        told = put_one(room / "made" / record.file, found.columns, room, name, path, alone)
-    else:
-        told = put_many(found.records, found.columns, room, name, path)
-    for line in found.report():
-        print(line)
-    print(told)
+def load_shards(table: Table, room: pathlib.Path, name: str) -> list[TableFile]:
+    """Writes the shards of a table into the folder `made`, several side by side. Returns their
+    records in the order of rows."""
+    (room / "made").mkdir()
+    shards = len(table.coded.parts)
+    count = sharding.processes_for(shards, table.source.text.marks().size)
+
+    def load_some(process: int) -> list[TableFile]:
+        return [table.record(place, name, shard_file(room / "made", place))
+                for place in range(process, shards, count)]
+
+    found = processes.do_parts(count, load_some)
+    return [found[place % count][place // count] for place in range(shards)]
 
 
 def verify(path: str) -> None:

@@ -11,7 +11,7 @@ import stat
 import sys
 import tempfile
 import zlib
-from typing import IO, Any, BinaryIO
+from typing import Any, BinaryIO
 
 from .telling import Refused
 
@@ -29,7 +29,7 @@ class Positioned(io.RawIOBase):
     """An open file with a position of its own, so that several processes can read it side by
     side."""
 
-    def __init__(self, file: IO[bytes]) -> None:
+    def __init__(self, file: Any) -> None:
         self.file, self.position = file, 0
 
     def close(self) -> None:
@@ -43,7 +43,8 @@ class Positioned(io.RawIOBase):
         return True
 
     def fileno(self) -> int:
-        return self.file.fileno()
+        number: int = self.file.fileno()
+        return number
 
     def seek(self, offset: int, whence: int = os.SEEK_SET) -> int:
         bases = {os.SEEK_SET: 0, os.SEEK_CUR: self.position}

@@ -1,26 +1,13 @@
-"""The fields of a file in compact form, from when they are read until the kinds of all columns are
-known.
-
-A field is stored as the code of its text, or as the number that it spells. So each distinct text is
-examined once, and the file is read once. `field_store` has all in a temporary file, of one to nine
-bytes for each field."""
+"""Fields that are kept as numbers: many at a time, if all are spelled as numbers are printed."""
 from __future__ import annotations
 
 import array
 import operator
 from itertools import compress
-from typing import Any, Iterator, NamedTuple, Sequence
+from typing import Any, NamedTuple, Sequence
 
 # the types of arrays of numbers, each with the bits of its magnitudes
 TYPES = (("b", 7), ("h", 15), ("i", 31), ("q", 63))
-
-
-class Coded(NamedTuple):
-    """The codes of fields: the run of texts that they are places in, the type of the array, and its
-    bytes."""
-    run: int
-    type: str
-    data: bytes
 
 
 class Numbered(NamedTuple):
@@ -39,14 +26,6 @@ class Numbered(NamedTuple):
     shape: Any
 
 
-def coded(run: int, codes: Sequence[int], count: int) -> Coded:
-    """Returns codes as stored, of which `count` are possible."""
-    if count <= 1 << 8:
-        return Coded(run, "B", bytes(codes))
-    kind = "H" if count <= 1 << 16 else "I"
-    return Coded(run, kind, array.array(kind, codes).tobytes())
-
-
 def packed(numbers: Sequence[int]) -> tuple[str, bytes] | None:
     """Returns the type of an array and its bytes, or None if a number doesn't fit 64 bits."""
     least, greatest = min(numbers), max(numbers)
@@ -56,19 +35,11 @@ def packed(numbers: Sequence[int]) -> tuple[str, bytes] | None:
     return None
 
 
-def values_of(kept: Coded | Numbered) -> array.array[Any]:
-    """Returns the stored codes or numbers."""
+def values_of(kept: Numbered) -> array.array[Any]:
+    """Returns the numbers."""
     found = array.array(kept.type)
     found.frombytes(kept.data)
     return found
-
-
-def spread(texts: Sequence[str], nulls: bytes, words: Sequence[str]) -> Sequence[str]:
-    """Returns the texts with words for null between them, at the fields whose byte names one."""
-    if not nulls:
-        return texts
-    rest = iter(texts)
-    return [words[null - 1] if null else next(rest) for null in nulls]
 
 
 def split_nulls(fields: Sequence[str], places: dict[str, int]) -> tuple[Sequence[str], bytes]:
@@ -78,8 +49,3 @@ def split_nulls(fields: Sequence[str], places: dict[str, int]) -> tuple[Sequence
         return fields, b""
     nulls = bytes([places.get(field, 0) for field in fields])
     return list(compress(fields, map(operator.not_, nulls))), nulls
-
-
-def in_blocks(texts: Sequence[str], size: int) -> Iterator[list[str]]:
-    for first in range(0, len(texts), size):
-        yield list(texts[first:first + size])

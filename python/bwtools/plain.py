@@ -7,7 +7,6 @@ import functools
 import itertools
 import operator
 import re
-from collections import Counter
 from dataclasses import dataclass, field
 from typing import Any, Iterable, Sequence
 
@@ -22,23 +21,21 @@ FIRST = re.compile("-?[0-9]|[ \t]")
 
 @dataclass
 class Plain:
-    """What is known of the fields of a column that are stored as numbers: the numbers, one with a
-    decimal sign and one in all, the shapes of times, how many nulls there are of each word, how
-    many fields had blanks around them, and how often other fields came. `words` has what stands for
-    each word for null; `signs` are the decimal signs that are read, none if no fields may be stored
-    so."""
+    """What is known of the fields of a column that are kept as numbers: the numbers, one with a
+    decimal sign and one in all, the shapes of times, how many of them have blanks around them, and
+    how often other fields came. `words` has what stands for each word for null; `signs` are the
+    decimal signs that are read, none if no fields may be kept so."""
     words: dict[str, int]
     signs: str = ".,"
     spans: Spans = field(default_factory=Spans)
     samples: dict[str, str] = field(default_factory=dict)
     shapes: dict[Any, tuple[int, int]] = field(default_factory=dict)
-    nulls: Counter[str] = field(default_factory=Counter)
     padded: int = 0
     failed: int = 0
 
     @property
     def forms(self) -> set[str]:
-        """The forms of the stored fields: number, float and time."""
+        """The forms of the kept fields: number, float and time."""
         found = {"number": bool(self.spans.ends), "float": self.spans.is_float,
                  "time": bool(self.shapes)}
         return {form for form, is_there in found.items() if is_there}
@@ -49,8 +46,8 @@ class Plain:
         return "," if "," in self.samples.get("mark", "") else self.samples.get("mark", "") and "."
 
     def add(self, fields: Sequence[str]) -> Numbered | None:
-        """Adds fields, and returns them as stored, if all but the nulls are numbers or times in
-        such a spelling."""
+        """Adds fields, and returns them as they are kept, if all but the nulls are numbers or times
+        in such a spelling."""
         first = fields[0]
         if not self.signs or self.failed > 2 or not FIRST.match(first) and first not in self.words:
             return None
@@ -62,8 +59,6 @@ class Plain:
             return None
         self.padded += padded
         self.samples.setdefault("any", present[0])
-        if nulls:
-            self.nulls.update(itertools.compress(bare, nulls))
         return kept
 
     def examined(self, fields: Sequence[str], nulls: bytes) -> Numbered | None:

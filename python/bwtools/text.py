@@ -15,6 +15,7 @@ from .options import SEPARATORS
 from .records import Records
 from .regular import Marks
 from .signs import NUL, Signs
+from .table_limits import MOST_CHARACTERS
 from .telling import Refused
 
 MARKS = ((b"\xef\xbb\xbf", "utf-8-sig"), (b"\xff\xfe", "utf-16"), (b"\xfe\xff", "utf-16"))
@@ -23,7 +24,7 @@ NO_CP1252 = bytes((0x81, 0x8d, 0x8f, 0x90, 0x9d))
 BYTES_AT_ONCE = 1 << 18
 SAID = re.compile('"?sep=(.)"?[\r\n]*', re.IGNORECASE)
 
-csv.field_size_limit(1 << 30)
+csv.field_size_limit(MOST_CHARACTERS)
 # newer Pythons reject numbers of many digits, unless the limit is set
 getattr(sys, "set_int_max_str_digits", int)(0)
 
@@ -145,12 +146,18 @@ class Text:
         except UnicodeError:
             self.undecoded()
         except csv.Error as error:
-            raise Refused(f"{self.path}: line {self.skipped + before + 1}: {error}") from None
+            line = self.skipped + before + 1
+            if "field limit" in str(error):
+                raise Refused(f"{self.path}: line {line}, or one after it, has a field of more "
+                              f"than {MOST_CHARACTERS:,} characters, or one in quotes that "
+                              "doesn't end") from None
+            raise Refused(f"{self.path}: line {line}: {error}") from None
         finally:
             text.detach()
 
-    def refuse_nul(self, text: str, line: int) -> None:
-        """Rejects a text with a NUL, unless the encoding was given."""
+    def refuse_nul(self, record: list[str], line: int) -> None:
+        """Rejects a record with a NUL, unless the encoding was given."""
+        text = "".join(record)
         if NUL in text and not self.may_have_nul:
             line += text.count("\n", 0, text.index(NUL))
             raise Refused(f"{self.path}: line {line} has a NUL, so it isn't text: if it is, name "

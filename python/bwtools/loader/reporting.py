@@ -3,15 +3,15 @@ from __future__ import annotations
 
 from typing import TYPE_CHECKING, Iterator, Sequence
 
-from .column import Column
-from .counts import Counts
-from .kinds import undressed
-from .naming import option
-from .telling import counted, shown
-from .wishes import BLANKS, NULLS
+from ..column import Column
+from ..counts import Counts
+from ..kinds import undressed
+from ..naming import option
+from ..telling import counted, shown
+from ..wishes import NULLS
 
 if TYPE_CHECKING:
-    from .tallies import Tally
+    from .numbers import Numbers
 
 # a change is shown with so many digits after the point at most
 SHORT = 40
@@ -33,15 +33,15 @@ def report_lines(columns: Sequence[Column], counts: Sequence[Counts],
         yield "  ".join(cell.ljust(width) for cell, width in zip(line, widths) if width).rstrip()
 
 
-def notes(column: Column, tally: Tally) -> Iterator[str]:
+def notes(column: Column, numbers: Numbers) -> Iterator[str]:
     """Yields the notes on a column: why it is one of texts, and what isn't printed as it was."""
-    counts = tally.counts
+    counts = numbers.counts
     if column.why:
         yield f"texts{', though ' if column.looks_like else ': '}{column.why}"
     if column.looks_like:
         yield f"so not ordered, unless by {option('--text', column.heading)}"
-    if tally.texts is not None:
-        for word, count in words_in(tally):
+    if numbers.texts is not None:
+        for word, count in words_in(numbers):
             null = option('--null', f'{column.heading}={word}')
             yield f"{shown(word)} is a text in {counted(count, 'field')}, and null by {null}"
     if counts.padded:
@@ -58,20 +58,9 @@ def notes(column: Column, tally: Tally) -> Iterator[str]:
         yield f"spelling changed in {counted(counts.changed, 'field')}, {where}"
 
 
-def words_in(tally: Tally) -> list[tuple[str, int]]:
+def words_in(numbers: Numbers) -> list[tuple[str, int]]:
     """Returns the words that are texts in a column, though they are null in one of numbers, and how
     many fields have each."""
-    column = tally.column
-    wanted = [word for word in NULLS if word not in column.wishes.nulls and
-              not column.wishes.is_text]
-    found = dict.fromkeys(wanted, 0)
-    for run, stored in enumerate(column.runs.stored):
-        codes = {code: word for word, (_, code) in stored.words.items()}
-        if stored.has_blanks:
-            texts = column.runs.texts(run, column.store)
-            codes = {code: text.strip(BLANKS) for text,
-                     code in zip(texts, column.runs.order(run, column.store))}
-        for code, word in codes.items():
-            if word in found:
-                found[word] += column.count_code(run, code)
-    return [(word, count) for word, count in found.items() if count]
+    column = numbers.column
+    return [(word, column.words[word]) for word in NULLS if word in column.words and
+            word not in column.wishes.nulls and not column.wishes.is_text]

@@ -1,0 +1,166 @@
+"""The numbers that the distinct fields of a column become, and what is counted of its rows."""
+from __future__ import annotations
+
+import itertools
+import operator
+from typing import Callable, Iterable, Iterator, Optional, Sequence
+
+from ..counts import Counts
+from ..deciding import restores
+from ..floating import numbered_doubles
+from ..judges.fields import Fields, Part
+from ..judges.verdict import Decision
+from ..keeping import Numbered, values_of
+from ..kind import Kind
+from ..kinds import Decimals, Floats, Ranked, Times, Whole, undressed
+from ..plain import texts_of
+from ..textual import Sorted
+from ..wishes import BLANKS
+
+NULL, NEGATIVE_ZERO = "NULL", -1 << 63
+
+
+class Numbers:
+    """The numbers of the distinct fields of a column, whose kind is decided."""
+
+    def __init__(self, column: Fields, decision: Decision, texts: Optional[Sorted]) -> None:
+        self.column, self.decision, self.texts = column, decision, texts
+        self.counts = Counts()
+        known = column.words
+        if texts and column.have_blanks and column.wishes.rules.keeps_blanks:
+            known = exact_words(column)
+        words = column.wishes.nulls if texts else column.wishes.words
+        self.counts.nulls = {word: known[word] for word in words if word in known}
+        self.counts.span = column.plain.spans.ends.get(0) if not texts and \
+            isinstance(decision.kind, Whole) else None
+        if texts and len(texts.kind.listed):
+            self.counts.span = 0, len(texts.kind.listed) - 1
+
+    @property
+    def is_kept(self) -> bool:
+        """Whether the codes, or the numbers, are those that bw gave."""
+        return self.column.dictionary is None or \
+            self.texts is not None and self.texts.places is None
+
+    def blocks(self) -> Iterator[list[str]]:
+        """Yields what the distinct fields become, in order, and counts what there is."""
+        if self.texts is not None:
+            yield from self.places()
+            return
+        for part, texts in self.column.each():
+            assert self.column.dictionary is not None
+            counts = self.column.dictionary.counts[part.first:part.end]
+            yield self.kept(part, part.kept, texts, counts) if part.kept \
+                else self.read(part, texts, counts)
+
+    def places(self) -> Iterator[list[str]]:
+        """Yields the places of texts."""
+        assert self.texts is not None and self.column.dictionary is not None
+        count, places = len(self.texts.kind.listed), self.texts.places
+        if self.column.have_blanks and not self.column.wishes.rules.keeps_blanks:
+            for part, texts in self.column.each():
+                if part.has_blanks:
+                    self.count_padded(texts, self.column.dictionary.counts[part.first:part.end])
+        yield list(map(str, range(count))) if places is None else \
+            [NULL if place < 0 else str(place) for place in places]
+
+    def count_padded(self, texts: Sequence[str], counts: Sequence[int]) -> None:
+        self.counts.padded += sum(count for text, count in zip(texts, counts)
+                                  if text != text.strip(BLANKS))
+
+    def kept(self, part: Part, kept: Numbered, texts: Sequence[str],
+             counts: Sequence[int]) -> list[str]:
+        """Returns the numbers of fields that are kept as numbers."""
+        assert self.decision.kind is not None
+        kind = undressed(self.decision.kind)
+        if part.has_blanks:
+            self.count_padded(texts, counts)
+        if kept.nulls:
+            counts = list(itertools.compress(counts, map(operator.not_, kept.nulls)))
+        numbers = self.numbers_of(kept, kind, counts)
+        self.counts.widen(min(numbers), max(numbers))
+        changed = changed_of(kept, kind)
+        if changed is not None:
+            self.counts.changed += sum(itertools.compress(counts, changed))
+        written = list(map(str, numbers))
+        if not kept.nulls:
+            return written
+        rest = iter(written)
+        return [NULL if null else next(rest) for null in kept.nulls]
+
+    def numbers_of(self, kept: Numbered, kind: Kind, counts: Sequence[int]) -> Sequence[int]:
+        """Returns kept numbers as those of a kind."""
+        numbers = values_of(kept)
+        if isinstance(kind, (Floats, Ranked)):
+            if kept.form == "float":
+                bits = memoryview(kept.data).cast("q")
+                zeros = map(NEGATIVE_ZERO.__eq__, bits)
+                self.counts.zeros += sum(itertools.compress(counts, zeros))
+            return kind.numbers(numbered_doubles(kept))
+        digits = kind.digits if isinstance(kind, (Decimals, Times)) else 0
+        power = 10 ** (digits - kept.digits)
+        return numbers if power == 1 else list(map(power.__mul__, numbers))
+
+    def read(self, part: Part, texts: Sequence[str], counts: Sequence[int]) -> list[str]:
+        """Returns the numbers of fields that are read one by one."""
+        words, decision, kind = set(self.column.wishes.words), self.decision, self.decision.kind
+        assert kind is not None, "a column of texts has other codes"
+        if part.has_blanks:
+            self.count_padded(texts, counts)
+            texts = [text.strip(BLANKS) for text in texts]
+        read = decision.rounding.number if decision.rounding else kind.number
+        numbers, written = list[int](), list[str]()
+        for text, count in zip(texts, counts):
+            if text in words:
+                written.append(NULL)
+                continue
+            found = read(text)
+            assert found is not None, "the column's kind fits all its texts"
+            numbers.append(found)
+            written.append(str(found))
+            self.note(text, found, count)
+        if numbers:
+            self.counts.widen(min(numbers), max(numbers))
+        return written
+
+    def note(self, text: str, number: int, count: int) -> None:
+        """Notes what changes of a field."""
+        kind, rounding, counts = self.decision.kind, self.decision.rounding, self.counts
+        assert kind is not None
+        change = rounding.change(text) if rounding else None
+        if change:
+            counts.rounded += count
+            counts.change = max(counts.change, change)
+        elif kind.text(number) != text:
+            counts.changed += count
+        if number == 0 and text[:1] == "-" and isinstance(undressed(kind), (Floats, Ranked)):
+            counts.zeros += count
+
+
+def exact_words(column: Fields) -> dict[str, int]:
+    """Returns how many rows have each word for null without blanks around it."""
+    found = dict[str, int]()
+    for part, texts in column.each():
+        assert column.dictionary is not None
+        for text, count in zip(texts, column.dictionary.counts[part.first:part.end]):
+            if text in column.words:
+                found[text] = count
+    return found
+
+
+def changed_of(kept: Numbered, kind: Kind) -> Optional[Iterable[object]]:
+    """Returns for each kept field whether it comes back in another spelling, or None if none
+    does."""
+    count = len(values_of(kept))
+    if isinstance(kind, (Floats, Ranked)):
+        if kept.form == "float":
+            return kept.lengths or None
+        spelled: Callable[[float], str] = repr
+        return map(str.__ne__, map(spelled, numbered_doubles(kept)), texts_of(kept))
+    if isinstance(kind, Decimals):
+        if kind.trimmed or not kept.lengths and kept.digits == kind.digits:
+            return None
+        return map(kind.digits.__ne__, kept.lengths or bytes([kept.digits]) * count)
+    if isinstance(kind, Times):
+        return None if restores(kind, kept.shape) else itertools.repeat(True, count)
+    return None
