@@ -2,8 +2,9 @@
 once, with the options that decide it."""
 from __future__ import annotations
 
-from typing import Sequence
+from typing import Optional, Sequence
 
+from . import separators
 from .court import Court
 from .floating import settle_floats
 from .judges.clocks import ClockJudge
@@ -18,11 +19,15 @@ from .kind import Kind
 from .kinds.nulls import Nulls
 from .kinds.times import Times
 from .moments import ISO_DATE
+from .naming import option
 from .questions import Asked, refuse
 from .source import Source
 from .telling import Refused, shown
 from .textual import text_question
 from .wishes import BLANKS
+
+# what may separate the fields of a file besides the separators that are chosen from
+MORE = " :^~"
 
 
 def decide(source: Source, columns: list[Fields]) -> list[Decision]:
@@ -37,13 +42,32 @@ def decide(source: Source, columns: list[Fields]) -> list[Decision]:
         if isinstance(verdict, Decision):
             verdict = exact(court.column, verdict)
         if isinstance(verdict, Decision) and verdict.kind is None:
-            verdict = text_question(court.column) or verdict
+            as_table = None if verdict.why else table_question(source, court.column)
+            verdict = as_table or text_question(court.column) or verdict
         if isinstance(verdict, Question):
             asked.append(Asked(place, court.column, verdict))
         else:
             decisions.append(verdict)
     refuse(source, asked)
     return settle_floats(columns, decisions)
+
+
+def table_question(source: Source, column: Fields) -> Optional[Question]:
+    """Returns what must be asked about the only column of a file, if it may be a table with another
+    separator: its texts have the same number of one."""
+    if not source.text.is_guessed or len(source.headings) > 1 or column.wishes.is_text or \
+            column.plain.forms:
+        return None
+    heading = source.headings[0] if source.has_heading else None
+    for sign in MORE:
+        counts = {separators.count(text, sign) for texts in column.bare() for text in texts}
+        count = counts.pop() if len(counts) == 1 else 0
+        # one in all rows but not in the heading may be a name, a time or an address
+        if count > 1 or count and (heading is None or separators.count(heading, sign) == count):
+            return Question(f"all its rows have {count} {sign!r}, which may separate fields", (),
+                            (separators.separator_option(sign),
+                             option("--text", column.wishes.heading)))
+    return None
 
 
 def exact(column: Fields, decision: Decision) -> Decision:

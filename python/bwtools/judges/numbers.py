@@ -1,10 +1,13 @@
 """Numbers: whole numbers, decimals and floats, in one style."""
 from __future__ import annotations
 
+import decimal
+import itertools
 import math
 from dataclasses import dataclass
 from typing import ClassVar, Optional, Sequence, Union
 
+from ..keeping import Numbered
 from ..kind import GREATEST, LEAST
 from ..kind import Kind
 from ..kinds.decimals import Decimals
@@ -12,9 +15,10 @@ from ..kinds.floats import Floats
 from ..kinds.styled import Numbers, Styled
 from ..kinds.whole import Whole
 from ..naming import option
-from ..numerals import SIMPLE, STARTS, ZEROS, is_number, like_number
-from ..rounding import Rounding
-from ..spans import Spans
+from ..numerals import SIMPLE, STARTS, WHOLE, ZEROS, is_number, like_number
+from ..plain import texts_of
+from ..rounding import SHORT, Rounding, change_in_double
+from ..spans import MOST_DIGITS, Spans
 from ..style import Style
 from ..telling import shown
 from .fields import Fields
@@ -49,6 +53,7 @@ class NumberJudge:
             for texts in column.bare():
                 self.survey.add(texts)
             self.survey.add(list(column.plain.samples.values()))
+            self.survey.add([str(least) for least, _ in column.plain.spans.ends.values()])
         return self.survey
 
     def signs(self, column: Fields) -> set[str]:
@@ -63,8 +68,12 @@ class NumberJudge:
         if survey.zeros and not wishes.is_number:
             return with_zeros(survey, wishes.heading)
         is_wanted = wishes.is_number or wishes.digits is not None
-        if survey.has_codes_alone() and not column.plain.forms and not is_wanted:
-            return Question("{0} may be a code, or a number with a power of ten", (survey.first,),
+        if survey.phone and not survey.has_minus and not is_wanted:
+            drop = option("--number", wishes.heading)
+            return Decision(None, f"{shown(survey.phone)} and others have a leading +, which "
+                                  f"{drop} drops")
+        if survey.code and not survey.no_code and are_whole(column) and not is_wanted:
+            return Question("{0} may be a code, or a number with a power of ten", (survey.code,),
                             both(wishes.heading))
         sign = self.decimal_sign(column, signs)
         if isinstance(sign, Question):
@@ -93,9 +102,19 @@ class NumberJudge:
             return mark
         if len(signs) == 1:
             return next(iter(signs))
+        if mark == "." and is_separator and not signs:
+            # decimals have a comma only if something else separates the fields
+            return mark
         return Question(f"{{0}} may be {text.replace(mark, '')} or {text.replace(mark, '.')}",
                         (text,),
-                        (option("--thousands", mark), *both(heading)))
+                        (f"--thousands '{mark}'" if mark == "," else option("--thousands", mark),
+                         *both(heading)))
+
+
+def are_whole(column: Fields) -> bool:
+    """Returns whether the fields that are stored as numbers are whole ones."""
+    spans = column.plain.spans
+    return not spans.is_float and not spans.digits
 
 
 def both(heading: str) -> tuple[str, str]:
@@ -132,6 +151,11 @@ def in_style(column: Fields, style: Style) -> Verdict:
             return Question("{0} is too large for a double", (text,),
                             (option("--null", f"{wishes.heading}={text}"),
                              option("--text", wishes.heading)))
+        text = None if wishes.is_number else no_double(column, style)
+        if text is not None:
+            near = f"{float(style.bare(text) or 0):.0f}"
+            return Question(f"{{0}} is no double: the nearest is {near}", (text,),
+                            (*digits_for(column, style), option("--text", wishes.heading)))
         number = Floats(0)
     return Decision(dressed(number, style))
 
@@ -165,6 +189,30 @@ def rounded(column: Fields, style: Style, digits: int) -> Verdict:
                          option("--text", column.wishes.heading)))
     number: Numbers = Decimals(digits, 0) if digits else Whole()
     return Decision(dressed(number, style), rounding=rounding)
+
+
+def no_double(column: Fields, style: Style) -> Optional[str]:
+    """Returns a whole number that isn't a double, such as an id, if there is one."""
+    kept = (part.kept for part in column.parts if part.kept)
+    whole = (texts_of(each) for each in kept if each.form == "number" and not each.digits)
+    for texts in itertools.chain(column.bare(), whole):
+        for text in texts:
+            plain = style.bare(text) if len(text) > SHORT else None
+            if plain and WHOLE.fullmatch(plain) and change_in_double(plain):
+                return text
+    return None
+
+
+def digits_for(column: Fields, style: Style) -> tuple[str, ...]:
+    """Returns the option that rounds numbers to as many digits as they have, or as fit 64 bits, if
+    any do."""
+    needed, most = 0, 0
+    for texts in column.bare():
+        for number in (decimal.Decimal(style.bare(text) or 0) for text in texts):
+            needed = max(needed, -int(number.as_tuple().exponent))
+            most = max(most, number.adjusted() + 1 if number else 0)
+    digits = min(needed, MOST_DIGITS - most)
+    return (option("--digits", f"{column.wishes.heading}={digits}"),) if digits >= 0 else ()
 
 
 def too_large(column: Fields, style: Style) -> Optional[str]:

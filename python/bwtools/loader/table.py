@@ -205,7 +205,7 @@ class Table:
         source, empty = self.source, self.coded.empty
         skipped = f"; {counted(empty, 'empty line')} skipped" if empty else ""
         print(f"{counted(self.rows, 'row')}, separated by {source.separator!r}, "
-              f"in {source.text.encoding.removesuffix('-sig')}{skipped}")
+              f"in {source.text.written[1]}{skipped}")
 
 
 def ends_of(parts: Sequence[Part], place: int) -> Optional[tuple[int, int]]:
