@@ -125,7 +125,7 @@ class Answers(Tools):
 # and the message
 REFUSED = [
     ("a first line of numbers", b"1,x\n2,y\n", [], None,
-     "use --heading if it is a heading, or --no-heading if it is a row"),
+     "use --no-heading if it is a row, or --heading if it is a heading"),
     ("a first line of dates", b"x,2024-05-01\ny,2024-05-02\n", [], None,
      "the first line has '2024-05-01' above a column of such fields"),
     ("a first line of post codes", b"x,01234\ny,09876\n", [], None, "the first line has '01234'"),

@@ -26,9 +26,6 @@ from .telling import Refused, shown
 from .textual import text_question
 from .wishes import BLANKS
 
-# what may separate the fields of a file besides the separators that are chosen from
-MORE = " :^~"
-
 
 def decide(source: Source, columns: list[Fields]) -> list[Decision]:
     """Returns what each column becomes. Raises Refused with all that can't be decided."""
@@ -59,7 +56,7 @@ def table_question(source: Source, column: Fields) -> Optional[Question]:
             column.plain.forms:
         return None
     heading = source.headings[0] if source.has_heading else None
-    for sign in MORE:
+    for sign in separators.MORE:
         counts = {separators.count(text, sign) for texts in column.bare() for text in texts}
         count = counts.pop() if len(counts) == 1 else 0
         # one in all rows but not in the heading may be a name, a time or an address
@@ -77,13 +74,21 @@ def exact(column: Fields, decision: Decision) -> Decision:
         return decision
     kind, plain = decision.kind, column.plain
     lengths = plain.spans.lengths
-    is_odd = any(text.strip(BLANKS) not in column.wishes.words and
-                 kind.text(kind.number(text.strip(BLANKS)) or 0) != text
+    is_odd = any(is_changed(kind, column, text)
                  for texts in column.unkept() for text in texts)
     if not is_odd and not plain.padded and not (len(lengths) > 1 and plain.spans.has_zero) and \
             all(restores(kind, shape) for shape in plain.shapes):
         return decision
     return Decision(None, "some fields wouldn't be restored exactly", kind.plural)
+
+
+def is_changed(kind: Kind, column: Fields, text: str) -> bool:
+    """Returns whether a field comes back as another one. One that is null comes back as nothing,
+    which the report says of words."""
+    bare = text.strip(BLANKS)
+    if bare in column.wishes.words:
+        return not bare and bool(text) and column.wishes.rules.keeps_blanks
+    return kind.text(kind.number(bare) or 0) != text
 
 
 def restores(kind: Kind, shape: tuple[str, bool, int, str]) -> bool:
@@ -103,7 +108,7 @@ def refuse_heading(source: Source, headings: Sequence[str], columns: Sequence[Fi
         if any(judge.like([heading]) and is_all_like(judge, column, decision) for judge in judges):
             raise Refused(f"{source.path}: the first line has {shown(heading)} above a column of "
                           "such fields: "
-                          "use --heading if it is a heading, or --no-heading if it is a row")
+                          "use --no-heading if it is a row, or --heading if it is a heading")
 
 
 def is_all_like(judge: Judge, column: Fields, decision: Decision) -> bool:

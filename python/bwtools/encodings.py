@@ -21,7 +21,7 @@ NO_CP1252 = bytes((0x81, 0x8d, 0x8f, 0x90, 0x9d))
 # so many bytes of lines with other than ASCII are looked at, and so many characters are shown
 LOOKED, SHOWN = 1 << 16, 20
 HIGH = re.compile(b"[\\x80-\\xff]+")
-KANA, HANGUL = re.compile("[\u3041-\u30ff\uff66-\uff9f]"), re.compile("[\uac00-\ud7af]")
+KANA, HANGUL = re.compile("[\u3041-\u30ff]"), re.compile("[\uac00-\ud7af]")
 WIDE = re.compile("[\u3000-\u30ff\u4e00-\u9fff\uac00-\ud7af\uff00-\uffef]")
 
 

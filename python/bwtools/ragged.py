@@ -94,7 +94,11 @@ def title_lines(records: Sequence[Record], width: int) -> int:
     is_likely = common > width or common < width and set(lengths) == {common}
     if common < 2 or not is_likely:
         return 0
-    return next(line for line, record in records if len(record) == common) - 1
+    first = next(place for place, (_, record) in enumerate(records) if len(record) == common)
+    before = records[first - 1][1] if first > 1 else []
+    # the heading may have a separator at its end
+    first -= len(before) == common + 1 and not before[-1]
+    return records[first][0] - 1
 
 
 def padded_title(records: Sequence[Record]) -> int:
@@ -111,7 +115,10 @@ def padded_title(records: Sequence[Record]) -> int:
 
 
 def is_padded(record: Sequence[str]) -> bool:
-    return len(record) > 1 and bool(record[0].strip()) and not any(map(str.strip, record[1:]))
+    """Returns whether a record has a field first, and empty ones last that are half of all or
+    more."""
+    present = len("".join("x" if field.strip() else " " for field in record).rstrip())
+    return bool(record[0].strip()) and 2 * present <= len(record)
 
 
 def is_above(records: Sequence[Record]) -> bool:

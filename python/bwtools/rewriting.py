@@ -122,7 +122,7 @@ def changed(records: Callable[[], Iterator[Record]], changes: Changes) -> Iterat
 
 def places_of(headings: list[str], wanted: list[str], path: str) -> list[int]:
     """Returns the places of the columns that are picked, in the file's order."""
-    known = [heading.strip(BLANKS) for heading in headings]
+    known, wanted = ([name.strip(BLANKS) for name in names] for names in (headings, wanted))
     unknown = [each for each in wanted if each not in known]
     if unknown:
         raise Refused(f"{path}: --columns: no column has the heading {shown(unknown[0])}; there "

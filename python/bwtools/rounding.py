@@ -48,8 +48,11 @@ class Rounding:
 
 def change_in_double(plain: str) -> decimal.Decimal:
     """Returns by how much a number in plain spelling differs from the shortest spelling of the
-    nearest double."""
+    nearest double, if it isn't this double."""
     if len(plain) <= SHORT and "e" not in plain.lower():
         return decimal.Decimal(0)
-    number, near = decimal.Decimal(plain), decimal.Decimal(repr(float(plain)))
-    return decimal.Decimal(0) if number == near else abs(CONTEXT.subtract(number, near))
+    number, double = decimal.Decimal(plain), float(plain)
+    near = decimal.Decimal(repr(double))
+    if number in (near, decimal.Decimal(double)):
+        return decimal.Decimal(0)
+    return abs(CONTEXT.subtract(number, near))

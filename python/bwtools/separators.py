@@ -4,13 +4,16 @@ from __future__ import annotations
 import collections
 import re
 from dataclasses import dataclass
-from typing import NamedTuple, Sequence
+from typing import NamedTuple, Optional, Sequence
 
 from .naming import option
 from .signs import Signs
+from .telling import counted
 
 # the separators that are chosen from, and by how many rows
 CANDIDATES, ROWS = ",;\t|", 200
+# what else may separate fields, which a reader must say
+MORE = " :^~"
 COMMENTS, LINES = "#%", re.compile("[^\r\n]+")
 NAMES = {",": "comma", ";": "semicolon", "\t": "tab", "|": "bar", " ": "space"}
 
@@ -23,8 +26,8 @@ class Tie(NamedTuple):
 
     def told(self) -> str:
         """Returns a message with the options that choose."""
-        what, how = zip(*((f"{sign!r} ({count} fields)", separator_option(sign))
-                          for sign, count in self))
+        what, how = zip(*((f"{sign!r} ({counted(fields, 'field')})", separator_option(sign))
+                          for sign, fields in self))
         return f"the separator may be {' or '.join(what)}: use {', or '.join(how)}"
 
 
@@ -51,7 +54,7 @@ class Reading:
 
 def reading_of(lines: Sequence[str], sign: str, has_heading: bool) -> Reading:
     """Returns how a separator reads lines, of which there is one or more."""
-    widths = [line.count(sign) + 1 for line in lines]
+    widths = [count(line, sign) + 1 for line in lines]
     rows = widths[1:] if has_heading else widths
     (width, number), = collections.Counter(rows or widths).most_common(1)
     share = number / len(rows or widths) if width > 1 else 0
@@ -86,12 +89,25 @@ def chosen(text: str, signs: Signs, is_cut: bool, has_heading: bool) -> str | Ti
     if whole:
         return of_whole(whole, most)
     best = max(readings, key=lambda each: (each.share, each.heading))
+    other = other_reading(lines, has_heading)
+    if other:
+        return Tie((other.sign, other.heading), (most.sign, most.heading))
     if best.share <= .5 or best.share == most.share:
         return most.sign
     # a title may have any signs, though hardly more than the rows
     if most.heading >= best.width and best.heading < best.width:
         return Tie((best.sign, best.width), (most.sign, most.heading))
     return best.sign
+
+
+def other_reading(lines: Sequence[str], has_heading: bool) -> Optional[Reading]:
+    """Returns how a separator that isn't chosen reads lines in which it is equally often, if one
+    is, and those that are chosen from are in some of them."""
+    used = {sign for sign in CANDIDATES for line in lines if sign in line}
+    # a tab is a blank too
+    signs = MORE.replace(" ", "") if "\t" in used else MORE
+    readings = (reading_of(lines, sign, has_heading) for sign in signs) if used else ()
+    return next((each for each in readings if each.is_whole and each.width > 2), None)
 
 
 def of_whole(whole: Sequence[Reading], most: Reading) -> str | Tie:

@@ -6,10 +6,11 @@ import collections
 import itertools
 import os
 from dataclasses import dataclass
-from typing import BinaryIO, Iterator, NoReturn
+from typing import BinaryIO, Iterator, NoReturn, Sequence
 
 from . import ragged
 from .naming import option
+from .numerals import is_number
 from .table_limits import MOST_COLUMNS, MOST_ROWS
 from .telling import Refused, shown
 from .text import Text
@@ -53,11 +54,16 @@ class Source:
         if first is None:
             raise Refused(f"{self.path}: there is no heading")
         if len(first) > MOST_COLUMNS:
-            names = first if self.has_heading else ["c1", "c2"]
-            raise Refused(f"{self.path}: {len(first)} columns: a table has at most "
-                          f"{MOST_COLUMNS}: use {option('--columns', ','.join(names[:2]))}, with "
-                          "the headings to pick")
+            self.refuse_wide(first)
         return first if self.has_heading else [f"c{place}" for place in range(1, len(first) + 1)]
+
+    def refuse_wide(self, first: Sequence[str]) -> NoReturn:
+        """Rejects a first record of too many fields."""
+        is_row = not self.has_heading or all(is_number(each.strip()) for each in first)
+        use = "" if is_row == (not self.has_heading) else "--no-heading "
+        use += option("--columns", "c1,c2" if is_row else ",".join(first[:2]))
+        raise Refused(f"{self.path}: {len(first)} columns: a table has at most {MOST_COLUMNS}: use "
+                      f"{use}, with the headings to pick")
 
     def refuse_title(self) -> None:
         """Rejects a file whose first record is a title with empty fields after it."""

@@ -1,6 +1,8 @@
 """Files whose columns could become something else: each is read as what it means, named in the
 report, or refused with the options that load it."""
+import csv
 import io
+import random
 import unittest
 import zipfile
 
@@ -28,6 +30,8 @@ READ = [
      "years of 69 to 99 are 1969 to 1999, those of 00 to 68 are 2000 to 2068"),
     ("times with years of two digits", "v\n13/10/12 10:00\n", (), "times", ["13/10/12 10:00"],
      "years of 69 to 99 are 1969 to 1999"),
+    ("a whole number that is a double", "n\n999999999999998592\n0.125e-3\n", (), "floats",
+     ["9.999999999999986e+17", "0.000125"], "spelling changed in 2 fields"),
     ("powers among fractions", "c\n1001\n10E2\n20.5\n", (), "floats",
      ["1001.0", "1000.0", "20.5"], "shortest spelling"),
     ("codes by name", "c\n1001\n10E2\n2001\n", ("--text", "c"), "texts",
@@ -72,7 +76,11 @@ REFUSED = [
      "column 'n': '9007199254740993' in line 2 is no double: the nearest is 9007199254740992: use "
      "--digits n=0, or --text n"),
     ("a large number that is no double", "n\n123456789012345678901\n1.5e-3\n", (),
-     "is no double: the nearest is 123456789012345683968: use --text n"),
+     "is no double: the nearest is 123456789012345683968: use --number n, which rounds it, or "
+     "--text n"),
+    ("another separator than commas in texts", "a^b^c\n1^x, y^2\n3^z^4\n", (),
+     "the separator may be '^' (3 fields) or ',' (1 field): use --separator '^', or --separator "
+     "comma"),
     ("a wrong weekday", 't\n"Wed, 01 May 2024"\n"Wed, 02 May 2024"\n"Sat, 03 Feb 2024"\n', (),
      "column 't': 'Wed, 02 May 2024' in line 3 isn't a date, as 2 of 3 fields are: use --null "
      "'t=Wed, 02 May 2024', or --text t"),
@@ -97,6 +105,9 @@ LOOK = [
     ("a zone by name", "dates", ["2024-05-01 10:00 CEST", "2024-11-01 10:00 CET"]),
     ("sizes", "numbers with units", ["10K", "5M", "1.5G"]),
     ("sizes of one length", "numbers with units", ["10K", "50M", "15G"]),
+    ("dashes for minus", "numbers with units", ["–5.25", "12.5", "−3"]),
+    ("versions", "versions", ["1.10.2", "1.9.3", "2.0.0"]),
+    ("versions of one length", "", ["1.0.2", "1.9.3", "2.0.0"]),
     ("an unknown unit", "numbers with units", ["5 Lek", "12 Lek"]),
     ("more than a day", "lengths of time", ["25:10", "100:30"]),
     ("minutes and parts", "lengths of time", ["0:45.25", "61:30.5", "10:30.5"]),
@@ -160,6 +171,11 @@ NAMED = [
     ("a padded title", "Sales,,\n,,\nid,city,n\n1,Bern,2\n2,Ulm,3\n",
      "the first line has 'Sales' and empty fields: use --skip 2 if it is a title, or --heading",
      {("--skip", "2"): ["1,Bern,2", "2,Ulm,3"]}),
+    ("a padded title of two fields", "506,3,,,,\nCRIM,ZN,X,Y,Z,T\n1,2,3,4,5,6\n", "use --skip 1 if",
+     {("--skip", "1"): ["1,2,3,4,5,6"]}),
+    ("a title above a heading with a separator at its end", 'Clicks\n"a","b",\nx,1\ny,2\n',
+     "--skip 1 skips the line above the heading",
+     {("--skip", "1", "--fill"): ["x,1,", "y,2,"]}),
     ("a padded title above two columns", "Sales,\nid,n\n1,2\n", "use --skip 1 if it is a title",
      {("--skip", "1"): ["1,2"]}),
     ("row names", "a,b\nr1,1,2\nr2,3,4\n",
@@ -195,6 +211,8 @@ NAMED = [
      {("--columns", "k0,k1"): ["0,1"], ("--columns", "k69", "--columns", "k3,k5"): ["3,5,69"]}),
     ("many columns without a heading", "1," * 69 + "1\n" + "2," * 69 + "2\n", "70 columns",
      {("--no-heading", "--columns", "c2,c70"): ["1,1", "2,2"]}),
+    ("many numbers in a line", " -1.5," * 69 + "1\n", "use --no-heading --columns c1,c2, with",
+     {("--no-heading", "--columns", "c1,c2"): ["-1.5,-1.5"]}),
     ("a column that isn't there", "a,b,c\n1,2\n", "--fill adds",
      {("--columns", "a,c", "--fill"): ["1,"], ("--columns", "b", "--fill"): ["2"]}),
     ("blanks", "a  b c\n 1 2   x\n3\t4 y \n\n5 6 'u  v'\n", "",
@@ -295,6 +313,35 @@ class Meanings(unittest.TestCase):
         for name, data, words, told in REFUSED:
             with self.subTest(name):
                 self.assertIn(told, Import(data, *words).refusal)
+
+
+# fields that may come back in another spelling
+FIELDS = ["1", "-0", "+5", "007", "1.50", "2.0", "1.25", "1e5", "1E+3", "1.5e3", "-0.0", "1,5",
+          "9007199254740993", "1.000", "1,234.50", "$5", "(12)", "5 %", "NA", "-", "null", "", "  ",
+          " 1", "1 ", "x", "y ", "True", "true", "FALSE", "2024-05-01", "01.05.2024", "1.5.24",
+          "03/04/2024", "2024-05-01 10:00", "2024-05-01T10:00:00Z", "2024-05-01 10:00 +0200",
+          "10:30", "9:05", "1:30 PM", "10:30:15.5", "Wed, 01 May 2024 10:00:00 +0200", "1 May 2024",
+          "20240501T103000Z", "0.1234567890123456789", "1e-400", ".5", "5.", "12,34,567", "1'000"]
+
+
+class Spellings(unittest.TestCase):
+    def test_all_are_kept_or_named(self):
+        draw, loaded = random.Random(93), 0
+        for _ in range(600):
+            kinds = draw.sample(FIELDS, draw.choice([1, 2, 2, 3, 4]))
+            fields = draw.choices(kinds, k=draw.randrange(1, 7))
+            out = io.StringIO()
+            csv.writer(out, "excel-tab").writerows([["a", "b"], *([each, "x"] for each in fields)])
+            found = Import(out.getvalue(), "--separator", "tab", "--keep-spelling", "--keep-blanks")
+            if found.refusal:
+                continue
+            loaded += 1
+            note = found.report.splitlines()[1]
+            for field, row in zip(fields, found.rows):
+                if row != f"{field},x":
+                    self.assertEqual(row, ",x", fields)
+                    self.assertIn(repr(field.strip()), note.partition("can't be kept")[0], fields)
+        self.assertGreater(loaded, 300)
 
 
 class Headings(Imported):

@@ -1,5 +1,6 @@
 """What a column of texts looks like, though nobody reads it so: dates with the months of another
-language, numbers with different units, or lengths of time. Code points don't order these."""
+language, numbers with different units, lengths of time, or versions. Code points don't order
+these."""
 from __future__ import annotations
 
 import re
@@ -23,7 +24,9 @@ NAMED = re.compile(r"(?:[^\W\d_]{2,10}\.?,? )?(?:[0-9]{1,2}(?:\.|st|nd|rd|th|er|
                    r"[-/. ]{1,2})?([^\W\d_]{3,10})\.?,?(?:(?: de)?[-/. ,']{1,2}[0-9]{1,4}){1,2}"
                    r"(?:[ T,].*)?")
 MONTH = re.compile("[0-9]{1,2}/[0-9]{4}|Q[1-4][ /-]?[0-9]{4}|[1-4]Q[0-9]{2}")
-AMOUNT = re.compile(r"[+-]?[0-9][0-9.,']*[ \u00a0]?([^\W\d_]{0,4}\.?)")
+# a number with any unit, or with the minus sign or the dash of print
+AMOUNT = re.compile(r"([\u2212\u2013]?)[+-]?[0-9][0-9.,']*[ \u00a0]?([^\W\d_]{0,4}\.?)")
+VERSION = re.compile(r"v?[0-9]+(?:\.[0-9]+){2,3}")
 # the units that make a number larger
 SIZE = re.compile("[kKMGTPmunµ]?i?B?")
 UNIT = "(?:ms|[dhms]|min|hrs?|days?|hours?|mins?|minutes?|secs?|seconds?)"
@@ -40,6 +43,14 @@ def is_date(text: str) -> bool:
 
 def is_amount(text: str) -> bool:
     return AMOUNT.fullmatch(text) is not None
+
+
+def is_version(text: str) -> bool:
+    return VERSION.fullmatch(text) is not None
+
+
+def have_one_length(texts: Iterable[str]) -> bool:
+    return len(set(map(len, filter(is_version, texts)))) == 1
 
 
 def never(texts: Iterable[str]) -> bool:
@@ -83,10 +94,11 @@ def are_codes(texts: Iterable[str]) -> bool:
         found = AMOUNT.fullmatch(text)
         if found:
             lengths.add(len(text))
-            units.add(found[1])
+            units.add(found[1] + found[2])
     return units == {""} or len(lengths) == 1 and \
         (len(units) < 2 or not all(map(SIZE.fullmatch, units)))
 
 
 LIKENESSES = (Likeness("lengths of time", is_length), Likeness("dates", is_date, ("time",)),
-              Likeness("numbers with units", is_amount, ("number",), are_codes))
+              Likeness("numbers with units", is_amount, ("number",), are_codes),
+              Likeness("versions", is_version, (), have_one_length))

@@ -7,7 +7,6 @@ import math
 from dataclasses import dataclass
 from typing import ClassVar, Optional, Sequence, Union
 
-from ..keeping import Numbered
 from ..kind import GREATEST, LEAST
 from ..kind import Kind
 from ..kinds.decimals import Decimals
@@ -105,10 +104,11 @@ class NumberJudge:
         if mark == "." and is_separator and not signs:
             # decimals have a comma only if something else separates the fields
             return mark
+        # another column has it as the decimal sign
+        between = [] if mark in signs else \
+            [f"--thousands '{mark}'" if mark == "," else option("--thousands", mark)]
         return Question(f"{{0}} may be {text.replace(mark, '')} or {text.replace(mark, '.')}",
-                        (text,),
-                        (f"--thousands '{mark}'" if mark == "," else option("--thousands", mark),
-                         *both(heading)))
+                        (text,), (*between, *both(heading)))
 
 
 def are_whole(column: Fields) -> bool:
@@ -204,15 +204,16 @@ def no_double(column: Fields, style: Style) -> Optional[str]:
 
 
 def digits_for(column: Fields, style: Style) -> tuple[str, ...]:
-    """Returns the option that rounds numbers to as many digits as they have, or as fit 64 bits, if
-    any do."""
-    needed, most = 0, 0
+    """Returns the option that gives numbers as many digits as they have, or rounds them to doubles
+    if so many don't fit 64 bits."""
+    needed, most, heading = 0, 0, column.wishes.heading
     for texts in column.bare():
         for number in (decimal.Decimal(style.bare(text) or 0) for text in texts):
             needed = max(needed, -int(number.as_tuple().exponent))
             most = max(most, number.adjusted() + 1 if number else 0)
-    digits = min(needed, MOST_DIGITS - most)
-    return (option("--digits", f"{column.wishes.heading}={digits}"),) if digits >= 0 else ()
+    does_fit = needed + most <= MOST_DIGITS
+    return (option("--digits", f"{heading}={needed}") if does_fit else
+            f"{option('--number', heading)}, which rounds it",)
 
 
 def too_large(column: Fields, style: Style) -> Optional[str]:

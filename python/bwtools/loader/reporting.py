@@ -46,6 +46,9 @@ def notes(column: Column, numbers: Numbers) -> Iterator[str]:
             yield f"{shown(word)} is a text in {counted(count, 'field')}, and null by {null}"
     if "%y" in getattr(undressed(column.kind), "form", ""):
         yield "years of 69 to 99 are 1969 to 1999, those of 00 to 68 are 2000 to 2068"
+    words = [shown(word) for word in counts.nulls if word]
+    if words and tally.column.wishes.rules.keeps_spelling:
+        yield f"{', '.join(words)} can't be kept: a null comes back as an empty field"
     if counts.padded:
         yield f"blanks dropped in {counted(counts.padded, 'field')}"
     if counts.zeros:
