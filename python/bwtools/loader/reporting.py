@@ -50,7 +50,8 @@ def notes(column: Column, numbers: Numbers) -> Iterator[str]:
         yield f"-0.0 in {counted(counts.zeros, 'field')} is 0.0"
     if counts.rounded:
         # of an exponent of thousands no zeros are printed
-        change = f"{counts.change:{'f' if counts.change.adjusted() > -SHORT else '.0e'}}"
+        change = counts.change.normalize()
+        change = f"{change:{'f' if change.adjusted() > -SHORT else '.0e'}}"
         yield f"{counted(counts.rounded, 'field')} rounded, by at most {change}"
     if counts.changed:
         is_float = undressed(column.kind).plural == "floats"
