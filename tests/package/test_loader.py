@@ -3,6 +3,7 @@ become the same tables; and so do fields that are examined together and one by o
 import contextlib
 import csv
 import io
+import os
 import random
 import tempfile
 import unittest
@@ -282,7 +283,8 @@ class Dictionaries(TestCase):
                 parts = [self.written(each, folder / f"{turn}-{place}")
                          for place, each in enumerate(listed)]
                 self.assertEqual(list(map(self.content, parts)), listed)
-                merged, places = merge(parts, ByteFile(folder / "merged", "w+b"))
+                merged, places = merge(parts, ByteFile(
+                    folder / "merged", os.O_RDWR | os.O_CREAT | os.O_TRUNC))
                 wanted = sorted({field for each in listed for field in each})
                 self.assertEqual(self.content(merged), {field: sum(
                     each.get(field, 0) for each in listed) for field in wanted})

@@ -51,8 +51,8 @@ def notes(column: Column, numbers: Numbers) -> Iterator[str]:
     if counts.rounded:
         # of an exponent of thousands no zeros are printed
         change = counts.change.normalize()
-        change = f"{change:{'f' if change.adjusted() > -SHORT else '.0e'}}"
-        yield f"{counted(counts.rounded, 'field')} rounded, by at most {change}"
+        told = f"{change:{'f' if change.adjusted() > -SHORT else '.0e'}}"
+        yield f"{counted(counts.rounded, 'field')} rounded, by at most {told}"
     if counts.changed:
         is_float = undressed(column.kind).plural == "floats"
         where = "in the shortest spelling" if is_float else "values kept"

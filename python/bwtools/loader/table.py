@@ -110,7 +110,8 @@ class Table:
         dictionary: Optional[Dictionary] = held[0] if held else None
         places: list[Optional[array[int]]] = [None] * len(dictionaries)
         if dictionary and len(dictionaries) > 1:
-            merged = ByteFile(self.folder / f"merged-{place}", "w+b")
+            merged = ByteFile(self.folder / f"merged-{place}",
+                              os.O_RDWR | os.O_CREAT | os.O_TRUNC)
             dictionary, each = merge(held, merged)
             rest = iter(each)
             places = [next(rest) if each else None for each in dictionaries]
