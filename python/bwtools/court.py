@@ -16,11 +16,8 @@ from .judges.wanted import WantedJudge
 from .kinds.nulls import Nulls
 from .moments import is_like_date
 from .naming import option
-from .opinion import DRAWN, MOST_WORDS, Opinion, count_fields, others_of
+from .opinion import MOST_WORDS, Opinion, count_fields, others_of
 from .telling import counted, shown
-
-# of a run of more texts than these, some are drawn first
-MANY = 1 << 14
 
 
 class Court:
@@ -37,15 +34,14 @@ class Court:
         self.opinions = [] if wishes.is_text else list(map(Opinion, judges))
         self.count = 0
         may_leave = not is_asked and not column.plain.forms
-        for number, run in enumerate(column.runs()):
-            self.count += len(run.bare)
-            drawn = column.drawn(run, DRAWN) if may_leave and len(run.bare) > MANY else []
+        for number, run in enumerate(column.runs):
+            self.count += run.size
             for opinion in self.opinions:
-                if not drawn or not opinion.leaves(number, run.bare, drawn):
+                if not may_leave or not opinion.leaves(number, run):
                     opinion.add(run)
         # if other runs have some, all are counted
         late = [opinion for opinion in self.opinions if opinion.left and opinion.likes]
-        for number, run in enumerate(column.runs() if late else ()):
+        for number, run in enumerate(column.runs if late else ()):
             for opinion in late:
                 if number in opinion.left:
                     opinion.add(run)

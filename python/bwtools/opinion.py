@@ -2,9 +2,7 @@
 from __future__ import annotations
 
 import itertools
-import random
 from dataclasses import dataclass, field
-from typing import Sequence
 
 from .judges.fields import Fields, Run
 from .judges.judge import Judge
@@ -12,9 +10,6 @@ from .wishes import BLANKS
 
 # a column that is mostly of a kind, and has at most so many other words, is refused
 MOST_WORDS = 3
-# of many texts so many are drawn: if less than two fifths of these are like a judge's own, then
-# less than half of all are, but for a chance of one in a thousand million
-DRAWN = 1000
 
 
 @dataclass
@@ -38,15 +33,17 @@ class Opinion:
             others = (text for text in run.bare if text not in known)
             self.others.update(dict.fromkeys(itertools.islice(others, MOST_WORDS + 1)))
 
-    def leaves(self, number: int, bare: Sequence[str], fields: Sequence[str]) -> bool:
+    def leaves(self, number: int, run: Run) -> bool:
         """Returns whether a run is left, since less than half of its texts, and of its fields, are
-        like the judge's own: `fields` are some of them."""
-        drawn = random.Random(0).sample(bare, DRAWN)
-        known = set(self.judge.like(sorted({*drawn, *fields})))
-        if any(sum(map(known.__contains__, each)) * 5 >= len(each) * 2 for each in (drawn, fields)):
+        like the judge's own."""
+        if not run.texts_drawn:
+            return False
+        known = set(self.judge.like(sorted({*run.texts_drawn, *run.rows_drawn})))
+        if any(sum(map(known.__contains__, each)) * 5 >= len(each) * 2
+               for each in (run.texts_drawn, run.rows_drawn)):
             return False
         self.left.add(number)
-        self.others.setdefault(next(text for text in drawn if text not in known))
+        self.others.setdefault(next(text for text in run.texts_drawn if text not in known))
         return True
 
 
@@ -54,11 +51,11 @@ def others_of(column: Fields, opinion: Opinion) -> list[str]:
     """Returns the first texts that aren't like a judge's own, one more than may be refused."""
     found = dict(opinion.others)
     foreign = column.plain.forms - set(opinion.judge.forms)
-    for part, texts in column.each() if foreign else ():
+    for part in column.parts if foreign else ():
         if len(found) > MOST_WORDS:
             break
         if part.kept and part.kept.form in foreign:
-            bare = (text.strip(BLANKS) for text in texts)
+            bare = (text.strip(BLANKS) for text in column.texts(part))
             found.update(dict.fromkeys(itertools.islice(
                 (text for text in bare if text not in column.wishes.words), MOST_WORDS + 1)))
     return list(found)[:MOST_WORDS + 1]

@@ -10,9 +10,9 @@ import re
 from dataclasses import dataclass, field
 from typing import Any, Iterable, Sequence
 
-from .keeping import Numbered, packed, split_nulls, values_of
+from .keeping import Numbered, packed, split_nulls
 from .numerals import is_grouped
-from .plain_times import plain_times, times_of
+from .plain_times import plain_times
 from .spans import LONGEST, MOST_DIGITS, Spans
 
 FLOATS = re.compile(r"(?:-?(?:[0-9]+(?:\.[0-9]+)?)(?:e[+-][0-9]+)?\n)*")
@@ -45,12 +45,14 @@ class Plain:
         """The decimal sign, or nothing if none has occurred."""
         return "," if "," in self.samples.get("mark", "") else self.samples.get("mark", "") and "."
 
+    def may_have(self, first: str) -> bool:
+        """Returns whether fields, of which one is the first, may be kept as numbers."""
+        return bool(self.signs) and self.failed <= 2 and \
+            (FIRST.match(first) is not None or first in self.words)
+
     def add(self, fields: Sequence[str]) -> Numbered | None:
         """Adds fields, and returns them as they are kept, if all but the nulls are numbers or times
         in such a spelling."""
-        first = fields[0]
-        if not self.signs or self.failed > 2 or not FIRST.match(first) and first not in self.words:
-            return None
         bare, padded = without_blanks(fields)
         present, nulls = split_nulls(bare, self.words)
         kept = self.examined(present, nulls) if present else None
@@ -163,31 +165,6 @@ def without_blanks(fields: Sequence[str]) -> tuple[Sequence[str], int]:
         return fields, 0
     bare = [text.strip(" \t") for text in fields]
     return bare, sum(map(operator.ne, bare, fields))
-
-
-def texts_of(kept: Numbered) -> Sequence[str]:
-    """Returns the texts of stored numbers as they were, without blanks around them and without the
-    nulls."""
-    numbers = values_of(kept)
-    if kept.form == "time":
-        return times_of(numbers, kept.shape)
-    if kept.form == "float":
-        texts = list(map(repr, numbers))
-        return [text[:-2] if bare else text for text,
-                bare in zip(texts, kept.lengths)] if kept.lengths else texts
-    if not kept.digits:
-        return list(map(str, numbers))
-    lengths = kept.lengths or bytes([kept.digits]) * len(numbers)
-    return [decimal_text(number, kept.digits, length, kept.shape) for number,
-            length in zip(numbers, lengths)]
-
-
-def decimal_text(number: int, digits: int, length: int, mark: str) -> str:
-    """Returns a decimal, multiplied by ten to `digits`, with a number of digits after its decimal
-    sign."""
-    text = str(abs(number)).rjust(digits + 1, "0")
-    whole, part = text[:-digits], text[-digits:][:length]
-    return f"{'-' if number < 0 else ''}{whole}{mark if length else ''}{part}"
 
 
 def are_whole(fields: Sequence[str], joined: str) -> bool:

@@ -51,19 +51,21 @@ def refuse_all(source: Source, asked: Sequence[Asked]) -> NoReturn:
 
 def lines_of(source: Source,
              texts: Mapping[int, Sequence[str]]) -> dict[int, dict[str, int]]:
-    """Returns the first line of each of some texts of each of some columns, which may have blanks
-    around them there. It reads the file again, up to the last of them."""
+    """Returns the first line of each of some texts of each of some columns or, if none has it, of
+    one with blanks around it. It reads the file again, up to the last of them."""
     left = {place: set(each) for place, each in texts.items() if each}
     found: dict[int, dict[str, int]] = {place: {} for place in texts}
+    padded: dict[int, dict[str, int]] = {place: {} for place in texts}
     for line, record in source.numbered_rows() if left else ():
         for place, wanted in list(left.items()):
             field = record[place]
-            text = field if field in wanted else field.strip(BLANKS)
-            if text in wanted:
-                found[place][text] = line
-                wanted.remove(text)
+            if field in wanted:
+                found[place][field] = line
+                wanted.remove(field)
                 if not wanted:
                     del left[place]
+            elif field[:1] in BLANKS or field[-1:] in BLANKS:
+                padded[place].setdefault(field.strip(BLANKS), line)
         if not left:
             break
-    return found
+    return {place: {**padded[place], **each} for place, each in found.items()}

@@ -28,15 +28,14 @@ def blocks_of(values: Iterable[Any]) -> Iterator[list[Any]]:
         if type(block[0]) is float or sum(map(len, block)) <= LENGTH_A_BLOCK:
             yield block
             continue
-        part, size = list[Any](), 0
-        for value in block:
-            part.append(value)
-            size += len(value)
-            if size > LENGTH_A_BLOCK:
-                yield part
-                part, size = [], 0
-        if part:
-            yield part
+        # few questions need it
+        import bisect
+        ends, first = list(itertools.accumulate(map(len, block))), 0
+        while first < len(block):
+            begun = ends[first] - len(block[first])
+            end = bisect.bisect_right(ends, begun + LENGTH_A_BLOCK) + 1
+            yield block[first:end]
+            first = end
 
 
 def packed(block: Sequence[Any]) -> bytes:

@@ -1,17 +1,16 @@
 """Columns of texts: their sorted lists, and the places that their fields get in these."""
 from __future__ import annotations
 
-import bisect
+import itertools
 import shlex
 from array import array
 from dataclasses import dataclass
-from typing import Iterable, Iterator, Optional
+from typing import Iterator, Optional, Sequence
 
 from .judges.fields import Fields
 from .judges.verdict import Question
 from .kinds.text_blocks import TextBlocks
 from .kinds.texts import Texts
-from .loader.dictionary import Dictionary
 from .wishes import BLANKS
 
 
@@ -52,34 +51,38 @@ def sorted_texts(column: Fields) -> Sorted:
     if column.have_blanks and not column.wishes.rules.keeps_blanks:
         return without_blanks(column)
     assert column.dictionary is not None
-    nulls = {word.encode() for word in column.wishes.nulls if word in column.words}
     dictionary = column.dictionary
+    found = [dictionary.find(word.encode()) for word in column.wishes.nulls
+             if word in column.words]
+    # a word may only be there with blanks around it, which are kept
+    nulls = sorted(place for place in found if place is not None)
 
     def blocks() -> Iterator[list[bytes]]:
-        for block in dictionary.blocks():
-            yield [field for field in block.fields if field not in nulls] if nulls \
-                else block.fields
+        for span in dictionary.spans:
+            fields = dictionary.block(span).fields
+            for place in reversed(nulls):
+                if span.first <= place < span.end:
+                    del fields[place - span.first]
+            yield fields
 
-    places = places_beside(dictionary, nulls) if nulls else None
-    count = len(dictionary) - (places.count(-1) if places else 0)
-    return Sorted(Texts(TextBlocks(count, blocks)), places, ends_of(blocks()))
+    first = next((at for at, null in enumerate(nulls) if at != null), len(nulls))
+    last = next((at for at, null in zip(itertools.count(len(dictionary) - 1, -1), reversed(nulls))
+                 if at != null), len(dictionary) - 1 - len(nulls))
+    ends = (first, last) if len(nulls) < len(dictionary) else ()
+    return Sorted(Texts(TextBlocks(len(dictionary) - len(nulls), blocks)),
+                  places_beside(nulls, len(dictionary)) if nulls else None,
+                  tuple(dictionary.field(place).decode() for place in ends))
 
 
-def places_beside(dictionary: Dictionary, nulls: set[bytes]) -> Optional[array[int]]:
-    """Returns the places of fields among those that aren't null, and -1 for these; or None if none
-    is null: a word may only be there with blanks around it, which are kept."""
-    found = list[int]()
-    for block in dictionary.blocks():
-        for word in nulls:
-            at = bisect.bisect_left(block.fields, word)
-            found += [block.first + at] if block.fields[at:at + 1] == [word] else []
+def places_beside(nulls: Sequence[int], count: int) -> array[int]:
+    """Returns the places of fields among those that aren't null, and -1 for these."""
     places, first = array("i"), 0
-    for count, place in enumerate(sorted(found)):
-        places.extend(range(first - count, place - count))
+    for before, place in enumerate(nulls):
+        places.extend(range(first - before, place - before))
         places.append(-1)
         first = place + 1
-    places.extend(range(first - len(found), len(dictionary) - len(found)))
-    return places if found else None
+    places.extend(range(first - len(nulls), count - len(nulls)))
+    return places
 
 
 def without_blanks(column: Fields) -> Sorted:
@@ -89,14 +92,5 @@ def without_blanks(column: Fields) -> Sorted:
     places = dict(zip(listed, range(len(listed))))
     encoded = list(map(str.encode, listed))
     return Sorted(Texts(TextBlocks(len(listed), lambda: [encoded])),
-                  array("i", [places.get(text, -1) for text in bare]), ends_of([encoded]))
-
-
-def ends_of(blocks: Iterable[list[bytes]]) -> tuple[str, ...]:
-    """Returns the first and the last text, if there are any."""
-    first: Optional[bytes] = None
-    last = b""
-    for block in blocks:
-        if block:
-            first, last = block[0] if first is None else first, block[-1]
-    return () if first is None else (first.decode(), last.decode())
+                  array("i", [places.get(text, -1) for text in bare]),
+                  (listed[0], listed[-1]) if listed else ())

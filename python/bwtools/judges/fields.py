@@ -2,6 +2,7 @@
 from __future__ import annotations
 
 import bisect
+import functools
 import itertools
 import random
 from dataclasses import dataclass, field
@@ -10,11 +11,16 @@ from typing import Iterator, NamedTuple, Optional, Sequence
 from ..keeping import Numbered
 from ..loader.dictionary import Dictionary, texts_of
 from ..plain import Plain
-from ..signs import NUL
 from ..wishes import BLANKS, NULLS, Wishes
 
 # above so many distinct fields, numbers and times are examined so many at a time
 MANY, AT_ONCE = 1 << 11, 1 << 12
+# of a run of more texts than these, so many are drawn first: if less than two fifths of the drawn
+# ones are like a judge's own, then less than half of all are, but for a chance of one in a thousand
+# million
+DRAWN_OF, DRAWN = 1 << 14, 1000
+# a blank, and it at an end of a field among those that are joined by NULs
+PADDED = ((b" ", b"\0 ", b" \0"), (b"\t", b"\0\t", b"\t\0"))
 
 
 class Part(NamedTuple):
@@ -26,13 +32,44 @@ class Part(NamedTuple):
     has_blanks: bool
 
 
-class Run(NamedTuple):
-    """Some of the texts that aren't kept as numbers: without blanks around them, in the order in
-    which they have these; how many rows have each; and the distinct ones that are no words for
-    null, sorted."""
-    texts: list[str]
-    counts: Sequence[int]
-    bare: list[str]
+@dataclass
+class Run:
+    """Some of the distinct fields of a dictionary that aren't kept as numbers, of which bare texts
+    have no blanks around them and are no words for null: about how many bare texts there are and,
+    of many, some of them, and some bare fields of the rows, both drawn at random. `words` are those
+    for null that may be among them."""
+    dictionary: Dictionary
+    parts: list[Part]
+    words: set[str]
+    size: int
+    texts_drawn: list[str]
+    rows_drawn: list[str]
+
+    @functools.cached_property
+    def texts(self) -> list[str]:
+        """The texts without blanks around them, in the order in which they have these."""
+        fields = itertools.chain.from_iterable(
+            self.dictionary.between(part.first, part.end) for part in self.parts)
+        found = texts_of(list(fields))
+        return [text.strip(BLANKS) for text in found] if self.has_blanks else found
+
+    @property
+    def has_blanks(self) -> bool:
+        return any(part.has_blanks for part in self.parts)
+
+    @functools.cached_property
+    def counts(self) -> Sequence[int]:
+        """How many rows have each text."""
+        counts = self.dictionary.counts
+        return list(itertools.chain.from_iterable(counts[part.first:part.end]
+                                                  for part in self.parts))
+
+    @functools.cached_property
+    def bare(self) -> list[str]:
+        """The distinct bare texts, sorted."""
+        if self.has_blanks:
+            return sorted(set(self.texts) - self.words)
+        return [text for text in self.texts if text not in self.words] if self.words else self.texts
 
 
 @dataclass
@@ -47,34 +84,76 @@ class Fields:
     parts: list[Part] = field(default_factory=list)
     words: dict[str, int] = field(default_factory=dict)
     has_nul: bool = False
+    is_many: bool = False
+    runs: list[Run] = field(default_factory=list)
 
     def __post_init__(self) -> None:
         if self.dictionary is None:
             return
-        is_many = len(self.dictionary) > MANY
-        for block in self.dictionary.blocks():
-            texts = texts_of(block.fields)
-            self.has_nul = self.has_nul or NUL in "".join(texts)
-            for first in range(0, len(texts), AT_ONCE):
-                self.add(block.first + first, texts[first:first + AT_ONCE], is_many)
+        self.is_many = len(self.dictionary) > MANY
+        for span in self.dictionary.spans:
+            fields = self.dictionary.block(span).fields
+            joined = b"\0".join((b"", *fields, b""))
+            # all must be UTF-8, which these may be without each of them
+            joined.decode()
+            self.has_nul = self.has_nul or joined.count(b"\0") != len(fields) + 1
+            is_padded = any(each[0] in joined and (each[1] in joined or each[2] in joined)
+                            for each in PADDED)
+            before = len(self.parts)
+            for first in range(0, len(fields), AT_ONCE):
+                self.add(span.first + first, fields[first:first + AT_ONCE], is_padded)
+            parts = [part for part in self.parts[before:] if part.kept is None]
+            if parts:
+                self.runs.append(self.run_of(parts, span.first, fields))
 
-    def add(self, first: int, texts: list[str], is_many: bool) -> None:
+    def add(self, first: int, fields: list[bytes], is_padded: bool) -> None:
         """Adds the next distinct fields."""
         assert self.dictionary is not None
-        is_padded, bare = have_blanks(texts), texts
-        if is_padded:
-            bare = [text.strip(BLANKS) for text in texts]
         counts = self.dictionary.counts
-        for word in {*self.wishes.words, *NULLS}:
+        is_padded = is_padded and any(field != field.strip(b" \t") for field in fields)
+        for word, encoded in self.sought.items():
             if is_padded:
-                found = sum(counts[first + at] for at, text in enumerate(bare) if text == word)
+                found = sum(counts[first + at] for at, field in enumerate(fields)
+                            if field.strip(b" \t") == encoded)
             else:
-                at = bisect.bisect_left(texts, word)
-                found = counts[first + at] if texts[at:at + 1] == [word] else 0
+                at = bisect.bisect_left(fields, encoded)
+                found = counts[first + at] if fields[at:at + 1] == [encoded] else 0
             if found:
                 self.words[word] = self.words.get(word, 0) + found
-        kept = self.plain.add(texts) if is_many else None
-        self.parts.append(Part(first, first + len(texts), kept, is_padded))
+        is_like = self.is_many and self.plain.may_have(fields[0].decode())
+        kept = self.plain.add(texts_of(fields)) if is_like else None
+        self.parts.append(Part(first, first + len(fields), kept, is_padded))
+
+    def run_of(self, parts: list[Part], first: int, fields: Sequence[bytes]) -> Run:
+        """Returns a run of parts of a block, which begins at a place."""
+        assert self.dictionary is not None
+        size = sum(part.end - part.first for part in parts)
+        texts, rows = list[str](), list[str]()
+        if size > DRAWN_OF:
+            own = list(itertools.chain.from_iterable(
+                fields[part.first - first:part.end - first] for part in parts))
+            counts = itertools.chain.from_iterable(
+                self.dictionary.counts[part.first:part.end] for part in parts)
+            draw = random.Random(0)
+            texts = self.bare_of(draw.sample(own, DRAWN))
+            rows = self.bare_of(draw.choices(own, list(counts), k=DRAWN))
+        return Run(self.dictionary, parts, {*self.wishes.words} & {*self.words}, size, texts, rows)
+
+    def bare_of(self, fields: Sequence[bytes]) -> list[str]:
+        """Returns the bare texts of fields."""
+        words = set(self.wishes.words)
+        texts = (field.decode().strip(BLANKS) for field in fields)
+        return [text for text in texts if text not in words]
+
+    @functools.cached_property
+    def sought(self) -> dict[str, bytes]:
+        """The words that may be null, and their bytes."""
+        return {word: word.encode() for word in (*self.wishes.words, *NULLS)}
+
+    def texts(self, part: Part) -> list[str]:
+        """Returns the texts of a part as they are."""
+        assert self.dictionary is not None
+        return texts_of(self.dictionary.between(part.first, part.end))
 
     @property
     def have_blanks(self) -> bool:
@@ -82,60 +161,16 @@ class Fields:
 
     def each(self) -> Iterator[tuple[Part, list[str]]]:
         """Yields the parts with their texts as they are."""
-        parts, end = iter(self.parts), 0
-        for block in self.dictionary.blocks() if self.dictionary else ():
-            end = block.first + len(block.fields)
-            texts = texts_of(block.fields)
-            part = next(parts)
-            while True:
-                yield part, texts[part.first - block.first:part.end - block.first]
-                if part.end == end:
-                    break
-                part = next(parts)
+        return ((part, self.texts(part)) for part in self.parts)
 
     def unkept(self) -> Iterator[list[str]]:
         """Yields the distinct fields that aren't kept as numbers, as they are."""
-        return (texts for part, texts in self.each() if part.kept is None)
+        return (self.texts(part) for part in self.parts if part.kept is None)
 
     def bare(self) -> Iterator[list[str]]:
         """Yields the distinct texts that aren't kept as numbers, without blanks around them and
         without words for null: those of one run after another, each in order."""
-        return (run.bare for run in self.runs())
-
-    def runs(self) -> Iterator[Run]:
-        """Yields the texts that aren't kept as numbers, many at a time."""
-        words = set(self.wishes.words)
-        waiting, size = list[tuple[Part, list[str]]](), 0
-        for part, texts in self.each():
-            if part.kept is None:
-                waiting.append((part, texts))
-                size += len(texts)
-            if size >= AT_ONCE * 16:
-                yield self.run_of(waiting, words)
-                waiting, size = [], 0
-        if waiting:
-            yield self.run_of(waiting, words)
-
-    def run_of(self, parts: Sequence[tuple[Part, list[str]]], words: set[str]) -> Run:
-        assert self.dictionary is not None
-        texts = list(itertools.chain.from_iterable(each for _, each in parts))
-        counts = self.dictionary.counts[parts[0][0].first:parts[-1][0].end]
-        if len(counts) != len(texts):
-            counts = counts[:0]
-            for part, _ in parts:
-                counts += self.dictionary.counts[part.first:part.end]
-        if any(part.has_blanks for part, _ in parts):
-            texts = [text.strip(BLANKS) for text in texts]
-            return Run(texts, counts, sorted(set(texts) - words))
-        bare = texts if words.isdisjoint(self.words) else \
-            [text for text in texts if text not in words]
-        return Run(texts, counts, bare)
-
-    def drawn(self, run: Run, count: int) -> list[str]:
-        """Returns about so many fields of the rows of a run, drawn at random."""
-        words = set(self.wishes.words)
-        kept = random.Random(0).choices(run.texts, weights=run.counts, k=count)
-        return [text for text in kept if text not in words]
+        return (run.bare for run in self.runs)
 
     def count_rows(self, forms: Sequence[str]) -> int:
         """Returns how many rows have a field that is kept as a number of these forms."""
@@ -152,11 +187,3 @@ class Fields:
     def filled(self) -> int:
         """How many rows have a field that is no word for null."""
         return self.rows - sum(self.words.get(word, 0) for word in self.wishes.words)
-
-
-def have_blanks(texts: Sequence[str]) -> bool:
-    """Returns whether one of some texts has a blank or a tab at an end."""
-    # looking for the ends of lines is faster than looking at each text, of which one may have lines
-    joined = f"\n{chr(10).join(texts)}\n"
-    return any(f"{blank}\n" in joined or f"\n{blank}" in joined for blank in BLANKS) and \
-        any(text.strip(BLANKS) != text for text in texts)

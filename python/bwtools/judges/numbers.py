@@ -15,10 +15,10 @@ from ..kinds.styled import Numbers, Styled
 from ..kinds.whole import Whole
 from ..naming import option
 from ..numerals import SIMPLE, STARTS, WHOLE, ZEROS, is_number, like_number
-from ..plain import texts_of
 from ..rounding import SHORT, Rounding, change_in_double
 from ..spans import MOST_DIGITS, Spans
 from ..style import Style
+from ..wishes import BLANKS
 from ..telling import shown
 from .fields import Fields
 from .judge import matching, starting
@@ -193,11 +193,11 @@ def rounded(column: Fields, style: Style, digits: int) -> Verdict:
 
 def no_double(column: Fields, style: Style) -> Optional[str]:
     """Returns a whole number that isn't a double, such as an id, if there is one."""
-    kept = (part.kept for part in column.parts if part.kept)
-    whole = (texts_of(each) for each in kept if each.form == "number" and not each.digits)
+    whole = (texts for part, texts in column.each()
+             if part.kept and part.kept.form == "number" and not part.kept.digits)
     for texts in itertools.chain(column.bare(), whole):
-        for text in texts:
-            plain = style.bare(text) if len(text) > SHORT else None
+        for text in (each.strip(BLANKS) for each in texts if len(each) > SHORT):
+            plain = style.bare(text)
             if plain and WHOLE.fullmatch(plain) and change_in_double(plain):
                 return text
     return None

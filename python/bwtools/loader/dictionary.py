@@ -4,34 +4,39 @@ from __future__ import annotations
 import bisect
 import io
 import itertools
+import operator
 import os
 from array import array
-from dataclasses import dataclass
 from typing import Collection, Iterator, List, NamedTuple, Optional, Sequence, Tuple
 
 # a block has so many fields, or fewer long ones
 FIELDS_A_BLOCK, BYTES_A_BLOCK = 1 << 16, 1 << 24
 MAGIC = b"BWFIELDS"
-BREAKS = (b"\n", b"\r")
 
 
 class ByteFile:
     """The bytes of a file, which is closed once nothing needs it. Processes that are forked from
     this one can read it too."""
 
-    def __init__(self, path: str | os.PathLike[str], mode: str = "rb") -> None:
-        self.file = open(path, mode)
+    def __init__(self, path: str | os.PathLike[str], flags: int = os.O_RDONLY) -> None:
+        self.number = os.open(path, flags | os.O_CLOEXEC, 0o600)
 
     def __del__(self) -> None:
-        if "file" in vars(self):
-            self.file.close()
+        if "number" in vars(self):
+            os.close(self.number)
 
     def fileno(self) -> int:
-        return self.file.fileno()
+        return self.number
 
     def at(self, place: int, size: int) -> bytes:
         """Returns some bytes from a place on."""
-        return os.pread(self.fileno(), size, place)
+        return os.pread(self.number, size, place)
+
+    def append(self, data: bytes) -> None:
+        """Writes bytes after those that were written."""
+        rest = memoryview(data)
+        while rest:
+            rest = rest[os.write(self.number, rest):]
 
 
 class Block(NamedTuple):
@@ -40,42 +45,74 @@ class Block(NamedTuple):
     fields: List[bytes]
 
 
-@dataclass
+class Span(NamedTuple):
+    """Where the fields of a block are: their places, and those of their bytes."""
+    first: int
+    end: int
+    at: int
+    size: int
+
+
 class Dictionary:
     """The distinct fields of a column in the order of their bytes, which is that of code points:
     how many rows have each, their lengths, and a file that has their bytes from `at` on. Each has a
     sign before it that isn't its own if `is_marked`."""
-    file: ByteFile
-    at: int
-    counts: array[int]
-    lengths: array[int]
-    is_marked: bool = False
+
+    def __init__(self, file: ByteFile, at: int, counts: array[int], lengths: array[int],
+                 is_marked: bool = False) -> None:
+        self.file, self.counts, self.lengths = file, counts, lengths
+        self.is_marked, self.spans = is_marked, list[Span]()
+        first = 0
+        while first < len(lengths):
+            end = min(first + FIELDS_A_BLOCK, len(lengths))
+            while (size := sum(lengths[first:end])) > BYTES_A_BLOCK and end > first + 1:
+                end = (first + end) // 2
+            self.spans.append(Span(first, end, at, size))
+            first, at = end, at + size
 
     def __len__(self) -> int:
         return len(self.counts)
 
+    def block(self, span: Span) -> Block:
+        """Reads a block."""
+        data = io.BytesIO(self.file.at(span.at, span.size))
+        fields = list(map(data.read, self.lengths[span.first:span.end]))
+        return Block(span.first, [field[1:] for field in fields] if self.is_marked else fields)
+
+    def between(self, first: int, end: int) -> List[bytes]:
+        """Returns the fields from one place to another, of one block."""
+        span = next(span for span in self.spans if first < span.end)
+        at = span.at + sum(self.lengths[span.first:first])
+        return self.block(Span(first, end, at, sum(self.lengths[first:end]))).fields
+
     def blocks(self) -> Iterator[Block]:
         """Yields all fields in order."""
-        at, first = self.at, 0
-        while first < len(self.lengths):
-            end = self.end_of_block(first)
-            size = sum(self.lengths[first:end])
-            data = io.BytesIO(self.file.at(at, size))
-            fields = list(map(data.read, self.lengths[first:end]))
-            yield Block(first, [field[1:] for field in fields] if self.is_marked else fields)
-            at, first = at + size, end
+        return map(self.block, self.spans)
 
-    def end_of_block(self, first: int) -> int:
-        end = min(first + FIELDS_A_BLOCK, len(self.lengths))
-        while end > first + 1 and sum(self.lengths[first:end]) > BYTES_A_BLOCK:
-            end = (first + end) // 2
-        return end
+    def field(self, place: int) -> bytes:
+        """Returns the field at a place."""
+        return self.between(place, place + 1)[0]
+
+    def find(self, field: bytes) -> Optional[int]:
+        """Returns the place of a field, or None if there is none."""
+        low, high = 0, len(self)
+        while low < high:
+            middle = (low + high) // 2
+            low, high = (middle + 1, high) if self.field(middle) < field else (low, middle)
+        return low if low < len(self) and self.field(low) == field else None
 
     def count_breaks(self) -> int:
         """Returns how many ends of lines there are in the fields of all rows."""
-        return sum(count * breaks_in(field) for block in self.blocks()
-                   if any(mark in b"".join(block.fields) for mark in BREAKS)
-                   for field, count in zip(block.fields, self.counts[block.first:]))
+        found = 0
+        for first, fields in self.blocks():
+            joined = b"\0".join(fields)
+            counts = self.counts[first:first + len(fields)]
+            if b"\r" in joined:
+                found += sum(map(operator.mul, map(breaks_in, fields), counts))
+            elif b"\n" in joined:
+                breaks = map(operator.methodcaller("count", b"\n"), fields)
+                found += sum(map(operator.mul, breaks, counts))
+        return found
 
 
 def breaks_in(data: bytes) -> int:
@@ -86,11 +123,14 @@ def breaks_in(data: bytes) -> int:
 
 def texts_of(fields: Sequence[bytes]) -> List[str]:
     """Returns fields as texts. Raises UnicodeDecodeError if one isn't UTF-8."""
-    joined = b"\0".join(fields)
-    if joined.count(b"\0") == len(fields) - 1:
-        # to decode all at once is faster
-        return joined.decode().split("\0")
-    return list(map(bytes.decode, fields))
+    return texts_in(b"\0".join(fields).decode(), fields)
+
+
+def texts_in(joined: str, fields: Sequence[bytes]) -> List[str]:
+    """Returns the texts of fields that are also given joined by NULs, which is faster than to
+    decode each, unless one has a NUL."""
+    found = joined.split("\0")
+    return found if len(found) == len(fields) else list(map(bytes.decode, fields))
 
 
 def read_fields(file: ByteFile, marked: Collection[int] = ()) -> List[Optional[Dictionary]]:
@@ -150,9 +190,8 @@ def merge(parts: Sequence[Dictionary],
         places = dict(zip(fields, range(len(lengths), len(lengths) + len(fields))))
         for reader, own in zip(live, taken):
             reader.places.extend(map(places.__getitem__, own))
-        file.file.write(b"".join(fields))
+        file.append(b"".join(fields))
         lengths.extend(map(len, fields))
-    file.file.flush()
     counts = array("Q", bytes(8 * len(lengths)))
     for part, reader in zip(parts, readers):
         for place, count in zip(reader.places, part.counts):

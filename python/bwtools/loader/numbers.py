@@ -13,7 +13,6 @@ from ..judges.verdict import Decision
 from ..keeping import Numbered, values_of
 from ..kind import Kind
 from ..kinds import Decimals, Floats, Ranked, Times, Whole, undressed
-from ..plain import texts_of
 from ..rounding import change_in_double
 from ..textual import Sorted
 from ..wishes import BLANKS
@@ -48,20 +47,29 @@ class Numbers:
         if self.texts is not None:
             yield from self.places()
             return
-        for part, texts in self.column.each():
+        for part in self.column.parts:
             assert self.column.dictionary is not None
+            texts = self.column.texts(part) if self.needs_texts(part) else []
             counts = self.column.dictionary.counts[part.first:part.end]
             yield self.kept(part, part.kept, texts, counts) if part.kept \
                 else self.read(part, texts, counts)
+
+    def needs_texts(self, part: Part) -> bool:
+        """Returns whether the numbers of a part can't be found without its texts."""
+        kind = self.decision.kind
+        assert kind is not None
+        return part.kept is None or part.has_blanks or \
+            part.kept.form == "number" and isinstance(undressed(kind), (Floats, Ranked))
 
     def places(self) -> Iterator[list[str]]:
         """Yields the places of texts."""
         assert self.texts is not None and self.column.dictionary is not None
         count, places = len(self.texts.kind.listed), self.texts.places
         if self.column.have_blanks and not self.column.wishes.rules.keeps_blanks:
-            for part, texts in self.column.each():
+            for part in self.column.parts:
                 if part.has_blanks:
-                    self.count_padded(texts, self.column.dictionary.counts[part.first:part.end])
+                    counts = self.column.dictionary.counts[part.first:part.end]
+                    self.count_padded(self.column.texts(part), counts)
         yield list(map(str, range(count))) if places is None else \
             [NULL if place < 0 else str(place) for place in places]
 
@@ -78,13 +86,14 @@ class Numbers:
             self.count_padded(texts, counts)
         if kept.nulls:
             counts = list(itertools.compress(counts, map(operator.not_, kept.nulls)))
+            texts = list(itertools.compress(texts, map(operator.not_, kept.nulls)))
         numbers = self.numbers_of(kept, kind, counts)
         self.counts.widen(min(numbers), max(numbers))
-        changed = changed_of(kept, kind)
+        changed = changed_of(kept, kind, texts)
         if changed is not None:
             self.counts.changed += sum(itertools.compress(counts, changed))
         if isinstance(kind, (Floats, Ranked)) and kept.form == "number":
-            self.count_rounded(kept, counts)
+            self.count_rounded(texts, counts)
         written = list(map(str, numbers))
         if not kept.nulls:
             return written
@@ -104,10 +113,10 @@ class Numbers:
         power = 10 ** (digits - kept.digits)
         return numbers if power == 1 else list(map(power.__mul__, numbers))
 
-    def count_rounded(self, kept: Numbered, counts: Sequence[int]) -> None:
+    def count_rounded(self, texts: Sequence[str], counts: Sequence[int]) -> None:
         """Counts the kept numbers that no double is, which aren't only spelled in another way."""
-        for text, count in zip(texts_of(kept), counts):
-            change = change_in_double(text.replace(",", "."))
+        for text, count in zip(texts, counts):
+            change = change_in_double(text.strip(BLANKS).replace(",", "."))
             if change:
                 self.counts.rounded += count
                 self.counts.changed -= count
@@ -161,15 +170,16 @@ def exact_words(column: Fields) -> dict[str, int]:
     return found
 
 
-def changed_of(kept: Numbered, kind: Kind) -> Optional[Iterable[object]]:
+def changed_of(kept: Numbered, kind: Kind, texts: Sequence[str]) -> Optional[Iterable[object]]:
     """Returns for each kept field whether it comes back in another spelling, or None if none
-    does."""
+    does. Texts are only needed of decimals in a column of floats."""
     count = len(values_of(kept))
     if isinstance(kind, (Floats, Ranked)):
         if kept.form == "float":
             return kept.lengths or None
         spelled: Callable[[float], str] = repr
-        return map(str.__ne__, map(spelled, numbered_doubles(kept)), texts_of(kept))
+        bare = map(str.strip, texts, itertools.repeat(BLANKS))
+        return map(str.__ne__, map(spelled, numbered_doubles(kept)), bare)
     if isinstance(kind, Decimals):
         if kind.trimmed or not kept.lengths and kept.digits == kind.digits:
             return None

@@ -8,7 +8,7 @@ import csv
 import os
 import pathlib
 from dataclasses import dataclass
-from typing import Optional, Sequence
+from typing import Collection, Optional, Sequence
 
 from .. import processes, sharding
 from ..signs import Signs
@@ -20,6 +20,9 @@ from .cut import Index
 from .dictionary import ByteFile, Dictionary, breaks_in, read_fields
 from .encode import Coded
 from .feed import DecodedFeed, Feed, FileFeed, feed_of, heading_of, size_of
+
+# a part has room for a heading
+SPARE = 1 << 10
 
 
 class TooMuch(Exception):
@@ -52,7 +55,7 @@ class Coder:
     whatever their fields are."""
 
     def __init__(self, source: Source, given: argparse.Namespace, folder: pathlib.Path,
-                 is_split: bool, marked: set[int]) -> None:
+                 is_split: bool, marked: Collection[int]) -> None:
         self.source, self.given, self.folder = source, given, folder
         self.is_split, self.marked = is_split, marked
 
@@ -138,9 +141,9 @@ class Coder:
             numbers = range(rows + has_heading, index.count, rows)
             ends = [plain.start, *map(index.place_after, numbers), plain.end]
             longest = max(end - start for start, end in zip(ends, ends[1:]))
-            if longest < MOST_BYTES - (1 << 16) or rows == 1:
+            if longest <= MOST_BYTES - SPARE or rows == 1:
                 break
-            rows = max(1, rows * MOST_BYTES // longest * 15 // 16)
+            rows = max(1, rows * (MOST_BYTES - SPARE) // longest * 15 // 16)
         signs = plain.signs
         heading = heading_of(len(self.source.headings), signs.separator, signs.quote)
         return [FileFeed(plain.file, signs, start, end,

@@ -47,7 +47,7 @@ def notes(column: Column, numbers: Numbers) -> Iterator[str]:
     if "%y" in getattr(undressed(column.kind), "form", ""):
         yield "years of 69 to 99 are 1969 to 1999, those of 00 to 68 are 2000 to 2068"
     words = [shown(word) for word in counts.nulls if word]
-    if words and tally.column.wishes.rules.keeps_spelling:
+    if words and numbers.column.wishes.rules.keeps_spelling:
         yield f"{', '.join(words)} can't be kept: a null comes back as an empty field"
     if counts.padded:
         yield f"blanks dropped in {counted(counts.padded, 'field')}"
@@ -55,9 +55,10 @@ def notes(column: Column, numbers: Numbers) -> Iterator[str]:
         yield f"-0.0 in {counted(counts.zeros, 'field')} is 0.0"
     if counts.rounded:
         # of an exponent of thousands no zeros are printed
-        change = f"{counts.change:{'f' if counts.change.adjusted() > -SHORT else '.0e'}}"
+        change = counts.change.normalize()
+        told = f"{change:{'f' if change.adjusted() > -SHORT else '.0e'}}"
         near = " to the nearest doubles" if is_float else ""
-        yield f"{counted(counts.rounded, 'field')} rounded{near}, by at most {change}"
+        yield f"{counted(counts.rounded, 'field')} rounded{near}, by at most {told}"
     if counts.changed:
         where = "in the shortest spelling" if is_float else "values kept"
         yield f"spelling changed in {counted(counts.changed, 'field')}, {where}"

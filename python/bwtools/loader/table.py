@@ -33,6 +33,8 @@ from .parts import CodedFile, Coder, Part
 from .reporting import notes, report_lines
 
 AT_ONCE = 1 << 16
+# columns that get codes in any case
+MARKED: frozenset[int] = frozenset()
 
 
 class Mixed(Exception):
@@ -40,7 +42,7 @@ class Mixed(Exception):
 
     def __init__(self, places: Iterable[int]) -> None:
         super().__init__(places)
-        self.places = set(places)
+        self.places = frozenset(places)
 
 
 @dataclass
@@ -76,7 +78,7 @@ class Table:
 
     def code(self) -> CodedFile:
         """Has bw code the file, and decides what its columns are."""
-        marked = set[int]()
+        marked = MARKED
         while True:
             try:
                 coded = Coder(self.source, self.given, self.folder, self.is_split, marked).code()
@@ -84,7 +86,7 @@ class Table:
                 self.decide(coded, codes)
                 return coded
             except Mixed as mixed:
-                marked |= mixed.places
+                marked = marked | mixed.places
 
     def codes_of(self, coded: CodedFile) -> list[Codes]:
         """Returns the codes of all columns. Raises Mixed if some must be others."""
@@ -108,7 +110,8 @@ class Table:
         dictionary: Optional[Dictionary] = held[0] if held else None
         places: list[Optional[array[int]]] = [None] * len(dictionaries)
         if dictionary and len(dictionaries) > 1:
-            merged = ByteFile(self.folder / f"merged-{place}", "w+b")
+            merged = ByteFile(self.folder / f"merged-{place}",
+                              os.O_RDWR | os.O_CREAT | os.O_TRUNC)
             dictionary, each = merge(held, merged)
             rest = iter(each)
             places = [next(rest) if each else None for each in dictionaries]
