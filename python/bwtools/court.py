@@ -100,7 +100,7 @@ class Court:
         reads, if they do."""
         column = self.column
         opinions = list(map(Opinion, LIKENESSES))
-        for run in column.runs():
+        for run in column.runs:
             for opinion in opinions:
                 opinion.add(run)
         for each, opinion in zip(LIKENESSES, opinions):
