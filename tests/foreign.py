@@ -14,9 +14,11 @@ import io
 import pathlib
 import re
 import shlex
+import shutil
 import subprocess
 import sys
 import tarfile
+import tempfile
 import traceback
 from dataclasses import dataclass, field
 from typing import Iterator, Sequence
@@ -33,7 +35,8 @@ SOURCES = ("pandas miller r-cran-data.table libcommons-csv-java libtext-csv-xs-p
            "libtext-csv-perl libopencsv-java datamash r-cran-readxl q-text-as-data r-cran-haven "
            "golang-github-gocarina-gocsv golang-github-jszwec-csvutil seaborn dask gnumeric "
            "r-cran-tidyr r-cran-dplyr php-league-csv haskell-cassava r-cran-readr csvkit "
-           "python-agate ruby-csv sqlite-utils rust-csv visidata python-tablib").split()
+           "python-agate ruby-csv sqlite-utils rust-csv visidata python-tablib ocaml-csv libcsv "
+           "intake node-d3-dsv csv2latex").split()
 PROGRAMS = "r-cran-readr r-cran-vroom python3-statsmodels python3-sklearn".split()
 ENDS = re.compile(r"\.(csv|tsv|psv|ssv)(\.(gz|bz2|xz|zip|zst))?$", re.IGNORECASE)
 MOST_BYTES, MOST_TRIALS = 1 << 24, 60
@@ -185,6 +188,11 @@ def attempts(path: pathlib.Path) -> list[Outcome]:
     while waiting and len(found) < MOST_TRIALS and not (found and not found[-1].refusal):
         words = waiting.pop()
         found.append(import_one(path, words))
+        if "pipe it, as zstd -dc FILE" in found[-1].refusal and shutil.which("zstd"):
+            with tempfile.NamedTemporaryFile() as plain:
+                subprocess.run(["zstd", "-dc", path], stdout=plain, check=True)
+                found += attempts(pathlib.Path(plain.name))
+            found[-1].words = ("zstd", "-dc", *found[-1].words)
         # the options that are named first are tried first, with all that follows
         more = [(*words, *each) for each in alternatives(found[-1].refusal)
                 if not set(each) <= set(words)]

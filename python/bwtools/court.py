@@ -105,7 +105,8 @@ class Court:
                 opinion.add(run)
         for each, opinion in zip(LIKENESSES, opinions):
             likes, count = count_fields(column, opinion) if opinion.likes else (0, 0)
-            if likes * 2 > count and not each.has_order(itertools.chain.from_iterable(
+            are_most = opinion.likes * 2 > self.count and not column.plain.forms
+            if (are_most or likes * 2 > count) and not each.has_order(itertools.chain.from_iterable(
                     column.bare())):
                 why = f"{likes:,} of {counted(count, 'field')} look like {each.plural}"
                 return Decision(None, why, each.plural)

@@ -20,6 +20,7 @@ from .kinds.nulls import Nulls
 from .kinds.times import Times
 from .moments import ISO_DATE
 from .naming import option
+from .numerals import is_number
 from .questions import Asked, refuse
 from .source import Source
 from .telling import Refused, shown
@@ -38,15 +39,22 @@ def decide(source: Source, columns: list[Fields]) -> list[Decision]:
         verdict = court.verdict(signs)
         if isinstance(verdict, Decision):
             verdict = exact(court.column, verdict)
-        if isinstance(verdict, Decision) and verdict.kind is None:
-            as_table = None if verdict.why else table_question(source, court.column)
-            verdict = as_table or text_question(court.column) or verdict
+        if isinstance(verdict, Decision):
+            verdict = question_of(source, court.column, verdict) or verdict
         if isinstance(verdict, Question):
             asked.append(Asked(place, court.column, verdict))
         else:
             decisions.append(verdict)
     refuse(source, asked)
     return settle_floats(columns, decisions)
+
+
+def question_of(source: Source, column: Fields, decision: Decision) -> Optional[Question]:
+    """Returns what must be asked about a column that became one of texts, or that has no rows."""
+    found = None
+    if not decision.why and (decision.kind is None or not source.counts.rows):
+        found = table_question(source, column)
+    return found or (text_question(column) if decision.kind is None else None)
 
 
 def table_question(source: Source, column: Fields) -> Optional[Question]:
@@ -58,10 +66,15 @@ def table_question(source: Source, column: Fields) -> Optional[Question]:
     heading = source.headings[0] if source.has_heading else None
     for sign in separators.MORE:
         counts = {separators.count(text, sign) for texts in column.bare() for text in texts}
+        if heading and not source.counts.rows and all(map(is_number, heading.split())):
+            # a row, and no heading
+            counts = {separators.count(heading, sign)}
         count = counts.pop() if len(counts) == 1 else 0
         # one in all rows but not in the heading may be a name, a time or an address
         if count > 1 or count and (heading is None or separators.count(heading, sign) == count):
-            return Question(f"all its rows have {count} {sign!r}, which may separate fields", (),
+            what = f"{count} {sign!r}, which may separate fields"
+            return Question(f"all its rows have {what}" if source.counts.rows else
+                            f"the only line has {what}", (),
                             (separators.separator_option(sign),
                              option("--text", column.wishes.heading)))
     return None

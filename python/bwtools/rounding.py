@@ -10,7 +10,7 @@ from .style import Style
 # a number of more digits fits no 64 bits, and neither does this one
 MOST_DIGITS, BEYOND = 20, 1 << 64
 # the shortest spelling of a double has any number of so many digits
-SHORT = 15
+SHORT, NOTHING = 15, decimal.Decimal(0)
 # enough digits for any double, and for what people write
 CONTEXT = decimal.Context(prec=1200, rounding=decimal.ROUND_HALF_EVEN)
 
@@ -50,9 +50,9 @@ def change_in_double(plain: str) -> decimal.Decimal:
     """Returns by how much a number in plain spelling differs from the shortest spelling of the
     nearest double, if it isn't this double."""
     if len(plain) <= SHORT and "e" not in plain.lower():
-        return decimal.Decimal(0)
+        return NOTHING
     number, double = decimal.Decimal(plain), float(plain)
     near = decimal.Decimal(repr(double))
     if number in (near, decimal.Decimal(double)):
-        return decimal.Decimal(0)
+        return NOTHING
     return abs(CONTEXT.subtract(number, near))

@@ -45,7 +45,7 @@ READ = [
      ["0.30000000000000004", "1.7976931348623157e+308"], "floats in their order"),
     ("a whole number that is no double, by name", "n\n9007199254740993\n1.5e3\n",
      ("--number", "n"), "floats", ["9007199254740992.0", "1500.0"],
-     "1 field rounded to the nearest doubles, by at most 1.0; spelling changed in 1 field"),
+     "1 field rounded to the nearest doubles, by at most 1; spelling changed in 1 field"),
     ("a whole number that is no double, by its digits", "n\n9007199254740993\n1.5e3\n",
      ("--digits", "n=0"), "whole", ["9007199254740993", "1500"], "spelling changed in 1 field"),
     ("an offset after a blank", "t\n2024-05-01 10:00 +0200\n2024-05-02 10:00 -05:00\n", (),
@@ -161,6 +161,8 @@ TIES = [
     ("a table of blanks", "a b c\n1  2 3\n1 22 3\n", (),
      "column 'a b c': all its rows have 2 ' ', which may separate fields: use --separator space, "
      "or --text 'a b c'"),
+    ("a line of numbers", "1.001 0.994 0.9951\n", (),
+     "the only line has 2 ' ', which may separate fields: use --separator space"),
     ("colons", "root:x:0:0\nbin:x:1:1\nsys:y:2:2\n", (),
      "all its rows have 3 ':', which may separate fields: use --separator :, or --text root:x:0:0"),
     ("carets", "a^b\nx^y\nz^w\n", ("--no-heading",), "use --separator '^', or --text c1"),

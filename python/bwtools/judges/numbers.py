@@ -52,7 +52,6 @@ class NumberJudge:
             for texts in column.bare():
                 self.survey.add(texts)
             self.survey.add(list(column.plain.samples.values()))
-            self.survey.add([str(least) for least, _ in column.plain.spans.ends.values()])
         return self.survey
 
     def signs(self, column: Fields) -> set[str]:
@@ -67,7 +66,7 @@ class NumberJudge:
         if survey.zeros and not wishes.is_number:
             return with_zeros(survey, wishes.heading)
         is_wanted = wishes.is_number or wishes.digits is not None
-        if survey.phone and not survey.has_minus and not is_wanted:
+        if survey.phone and not is_wanted and not has_minus(column):
             drop = option("--number", wishes.heading)
             return Decision(None, f"{shown(survey.phone)} and others have a leading +, which "
                                   f"{drop} drops")
@@ -109,6 +108,13 @@ class NumberJudge:
             [f"--thousands '{mark}'" if mark == "," else option("--thousands", mark)]
         return Question(f"{{0}} may be {text.replace(mark, '')} or {text.replace(mark, '.')}",
                         (text,), (*between, *both(heading)))
+
+
+def has_minus(column: Fields) -> bool:
+    """Returns whether a number is spelled with a minus sign."""
+    spans = column.plain.spans
+    return spans.reach[1] < 0 or any(least < 0 for least, _ in spans.ends.values()) or \
+        any(text[0] == "-" for texts in column.bare() for text in texts)
 
 
 def are_whole(column: Fields) -> bool:
@@ -197,7 +203,7 @@ def no_double(column: Fields, style: Style) -> Optional[str]:
              if part.kept and part.kept.form == "number" and not part.kept.digits)
     for texts in itertools.chain(column.bare(), whole):
         for text in (each.strip(BLANKS) for each in texts if len(each) > SHORT):
-            plain = style.bare(text)
+            plain = style.bare(text) if style.mark not in text else None
             if plain and WHOLE.fullmatch(plain) and change_in_double(plain):
                 return text
     return None

@@ -17,7 +17,7 @@ class Survey:
     """The first text with each decimal sign, with each sign between thousands, with each mark that
     may be either, and with each unit before and behind; the first with leading zeros; the first
     that may be a telephone number; the first code such as 1E3, and the first that is neither one
-    nor a whole number; the lengths of all; and whether one is in brackets, or below zero."""
+    nor a whole number; the lengths of all; and whether one is in brackets."""
     decimals: dict[str, str] = field(default_factory=dict)
     groupings: dict[str, str] = field(default_factory=dict)
     eithers: dict[str, str] = field(default_factory=dict)
@@ -28,7 +28,6 @@ class Survey:
     no_code: str = ""
     lengths: set[int] = field(default_factory=set)
     has_brackets: bool = False
-    has_minus: bool = False
 
     def add(self, texts: Sequence[str]) -> None:
         self.lengths.update(map(len, texts))
@@ -36,7 +35,6 @@ class Survey:
         if len(rest) < len(texts):
             simple = next(filter(SIMPLE.fullmatch, texts))
             self.affixes.setdefault(("", ""), simple)
-        self.has_minus = self.has_minus or any(text[:1] == "-" for text in texts)
         for text in rest:
             self.see(text)
 
@@ -45,8 +43,9 @@ class Survey:
             self.code = self.code or text
         elif not text.isdecimal():
             self.no_code = self.no_code or text
-        if PHONE.fullmatch(text) and sum(map(str.isdecimal, text)) >= LEAST_DIGITS:
-            self.phone = self.phone or text
+        if not self.phone and text[0] == "+" and PHONE.fullmatch(text) and \
+                sum(map(str.isdecimal, text)) >= LEAST_DIGITS:
+            self.phone = text
         found = parts_of(text)
         marks = marks_of(found.body) if found else None
         if not found or not marks:
