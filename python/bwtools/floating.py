@@ -65,7 +65,7 @@ def reach_of(column: Fields, decision: Decision) -> tuple[float, float, float]:
     for texts in column.bare():
         doubles = [float(style.bare(text) or 0) for text in texts]
         if doubles:
-            least = min(least, min((abs(each) for each in doubles if each), default=math.inf))
+            least = min(least, min(map(float.__abs__, filter(None, doubles)), default=math.inf))
             low, high = min(low, min(doubles)), max(high, max(doubles))
     return least, low, high
 

@@ -71,7 +71,10 @@ class Plain:
             return None
         if fields[0][4:5] == "-":
             return self.times(fields, nulls)
-        return self.numbers(fields, joined, nulls) or self.floats(fields, joined, nulls)
+        # decimals that fit no scale become floats
+        is_float = self.spans.is_float or self.spans.digits > 0 and not self.spans.fits()
+        ways = (self.floats, self.numbers) if is_float else (self.numbers, self.floats)
+        return ways[0](fields, joined, nulls) or ways[1](fields, joined, nulls)
 
     def numbers(self, fields: Sequence[str], joined: str, nulls: bytes) -> Numbered | None:
         """Adds fields without line feeds, which are also given joined, if they are whole numbers or
@@ -126,6 +129,7 @@ class Plain:
         """Adds fields that are doubles in Python's spelling, also without its `.0`."""
         # other decimals with a negative zero may still fit a scale
         is_float = self.spans.is_float or "e" in joined or max(map(len, fields)) > MOST_DIGITS
+        is_float = is_float or self.spans.digits > 0 and not self.spans.fits()
         if not is_float or not FLOATS.fullmatch(joined):
             return None
         numbers = list(map(float, fields))

@@ -13,7 +13,7 @@ from .listed import Place
 from .telling import Refused, shown
 
 # a block has so many values, or fewer long ones: it ends with the one that makes it so long
-VALUES_A_BLOCK, LENGTH_A_BLOCK = 1 << 12, 1 << 17
+VALUES_A_BLOCK, LENGTH_A_BLOCK = 1 << 9, 1 << 17
 # values of one statement of SQLite, at most the variables of a statement of any, and so many are
 # all read once half of them were
 AT_ONCE, MOST_KEPT = 400, 1 << 20

@@ -79,18 +79,20 @@ def check(name: str, status: int, told: str) -> None:
     """Passes on what a command of bw told, and raises Ended if it failed."""
     sys.stderr.write(told)
     if status:
-        print(f"bw {name} ended with status {status}", file=sys.stderr)
+        if not told:
+            print(f"bw {name} ended with status {status}", file=sys.stderr)
         raise command.Ended(status if status > 0 else 128 - status)
 
 
 def output_of(words: Sequence[Any]) -> bytes:
     """Returns what a command of bw prints."""
+    # a file past the system's limit is then an error of writing, and no signal
     done = subprocess.run([command.program(), *map(str, words)], stdin=subprocess.DEVNULL,
-                          stdout=subprocess.PIPE, restore_signals=False, check=False)
-    check(str(words[0]), done.returncode, "")
+                          capture_output=True, restore_signals=False, check=False)
+    check(str(words[0]), done.returncode, done.stderr.decode("utf-8", "replace"))
     return done.stdout
 
 
 def recode(coded: Coded, schema: pathlib.Path, numbers: pathlib.Path, out: pathlib.Path) -> None:
     """Writes the table of a schema, whose numbers are in place of the codes."""
-    command.call(["recode", coded.path, schema, numbers, out])
+    output_of(["recode", coded.path, schema, numbers, out])

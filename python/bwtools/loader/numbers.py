@@ -104,7 +104,7 @@ class Numbers:
         """Returns kept numbers as those of a kind."""
         numbers = values_of(kept)
         if isinstance(kind, (Floats, Ranked)):
-            if kept.form == "float":
+            if kept.form == "float" and numbers.count(0.0):
                 bits = memoryview(kept.data).cast("q")
                 zeros = map(NEGATIVE_ZERO.__eq__, bits)
                 self.counts.zeros += sum(itertools.compress(counts, zeros))
