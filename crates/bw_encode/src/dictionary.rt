@@ -36,7 +36,7 @@ pub(crate) fn dictionary_of<'a>(
     counts.resize(set.len(), 0)?;
     let mut codes: Vec<u32> = Vec::with_capacity(alloc, column.len())?;
     for row in 0..column.len() {
-        let Some(place) = set.place_of(column.field(row)) else {
+        let Some(place) = set.place_of(column.get(row)) else {
             unreachable!()
         };
         counts[place] += 1;
@@ -65,7 +65,7 @@ fn sorted_fields<'a>(
 {
     let mut set = FieldSet::new(alloc, hasher);
     for row in 0..column.len() {
-        set.insert(column.field(row))?;
+        set.insert(column.get(row))?;
     }
     set.sort()?;
     Ok(set)

@@ -19,14 +19,14 @@ pub unreachable-requires : goal.unreachable-requires
 unreachable-requires c =
     let fields : List (List ℕ) = c.args.column.now in
     let lt : c.loop-row.row < length fields = omega arith in
-    some_place (fields_in c.in_ok-set.set) c.field.result.now
-    (subst (Contains (fields_in c.in_ok-set.set)) (sym c.field.ensures) (All-get_or (Contains (fields_in c.in_ok-set.set)) fields c.loop-row.row [] lt c.in_ok-set.ensures.all))
+    some_place (fields_in c.in_ok-set.set) c.get.result.now
+    (subst (Contains (fields_in c.in_ok-set.set)) (sym c.get.ensures) (All-get_or (Contains (fields_in c.in_ok-set.set)) fields c.loop-row.row [] lt c.in_ok-set.ensures.all))
     (sym c.place_of.ensures ∙ c.in_default.is)
 
 pub overflow_add-index_mut : goal.overflow_add-index_mut
 overflow_add-index_mut c =
     let fields : List (List ℕ) = c.args.column.now in
-    let at = place_is (fields_in c.in_ok-set.set) c.field.result.now c.in-Some.place (sym c.place_of.ensures ∙ c.in-Some.is) in
+    let at = place_is (fields_in c.in_ok-set.set) c.get.result.now c.in-Some.place (sym c.place_of.ensures ∙ c.in-Some.is) in
     let small : c.index_mut.result.now ≤ c.loop-row.row =
     count_bounded fields (fields_in c.in_ok-set.set) c.loop-row.counts.items c.loop-row.codes.items c.loop-row.row c.in-Some.place _ c.loop-row.invariant at.0 c.index_mut.ensures.value in
     let lt : c.loop-row.row < length fields = omega arith in
@@ -37,9 +37,9 @@ loop-row-preserved c =
     let fields : List (List ℕ) = c.args.column.now in
     let lt : c.loop-row.row < length fields = omega arith in
     let set : List (List ℕ) = fields_in c.in_ok-set.set in
-    let at = place_is set c.field.result.now c.in-Some.place (sym c.place_of.ensures ∙ c.in-Some.is) in
+    let at = place_is set c.get.result.now c.in-Some.place (sym c.place_of.ensures ∙ c.in-Some.is) in
     rw c.in_ok-push.ensures.items (coded_row fields set c.loop-row.counts.items c.loop-row.codes.items c.loop-row.row c.in-Some.place c.index_mut.result.now
-    c.loop-row.invariant c.in_ok-set.ensures.distinct lt at.0 (at.1 ∙ c.field.ensures) c.index_mut.ensures.value)
+    c.loop-row.invariant c.in_ok-set.ensures.distinct lt at.0 (at.1 ∙ c.get.ensures) c.index_mut.ensures.value)
 
 pub returns-clause-short : goal.returns-clause-short
 returns-clause-short c =

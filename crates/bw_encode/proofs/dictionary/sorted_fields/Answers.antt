@@ -11,7 +11,7 @@ pub loop-row-preserved : goal.loop-row-preserved
 loop-row-preserved c =
     let fields : List (List ℕ) = c.args.column.now in
     let lt : c.loop-row.row < length fields = omega arith in
-    rw (c.in_ok-insert.ensures, c.field.ensures) (has_more fields (fields_in c.loop-row.set) c.loop-row.row lt c.loop-row.invariant)
+    rw (c.in_ok-insert.ensures, c.get.ensures) (has_more fields (fields_in c.loop-row.set) c.loop-row.row lt c.loop-row.invariant)
 
 pub returns-clause-used : goal.returns-clause-used
 returns-clause-used c = All-permutation (Contains (c.args.column.now)) _ _ c.in_ok-sort.ensures.same c.loop-row.invariant.used
