@@ -8,6 +8,7 @@ pub mod NameLemmas
 pub mod NumberLemmas
 pub mod OneLemmas
 pub mod ReadLemmas
+pub mod RestLemmas
 pub mod RowLemmas
 pub mod SeenLemmas
 pub mod TableLemmas
