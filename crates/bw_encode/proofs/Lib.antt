@@ -6,7 +6,9 @@ pub mod EncodeLemmas
 pub mod FuelLemmas
 pub mod NameLemmas
 pub mod NumberLemmas
+pub mod OneLemmas
 pub mod ReadLemmas
+pub mod RestLemmas
 pub mod RowLemmas
 pub mod SeenLemmas
 pub mod TableLemmas

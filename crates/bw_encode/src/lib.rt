@@ -28,11 +28,13 @@ mod numbers;
 mod place;
 mod records;
 mod seen;
+mod selection;
 mod table;
 mod table_maker;
 
 pub use coded_table::{CodedTable, TextColumns};
 pub use dialect::Dialect;
 pub use encode_call::encode_text;
-pub use laws::codes_compare_as_fields;
+pub use laws::{a_column_has_one_encoding, a_text_goes_on_at_its_rest, codes_compare_as_fields};
+pub use selection::Selection;
 pub use table_maker::TableMaker;
