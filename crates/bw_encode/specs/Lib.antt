@@ -10,6 +10,8 @@ pub mod FieldsText
 pub mod Number
 pub mod Place
 pub mod Records
+pub mod Rest
 pub mod Rows
 pub mod Seen
+pub mod Selection
 pub mod Table

@@ -90,7 +90,7 @@ pub(crate) struct FieldSet<'a> {
 }
 
 impl<'a> FieldSet<'a> {
-    ghost use Rattle.std.specs.Prelude.{◌≡◌, [], length, map, OnOk, IfOk};
+    ghost use Rattle.std.specs.Prelude.{◌≡◌, [], length, map, slice_get, OnOk, IfOk, Some};
     ghost use Rattle.std.specs.List.{position};
     ghost use Rattle.std.specs.List.Sorted.{IsPermutation};
     ghost use Rattle.std.specs.Str.{bytes_eq};
@@ -108,13 +108,16 @@ impl<'a> FieldSet<'a> {
         }
     }
 
-    /// Adds a field, unless the set has it. Fails only if memory is refused.
-    pub(crate) fn insert(&mut self, field: &'a [u8]) -> Result<(), AllocError>
-        ensures { OnOk result (fields_in self.new
+    /// Adds a field, unless the set has it. Returns its place. Fails only if memory is refused.
+    pub(crate) fn insert(&mut self, field: &'a [u8]) -> Result<usize, AllocError>
+        ensures fields { OnOk result (fields_in self.new
             ≡ insert_key bytes_eq (fields_in self.old) field.now) }
+        ensures distinct { OnOk result (AreDistinct (fields_in self.new)) }
+        ensures place { IfOk result (λ place. slice_get (fields_in self.new) place
+            ≡ Some field.now) }
     {
-        self.keys.insert(Key { bytes: field })?;
-        Ok(())
+        let (place, _) = self.keys.insert_full(Key { bytes: field })?;
+        Ok(place)
     }
 
     /// Sorts the fields in the order of bytes. Fails only if memory is refused.

@@ -28,6 +28,7 @@ mod numbers;
 mod place;
 mod records;
 mod seen;
+mod selection;
 mod table;
 mod table_maker;
 
@@ -35,4 +36,5 @@ pub use coded_table::{CodedTable, TextColumns};
 pub use dialect::Dialect;
 pub use encode_call::encode_text;
 pub use laws::codes_compare_as_fields;
+pub use selection::Selection;
 pub use table_maker::TableMaker;
