@@ -6,6 +6,7 @@ pub mod EncodeLemmas
 pub mod FuelLemmas
 pub mod NameLemmas
 pub mod NumberLemmas
+pub mod OneLemmas
 pub mod ReadLemmas
 pub mod RowLemmas
 pub mod SeenLemmas

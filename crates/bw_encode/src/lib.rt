@@ -35,6 +35,6 @@ mod table_maker;
 pub use coded_table::{CodedTable, TextColumns};
 pub use dialect::Dialect;
 pub use encode_call::encode_text;
-pub use laws::codes_compare_as_fields;
+pub use laws::{a_column_has_one_encoding, codes_compare_as_fields};
 pub use selection::Selection;
 pub use table_maker::TableMaker;
