@@ -10,6 +10,7 @@ pub mod OneLemmas
 pub mod ReadLemmas
 pub mod RestLemmas
 pub mod RowLemmas
+pub mod RunLemmas
 pub mod SeenLemmas
 pub mod TableLemmas
 pub mod SetLemmas

@@ -12,6 +12,7 @@ pub mod Place
 pub mod Records
 pub mod Rest
 pub mod Rows
+pub mod Run
 pub mod Seen
 pub mod Selection
 pub mod Table
