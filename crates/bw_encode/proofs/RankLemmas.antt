@@ -54,9 +54,6 @@ own_places before after placed distinct perm = record {
     found = All-permutation (λ entry. get_or (entries_bytes before) entry.place [] ≡ entry_bytes entry) before after perm
         (λ i d lt. ap (λ n. get_or (entries_bytes before) n []) (placed i d lt) ∙ get_or-map entry_bytes before i d [] lt)
 
-pub ranks_none : (entries : List Ranked) (ranks : List ℕ) → length ranks ≡ length entries → AreRanks entries 0 ranks
-ranks_none entries ranks size = record { size = size; each = λ index d lt. absurd (omega arith) }
-
 -- the rank of one entry more
 pub ranks_more : (entries : List Ranked) (ranks : List ℕ) (rank place : ℕ) (d : Ranked) → HasOwnPlaces entries → rank < length entries → place ≡ place_in entries rank d
     → AreRanks entries rank ranks → AreRanks entries (rank + 1) (set ranks place rank)
