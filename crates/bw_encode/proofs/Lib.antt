@@ -7,6 +7,7 @@ pub mod FuelLemmas
 pub mod NameLemmas
 pub mod NumberLemmas
 pub mod OneLemmas
+pub mod RankLemmas
 pub mod ReadLemmas
 pub mod RestLemmas
 pub mod RowLemmas

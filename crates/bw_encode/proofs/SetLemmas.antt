@@ -1,7 +1,6 @@
 -- Sets of fields, seen as the lists of their fields.
-use Rattle.std.proofs.Common.{◌≡◌, ◌∙◌, refl, sym, ap, subst, ℕ, suc, ◌+◌, ◌<◌, ◌≤◌, Bool, true, false, List, [], ◌∷◌, ◌++◌, length, map, Option, Some, None, arith, get_or, slice_get, take, cond, ◌||◌, not, Contains, All, nat_lt, length-append}
-use Rattle.std.specs.List.{IsDistinct, list_any, AllByRecursion, position, position_or_len}
-use Rattle.std.specs.List.Sorted.{IsSorted}
+use Rattle.std.proofs.Common.{◌≡◌, ◌∙◌, refl, sym, ap, ℕ, ◌+◌, ◌<◌, ◌≤◌, Bool, true, false, List, [], ◌∷◌, ◌++◌, length, map, Option, Some, None, arith, get_or, slice_get, take, ◌||◌, Contains, All, length-append}
+use Rattle.std.specs.List.{IsDistinct, list_any, AllByRecursion}
 use Rattle.std.specs.Str.{bytes_eq}
 use Rattle.std.specs.Cmp.Lexicographic.{slice_cmp, bytes_decides, nat_list_cmp_total}
 use Rattle.std.specs.Ordering.{nat_cmp, is_lt, ordering_reverse}
@@ -11,15 +10,8 @@ use Rattle.std.specs.Option.{option_map}
 use Rattle.std.proofs.lemmas.List.{get_or-map, get_or_append_left, length-map, map-append, map_more}
 use Rattle.std.proofs.lemmas.Option.{get_or_from_slice_get, slice_get-get_or, slice_get-map, slice_get_within}
 use Rattle.std.proofs.lemmas.List.Elements.{All-nil, All-push, Contains-get_or}
-use Rattle.std.proofs.lemmas.List.Sums.{fails_before_first}
-use Rattle.std.proofs.lemmas.List.Quantifiers.{position-Some}
 use Rattle.std.specs.FinMap.{slice_cmp-IsAntisymmetric, nat_cmp-IsAntisymmetric}
-use borrow.Author.Tests.{ltb-false}
-use Rattle.std.proofs.lemmas.Map.Keys.{apart_from_distinct}
 use Rattle.indexmap.specs.IndexSet.{insert_key}
-use Rattle.bw_encode.specs.Dictionary.{IsAscending}
-use Rattle.std.specs.Borrow.{Bor}
-use Rattle.bw_encode.specs.Fields.{text_under, texts_under}
 use Rattle.bw_encode.specs.FieldSet.{key_bytes, keys_bytes, AreDistinct}
 use Rattle.bw_encode.specs.declared.field_set.Key.{Key}
 
@@ -38,18 +30,6 @@ insert_key-bytes keys k = by (list_any (same_keys k) keys) refl
     by true e = rw (e, sym (any_key k keys) ∙ e) refl
     by false e = rw (e, sym (any_key k keys) ∙ e) (map-append key_bytes keys (k ∷ []))
 
-first_key : (k : Key) (keys : List Key) → position_or_len (same_keys k) keys ≡ position_or_len (bytes_eq (key_bytes k)) (keys_bytes keys)
-first_key k [] = refl
-first_key k (x ∷ xs) = ap (λ n. cond (not (same_keys k x)) (1 + n) 0) (first_key k xs)
-
-size_of : (keys : List Key) → length (keys_bytes keys) ≡ length keys
-size_of [] = refl
-size_of (k ∷ keys) = ap suc (size_of keys)
-
--- a key's place is that of its field
-pub position-bytes : (keys : List Key) (k : Key) → position (same_keys k) keys ≡ position (bytes_eq (key_bytes k)) (keys_bytes keys)
-position-bytes keys k = rw (size_of keys, ← first_key k keys) refl
-
 all_apart : (k : Key) (keys : List Key) → AllByRecursion (λ y. same_keys k y ≡ false) keys → AllByRecursion (λ y. bytes_eq (key_bytes k) y ≡ false) (keys_bytes keys)
 all_apart k [] h = h
 all_apart k (x ∷ xs) h = (h.0, all_apart k xs h.1)
@@ -61,7 +41,7 @@ distinct-bytes [] h = h
 distinct-bytes (k ∷ keys) h = (all_apart k keys h.0, distinct-bytes keys h.1)
 
 -- neighbours that differ and don't fall, rise
-rises : (a b : List ℕ) (o : Ordering) → slice_cmp nat_cmp a b ≡ o → is_lt (slice_cmp nat_cmp b a) ≡ false → bytes_eq a b ≡ false → o ≡ Less
+pub rises : (a b : List ℕ) (o : Ordering) → slice_cmp nat_cmp a b ≡ o → is_lt (slice_cmp nat_cmp b a) ≡ false → bytes_eq a b ≡ false → o ≡ Less
 rises a b Less e low apart = refl
 rises a b Equal e low apart =
     let same : a ≡ b = slice_cmp-IsAntisymmetric nat_cmp-IsAntisymmetric a b e in
@@ -70,17 +50,6 @@ rises a b Equal e low apart =
 rises a b Greater e low apart =
     let back : slice_cmp nat_cmp b a ≡ Less = nat_list_cmp_total.antisymm b a ∙ ap ordering_reverse e in
     absurd (cc (ap is_lt back))
-
--- sorted keys that differ have ascending fields
-pub ascending-bytes : (keys : List Key) → IsSorted (λ (a b : Key). slice_cmp nat_cmp a.bytes.now b.bytes.now) keys → IsDistinct same_keys keys → IsAscending (keys_bytes keys)
-ascending-bytes [] sorted distinct place lt = absurd (omega arith)
-ascending-bytes (x ∷ xs) sorted distinct place lt =
-    let keys : List Key = x ∷ xs in
-    let in' : place + 1 < length keys = omega (arith, size_of (x ∷ xs)) in
-    let first : place < length keys = omega arith in
-    rw (get_or-map key_bytes keys place x [] first, get_or-map key_bytes keys (place + 1) x [] in')
-    (rises (key_bytes (get_or keys place x)) (key_bytes (get_or keys (place + 1) x)) _ refl
-    (sorted place x (omega arith) in') (apart_from_distinct same_keys keys place (place + 1) x distinct (omega arith) in'))
 
 -- a key that is stored at a place is its field there
 pub stored-bytes : (keys : List Key) (k : Key) (place : ℕ) → (stored : Key) → slice_get keys place ≡ Some stored → same_keys k stored ≡ true → slice_get (keys_bytes keys) place ≡ Some (key_bytes k)
@@ -154,45 +123,6 @@ rank_at fields firsts sorted places ranks placed ranked row lt =
     let first = spelled_at firsts fields places placed row lt in
     let second = spelled_at sorted firsts ranks ranked (get_or places row 0) first.1 in
     (second.0, second.1, second.2 ∙ first.2)
-
--- a field of the set has a place
-pub some_place : (set : List (List ℕ)) (f : List ℕ) → Contains set f → position (bytes_eq f) set ≡ None → ⊥
-some_place set f has none = by (position_or_len (bytes_eq f) set) refl (nat_lt (position_or_len (bytes_eq f) set) (length set)) refl
-  where
-    at : bytes_eq f (get_or set has.0 f) ≡ true
-    at = (bytes_decides f (get_or set has.0 f)).1 (sym has.2)
-
-    by : (n : ℕ) → position_or_len (bytes_eq f) set ≡ n → (b : Bool) → nat_lt (position_or_len (bytes_eq f) set) (length set) ≡ b → ⊥
-    by n e true t = let found : position (bytes_eq f) set ≡ Some (position_or_len (bytes_eq f) set) = rw t refl in absurd (cc (found, none))
-    by n e false t =
-        let far : length set ≤ position_or_len (bytes_eq f) set = ltb-false _ _ t in
-        let near : has.0 < length set = has.1 in
-        let no : bytes_eq f (get_or set has.0 f) ≡ false = fails_before_first (bytes_eq f) set has.0 f (omega arith) in
-        absurd (cc (no, at))
-
--- the place that a field has is that of a field of the set, which is the same
-pub place_is : (set : List (List ℕ)) (f : List ℕ) (place : ℕ) → position (bytes_eq f) set ≡ Some place → (place < length set) × (get_or set place [] ≡ f)
-place_is set f place e =
-    let at = position-Some (bytes_eq f) set place [] e in
-    (at.0, sym ((bytes_decides f (get_or set place [])).0 at.1))
-
--- a list's text is among the texts
-pub text_there : (items : List (Bor (List ℕ))) (set : List (List ℕ)) (i : ℕ) (d : Bor (List ℕ)) → texts_under items ≡ set → i < length items → Contains set (text_under (get_or items i d))
-text_there items set i d e lt =
-    let long : i < length (texts_under items) = omega (arith, length-map items text_under) in
-    subst (λ xs. Contains xs (text_under (get_or items i d))) e
-    (subst (Contains (texts_under items)) (get_or-map text_under items i d [] lt) (Contains-get_or (texts_under items) i [] long))
-
--- the rank of one text more
-pub rank_more : (items : List (Bor (List ℕ))) (sorted : List (List ℕ)) (ranks : List ℕ) (i rank : ℕ) (d : Bor (List ℕ)) → i < length items
-    → position (bytes_eq (text_under (get_or items i d))) sorted ≡ Some rank → map (slice_get sorted) ranks ≡ map Some (texts_under (take i items))
-    → map (slice_get sorted) (ranks ++ rank ∷ []) ≡ map Some (texts_under (take (i + 1) items))
-rank_more items sorted ranks i rank d lt found so_far =
-    let f = text_under (get_or items i d) in
-    let is = place_is sorted f rank found in
-    let at : slice_get sorted rank ≡ Some f = slice_get-get_or sorted rank [] is.0 ∙ ap Some is.1 in
-    map-append (slice_get sorted) ranks (rank ∷ [])
-    ∙ rw (so_far, at) (sym (ap (map Some) (map_more text_under items i d lt) ∙ map-append Some (texts_under (take i items)) (f ∷ [])))
 
 pub placed_size : (list fields : List (List ℕ)) (codes : List ℕ) → map (slice_get list) codes ≡ map Some fields → length codes ≡ length fields
 placed_size list fields codes placed = sym (length-map codes (slice_get list)) ∙ ap length placed ∙ length-map fields Some

@@ -9,6 +9,7 @@ pub mod FieldSet
 pub mod FieldsText
 pub mod Number
 pub mod Place
+pub mod Ranked
 pub mod Records
 pub mod Rest
 pub mod Rows

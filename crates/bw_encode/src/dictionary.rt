@@ -1,14 +1,14 @@
 //! A column's fields as places in the list of its distinct fields.
 ghost use Rattle.std.specs.Prelude.{◌≡◌, ◌≤◌, [], All, Contains, IfOk, OnOk, Some, length, map};
 ghost use Rattle.std.specs.Prelude.{slice_get};
-ghost use Rattle.std.specs.List.Sorted.{IsPermutation};
 ghost use Rattle.bw_model.specs.Limits.{most_rows};
-ghost use Rattle.bw_encode.specs.Dictionary.{IsAscending, IsEncoded};
+ghost use Rattle.bw_encode.specs.Dictionary.{IsEncoded};
 ghost use Rattle.bw_encode.specs.Fields.{texts_under};
 ghost use Rattle.bw_encode.specs.FieldSet.{fields_in, AreDistinct};
 
 use crate::field_set::FieldSet;
 use crate::fields::Fields;
+use crate::ranked::{SortedFields, sort_fields};
 use std::alloc::{AllocError, Global};
 use std::hash::RandomState;
 
@@ -35,16 +35,16 @@ pub(crate) fn dictionary_of<'a>(
 {
     let mut set = FieldSet::new(alloc, hasher);
     let places = insert_fields(alloc, column, &mut set)?;
-    let ranks = sort_fields(alloc, &mut set)?;
+    let firsts = set.fields(alloc)?;
+    let SortedFields { fields, ranks } = sort_fields(alloc, &firsts)?;
     let mut counts: Vec<u32> = Vec::new(alloc);
-    counts.resize(set.len(), 0)?;
+    counts.resize(fields.len(), 0)?;
     let mut codes: Vec<u32> = Vec::with_capacity(alloc, places.len())?;
     for row in 0..places.len() {
         let code = ranks[places[row] as usize];
         counts[code as usize] += 1;
         codes.push(code)?;
     }
-    let fields = set.fields(alloc)?;
     Ok(Dictionary {
         fields,
         counts,
@@ -73,26 +73,4 @@ fn insert_fields<'a>(
         places.push(place as u32)?;
     }
     Ok(places)
-}
-
-/// Sorts a set of at most 2^24 fields in the order of bytes. Returns the new place of each field, in
-/// their old order. Fails only if memory is refused.
-fn sort_fields<'a>(alloc: Global, set: &mut FieldSet<'a>) -> Result<Vec<u32>, AllocError>
-    requires { length (fields_in set.old) ≤ most_rows }
-    ensures ascending { OnOk result (IsAscending (fields_in set.new)) }
-    ensures distinct { OnOk result (AreDistinct (fields_in set.new)) }
-    ensures same { OnOk result (IsPermutation (fields_in set.old) (fields_in set.new)) }
-    ensures ranks { IfOk result (λ ranks. map (slice_get (fields_in set.new)) ranks.items
-        ≡ map Some (fields_in set.old)) }
-{
-    let fields = set.fields(alloc)?;
-    set.sort()?;
-    let mut ranks: Vec<u32> = Vec::with_capacity(alloc, fields.len())?;
-    for field in &fields {
-        let Some(rank) = set.place_of(field) else {
-            unreachable!()
-        };
-        ranks.push(rank as u32)?;
-    }
-    Ok(ranks)
 }

@@ -7,8 +7,9 @@
 //! of bytes. The first text has these lists, with how often each field occurs. A [`TableMaker`]
 //! makes the table's bytes, so this crate doesn't depend on a file's format.
 //!
-//! Read `specs/Encode.antt` for what the call does, `specs/Rows.antt` for the rows of a text and
-//! its first error, `specs/Column.antt` and `specs/Dictionary.antt` for what encodes a column,
+//! Read `specs/Encode.antt` for what the call does, `specs/Selection.antt` and `specs/Rows.antt` for
+//! the rows of a text and its first error, `specs/Rest.antt` for where a limit of rows stops,
+//! `specs/Column.antt` and `specs/Dictionary.antt` for what encodes a column,
 //! `specs/FieldsText.antt` and `specs/Table.antt` for what is written; then `encode_call.rt` and
 //! `coded_table.rt`. [`TextColumns`] and [`CodedTable`] are the steps of the call.
 #![tactic(auto)]
@@ -26,6 +27,7 @@ mod laws;
 mod number;
 mod numbers;
 mod place;
+mod ranked;
 mod records;
 mod seen;
 mod selection;
