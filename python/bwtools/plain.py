@@ -50,10 +50,10 @@ class Plain:
         return bool(self.signs) and self.failed <= 2 and \
             (FIRST.match(first) is not None or first in self.words)
 
-    def add(self, fields: Sequence[str]) -> Numbered | None:
+    def add(self, fields: Sequence[str], is_padded: bool = True) -> Numbered | None:
         """Adds fields, and returns them as they are kept, if all but the nulls are numbers or times
         in such a spelling."""
-        bare, padded = without_blanks(fields)
+        bare, padded = without_blanks(fields) if is_padded else (fields, 0)
         present, nulls = split_nulls(bare, self.words)
         kept = self.examined(present, nulls) if present else None
         if kept is None:
@@ -130,16 +130,20 @@ class Plain:
         # other decimals with a negative zero may still fit a scale
         is_float = self.spans.is_float or "e" in joined or max(map(len, fields)) > MOST_DIGITS
         is_float = is_float or self.spans.digits > 0 and not self.spans.fits()
-        if not is_float or not FLOATS.fullmatch(joined):
+        if not is_float:
             return None
-        numbers = list(map(float, fields))
-        spelled = list(map(repr, numbers))
+        try:
+            numbers = list(map(float, fields))
+        except ValueError:
+            return None
         lengths = b""
-        if spelled != fields:
+        # as a list they are spelled fastest; inf and nan are none
+        if "n" in joined or str(numbers)[1:-1].replace(", ", "\n") + "\n" != joined:
+            spelled = list(map(repr, numbers))
             lengths = bytes(map(operator.ne, spelled, fields))
             bare = itertools.compress(fields, lengths)
-            if any(text + ".0" != other for text, other in
-                   zip(bare, itertools.compress(spelled, lengths))):
+            if not FLOATS.fullmatch(joined) or any(text + ".0" != other for text, other in zip(
+                    bare, itertools.compress(spelled, lengths))):
                 return None
         self.spans.add_doubles(numbers)
         return Numbered("float", "d", array.array("d", numbers).tobytes(), nulls, 0, lengths, ".")

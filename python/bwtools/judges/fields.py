@@ -121,7 +121,7 @@ class Fields:
             if found:
                 self.words[word] = self.words.get(word, 0) + found
         is_like = self.is_many and self.plain.may_have(fields[0].decode())
-        kept = self.plain.add(texts_of(fields)) if is_like else None
+        kept = self.plain.add(texts_of(fields), is_padded) if is_like else None
         self.parts.append(Part(first, first + len(fields), kept, is_padded))
 
     def run_of(self, parts: list[Part], first: int, fields: Sequence[bytes]) -> Run:

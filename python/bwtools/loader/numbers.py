@@ -41,8 +41,9 @@ class Numbers:
         return self.column.dictionary is None or \
             self.texts is not None and self.texts.places is None
 
-    def blocks(self) -> Iterator[list[str]]:
-        """Yields what the distinct fields become, in order, and counts what there is."""
+    def blocks(self) -> Iterator[list[Optional[int]]]:
+        """Yields what the distinct fields become, in order, None for null, and counts what there
+        is."""
         if self.texts is not None:
             yield from self.places()
             return
@@ -60,7 +61,7 @@ class Numbers:
         return part.kept is None or part.has_blanks or \
             part.kept.form == "number" and isinstance(undressed(kind), (Floats, Ranked))
 
-    def places(self) -> Iterator[list[str]]:
+    def places(self) -> Iterator[list[Optional[int]]]:
         """Yields the places of texts."""
         assert self.texts is not None and self.column.dictionary is not None
         count, places = len(self.texts.kind.listed), self.texts.places
@@ -69,15 +70,15 @@ class Numbers:
                 if part.has_blanks:
                     counts = self.column.dictionary.counts[part.first:part.end]
                     self.count_padded(self.column.texts(part), counts)
-        yield list(map(str, range(count))) if places is None else \
-            [NULL if place < 0 else str(place) for place in places]
+        yield list(range(count)) if places is None else \
+            [None if place < 0 else place for place in places]
 
     def count_padded(self, texts: Sequence[str], counts: Sequence[int]) -> None:
         self.counts.padded += sum(count for text, count in zip(texts, counts)
                                   if text != text.strip(BLANKS))
 
     def kept(self, part: Part, kept: Numbered, texts: Sequence[str],
-             counts: Sequence[int]) -> list[str]:
+             counts: Sequence[int]) -> list[Optional[int]]:
         """Returns the numbers of fields that are kept as numbers."""
         assert self.decision.kind is not None
         kind = undressed(self.decision.kind)
@@ -91,11 +92,10 @@ class Numbers:
         changed = changed_of(kept, kind, texts)
         if changed is not None:
             self.counts.changed += sum(itertools.compress(counts, changed))
-        written = list(map(str, numbers))
         if not kept.nulls:
-            return written
-        rest = iter(written)
-        return [NULL if null else next(rest) for null in kept.nulls]
+            return list(numbers)
+        rest = iter(numbers)
+        return [None if null else next(rest) for null in kept.nulls]
 
     def numbers_of(self, kept: Numbered, kind: Kind, counts: Sequence[int]) -> Sequence[int]:
         """Returns kept numbers as those of a kind."""
@@ -110,7 +110,8 @@ class Numbers:
         power = 10 ** (digits - kept.digits)
         return numbers if power == 1 else list(map(power.__mul__, numbers))
 
-    def read(self, part: Part, texts: Sequence[str], counts: Sequence[int]) -> list[str]:
+    def read(self, part: Part, texts: Sequence[str],
+             counts: Sequence[int]) -> list[Optional[int]]:
         """Returns the numbers of fields that are read one by one."""
         words, decision, kind = set(self.column.wishes.words), self.decision, self.decision.kind
         assert kind is not None, "a column of texts has other codes"
@@ -118,19 +119,15 @@ class Numbers:
             self.count_padded(texts, counts)
             texts = [text.strip(BLANKS) for text in texts]
         read = decision.rounding.number if decision.rounding else kind.number
-        numbers, written = list[int](), list[str]()
-        for text, count in zip(texts, counts):
-            if text in words:
-                written.append(NULL)
-                continue
-            found = read(text)
-            assert found is not None, "the column's kind fits all its texts"
-            numbers.append(found)
-            written.append(str(found))
-            self.note(text, found, count)
-        if numbers:
-            self.counts.widen(min(numbers), max(numbers))
-        return written
+        numbers = [None if text in words else read(text) for text in texts]
+        for text, number, count in zip(texts, numbers, counts):
+            assert number is not None or text in words, "the column's kind fits all its texts"
+            if number is not None:
+                self.note(text, number, count)
+        present = [number for number in numbers if number is not None]
+        if present:
+            self.counts.widen(min(present), max(present))
+        return numbers
 
     def note(self, text: str, number: int, count: int) -> None:
         """Notes what changes of a field."""
@@ -144,6 +141,13 @@ class Numbers:
             counts.changed += count
         if number == 0 and text[:1] == "-" and isinstance(undressed(kind), (Floats, Ranked)):
             counts.zeros += count
+
+
+def text_of(numbers: Sequence[Optional[int]]) -> str:
+    """Returns a line for each number."""
+    # as a list they are spelled fastest
+    text = str(numbers)[1:-1].replace(", ", "\n")
+    return f"{text.replace('None', NULL)}\n" if numbers else ""
 
 
 def exact_words(column: Fields) -> dict[str, int]:

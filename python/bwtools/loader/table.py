@@ -28,7 +28,7 @@ from ..textual import sorted_texts
 from ..wishes import BLANKS, Wishes, wishes_of
 from . import encode
 from .dictionary import ByteFile, Dictionary, merge, texts_of
-from .numbers import NULL, Numbers
+from .numbers import NULL, Numbers, text_of
 from .parts import CodedFile, Coder, Part
 from .reporting import notes, report_lines
 
@@ -259,12 +259,11 @@ def lines_of(numbers: Numbers) -> Iterator[str]:
         yield "KEEP\n"
         return
     yield "CODES\n"
-    for block in numbers.blocks():
-        yield "\n".join(block) + "\n" if block else ""
+    yield from map(text_of, numbers.blocks())
 
 
 def lines_in(part: Part, place: int, places: Optional[array[int]],
-             written: Sequence[str]) -> Iterator[str]:
+             written: Sequence[Optional[int]]) -> Iterator[str]:
     """Yields the lines that say what the codes of a column become in one of several parts."""
     if places is None:
         # a column of nulls alone keeps no number
@@ -273,5 +272,4 @@ def lines_in(part: Part, place: int, places: Optional[array[int]],
         return
     yield "CODES\n"
     for first in range(0, len(places), AT_ONCE):
-        numbers = map(written.__getitem__, places[first:first + AT_ONCE])
-        yield "\n".join(numbers) + "\n"
+        yield text_of(list(map(written.__getitem__, places[first:first + AT_ONCE])))
