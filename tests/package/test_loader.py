@@ -12,7 +12,7 @@ from unittest import mock
 
 from bwtools import importing, pairs
 from bwtools._cli import import_
-from bwtools.loader import cut, dictionary, encode, feed
+from bwtools.loader import dictionary, encode, feed
 from bwtools.loader.dictionary import ByteFile, merge, read_fields
 from bwtools.shards import Folder
 from bwtools.signs import Signs
@@ -116,7 +116,7 @@ class Together(unittest.TestCase):
             width = len(source.headings)
             return feed.RecordFeed(source, marked, feed.heading_of(width))
 
-        for patch in (mock.patch("bwtools.loader.parts.feed_of", anew),
+        for patch in (mock.patch("bwtools.loader.encode.feed_of", anew),
                       mock.patch("bwtools.loader.table.MARKED", frozenset({0, 1}))):
             for _ in range(30):
                 words = ("--heading", *draw.choice(WORDS))
@@ -207,10 +207,10 @@ class Parts(TestCase):
         self.folder = self.new_folder()
         data = "a,b\n" + "".join(f"{place},{place % 7}x\n" for place in range(10_000))
         told = self.imported(data, "one.bw")
-        for name, value in (("bwtools.loader.parts.MOST_BYTES", 1 << 16),
+        for name, value in (("bwtools.loader.encode.MOST_BYTES", 1 << 16),
                             ("bwtools.loader.encode.encode", self.too_many)):
             with self.subTest(name), mock.patch(name, value), \
-                    mock.patch("bwtools.sharding.MOST_ROWS", 4_000):
+                    mock.patch("bwtools.loader.encode.MOST_ROWS", 4_000):
                 self.assertEqual(self.imported(data, name[-6:]), told)
             self.assertEqual(self.content(name[-6:])[:2], self.content("one.bw")[:2])
             self.assertGreater(len(self.content(name[-6:])[2]), 2)
@@ -305,7 +305,7 @@ class Places(unittest.TestCase):
         with tempfile.TemporaryFile() as file:
             file.write(data)
             file.flush()
-            index = cut.Index(file, signs, 0)
+            index = feed.Index(file, signs, 0)
             self.assertEqual(index.count, count)
             for number in range(count + 1):
                 place = index.place_after(number)
@@ -320,8 +320,8 @@ class Places(unittest.TestCase):
         draw = random.Random(16)
         for at_once in (16, 1 << 20):
             for every in (1, 3, 1 << 12):
-                with mock.patch.object(cut, "BYTES_AT_ONCE", at_once), \
-                        mock.patch.object(cut, "EVERY", every):
+                with mock.patch.object(feed, "BYTES_AT_ONCE", at_once), \
+                        mock.patch.object(feed, "EVERY", every):
                     for _ in range(25):
                         signs = draw.choice([Signs(), Signs(";", "'"), Signs(comment="#")])
                         rows = [[draw.choice(["a", "é", "b\nc", "\r\n", "", signs.quote, "x" * 30])

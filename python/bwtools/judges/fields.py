@@ -8,9 +8,8 @@ import random
 from dataclasses import dataclass, field
 from typing import Iterator, NamedTuple, Optional, Sequence
 
-from ..keeping import Numbered
 from ..loader.dictionary import Dictionary, texts_of
-from ..plain import Plain
+from ..plain import Numbered, Plain
 from ..wishes import BLANKS, NULLS, Wishes
 
 # above so many distinct fields, numbers and times are examined so many at a time

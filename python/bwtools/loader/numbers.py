@@ -1,22 +1,42 @@
 """The numbers that the distinct fields of a column become, and what is counted of its rows."""
 from __future__ import annotations
 
+import decimal
 import itertools
 import operator
+from dataclasses import dataclass, field
 from typing import Callable, Iterable, Iterator, Optional, Sequence
 
-from ..counts import Counts
 from ..deciding import restores
 from ..floating import numbered_doubles
 from ..judges.fields import Fields, Part
 from ..judges.verdict import Decision
-from ..keeping import Numbered, values_of
+from ..plain import Numbered, values_of
 from ..kind import Kind
 from ..kinds import Decimals, Floats, Ranked, Times, Whole, undressed
 from ..textual import Sorted
 from ..wishes import BLANKS
 
 NULL, NEGATIVE_ZERO = "NULL", -1 << 63
+
+
+@dataclass
+class Counts:
+    """What is counted of a column's fields: those whose spelling changes, those that had blanks
+    around them, negative zeros, rounded ones and by how much at most, the nulls of each word, and
+    the minimum and the maximum."""
+    changed: int = 0
+    padded: int = 0
+    zeros: int = 0
+    rounded: int = 0
+    change: decimal.Decimal = decimal.Decimal(0)
+    nulls: dict[str, int] = field(default_factory=dict)
+    span: Optional[tuple[int, int]] = None
+
+    def widen(self, least: int, greatest: int) -> None:
+        self.span = (least,
+                     greatest) if self.span is None else (min(self.span[0], least),
+                                                          max(self.span[1], greatest))
 
 
 class Numbers:
