@@ -235,13 +235,25 @@ class Words(unittest.TestCase):
                 ("a,b\n1,1\n2,99999999999999999999\n", (["whole", "texts"], [
                     "1,1", "2,99999999999999999999"])),
                 ("a,b\n1,1\n\n2,3\n", (["whole", "whole"], ["1,1", "2,3"])),
-                ("a,b\n1,007\n2,3\n", (["whole", "texts"], ["1,007", "2,3"]))):
+                ("a,b\n1,007\n2,3\n", (["whole", "texts"], ["1,007", "2,3"])),
+                ("a,b\n1,NULL\n2,NULL\n", (["whole", "texts"], ["1,NULL", "2,NULL"])),
+                ("a,b\n1,-\n2,NA\n", (["whole", "texts"], ["1,-", "2,NA"])),
+                ("a,b\n1,\n2,\n", (["whole", "nulls"], ["1,", "2,"])),
+                ("a,b\n1, \n2,\n", (["whole", "nulls"], ["1,", "2,"])),
+                ("a,b\n1,\t\n2, \n", (["whole", "nulls"], ["1,", "2,"]))):
             with self.subTest(data):
                 made = found(data, ())
                 if isinstance(wanted, str):
                     self.assertIn(wanted, made)
                 else:
                     self.assertEqual(made[:2], wanted)
+
+    def test_words_alone(self):
+        self.assertIn("texts: only 'NULL' and similar words", found("a,b\n1,NULL\n2,NULL\n", ())[2])
+        for words in (("--null", "x"), ("--null", "b=x"), ("--null", "x", "--keep-blanks")):
+            made = found("a,b\n1,x\n2,x\n3,\n", words)
+            self.assertEqual(made[:2], (["whole", "nulls"], ["1,", "2,", "3,"]))
+            self.assertIn("1 null as nothing, 2 nulls as 'x'", made[2])
 
     def test_options_for_whole_numbers(self):
         data = "a,b\n20240501,1\n20240502,2\n,3\n"

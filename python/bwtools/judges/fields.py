@@ -34,15 +34,19 @@ class Part(NamedTuple):
 @dataclass
 class Run:
     """Some of the distinct fields of a dictionary that aren't kept as numbers, of which bare texts
-    have no blanks around them and are no words for null: about how many bare texts there are and,
-    of many, some of them, and some bare fields of the rows, both drawn at random. `words` are those
-    for null that may be among them."""
+    have no blanks around them and are no words for null: of many, some bare texts, and some bare
+    fields of the rows, both drawn at random. `words` are those for null that may be among them."""
     dictionary: Dictionary
     parts: list[Part]
     words: set[str]
-    size: int
     texts_drawn: list[str]
     rows_drawn: list[str]
+
+    @property
+    def size(self) -> int:
+        """How many bare texts there are, or about so many if there are many."""
+        return sum(part.end - part.first for part in self.parts) if self.texts_drawn \
+            else len(self.bare)
 
     @functools.cached_property
     def texts(self) -> list[str]:
@@ -126,9 +130,8 @@ class Fields:
     def run_of(self, parts: list[Part], first: int, fields: Sequence[bytes]) -> Run:
         """Returns a run of parts of a block, which begins at a place."""
         assert self.dictionary is not None
-        size = sum(part.end - part.first for part in parts)
         texts, rows = list[str](), list[str]()
-        if size > DRAWN_OF:
+        if sum(part.end - part.first for part in parts) > DRAWN_OF:
             own = list(itertools.chain.from_iterable(
                 fields[part.first - first:part.end - first] for part in parts))
             counts = itertools.chain.from_iterable(
@@ -136,7 +139,7 @@ class Fields:
             draw = random.Random(0)
             texts = self.bare_of(draw.sample(own, DRAWN))
             rows = self.bare_of(draw.choices(own, list(counts), k=DRAWN))
-        return Run(self.dictionary, parts, {*self.wishes.words} & {*self.words}, size, texts, rows)
+        return Run(self.dictionary, parts, {*self.wishes.words} & {*self.words}, texts, rows)
 
     def bare_of(self, fields: Sequence[bytes]) -> list[str]:
         """Returns the bare texts of fields."""
