@@ -27,8 +27,7 @@ import bwtools
 from bwtools import importing, kinds
 from bwtools.options import add_options, parsed
 from bwtools._cli import import_
-from bwtools.loader.numbers_file import write_numbers
-from bwtools.loader.table import Table
+from bwtools.loader.table import Table, write_numbers
 from bwtools.sorted_list import SortedList
 from bwtools.source import Source
 from bwtools.telling import Refused

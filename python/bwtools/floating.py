@@ -8,11 +8,11 @@ from typing import Iterator, Sequence
 
 from .judges.fields import Fields
 from .judges.verdict import Decision
-from .keeping import Numbered, values_of
 from .kinds.doubles import bits_of
 from .kinds.floats import Floats
 from .kinds.ranked import Ranked
 from .kinds.styled import Numbers, Styled
+from .plain import Numbered, values_of
 from .sorted_list import SortedList
 from .style import Style
 

@@ -8,15 +8,32 @@ import itertools
 import operator
 import re
 from dataclasses import dataclass, field
-from typing import Any, Iterable, Sequence
+from typing import Any, Iterable, NamedTuple, Sequence
 
-from .keeping import Numbered, packed, split_nulls
 from .numerals import is_grouped
 from .plain_times import plain_times
 from .spans import LONGEST, MOST_DIGITS, Spans
 
 FLOATS = re.compile(r"(?:-?(?:[0-9]+(?:\.[0-9]+)?)(?:e[+-][0-9]+)?\n)*")
 FIRST = re.compile("-?[0-9]|[ \t]")
+# the types of arrays of numbers, each with the bits of its magnitudes
+TYPES = (("b", 7), ("h", 15), ("i", 31), ("q", 63))
+
+
+class Numbered(NamedTuple):
+    """The numbers of fields that are spelled as numbers are printed: the type of the array and its
+    bytes. `nulls` has a byte for each field: 0, or 1 more than the place of its word for null; it
+    is empty if no field is null. Whole numbers, decimals and times are multiplied by ten to
+    `digits`. If decimals have different numbers of digits, `lengths` has that of each; of doubles
+    it has 1 for those that are spelled without their `.0`. `shape` is the decimal sign, or the
+    shape of times."""
+    form: str
+    type: str
+    data: bytes
+    nulls: bytes
+    digits: int
+    lengths: bytes
+    shape: Any
 
 
 @dataclass
@@ -50,10 +67,10 @@ class Plain:
         return bool(self.signs) and self.failed <= 2 and \
             (FIRST.match(first) is not None or first in self.words)
 
-    def add(self, fields: Sequence[str]) -> Numbered | None:
+    def add(self, fields: Sequence[str], is_padded: bool = True) -> Numbered | None:
         """Adds fields, and returns them as they are kept, if all but the nulls are numbers or times
         in such a spelling."""
-        bare, padded = without_blanks(fields)
+        bare, padded = without_blanks(fields) if is_padded else (fields, 0)
         present, nulls = split_nulls(bare, self.words)
         kept = self.examined(present, nulls) if present else None
         if kept is None:
@@ -130,16 +147,20 @@ class Plain:
         # other decimals with a negative zero may still fit a scale
         is_float = self.spans.is_float or "e" in joined or max(map(len, fields)) > MOST_DIGITS
         is_float = is_float or self.spans.digits > 0 and not self.spans.fits()
-        if not is_float or not FLOATS.fullmatch(joined):
+        if not is_float:
             return None
-        numbers = list(map(float, fields))
-        spelled = list(map(repr, numbers))
+        try:
+            numbers = list(map(float, fields))
+        except ValueError:
+            return None
         lengths = b""
-        if spelled != fields:
+        # as a list they are spelled fastest; inf and nan are none
+        if "n" in joined or str(numbers)[1:-1].replace(", ", "\n") + "\n" != joined:
+            spelled = list(map(repr, numbers))
             lengths = bytes(map(operator.ne, spelled, fields))
             bare = itertools.compress(fields, lengths)
-            if any(text + ".0" != other for text, other in
-                   zip(bare, itertools.compress(spelled, lengths))):
+            if not FLOATS.fullmatch(joined) or any(text + ".0" != other for text, other in zip(
+                    bare, itertools.compress(spelled, lengths))):
                 return None
         self.spans.add_doubles(numbers)
         return Numbered("float", "d", array.array("d", numbers).tobytes(), nulls, 0, lengths, ".")
@@ -190,3 +211,28 @@ def plain_of(mark: str) -> re.Pattern[str]:
     """Returns the pattern of lines of whole numbers and decimals with a decimal sign, without
     negative zeros."""
     return re.compile(rf"(?:(?!-0(?:[{mark}]0+)?\n)-?(?:0|[1-9][0-9]*)(?:[{mark}][0-9]+)?\n)*")
+
+
+def packed(numbers: Sequence[int]) -> tuple[str, bytes] | None:
+    """Returns the type of an array and its bytes, or None if a number doesn't fit 64 bits."""
+    least, greatest = min(numbers), max(numbers)
+    for kind, bits in TYPES:
+        if -1 << bits <= least and greatest < 1 << bits:
+            return kind, array.array(kind, numbers).tobytes()
+    return None
+
+
+def values_of(kept: Numbered) -> array.array[Any]:
+    """Returns the numbers."""
+    found = array.array(kept.type)
+    found.frombytes(kept.data)
+    return found
+
+
+def split_nulls(fields: Sequence[str], places: dict[str, int]) -> tuple[Sequence[str], bytes]:
+    """Returns the fields that aren't a word for null, and a byte for each field as Numbered has it,
+    or nothing if none is such a word. `places` has what stands for each word."""
+    if places.keys().isdisjoint(fields):
+        return fields, b""
+    nulls = bytes([places.get(field, 0) for field in fields])
+    return list(itertools.compress(fields, map(operator.not_, nulls))), nulls

@@ -12,7 +12,7 @@ from unittest import mock
 
 from bwtools import importing, pairs
 from bwtools._cli import import_
-from bwtools.loader import cut, dictionary, encode, feed
+from bwtools.loader import dictionary, encode, feed
 from bwtools.loader.dictionary import ByteFile, merge, read_fields
 from bwtools.shards import Folder
 from bwtools.signs import Signs
@@ -116,7 +116,7 @@ class Together(unittest.TestCase):
             width = len(source.headings)
             return feed.RecordFeed(source, marked, feed.heading_of(width))
 
-        for patch in (mock.patch("bwtools.loader.parts.feed_of", anew),
+        for patch in (mock.patch("bwtools.loader.encode.feed_of", anew),
                       mock.patch("bwtools.loader.table.MARKED", frozenset({0, 1}))):
             for _ in range(30):
                 words = ("--heading", *draw.choice(WORDS))
@@ -207,10 +207,10 @@ class Parts(TestCase):
         self.folder = self.new_folder()
         data = "a,b\n" + "".join(f"{place},{place % 7}x\n" for place in range(10_000))
         told = self.imported(data, "one.bw")
-        for name, value in (("bwtools.loader.parts.MOST_BYTES", 1 << 16),
+        for name, value in (("bwtools.loader.encode.MOST_BYTES", 1 << 16),
                             ("bwtools.loader.encode.encode", self.too_many)):
             with self.subTest(name), mock.patch(name, value), \
-                    mock.patch("bwtools.sharding.MOST_ROWS", 4_000):
+                    mock.patch("bwtools.loader.encode.MOST_ROWS", 4_000):
                 self.assertEqual(self.imported(data, name[-6:]), told)
             self.assertEqual(self.content(name[-6:])[:2], self.content("one.bw")[:2])
             self.assertGreater(len(self.content(name[-6:])[2]), 2)
@@ -235,13 +235,25 @@ class Words(unittest.TestCase):
                 ("a,b\n1,1\n2,99999999999999999999\n", (["whole", "texts"], [
                     "1,1", "2,99999999999999999999"])),
                 ("a,b\n1,1\n\n2,3\n", (["whole", "whole"], ["1,1", "2,3"])),
-                ("a,b\n1,007\n2,3\n", (["whole", "texts"], ["1,007", "2,3"]))):
+                ("a,b\n1,007\n2,3\n", (["whole", "texts"], ["1,007", "2,3"])),
+                ("a,b\n1,NULL\n2,NULL\n", (["whole", "texts"], ["1,NULL", "2,NULL"])),
+                ("a,b\n1,-\n2,NA\n", (["whole", "texts"], ["1,-", "2,NA"])),
+                ("a,b\n1,\n2,\n", (["whole", "nulls"], ["1,", "2,"])),
+                ("a,b\n1, \n2,\n", (["whole", "nulls"], ["1,", "2,"])),
+                ("a,b\n1,\t\n2, \n", (["whole", "nulls"], ["1,", "2,"]))):
             with self.subTest(data):
                 made = found(data, ())
                 if isinstance(wanted, str):
                     self.assertIn(wanted, made)
                 else:
                     self.assertEqual(made[:2], wanted)
+
+    def test_words_alone(self):
+        self.assertIn("texts: only 'NULL' and similar words", found("a,b\n1,NULL\n2,NULL\n", ())[2])
+        for words in (("--null", "x"), ("--null", "b=x"), ("--null", "x", "--keep-blanks")):
+            made = found("a,b\n1,x\n2,x\n3,\n", words)
+            self.assertEqual(made[:2], (["whole", "nulls"], ["1,", "2,", "3,"]))
+            self.assertIn("1 null as nothing, 2 nulls as 'x'", made[2])
 
     def test_options_for_whole_numbers(self):
         data = "a,b\n20240501,1\n20240502,2\n,3\n"
@@ -305,7 +317,7 @@ class Places(unittest.TestCase):
         with tempfile.TemporaryFile() as file:
             file.write(data)
             file.flush()
-            index = cut.Index(file, signs, 0)
+            index = feed.Index(file, signs, 0)
             self.assertEqual(index.count, count)
             for number in range(count + 1):
                 place = index.place_after(number)
@@ -320,8 +332,8 @@ class Places(unittest.TestCase):
         draw = random.Random(16)
         for at_once in (16, 1 << 20):
             for every in (1, 3, 1 << 12):
-                with mock.patch.object(cut, "BYTES_AT_ONCE", at_once), \
-                        mock.patch.object(cut, "EVERY", every):
+                with mock.patch.object(feed, "BYTES_AT_ONCE", at_once), \
+                        mock.patch.object(feed, "EVERY", every):
                     for _ in range(25):
                         signs = draw.choice([Signs(), Signs(";", "'"), Signs(comment="#")])
                         rows = [[draw.choice(["a", "é", "b\nc", "\r\n", "", signs.quote, "x" * 30])

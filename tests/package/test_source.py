@@ -10,7 +10,7 @@ import unittest
 
 from bwtools import fields
 from bwtools.loader.dictionary import texts_of
-from bwtools.loader.parts import Coder
+from bwtools.loader.encode import Coder
 from bwtools.source import Source
 from bwtools.telling import Refused
 

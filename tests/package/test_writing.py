@@ -8,7 +8,7 @@ import tempfile
 import unittest
 from unittest import mock
 
-from bwtools import placing, progress
+from bwtools import placing
 from bwtools.loader import encode
 from bwtools.loader.table import Table
 from bwtools.telling import Refused
@@ -75,13 +75,17 @@ class Tables(unittest.TestCase):
                     self.assertRaisesRegex(Refused, "the file changed while it was read"):
                 Table(str(path), options(), pathlib.Path(name))
 
+    def test_what_is_waited_for(self):
+        with mock.patch("bwtools.waiting.Waiting.begin") as begun:
+            table_of(b"a\n1\n2\n")
+        self.assertEqual([call.args[0] for call in begun.call_args_list],
+                         ["bw codes the rows", "its distinct fields are examined"])
+
     def test_too_much_is_refused(self):
-        with mock.patch("bwtools.loader.numbers_file.MOST_BYTES",
-                        3), self.assertRaisesRegex(Refused, "more than 1 GiB"):
-            numbers_of(b"a\n1\n2\n")
-        with mock.patch("bwtools.loader.table.MOST_BYTES",
-                        3), self.assertRaisesRegex(Refused, "more than 1 GiB"):
-            numbers_of(b"a\nx\n2\n")
+        for data, most in ((b"a\n1\n2\n", 5), (b"a\nx\n2\n", 3)):
+            with mock.patch("bwtools.loader.table.MOST_BYTES",
+                            most), self.assertRaisesRegex(Refused, "more than 1 GiB"):
+                numbers_of(data)
 
 
 class Files(unittest.TestCase):
@@ -126,34 +130,3 @@ class Files(unittest.TestCase):
                                     "isn't a folder"), \
                 placing.new_folder(self.folder / "no" / "out"):
             pass
-
-
-class Progress(unittest.TestCase):
-    def test_says_nothing_off_a_terminal(self):
-        with contextlib.redirect_stderr(io.StringIO()) as err, \
-                mock.patch("bwtools.progress.FIRST", 0.0), \
-                progress.Progress("read") as shown:
-            shown.add(5, 7)
-        self.assertEqual(err.getvalue(), "")
-
-    def test_is_wanted_at_a_terminal(self):
-        ours, theirs = os.openpty()
-        self.addCleanup(os.close, ours)
-        with open(theirs, "w",
-                  encoding="utf-8") as terminal, contextlib.redirect_stderr(terminal), \
-                mock.patch("bwtools.progress.FIRST", 0.0), \
-                progress.Progress("read") as shown, progress.Progress("read", False) as other:
-            self.assertTrue(shown.is_wanted and not other.is_wanted)
-            shown.add(1500)
-            self.assertEqual(os.read(ours, 100), b"\rread 1,500 rows\x1b[K")
-
-    def test_line_is_written_over_and_taken_away(self):
-        with contextlib.redirect_stderr(io.StringIO()) as err, progress.Progress("read") as shown:
-            shown.is_wanted, shown.begun = True, shown.begun - 2
-            shown.add(1000, 10 ** 6)
-            self.assertEqual(err.getvalue(), "")
-            shown.next = 0.0
-            shown.add(234, 10 ** 6)
-            self.assertRegex(err.getvalue(), "^\rread 1,234 rows, 0\\.5 MB/s\x1b\\[K$")
-            shown.add(1)
-        self.assertRegex(err.getvalue(), "MB/s\x1b\\[K\r\x1b\\[K$")

@@ -16,8 +16,7 @@ import pathlib
 import sys
 
 from .. import command, inputs, options, placing, store
-from ..loader.table import Table
-from ..loader.numbers_file import write_numbers
+from ..loader.table import Table, write_numbers
 from .options import new_parser
 
 NAME = "bw-to-numbers"

@@ -8,9 +8,8 @@ import random
 from dataclasses import dataclass, field
 from typing import Iterator, NamedTuple, Optional, Sequence
 
-from ..keeping import Numbered
 from ..loader.dictionary import Dictionary, texts_of
-from ..plain import Plain
+from ..plain import Numbered, Plain
 from ..wishes import BLANKS, NULLS, Wishes
 
 # above so many distinct fields, numbers and times are examined so many at a time
@@ -35,15 +34,19 @@ class Part(NamedTuple):
 @dataclass
 class Run:
     """Some of the distinct fields of a dictionary that aren't kept as numbers, of which bare texts
-    have no blanks around them and are no words for null: about how many bare texts there are and,
-    of many, some of them, and some bare fields of the rows, both drawn at random. `words` are those
-    for null that may be among them."""
+    have no blanks around them and are no words for null: of many, some bare texts, and some bare
+    fields of the rows, both drawn at random. `words` are those for null that may be among them."""
     dictionary: Dictionary
     parts: list[Part]
     words: set[str]
-    size: int
     texts_drawn: list[str]
     rows_drawn: list[str]
+
+    @property
+    def size(self) -> int:
+        """How many bare texts there are, or about so many if there are many."""
+        return sum(part.end - part.first for part in self.parts) if self.texts_drawn \
+            else len(self.bare)
 
     @functools.cached_property
     def texts(self) -> list[str]:
@@ -121,15 +124,14 @@ class Fields:
             if found:
                 self.words[word] = self.words.get(word, 0) + found
         is_like = self.is_many and self.plain.may_have(fields[0].decode())
-        kept = self.plain.add(texts_of(fields)) if is_like else None
+        kept = self.plain.add(texts_of(fields), is_padded) if is_like else None
         self.parts.append(Part(first, first + len(fields), kept, is_padded))
 
     def run_of(self, parts: list[Part], first: int, fields: Sequence[bytes]) -> Run:
         """Returns a run of parts of a block, which begins at a place."""
         assert self.dictionary is not None
-        size = sum(part.end - part.first for part in parts)
         texts, rows = list[str](), list[str]()
-        if size > DRAWN_OF:
+        if sum(part.end - part.first for part in parts) > DRAWN_OF:
             own = list(itertools.chain.from_iterable(
                 fields[part.first - first:part.end - first] for part in parts))
             counts = itertools.chain.from_iterable(
@@ -137,7 +139,7 @@ class Fields:
             draw = random.Random(0)
             texts = self.bare_of(draw.sample(own, DRAWN))
             rows = self.bare_of(draw.choices(own, list(counts), k=DRAWN))
-        return Run(self.dictionary, parts, {*self.wishes.words} & {*self.words}, size, texts, rows)
+        return Run(self.dictionary, parts, {*self.wishes.words} & {*self.words}, texts, rows)
 
     def bare_of(self, fields: Sequence[bytes]) -> list[str]:
         """Returns the bare texts of fields."""

@@ -1,16 +1,17 @@
 """The numbers that the distinct fields of a column become, and what is counted of its rows."""
 from __future__ import annotations
 
+import decimal
 import itertools
 import operator
+from dataclasses import dataclass, field
 from typing import Callable, Iterable, Iterator, Optional, Sequence
 
-from ..counts import Counts
 from ..deciding import restores
 from ..floating import numbered_doubles
 from ..judges.fields import Fields, Part
 from ..judges.verdict import Decision
-from ..keeping import Numbered, values_of
+from ..plain import Numbered, values_of
 from ..kind import Kind
 from ..kinds import Decimals, Floats, Ranked, Times, Whole, undressed
 from ..rounding import change_in_double
@@ -18,6 +19,25 @@ from ..textual import Sorted
 from ..wishes import BLANKS
 
 NULL, NEGATIVE_ZERO = "NULL", -1 << 63
+
+
+@dataclass
+class Counts:
+    """What is counted of a column's fields: those whose spelling changes, those that had blanks
+    around them, negative zeros, rounded ones and by how much at most, the nulls of each word, and
+    the minimum and the maximum."""
+    changed: int = 0
+    padded: int = 0
+    zeros: int = 0
+    rounded: int = 0
+    change: decimal.Decimal = decimal.Decimal(0)
+    nulls: dict[str, int] = field(default_factory=dict)
+    span: Optional[tuple[int, int]] = None
+
+    def widen(self, least: int, greatest: int) -> None:
+        self.span = (least,
+                     greatest) if self.span is None else (min(self.span[0], least),
+                                                          max(self.span[1], greatest))
 
 
 class Numbers:
@@ -42,8 +62,9 @@ class Numbers:
         return self.column.dictionary is None or \
             self.texts is not None and self.texts.places is None
 
-    def blocks(self) -> Iterator[list[str]]:
-        """Yields what the distinct fields become, in order, and counts what there is."""
+    def blocks(self) -> Iterator[list[Optional[int]]]:
+        """Yields what the distinct fields become, in order, None for null, and counts what there
+        is."""
         if self.texts is not None:
             yield from self.places()
             return
@@ -61,7 +82,7 @@ class Numbers:
         return part.kept is None or part.has_blanks or \
             part.kept.form == "number" and isinstance(undressed(kind), (Floats, Ranked))
 
-    def places(self) -> Iterator[list[str]]:
+    def places(self) -> Iterator[list[Optional[int]]]:
         """Yields the places of texts."""
         assert self.texts is not None and self.column.dictionary is not None
         count, places = len(self.texts.kind.listed), self.texts.places
@@ -70,15 +91,15 @@ class Numbers:
                 if part.has_blanks:
                     counts = self.column.dictionary.counts[part.first:part.end]
                     self.count_padded(self.column.texts(part), counts)
-        yield list(map(str, range(count))) if places is None else \
-            [NULL if place < 0 else str(place) for place in places]
+        yield list(range(count)) if places is None else \
+            [None if place < 0 else place for place in places]
 
     def count_padded(self, texts: Sequence[str], counts: Sequence[int]) -> None:
         self.counts.padded += sum(count for text, count in zip(texts, counts)
                                   if text != text.strip(BLANKS))
 
     def kept(self, part: Part, kept: Numbered, texts: Sequence[str],
-             counts: Sequence[int]) -> list[str]:
+             counts: Sequence[int]) -> list[Optional[int]]:
         """Returns the numbers of fields that are kept as numbers."""
         assert self.decision.kind is not None
         kind = undressed(self.decision.kind)
@@ -94,11 +115,10 @@ class Numbers:
             self.counts.changed += sum(itertools.compress(counts, changed))
         if isinstance(kind, (Floats, Ranked)) and kept.form == "number":
             self.count_rounded(texts, counts)
-        written = list(map(str, numbers))
         if not kept.nulls:
-            return written
-        rest = iter(written)
-        return [NULL if null else next(rest) for null in kept.nulls]
+            return list(numbers)
+        rest = iter(numbers)
+        return [None if null else next(rest) for null in kept.nulls]
 
     def numbers_of(self, kept: Numbered, kind: Kind, counts: Sequence[int]) -> Sequence[int]:
         """Returns kept numbers as those of a kind."""
@@ -122,7 +142,8 @@ class Numbers:
                 self.counts.changed -= count
                 self.counts.change = max(self.counts.change, change)
 
-    def read(self, part: Part, texts: Sequence[str], counts: Sequence[int]) -> list[str]:
+    def read(self, part: Part, texts: Sequence[str],
+             counts: Sequence[int]) -> list[Optional[int]]:
         """Returns the numbers of fields that are read one by one."""
         words, decision, kind = set(self.column.wishes.words), self.decision, self.decision.kind
         assert kind is not None, "a column of texts has other codes"
@@ -130,19 +151,15 @@ class Numbers:
             self.count_padded(texts, counts)
             texts = [text.strip(BLANKS) for text in texts]
         read = decision.rounding.number if decision.rounding else kind.number
-        numbers, written = list[int](), list[str]()
-        for text, count in zip(texts, counts):
-            if text in words:
-                written.append(NULL)
-                continue
-            found = read(text)
-            assert found is not None, "the column's kind fits all its texts"
-            numbers.append(found)
-            written.append(str(found))
-            self.note(text, found, count)
-        if numbers:
-            self.counts.widen(min(numbers), max(numbers))
-        return written
+        numbers = [None if text in words else read(text) for text in texts]
+        for text, number, count in zip(texts, numbers, counts):
+            assert number is not None or text in words, "the column's kind fits all its texts"
+            if number is not None:
+                self.note(text, number, count)
+        present = [number for number in numbers if number is not None]
+        if present:
+            self.counts.widen(min(present), max(present))
+        return numbers
 
     def note(self, text: str, number: int, count: int) -> None:
         """Notes what changes of a field."""
@@ -157,6 +174,13 @@ class Numbers:
             counts.changed += count
         if number == 0 and text[:1] == "-" and isinstance(undressed(kind), (Floats, Ranked)):
             counts.zeros += count
+
+
+def text_of(numbers: Sequence[Optional[int]]) -> str:
+    """Returns a line for each number."""
+    # as a list they are spelled fastest
+    text = str(numbers)[1:-1].replace(", ", "\n")
+    return f"{text.replace('None', NULL)}\n" if numbers else ""
 
 
 def exact_words(column: Fields) -> dict[str, int]:

@@ -4,14 +4,13 @@ from __future__ import annotations
 from typing import TYPE_CHECKING, Iterator, Sequence
 
 from ..column import Column
-from ..counts import Counts
 from ..kinds import undressed
 from ..naming import option
 from ..telling import counted, shown
 from ..wishes import NULLS
 
 if TYPE_CHECKING:
-    from .numbers import Numbers
+    from .numbers import Counts, Numbers
 
 # a change is shown with so many digits after the point at most
 SHORT = 40

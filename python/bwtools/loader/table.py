@@ -6,10 +6,12 @@ import argparse
 import itertools
 import os
 import pathlib
+import subprocess
 from array import array
 from dataclasses import dataclass
 from typing import BinaryIO, Iterable, Iterator, List, Optional, Sequence
 
+from .. import command
 from ..column import Column
 from ..deciding import decide, refuse_heading
 from ..judges.fields import Fields
@@ -25,11 +27,12 @@ from ..store import TableFile
 from ..table_limits import MOST_BYTES, MOST_CHARACTERS, MOST_ROWS
 from ..telling import Refused, counted
 from ..textual import sorted_texts
+from ..waiting import Waiting
 from ..wishes import BLANKS, Wishes, wishes_of
 from . import encode
 from .dictionary import ByteFile, Dictionary, merge, texts_of
-from .numbers import NULL, Numbers
-from .parts import CodedFile, Coder, Part
+from .encode import CodedFile, Coder, Part, check
+from .numbers import NULL, Numbers, text_of
 from .reporting import notes, report_lines
 
 AT_ONCE = 1 << 16
@@ -82,8 +85,8 @@ class Table:
         while True:
             try:
                 coded = Coder(self.source, self.given, self.folder, self.is_split, marked).code()
-                codes = self.codes_of(coded)
-                self.decide(coded, codes)
+                with Waiting().shown("its distinct fields are examined"):
+                    self.decide(coded, self.codes_of(coded))
                 return coded
             except Mixed as mixed:
                 marked = marked | mixed.places
@@ -259,12 +262,11 @@ def lines_of(numbers: Numbers) -> Iterator[str]:
         yield "KEEP\n"
         return
     yield "CODES\n"
-    for block in numbers.blocks():
-        yield "\n".join(block) + "\n" if block else ""
+    yield from map(text_of, numbers.blocks())
 
 
 def lines_in(part: Part, place: int, places: Optional[array[int]],
-             written: Sequence[str]) -> Iterator[str]:
+             written: Sequence[Optional[int]]) -> Iterator[str]:
     """Yields the lines that say what the codes of a column become in one of several parts."""
     if places is None:
         # a column of nulls alone keeps no number
@@ -273,5 +275,30 @@ def lines_in(part: Part, place: int, places: Optional[array[int]],
         return
     yield "CODES\n"
     for first in range(0, len(places), AT_ONCE):
-        numbers = map(written.__getitem__, places[first:first + AT_ONCE])
-        yield "\n".join(numbers) + "\n"
+        yield text_of(list(map(written.__getitem__, places[first:first + AT_ONCE])))
+
+
+def write_numbers(table: Table, folder: pathlib.Path, out: pathlib.Path) -> None:
+    """Writes the numbers of all rows, below the names of their columns. Rejects more than one table
+    may have."""
+    if table.rows > MOST_ROWS:
+        table.source.refuse_odd()
+    with open(out, "wb") as file:
+        file.write(",".join(column.name for column in table.columns).encode("ascii") + b"\n")
+        for place in range(len(table.coded.parts)):
+            table.write(place, "t", folder / "table.bw")
+            dump(folder / "table.bw", file, b"NULL" if len(table.columns) == 1 else b"")
+            if file.tell() > MOST_BYTES:
+                raise Refused(f"{table.source.path}: its numbers take more than 1 GiB of CSV, "
+                              "the limit of a load")
+
+
+def dump(path: pathlib.Path, out: BinaryIO, null: bytes) -> None:
+    """Writes the rows of a table file, with a word for null."""
+    with subprocess.Popen([command.program(), "dump", str(path)], stdin=subprocess.DEVNULL,
+                          stdout=subprocess.PIPE, restore_signals=False) as process:
+        assert process.stdout is not None
+        process.stdout.readline()
+        while lines := process.stdout.readlines(1 << 20):
+            out.write(b"".join(lines).replace(b"NULL", null))
+    check("dump", process.returncode, "")
