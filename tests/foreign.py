@@ -39,6 +39,8 @@ SOURCES = ("pandas miller r-cran-data.table libcommons-csv-java libtext-csv-xs-p
            "intake node-d3-dsv csv2latex").split()
 PROGRAMS = "r-cran-readr r-cran-vroom python3-statsmodels python3-sklearn".split()
 ENDS = re.compile(r"\.(csv|tsv|psv|ssv)(\.(gz|bz2|xz|zip|zst))?$", re.IGNORECASE)
+# what is written for a null
+NULLS = ("", "NULL")
 MOST_BYTES, MOST_TRIALS = 1 << 24, 60
 # what looks like a number or a date, though a column of it may be one of texts
 LOOSE = re.compile(r"[^\w\s]?[A-Za-z$]{0,3}\s?[-+(]?\d[\d.,:/'\s-]*\)?\s?[\w%/.]{0,6}")
@@ -47,30 +49,34 @@ LOOSE = re.compile(r"[^\w\s]?[A-Za-z$]{0,3}\s?[-+(]?\d[\d.,:/'\s-]*\)?\s?[\w%/.]
 def fetch(folder: pathlib.Path) -> None:
     """Downloads packages into a folder, and copies the files to import to its folder `files`."""
     apt, packages = folder / "apt", folder / "packages"
-    for each in (apt / "lists" / "partial", apt / "cache" / "archives" / "partial", packages):
+    for each in (apt / "deb-src" / "partial", apt / "deb" / "partial",
+                 apt / "cache" / "archives" / "partial", packages):
         each.mkdir(parents=True, exist_ok=True)
     key = "/usr/share/keyrings/debian-archive-keyring.gpg"
-    (apt / "sources.list").write_text("".join(
-        f"{kind} [signed-by={key}] http://deb.debian.org/debian {suite} main\n"
-        for kind, suites in (("deb-src", SUITES), ("deb", SUITES[:1])) for suite in suites))
-    places = (f"Dir::Etc::SourceList={apt}/sources.list", "Dir::Etc::SourceParts=/dev/null",
-              f"Dir::State::Lists={apt}/lists", f"Dir::Cache={apt}/cache",
-              "APT::Sandbox::User=root")
+    # apt takes versions of sources from binaries, if it knows these
+    for kind, suites in (("deb-src", SUITES), ("deb", SUITES[:1])):
+        (apt / f"{kind}.list").write_text("".join(
+            f"{kind} [signed-by={key}] http://deb.debian.org/debian {suite} main\n"
+            for suite in suites))
 
-    def call(*words: str) -> bool:
+    def call(kind: str, *words: str) -> bool:
+        places = (f"Dir::Etc::SourceList={apt}/{kind}.list", "Dir::Etc::SourceParts=/dev/null",
+                  f"Dir::State::Lists={apt}/{kind}", f"Dir::Cache={apt}/cache",
+                  "APT::Sandbox::User=root")
         options = [word for place in places for word in ("-o", place)]
         return not subprocess.run(["apt-get", *options, "--quiet=2", *words], cwd=packages,
                                   stdout=subprocess.DEVNULL, stderr=subprocess.DEVNULL,
                                   check=False).returncode
 
-    call("update")
+    call("deb-src", "update")
     for name in SOURCES:
         # a mirror may lack some
-        if not any(call("source", "--tar-only", "--download-only", f"{name}/{suite}")
+        if not any(call("deb-src", "source", "--tar-only", "--download-only", f"{name}/{suite}")
                    for suite in SUITES):
             print(f"no source of {name}")
+    call("deb", "update")
     for name in PROGRAMS:
-        if not call("download", name):
+        if not call("deb", "download", name):
             print(f"no package {name}")
     for package in sorted(packages.iterdir()):
         unpack(package, folder / "files")
@@ -121,8 +127,8 @@ def import_one(path: pathlib.Path, words: tuple[str, ...]) -> Outcome:
     lines = found.report.splitlines()[1:]
     for place, (column, numbers) in enumerate(zip(table.columns, columns)):
         raw = [row[place] if place < len(row) else "" for row in rows]
-        back = ["" if number in ("", "NULL") else column.kind.text(int(number))
-                for number in numbers]
+        spelled = iter(column.kind.spell([int(each) for each in numbers if each not in NULLS]))
+        back = ["" if number in NULLS else next(spelled) for number in numbers]
         note = lines[place]
         if any(is_lost(*each, note) for each in zip(raw, back)) or len(raw) != len(back):
             found.lost.append(column.name)

@@ -13,7 +13,7 @@ from .judges.fields import Fields
 from .judges.judge import Judge
 from .judges.numbers import NumberJudge
 from .judges.truths import TruthJudge
-from .judges.verdict import Decision, Question
+from .judges.verdict import Decision, Question, Verdict
 from .judges.wanted import WantedJudge
 from .kind import Kind
 from .kinds.nulls import Nulls
@@ -28,25 +28,30 @@ from .textual import text_question
 from .wishes import BLANKS
 
 
-def decide(source: Source, columns: list[Fields]) -> list[Decision]:
-    """Returns what each column becomes. Raises Refused with all that can't be decided."""
+def decide(source: Source, columns: list[Fields], may_be_row: bool) -> list[Decision]:
+    """Returns what each column becomes. Raises Refused with all that can't be decided, or for a
+    heading that looks like a row, if it may be one."""
     courts = [Court(column) for column in columns]
     winners = [court.winner() for court in courts]
     signs = {sign for winner,
              column in zip(winners, columns) if winner for sign in winner.signs(column)}
-    decisions, asked = [], []
-    for place, court in enumerate(courts):
-        verdict = court.verdict(signs)
-        if isinstance(verdict, Decision):
-            verdict = exact(court.column, verdict)
-        if isinstance(verdict, Decision):
-            verdict = question_of(source, court.column, verdict) or verdict
-        if isinstance(verdict, Question):
-            asked.append(Asked(place, court.column, verdict))
-        else:
-            decisions.append(verdict)
-    refuse(source, asked)
+    verdicts = [decided(source, court, signs) for court in courts]
+    # the options that questions name have headings
+    if may_be_row and source.has_heading:
+        refuse_heading(source, columns, verdicts)
+    decisions = [each for each in verdicts if isinstance(each, Decision)]
+    refuse(source, [Asked(place, column, verdict) for place, (column, verdict) in
+                    enumerate(zip(columns, verdicts)) if isinstance(verdict, Question)])
     return settle_floats(columns, decisions)
+
+
+def decided(source: Source, court: Court, signs: set[str]) -> Verdict:
+    """Returns what a column becomes, or what must be asked about it."""
+    verdict = court.verdict(signs)
+    if isinstance(verdict, Question):
+        return verdict
+    decision = exact(court.column, verdict)
+    return question_of(source, court.column, decision) or decision
 
 
 def question_of(source: Source, column: Fields, decision: Decision) -> Optional[Question]:
@@ -111,22 +116,22 @@ def restores(kind: Kind, shape: tuple[str, bool, int, str]) -> bool:
     return isinstance(kind, Times) and (kind.form, kind.digits, kind.zone) == (form, digits, zone)
 
 
-def refuse_heading(source: Source, headings: Sequence[str], columns: Sequence[Fields],
-                   decisions: Sequence[Decision]) -> None:
+def refuse_heading(source: Source, columns: Sequence[Fields], verdicts: Sequence[Verdict]) -> None:
     """Rejects a first line that looks like the rows below it."""
-    for heading, column, decision in zip(headings, columns, decisions):
+    for column, verdict in zip(columns, verdicts):
+        heading = column.wishes.heading
         judges: list[Judge] = [DateJudge(), NumberJudge(), ClockJudge(), TruthJudge()]
         if column.wishes.form is not None:
             judges = [WantedJudge(column.wishes.form)]
-        if any(judge.like([heading]) and is_all_like(judge, column, decision) for judge in judges):
+        if any(judge.like([heading]) and is_all_like(judge, column, verdict) for judge in judges):
             raise Refused(f"{source.path}: the first line has {shown(heading)} above a column of "
                           "such fields: "
                           "use --no-heading if it is a row, or --heading if it is a heading")
 
 
-def is_all_like(judge: Judge, column: Fields, decision: Decision) -> bool:
+def is_all_like(judge: Judge, column: Fields, verdict: Verdict) -> bool:
     """Returns whether all fields of a column are like a judge's own."""
-    if isinstance(decision.kind, Nulls):
+    if isinstance(verdict, Decision) and isinstance(verdict.kind, Nulls):
         return True
     found = [(len(texts), len(judge.like(texts))) for texts in column.bare()]
     return column.plain.forms <= set(judge.forms) and all(count == likes for count,

@@ -95,10 +95,10 @@ def title_lines(records: Sequence[Record], width: int) -> int:
     if common < 2 or not is_likely:
         return 0
     first = next(place for place, (_, record) in enumerate(records) if len(record) == common)
-    before = records[first - 1][1] if first > 1 else []
+    before = records[first - 1][1]
     # the heading may have a separator at its end
     first -= len(before) == common + 1 and not before[-1]
-    return records[first][0] - 1
+    return records[first][0] - 1 if first else 0
 
 
 def padded_title(records: Sequence[Record]) -> int:

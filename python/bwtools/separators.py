@@ -39,12 +39,11 @@ def separator_option(sign: str) -> str:
 @dataclass(frozen=True)
 class Reading:
     """How a separator reads the first records: how many fields the heading has, how many most rows
-    have, which part of the rows has so many, and how many rows there are."""
+    have, and which part of the rows has so many."""
     sign: str
     heading: int
     width: int
     share: float
-    rows: int
 
     @property
     def is_whole(self) -> bool:
@@ -58,7 +57,7 @@ def reading_of(lines: Sequence[str], sign: str, has_heading: bool) -> Reading:
     rows = widths[1:] if has_heading else widths
     (width, number), = collections.Counter(rows or widths).most_common(1)
     share = number / len(rows or widths) if width > 1 else 0
-    return Reading(sign, widths[0], width, share, len(rows))
+    return Reading(sign, widths[0], width, share)
 
 
 def lines_of(text: str, signs: Signs, is_cut: bool) -> list[str]:
@@ -113,7 +112,7 @@ def other_reading(lines: Sequence[str], has_heading: bool) -> Optional[Reading]:
 def of_whole(whole: Sequence[Reading], most: Reading) -> str | Tie:
     """Returns the separator of a file, or two, if one or more are in all of its records."""
     first, *others = sorted(whole, key=lambda each: -each.heading)
-    if others and (first.rows or first.heading == others[0].heading):
+    if others:
         return Tie((first.sign, first.heading), (others[0].sign, others[0].heading))
     if most.heading > first.heading:
         return Tie((first.sign, first.heading), (most.sign, most.heading))

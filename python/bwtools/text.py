@@ -62,7 +62,10 @@ class Text:
         def records() -> Iterator[Record]:
             return self.records(not changes.is_lenient)
 
+        marks = self.marks()
         file = rewritten(records, self.skipped, changes, self.path)
+        if marks.differ(self.marks()):
+            raise Refused(f"{self.path}: the file changed while it was read")
         self.file.close()
         self.file = io.BufferedReader(Positioned(file), BYTES_AT_ONCE)
         self.encoding, self.errors, self.signs = "utf-8", "strict", Signs()

@@ -1,6 +1,6 @@
 """What a column of texts looks like, though nobody reads it so: dates with the months of another
-language, numbers with different units, lengths of time, or versions. Code points don't order
-these."""
+language, numbers with different units, times of day, lengths of time, versions or addresses of the
+Internet. Code points don't order these."""
 from __future__ import annotations
 
 import re
@@ -24,8 +24,10 @@ NAMED = re.compile(r"(?:[^\W\d_]{2,10}\.?,? )?(?:[0-9]{1,2}(?:\.|st|nd|rd|th|er|
                    r"[-/. ]{1,2})?([^\W\d_]{3,10})\.?,?(?:(?: de)?[-/. ,']{1,2}[0-9]{1,4}){1,2}"
                    r"(?:[ T,].*)?")
 MONTH = re.compile("[0-9]{1,2}/[0-9]{4}|Q[1-4][ /-]?[0-9]{4}|[1-4]Q[0-9]{2}")
-# a number with any unit, or with the minus sign or the dash of print
-AMOUNT = re.compile(r"([\u2212\u2013]?)[+-]?[0-9][0-9.,']*[ \u00a0]?([^\W\d_]{0,4}\.?)")
+# a number with any unit, with the minus sign or the dash of print, or a bound
+AMOUNT = re.compile(r"([\u2212\u2013]|[<>~\u2264\u2265\u2248]=? ?)?[+-]?[0-9][0-9.,']*[ \u00a0]?"
+                    r"([^\W\d_]{0,4}\.?|thousand|million|billion)")
+CLOCK = re.compile(r"[0-9]{1,2}(?:(?:[:.][0-9]{2}){0,2} ?(?:[aApP]\.? ?[mM]\.?|Uhr)|h[0-9]{2})")
 VERSION = re.compile(r"v?[0-9]+(?:\.[0-9]+){2,3}")
 # the units that make a number larger
 SIZE = re.compile("[kKMGTPmunµ]?i?B?")
@@ -39,6 +41,10 @@ def is_date(text: str) -> bool:
     named = NAMED.fullmatch(text)
     return bool(named and named[1][:3].lower() in STARTS or MONTH.fullmatch(text)
                 or DATE_LINES.fullmatch(text))
+
+
+def is_clock(text: str) -> bool:
+    return CLOCK.fullmatch(text) is not None
 
 
 def is_amount(text: str) -> bool:
@@ -94,11 +100,12 @@ def are_codes(texts: Iterable[str]) -> bool:
         found = AMOUNT.fullmatch(text)
         if found:
             lengths.add(len(text))
-            units.add(found[1] + found[2])
+            units.add((found[1] or "") + found[2])
     return units == {""} or len(lengths) == 1 and \
         (len(units) < 2 or not all(map(SIZE.fullmatch, units)))
 
 
 LIKENESSES = (Likeness("lengths of time", is_length), Likeness("dates", is_date, ("time",)),
+              Likeness("times of day", is_clock),
               Likeness("numbers with units", is_amount, ("number",), are_codes),
-              Likeness("versions", is_version, (), have_one_length))
+              Likeness("versions or addresses", is_version, (), have_one_length))

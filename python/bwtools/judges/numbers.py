@@ -70,7 +70,9 @@ class NumberJudge:
             drop = option("--number", wishes.heading)
             return Decision(None, f"{shown(survey.phone)} and others have a leading +, which "
                                   f"{drop} drops")
-        if survey.code and not survey.no_code and are_whole(column) and not is_wanted:
+        is_either = survey.code and not survey.no_code and are_whole(column)
+        # if spellings are kept, it becomes a text in any case
+        if is_either and not is_wanted and not wishes.rules.keeps_spelling:
             return Question("{0} may be a code, or a number with a power of ten", (survey.code,),
                             both(wishes.heading))
         sign = self.decimal_sign(column, signs)
@@ -104,8 +106,7 @@ class NumberJudge:
             # decimals have a comma only if something else separates the fields
             return mark
         # another column has it as the decimal sign
-        between = [] if mark in signs else \
-            [f"--thousands '{mark}'" if mark == "," else option("--thousands", mark)]
+        between = [] if mark in signs else [option("--thousands", mark)]
         return Question(f"{{0}} may be {text.replace(mark, '')} or {text.replace(mark, '.')}",
                         (text,), (*between, *both(heading)))
 
