@@ -1,5 +1,6 @@
 """Files whose columns could become something else: each is read as what it means, named in the
 report, or refused with the options that load it."""
+import contextlib
 import csv
 import io
 import random
@@ -10,7 +11,7 @@ import bwtools
 
 from bwtools.telling import Refused
 
-from tests.support import Import, Imported, table_of
+from tests.support import Import, Imported, source_of, table_of
 
 # each file with the options, the kinds of its columns, its rows as they come back, and a part of
 # the report
@@ -272,6 +273,8 @@ class Named(unittest.TestCase):
                 self.assertIn(f"it may be {name}: use --encoding {name}, which reads '{text},1'",
                               Import(data).refusal)
                 self.assertEqual(Import(data, "--encoding", name).rows, [f"{text},1"])
+        self.assertIn("line 3, byte 2 isn't utf-8",
+                      Import(b'a,b\n1,"x"y\nG\xe4u,2\n').refusal)
         data = "a,b\nZürich,1\nBärn,2\n".encode() + b"G\xe4u,3\n"
         self.assertIn("line 4, byte 2 isn't utf-8: it may be utf-8+cp1252: use --encoding "
                       "utf-8+cp1252, which reads 'Gäu,3', or another one", Import(data).refusal)
@@ -296,6 +299,17 @@ class Named(unittest.TestCase):
                     self.refuse(data[:-30], "can't be unpacked")
                 if names == ["a.csv"]:
                     self.refuse(data[:40] + b"xx" + data[42:], "can't be unpacked")
+        out = io.BytesIO()
+        with zipfile.ZipFile(out, "w") as archive:
+            archive.writestr("a.csv", "a,b\n" + "1,x\n" * 20)
+        draw = random.Random(93)
+        for _ in range(200):
+            data = bytearray(out.getvalue())
+            for _ in range(draw.randrange(1, 4)):
+                place = draw.choice([draw.randrange(40), draw.randrange(len(data) - 80, len(data))])
+                data[place] = draw.randrange(256)
+            with contextlib.suppress(Refused):
+                source_of(bytes(data))
         self.refuse(b"\x28\xb5\x2f\xfd\x04\x00",
                     "is a zstd file: pipe it, as zstd -dc FILE | bw-import - TABLE.bw")
 
