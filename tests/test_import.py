@@ -125,7 +125,7 @@ class Answers(Tools):
 # and the message
 REFUSED = [
     ("a first line of numbers", b"1,x\n2,y\n", [], None,
-     "use --heading if it is a heading, or --no-heading if it is a row"),
+     "use --no-heading if it is a row, or --heading if it is a heading"),
     ("a first line of dates", b"x,2024-05-01\ny,2024-05-02\n", [], None,
      "the first line has '2024-05-01' above a column of such fields"),
     ("a first line of post codes", b"x,01234\ny,09876\n", [], None, "the first line has '01234'"),
@@ -151,7 +151,7 @@ REFUSED = [
     ("a number for a post code", b"a\n01234\n", [], "SELECT a FROM t WHERE a = 1234",
      "'01234' and others have leading zeros, which --number a drops"),
     ("a number for thousands", b"a;b\n1,234;x\n", [], None,
-     "'1,234' in line 2 may be 1234 or 1.234: use --thousands ,, or --number a, or --text a"),
+     "'1,234' in line 2 may be 1234 or 1.234: use --thousands ',', or --number a, or --text a"),
     ("one n/a among numbers", b"a\n1\n2\nn/a\n4\n", [], None,
      "'n/a' in line 4 isn't a number, as 3 of 4 fields are: use --null a=n/a, or --text a"),
     ("a text for a number", b"a\n5\n9\n", [], "SELECT a FROM t WHERE a = '5'",

@@ -8,7 +8,7 @@ from typing import NamedTuple
 # one format of a time of day for each clock of 24 and of 12 hours
 CLOCK = re.compile(r"([0-9]{1,2}):([0-9]{2})(?::([0-9]{2})(?:([.,])([0-9]{1,9}))?)?"
                    "(?:( ?)([AaPp][Mm]))?"
-                   "(Z|[+-][0-9]{2}(?::?[0-9]{2})?)?")
+                   "(?: ?(Z|UTC|GMT|[+-][0-9]{2}(?::?[0-9]{2})?))?")
 
 
 class Clock(NamedTuple):
@@ -45,8 +45,9 @@ def clock_of(text: str) -> Clock | None:
 
 def offset_of(zone: str | None) -> int | None:
     """Returns the seconds that a zone is ahead of UTC, or None if there is no such zone."""
-    if not zone or zone == "Z":
+    if zone in (None, "", "Z", "UTC", "GMT"):
         return 0
+    assert zone, "each other zone has digits"
     hours, minutes = int(zone[1:3]), int(zone[3:].lstrip(":") or 0)
     return None if hours > 23 or minutes > 59 else (hours * 3600 +
                                                     minutes * 60) * (-1 if zone[0] == "-" else 1)

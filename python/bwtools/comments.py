@@ -8,26 +8,28 @@ from .records import Records
 from .signs import Signs
 
 
-def plain_reader(lines: Iterable[str], signs: Signs) -> Any:
+def plain_reader(lines: Iterable[str], signs: Signs, is_strict: bool) -> Any:
     """Returns the records of lines without comments."""
     return csv.reader(lines, delimiter=signs.separator, quotechar=signs.quote,
-                      escapechar=signs.escape, strict=True)
+                      escapechar=signs.escape, strict=is_strict)
 
 
-def reader_of(lines: Iterable[str], signs: Signs) -> Records:
-    """Returns the records of lines."""
-    found: Records = CommentReader(lines, signs) if signs.comment else plain_reader(lines, signs)
+def reader_of(lines: Iterable[str], signs: Signs, is_strict: bool = True) -> Records:
+    """Returns the records of lines. If it isn't strict, it also reads text after a quote that ends
+    a field, and a field whose quote doesn't end."""
+    found: Records = CommentReader(lines, signs, is_strict) if signs.comment else \
+        plain_reader(lines, signs, is_strict)
     return found
 
 
 class CommentReader:
     """The records of lines, as csv.reader returns them; a comment is an empty record."""
 
-    def __init__(self, lines: Iterable[str], signs: Signs) -> None:
+    def __init__(self, lines: Iterable[str], signs: Signs, is_strict: bool) -> None:
         self.lines, self.comment = iter(lines), signs.comment
         # whether the next line begins a record
         self.is_first = True
-        self.reader = plain_reader(self.uncommented(), signs)
+        self.reader = plain_reader(self.uncommented(), signs, is_strict)
 
     @property
     def line_num(self) -> int:

@@ -9,6 +9,7 @@ from .judges.clocks import ClockJudge
 from .judges.dates import DateJudge
 from .judges.fields import Fields, Run
 from .judges.judge import Judge
+from .judges.likeness import LIKENESSES
 from .judges.numbers import NumberJudge
 from .judges.truths import TruthJudge
 from .judges.verdict import Decision, Question, Verdict
@@ -123,7 +124,7 @@ class Court:
             return Decision(None, "by --text")
         if wishes.form is not None or wishes.is_number or wishes.digits is not None:
             return self.asked_for()
-        return self.mostly() or Decision(None)
+        return self.mostly() or self.looking() or Decision(None)
 
     def asked_for(self) -> Question:
         """Returns why a column isn't what an option says."""
@@ -150,6 +151,23 @@ class Court:
             plural = opinion.judge.plural
             why = f"{likes:,} of {counted(count, 'field')} look like {plural}"
             return Decision(None, why, plural)
+        return None
+
+    def looking(self) -> Optional[Decision]:
+        """Returns what becomes of a column of texts most of which look like something that no judge
+        reads, if they do."""
+        column = self.column
+        opinions = list(map(Opinion, LIKENESSES))
+        for run in column.runs:
+            for opinion in opinions:
+                opinion.add(run)
+        for each, opinion in zip(LIKENESSES, opinions):
+            likes, count = count_fields(column, opinion) if opinion.likes else (0, 0)
+            are_most = opinion.likes * 2 > self.count and not column.plain.forms
+            if (are_most or likes * 2 > count) and not each.has_order(itertools.chain.from_iterable(
+                    column.bare())):
+                why = f"{likes:,} of {counted(count, 'field')} look like {each.plural}"
+                return Decision(None, why, each.plural)
         return None
 
 

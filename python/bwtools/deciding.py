@@ -2,8 +2,9 @@
 once, with the options that decide it."""
 from __future__ import annotations
 
-from typing import Sequence
+from typing import Optional, Sequence
 
+from . import separators
 from .court import Court
 from .floating import settle_floats
 from .judges.clocks import ClockJudge
@@ -12,12 +13,14 @@ from .judges.fields import Fields
 from .judges.judge import Judge
 from .judges.numbers import NumberJudge
 from .judges.truths import TruthJudge
-from .judges.verdict import Decision, Question
+from .judges.verdict import Decision, Question, Verdict
 from .judges.wanted import WantedJudge
 from .kind import Kind
 from .kinds.nulls import Nulls
 from .kinds.times import Times
 from .moments import ISO_DATE
+from .naming import option
+from .numerals import is_number
 from .questions import Asked, refuse
 from .source import Source
 from .telling import Refused, shown
@@ -25,25 +28,61 @@ from .textual import text_question
 from .wishes import BLANKS
 
 
-def decide(source: Source, columns: list[Fields]) -> list[Decision]:
-    """Returns what each column becomes. Raises Refused with all that can't be decided."""
+def decide(source: Source, columns: list[Fields], may_be_row: bool) -> list[Decision]:
+    """Returns what each column becomes. Raises Refused with all that can't be decided, or for a
+    heading that looks like a row, if it may be one."""
     courts = [Court(column) for column in columns]
     winners = [court.winner() for court in courts]
     signs = {sign for winner,
              column in zip(winners, columns) if winner for sign in winner.signs(column)}
-    decisions, asked = [], []
-    for place, court in enumerate(courts):
-        verdict = court.verdict(signs)
-        if isinstance(verdict, Decision):
-            verdict = exact(court.column, verdict)
-        if isinstance(verdict, Decision) and verdict.kind is None:
-            verdict = text_question(court.column) or verdict
-        if isinstance(verdict, Question):
-            asked.append(Asked(place, court.column, verdict))
-        else:
-            decisions.append(verdict)
-    refuse(source, asked)
+    verdicts = [decided(source, court, signs) for court in courts]
+    # the options that questions name have headings
+    if may_be_row and source.has_heading:
+        refuse_heading(source, columns, verdicts)
+    decisions = [each for each in verdicts if isinstance(each, Decision)]
+    refuse(source, [Asked(place, column, verdict) for place, (column, verdict) in
+                    enumerate(zip(columns, verdicts)) if isinstance(verdict, Question)])
     return settle_floats(columns, decisions)
+
+
+def decided(source: Source, court: Court, signs: set[str]) -> Verdict:
+    """Returns what a column becomes, or what must be asked about it."""
+    verdict = court.verdict(signs)
+    if isinstance(verdict, Question):
+        return verdict
+    decision = exact(court.column, verdict)
+    return question_of(source, court.column, decision) or decision
+
+
+def question_of(source: Source, column: Fields, decision: Decision) -> Optional[Question]:
+    """Returns what must be asked about a column that became one of texts, or that has no rows."""
+    found = None
+    if not decision.why and (decision.kind is None or not column.rows):
+        found = table_question(source, column)
+    return found or (text_question(column) if decision.kind is None else None)
+
+
+def table_question(source: Source, column: Fields) -> Optional[Question]:
+    """Returns what must be asked about the only column of a file, if it may be a table with another
+    separator: its texts have the same number of one."""
+    if not source.text.is_guessed or len(source.headings) > 1 or column.wishes.is_text or \
+            column.plain.forms:
+        return None
+    heading = source.headings[0] if source.has_heading else None
+    for sign in separators.MORE:
+        counts = {separators.count(text, sign) for texts in column.bare() for text in texts}
+        if heading and not column.rows and all(map(is_number, heading.split())):
+            # a row, and no heading
+            counts = {separators.count(heading, sign)}
+        count = counts.pop() if len(counts) == 1 else 0
+        # one in all rows but not in the heading may be a name, a time or an address
+        if count > 1 or count and (heading is None or separators.count(heading, sign) == count):
+            what = f"{count} {sign!r}, which may separate fields"
+            return Question(f"all its rows have {what}" if column.rows else
+                            f"the only line has {what}", (),
+                            (separators.separator_option(sign),
+                             option("--text", column.wishes.heading)))
+    return None
 
 
 def exact(column: Fields, decision: Decision) -> Decision:
@@ -53,13 +92,21 @@ def exact(column: Fields, decision: Decision) -> Decision:
         return decision
     kind, plain = decision.kind, column.plain
     lengths = plain.spans.lengths
-    is_odd = any(text.strip(BLANKS) not in column.wishes.words and
-                 kind.text(kind.number(text.strip(BLANKS)) or 0) != text
+    is_odd = any(is_changed(kind, column, text)
                  for texts in column.unkept() for text in texts)
     if not is_odd and not plain.padded and not (len(lengths) > 1 and plain.spans.has_zero) and \
             all(restores(kind, shape) for shape in plain.shapes):
         return decision
     return Decision(None, "some fields wouldn't be restored exactly", kind.plural)
+
+
+def is_changed(kind: Kind, column: Fields, text: str) -> bool:
+    """Returns whether a field comes back as another one. One that is null comes back as nothing,
+    which the report says of words."""
+    bare = text.strip(BLANKS)
+    if bare in column.wishes.words:
+        return not bare and bool(text) and column.wishes.rules.keeps_blanks
+    return kind.text(kind.number(bare) or 0) != text
 
 
 def restores(kind: Kind, shape: tuple[str, bool, int, str]) -> bool:
@@ -69,22 +116,22 @@ def restores(kind: Kind, shape: tuple[str, bool, int, str]) -> bool:
     return isinstance(kind, Times) and (kind.form, kind.digits, kind.zone) == (form, digits, zone)
 
 
-def refuse_heading(source: Source, headings: Sequence[str], columns: Sequence[Fields],
-                   decisions: Sequence[Decision]) -> None:
+def refuse_heading(source: Source, columns: Sequence[Fields], verdicts: Sequence[Verdict]) -> None:
     """Rejects a first line that looks like the rows below it."""
-    for heading, column, decision in zip(headings, columns, decisions):
+    for column, verdict in zip(columns, verdicts):
+        heading = column.wishes.heading
         judges: list[Judge] = [DateJudge(), NumberJudge(), ClockJudge(), TruthJudge()]
         if column.wishes.form is not None:
             judges = [WantedJudge(column.wishes.form)]
-        if any(judge.like([heading]) and is_all_like(judge, column, decision) for judge in judges):
+        if any(judge.like([heading]) and is_all_like(judge, column, verdict) for judge in judges):
             raise Refused(f"{source.path}: the first line has {shown(heading)} above a column of "
                           "such fields: "
-                          "use --heading if it is a heading, or --no-heading if it is a row")
+                          "use --no-heading if it is a row, or --heading if it is a heading")
 
 
-def is_all_like(judge: Judge, column: Fields, decision: Decision) -> bool:
+def is_all_like(judge: Judge, column: Fields, verdict: Verdict) -> bool:
     """Returns whether all fields of a column are like a judge's own."""
-    if isinstance(decision.kind, Nulls):
+    if isinstance(verdict, Decision) and isinstance(verdict.kind, Nulls):
         return True
     found = [(len(texts), len(judge.like(texts))) for texts in column.bare()]
     return column.plain.forms <= set(judge.forms) and all(count == likes for count,

@@ -11,17 +11,19 @@ import stat
 import sys
 import tempfile
 import zlib
-from typing import Any, BinaryIO
+from typing import IO, Any, BinaryIO
 
-from .telling import Refused
+from .telling import Refused, counted
 
 # the first bytes of each form, its name, and the module that opens it
 FORMS = ((b"\x1f\x8b\x08", "gzip", "gzip"), (b"BZh", "bzip2", "bz2"),
          (b"\xfd7zXZ\0", "xz", "lzma"))
 # what a reader may take for a table, and what to do with it
-OTHERS = ((b"PK\3\4", "a zip archive, or a spreadsheet: unpack it, or export it as CSV"),
-          (b"PAR1", "a Parquet file: write it as CSV"),
-          (b"SQLite format 3\0", "a database: write its table as CSV"))
+OTHERS = ((b"PAR1", "a Parquet file: write it as CSV"),
+          (b"SQLite format 3\0", "a database: write its table as CSV"),
+          (b"\x28\xb5\x2f\xfd", "a zstd file: pipe it, as zstd -dc FILE | bw-import - TABLE.bw"),
+          (b"\x04\x22\x4d\x18", "a lz4 file: pipe it, as lz4 -dc FILE | bw-import - TABLE.bw"))
+ZIP = b"PK\3\4"
 AT_ONCE = 1 << 20
 
 
@@ -87,6 +89,8 @@ def open_input(path: str | os.PathLike[str]) -> BinaryIO:
         for mark, what in OTHERS:
             if begin.startswith(mark):
                 raise Refused(f"{name_of(path)} is {what}")
+        if begin.startswith(ZIP):
+            return member(file, name_of(path))
         for mark, name, module in FORMS:
             if begin.startswith(mark):
                 # a module that a system's Python may lack, and that few files need
@@ -95,7 +99,7 @@ def open_input(path: str | os.PathLike[str]) -> BinaryIO:
     return file
 
 
-def copied(file: BinaryIO) -> BinaryIO:
+def copied(file: IO[bytes]) -> BinaryIO:
     """Returns a temporary file with the rest of a file."""
     with contextlib.ExitStack() as stack, file:
         out: Any = stack.enter_context(tempfile.TemporaryFile())
@@ -104,6 +108,28 @@ def copied(file: BinaryIO) -> BinaryIO:
         stack.pop_all()
     found: BinaryIO = out
     return found
+
+
+def member(file: BinaryIO, path: str) -> BinaryIO:
+    """Returns a temporary file with the only file that a zip archive holds."""
+    import shlex
+    import zipfile
+    damaged = (zipfile.BadZipFile, zlib.error, EOFError, NotImplementedError, RuntimeError)
+    try:
+        with zipfile.ZipFile(file) as archive:
+            names = [name for name in archive.namelist() if not name.endswith("/")]
+            if "[Content_Types].xml" in names or "mimetype" in names:
+                raise Refused(f"{path} is a spreadsheet: export it as CSV")
+            if len(names) != 1:
+                one = f", as unzip -p FILE {shlex.quote(names[0])} | bw-import - TABLE.bw" \
+                    if names else ""
+                raise Refused(f"{path} is a zip archive of {counted(len(names), 'file')}: pipe "
+                              f"one{one}")
+            with archive.open(names[0]) as text:
+                return copied(text)
+    except damaged as error:
+        raise Refused(f"{path} is a zip archive, or a spreadsheet, and can't be unpacked: "
+                      f"{error}") from None
 
 
 def unpacked(file: BinaryIO, name: str, module: Any, path: str) -> BinaryIO:

@@ -7,7 +7,7 @@ import functools
 import re
 from typing import NamedTuple
 
-from .clock import clock_of, hour_of, offset_of
+from .clock import Clock, clock_of, hour_of, offset_of
 
 FIRST_DAY = datetime.date(1970, 1, 1).toordinal()
 LAST_SECOND = (datetime.date(9999, 12, 31).toordinal() - FIRST_DAY + 1) * 86400
@@ -29,16 +29,24 @@ PATTERNS = {"%Y": "(?P<Y>[0-9]{4})", "%y": "(?P<y>[0-9]{2})", "%b": "(?P<b>[A-Za
             "%B": "(?P<B>[A-Za-z]{3,9})",
             "%p": "(?P<p>[AaPp][Mm])", "%%": "%",
             **{f"%{letter}": f"(?P<{letter}>[0-9]{{1,2}})" for letter in "mdHIMS"}}
+WEEKDAYS = ("Mon", "Tue", "Wed", "Thu", "Fri", "Sat", "Sun")
+# the name of a weekday before a date, and what a mail has behind its time, beside the zone
+DAY_NAME, ZONE_NAME = re.compile(f"({'|'.join(WEEKDAYS)}),? "), re.compile(r" \([A-Za-z]{1,5}\)$")
+# a time in the basic format of ISO 8601
+BASIC = re.compile("([0-9]{8})T([0-9]{6})([-+.,:0-9 UTCGMZ]*)")
+BASIC_DATE, BASIC_CLOCK = "%Y%m%d", "%H%M%S"
 # lines that may be dates and times, and times of day
 DATE_LINES = re.compile(
-    r"^(?:[0-9]{4}[-/.][0-9]{1,2}[-/.][0-9]{1,2}|"
+    rf"^(?:[0-9]{{8}}T[0-9]{{6}}[^\n]{{0,20}}|(?:(?:{'|'.join(WEEKDAYS)}),? )?(?:"
+    r"[0-9]{4}[-/.][0-9]{1,2}[-/.][0-9]{1,2}|"
     r"[0-9]{1,2}[-/.][0-9]{1,2}[-/.](?:[0-9]{2}|[0-9]{4})|"
     r"[0-9]{1,2}(?:[-/ ]|\. )[A-Za-z]{3,9}[-/ ][0-9]{2,4}|[0-9]{4}-[A-Za-z]{3}-[0-9]{1,2}|"
-    r"[A-Za-z]{3,9} [0-9]{1,2},? [0-9]{4})(?:(?:T|,? )[0-9]{1,2}:[^\n]{2,40})?$", re.MULTILINE)
+    r"[A-Za-z]{3,9} [0-9]{1,2},? [0-9]{4})(?:(?:T|,? )[0-9]{1,2}:[^\n]{2,40})?)$", re.MULTILINE)
 CLOCK_LINES = re.compile(r"^[0-9]{1,2}:[0-9]{2}[^\n]{0,30}$", re.MULTILINE)
 DATE_STARTS = [("0", ":"),
                *((name, f"{name}{{") for month in MONTHS
-                 for name in (month[:3], month[:3].lower(), month[:3].upper()))]
+                 for name in (month[:3], month[:3].lower(), month[:3].upper())),
+               *((name, f"{name}-") for name in WEEKDAYS)]
 SHAPES = str.maketrans("123456789" + "bcdefghijklmnopqrstuvwxyz" + "ABCDEFGHIJKLMNOPQRSTUVWXYZ",
                        "0" * 9 + "a" * 51)
 
@@ -126,12 +134,35 @@ def moment_of(text: str) -> Moment | None:
         clock = clock_of(text)
         return Moment({}, clock.part, clock.digits, "",
                       clock.form) if clock and not clock.has_zone else None
+    named = DAY_NAME.match(text)
+    if named:
+        return on_weekday(moment_of(ZONE_NAME.sub("", text[named.end():])), named[1])
+    basic = BASIC.fullmatch(text)
+    if basic:
+        hour, minute, second = basic[2][:2], basic[2][2:4], basic[2][4:]
+        read = read_by(BASIC_DATE, basic[1])
+        clock = clock_of(f"{hour}:{minute}:{second}{basic[3]}")
+        return timed({BASIC_DATE: read[0]} if read else {}, clock and
+                     clock._replace(form=BASIC_CLOCK), "T")
     place = CLOCK_AT.search(text)
     days = days_of(text[:place.start()] if place else text)
-    if not days or not place:
+    if not place:
         return Moment(days) if days else None
-    clock = clock_of(text[place.end():])
-    if not clock:
+    return timed(days, clock_of(text[place.end():]), place[1])
+
+
+def on_weekday(moment: Moment | None, name: str) -> Moment | None:
+    """Returns a date or a time if it may be on a weekday."""
+    if moment is None:
+        return None
+    # the first day is a Thursday
+    days = {form: day for form, day in moment.days.items() if WEEKDAYS[(day + 3) % 7] == name}
+    return moment._replace(days=days) if days else None
+
+
+def timed(days: dict[str, int], clock: Clock | None, between: str) -> Moment | None:
+    """Returns the time that days and a time of day are, or None."""
+    if not days or not clock:
         return None
     power = 10 ** clock.digits
     number = clock.part - clock.offset * power
@@ -139,7 +170,7 @@ def moment_of(text: str) -> Moment | None:
         ends = [day * 86400 * power + number for day in days.values()]
         if min(ends) < FIRST_SECOND * power or max(ends) >= LAST_SECOND * power:
             return None
-    return Moment(days, number, clock.digits, place[1], clock.form, clock.has_zone)
+    return Moment(days, number, clock.digits, between, clock.form, clock.has_zone)
 
 
 @functools.lru_cache(1 << 17)
@@ -161,7 +192,7 @@ def written_by(form: str, day: int, second: int) -> str:
 # what may follow the text of a format that ends with a time: digits after the point of its seconds,
 # before AM or PM, and a zone
 ENDED = re.compile(r"(?P<start>.*?[0-9])(?:[.,](?P<part>[0-9]{1,9}))?(?P<half> ?[AaPp][Mm])?"
-                   r" ?(?P<zone>Z|[+-][0-9]{2}(?::?[0-9]{2})?)?", re.DOTALL)
+                   r" ?(?P<zone>Z|UTC|GMT|[+-][0-9]{2}(?::?[0-9]{2})?)?", re.DOTALL)
 ENDS = re.compile("%-?[HIMS](?: ?%p)?$")
 
 

@@ -50,4 +50,7 @@ def option(name: str, value: str) -> str:
     """Returns an option as it is typed in a shell."""
     # for messages alone
     import shlex
-    return f"{name} {shlex.quote(value)}"
+    quoted = shlex.quote(value)
+    # a comma may follow
+    quoted = f"'{value}'" if quoted == value and value.endswith(",") else quoted
+    return f"{name}{'=' if value.startswith('-') else ' '}{quoted}"

@@ -15,7 +15,7 @@ ISO_CODES = ("AUD|BRL|CAD|CHF|CNY|CZK|DKK|EUR|GBP|HKD|HUF|ILS|INR|JPY|KRW|MXN|NO
          "RUB|SEK|SGD|TRY|USD|ZAR")
 # units that may follow a number at once, and those that a blank must be before
 UNITS = (f"%|\u2030|\u00b0[CF]?|{ISO_CODES}|[KMGT]i?B|kB|mg|kg|mm|cm|km|ms|min|lbs|oz|km/h|mph|"
-         "m/s|kW|kWh|Hz|kHz|MHz|GHz|ml|px|pt")
+         "m/s|kW|kWh|Hz|kHz|MHz|GHz|ml|px|pt|kr|z\u0142|K\u010d|Ft|lei")
 LETTERS = "[BghmstdlWVkx]|lb|ft|in|mi|yd"
 DOLLARS = "US$|A$|C$|R$|S$|HK$|NZ$|CA$|AU$"
 PREFIX = (f"(?:{ISO_CODES}|{DOLLARS.replace(chr(36), chr(92) + chr(36))}|"
@@ -33,6 +33,8 @@ DRESSED = (
     rf"(?P<suffix>{SUFFIX})?(?P<close>\))?")
 # a code such as 1E3, which is also a number
 CODE = re.compile("[0-9]+[eE][0-9]+")
+# a telephone number with the sign of a country's code, which is also a number
+PHONE = re.compile(r"\+[1-9][0-9 \u00a0\u202f]*")
 # a number with a larger power of ten than this doesn't fit
 MOST_SHIFT = 400
 SIMPLE = re.compile("-?(?:0|[1-9][0-9]*)")

@@ -4,14 +4,16 @@ from __future__ import annotations
 import argparse
 from typing import Any, Sequence
 
+from .signs import NO_QUOTE
+
 # separators of fields that have a name
-SEPARATORS = {"comma": ",", "semicolon": ";", "tab": "\t", "bar": "|", "\\t": "\t"}
+SEPARATORS = {"comma": ",", "semicolon": ";", "tab": "\t", "bar": "|", "space": " ", "\\t": "\t"}
 
 # options that stand alone, or with =COLUMN, and what the latter are for the parser: it would take a
 # name after the former for the column
 OF_COLUMN = {"--drop-blanks": "--blanks-dropped", "--keep-blanks": "--blanks-kept"}
 
-RAW = "the file to read, or - for standard input; gzip, bzip2 and xz are unpacked"
+RAW = "the file to read, or - for standard input; gzip, bzip2, xz and zip are unpacked"
 
 
 def one_character(text: str) -> str:
@@ -19,6 +21,17 @@ def one_character(text: str) -> str:
     if len(SEPARATORS.get(text, text)) != 1 or text in "\r\n":
         raise argparse.ArgumentTypeError("must be one character")
     return text
+
+
+def quotation_mark(text: str) -> str:
+    """Returns a quotation mark, or none."""
+    return NO_QUOTE if text == "none" else one_character(text)
+
+
+def names_in(text: str) -> list[str]:
+    """Returns headings that are separated by commas, as a record of CSV."""
+    import csv
+    return next(csv.reader([text], strict=True), [])
 
 
 def number_of(text: str) -> int:
@@ -59,20 +72,32 @@ def add_options(parser: argparse.ArgumentParser) -> None:
 def add_form(parser: argparse.ArgumentParser) -> None:
     """Adds the options that say how a file is written."""
     parser.add_argument("--separator", type=one_character,
-                        help="the separator of fields: comma, semicolon, tab, bar or a character "
-                             "(default: detected in the heading)")
+                        help="the separator of fields: comma, semicolon, tab, bar, space (any run "
+                             "of blanks) or a character (default: chosen by the first rows)")
     parser.add_argument("--encoding", help="the encoding, such as cp1252 or latin-1 (default: by "
                                            "the byte order mark, or UTF-8)")
-    parser.add_argument("--quote", type=one_character, default='"',
-                        help='the quotation mark around a field (default: ")')
+    parser.add_argument("--quote", type=quotation_mark, default='"',
+                        help='the quotation mark around a field, or none (default: ")')
     parser.add_argument("--escape", type=one_character,
                         help="the character that escapes the next one (default: none)")
     parser.add_argument("--skip", metavar="N", type=number_of, default=0,
                         help="skip N lines at the beginning, such as a title")
     parser.add_argument("--comment", metavar="SIGN", default="",
                         help="skip lines that begin with this sign, such as #")
+    parser.add_argument("--lenient", action="store_true",
+                        help="read text after the quotation mark that ends a field as a part of "
+                             "it, and a field whose quotation mark doesn't end")
+    parser.add_argument("--columns", metavar="A,B", type=names_in, action="extend",
+                        help="read only the columns of these headings; can be repeated")
     parser.add_argument("--fill", action="store_true",
                         help="add empty fields to rows that have fewer than the heading")
+    parser.add_argument("--widen", action="store_true",
+                        help="add empty fields to the heading, and to all rows, for rows that have "
+                             "more")
+    parser.add_argument("--row-names", action="store_true",
+                        help="rows begin with a name that the heading lacks, as R writes them")
+    parser.add_argument("--trailing-separators", action="store_true",
+                        help="drop an empty field at the end of rows that the heading lacks")
     heading = parser.add_mutually_exclusive_group()
     heading.add_argument("--heading", action="store_true", default=None,
                          help="the first line is a heading, whatever it looks like")

@@ -9,6 +9,8 @@ from .style import Style
 
 # a number of more digits fits no 64 bits, and neither does this one
 MOST_DIGITS, BEYOND = 20, 1 << 64
+# the shortest spelling of a double has any number of so many digits
+SHORT, NOTHING = 15, decimal.Decimal(0)
 # enough digits for any double, and for what people write
 CONTEXT = decimal.Context(prec=1200, rounding=decimal.ROUND_HALF_EVEN)
 
@@ -42,3 +44,15 @@ class Rounding:
             return decimal.Decimal(0)
         number = decimal.Decimal(plain)
         return abs(CONTEXT.subtract(self.rounded(number).scaleb(-self.digits, CONTEXT), number))
+
+
+def change_in_double(plain: str) -> decimal.Decimal:
+    """Returns by how much a number in plain spelling differs from the shortest spelling of the
+    nearest double, if it isn't this double."""
+    if len(plain) <= SHORT and "e" not in plain.lower():
+        return NOTHING
+    number, double = decimal.Decimal(plain), float(plain)
+    near = decimal.Decimal(repr(double))
+    if number in (near, decimal.Decimal(double)):
+        return NOTHING
+    return abs(CONTEXT.subtract(number, near))

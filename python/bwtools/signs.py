@@ -4,6 +4,8 @@ from __future__ import annotations
 from typing import NamedTuple
 
 NUL = "\0"
+# stands for no quotation mark: Unicode says that it is no character
+NO_QUOTE = "\uffff"
 
 
 class Signs(NamedTuple):

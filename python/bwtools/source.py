@@ -6,11 +6,13 @@ import collections
 import itertools
 import os
 from dataclasses import dataclass
-from typing import BinaryIO, Iterator, NoReturn
+from typing import BinaryIO, Iterator, NoReturn, Sequence
 
 from . import ragged
+from .naming import option
+from .numerals import is_number
 from .table_limits import MOST_COLUMNS, MOST_ROWS
-from .telling import Refused
+from .telling import Refused, shown
 from .text import Text
 
 
@@ -33,6 +35,8 @@ class Source:
         self.has_heading = given.heading is not False
         self.counts = RowCounts()
         self.headings = self.read_headings()
+        if given.heading is None and ragged.is_padded(self.headings):
+            self.refuse_title()
 
     @property
     def path(self) -> str:
@@ -41,8 +45,8 @@ class Source:
 
     @property
     def separator(self) -> str:
-        """What separates the fields."""
-        return self.text.signs.separator
+        """What separates the fields in the file."""
+        return self.text.written[0]
 
     def read_headings(self) -> list[str]:
         """Returns the headings, or c1, c2 and so on if there are none."""
@@ -50,8 +54,25 @@ class Source:
         if first is None:
             raise Refused(f"{self.path}: there is no heading")
         if len(first) > MOST_COLUMNS:
-            raise Refused(f"{self.path}: {len(first)} columns: a table has at most {MOST_COLUMNS}")
+            self.refuse_wide(first)
         return first if self.has_heading else [f"c{place}" for place in range(1, len(first) + 1)]
+
+    def refuse_wide(self, first: Sequence[str]) -> NoReturn:
+        """Rejects a first record of too many fields."""
+        is_row = not self.has_heading or all(is_number(each.strip()) for each in first)
+        use = "" if is_row == (not self.has_heading) else "--no-heading "
+        use += option("--columns", "c1,c2" if is_row else ",".join(first[:2]))
+        raise Refused(f"{self.path}: {len(first)} columns: a table has at most {MOST_COLUMNS}: use "
+                      f"{use}, with the headings to pick")
+
+    def refuse_title(self) -> None:
+        """Rejects a file whose first record is a title with empty fields after it."""
+        records = (record for record in self.text.records() if record[1])
+        above = ragged.padded_title(list(itertools.islice(records, ragged.FIRST)))
+        if above:
+            raise Refused(f"{self.path}: the first line has {shown(self.headings[0])} and empty "
+                          f"fields: use --skip {above} if it is a title, or --heading if it is "
+                          "the heading")
 
     def rows(self) -> Iterator[list[str]]:
         """Yields the rows after the heading. Each must have as many fields as the heading."""
@@ -89,10 +110,5 @@ class Source:
 
     def refuse_ragged(self) -> NoReturn:
         """Rejects the file for its first rows of other numbers of fields than the heading."""
-        width, heading = len(self.headings), "the heading" if self.has_heading else "the first line"
-        found = (row for row in ragged.ragged(self.text.records(), width)
-                 if not self.fills or len(row[1]) > width)
-        rows = list(itertools.islice(found, ragged.MOST))
-        advice = ragged.advice(self.text.records(), rows, width)
-        raise Refused(f"{self.path}: {ragged.told(rows, width, heading)}"
-                      f"{': ' if advice else ''}{'; '.join(advice)}")
+        ragged.refuse(self.text.records, len(self.headings), self.has_heading, self.fills,
+                      self.path)

@@ -2,26 +2,30 @@
 from __future__ import annotations
 
 import argparse
+import contextlib
 import csv
 import io
 import os
 import re
 import sys
-from typing import BinaryIO, Iterable, Iterator, NoReturn, TextIO
+from typing import BinaryIO, Iterable, Iterator, NoReturn
 
+from . import encodings, quoting, separators
 from .comments import reader_of
 from .inputs import Positioned, name_of, open_input
 from .options import SEPARATORS
+from .ragged import Record
 from .records import Records
 from .regular import Marks
+from .rewriting import Changes, changes_of, rewritten, without_runs
 from .signs import NUL, Signs
 from .table_limits import MOST_CHARACTERS
 from .telling import Refused
 
 MARKS = ((b"\xef\xbb\xbf", "utf-8-sig"), (b"\xff\xfe", "utf-16"), (b"\xfe\xff", "utf-16"))
-# the bytes that cp1252 has no character for
-NO_CP1252 = bytes((0x81, 0x8d, 0x8f, 0x90, 0x9d))
 BYTES_AT_ONCE = 1 << 18
+# the characters of the first rows by which the separator is chosen, and of a line after them
+SAMPLE, LONGEST = 1 << 16, 1 << 20
 SAID = re.compile('"?sep=(.)"?[\r\n]*', re.IGNORECASE)
 
 csv.field_size_limit(MOST_CHARACTERS)
@@ -37,12 +41,34 @@ class Text:
                  opened: BinaryIO | None = None) -> None:
         self.path = name_of(path)
         self.file = io.BufferedReader(Positioned(opened or open_input(path)), BYTES_AT_ONCE)
-        self.encoding, self.may_have_nul = self.encoding_of(given), bool(given.encoding)
+        self.encoding, self.errors = encodings.parts_of(self.encoding_of(given))
+        self.may_have_nul = bool(given.encoding)
         self.skipped = given.skip
         self.signs = Signs(quote=given.quote, escape=given.escape, comment=given.comment)
         said = self.said_separator()
         named = SEPARATORS.get(given.separator, given.separator) or said
-        self.signs = self.signs._replace(separator=named or self.most_frequent())
+        self.is_guessed = not named
+        self.signs = self.signs._replace(
+            separator=named or self.chosen_separator(given.heading is not False))
+        # what a report says of the file
+        self.written = self.signs.separator, \
+            encodings.MIXED if self.errors != "strict" else self.encoding.removesuffix("-sig")
+        changes = changes_of(given, self.signs.separator)
+        if not changes.are_none:
+            self.rewrite(changes)
+
+    def rewrite(self, changes: Changes) -> None:
+        """Has the file read as options ask."""
+        def records() -> Iterator[Record]:
+            return self.records(not changes.is_lenient)
+
+        marks = self.marks()
+        file = rewritten(records, self.skipped, changes, self.path)
+        if marks.differ(self.marks()):
+            raise Refused(f"{self.path}: the file changed while it was read")
+        self.file.close()
+        self.file = io.BufferedReader(Positioned(file), BYTES_AT_ONCE)
+        self.encoding, self.errors, self.signs = "utf-8", "strict", Signs()
 
     def encoding_of(self, given: argparse.Namespace) -> str:
         """Returns the encoding: the given one, or that of the byte order mark, or UTF-8."""
@@ -61,7 +87,8 @@ class Text:
     def decoded(self) -> io.TextIOWrapper:
         self.file.seek(0)
         try:
-            text = io.TextIOWrapper(self.file, encoding=self.encoding, newline="")
+            text = io.TextIOWrapper(self.file, encoding=self.encoding, errors=self.errors,
+                                    newline="")
         except LookupError:
             raise Refused(f"unknown encoding {self.encoding}") from None
         try:
@@ -83,77 +110,76 @@ class Text:
         self.skipped += int(found is not None)
         return found.group(1) if found else None
 
-    def most_frequent(self) -> str:
-        """Returns the separator that is most frequent in the heading, outside of quotes."""
-        text, counts, quoted = self.decoded(), dict.fromkeys(",;\t|", 0), False
+    def chosen_separator(self, has_heading: bool) -> str:
+        """Returns the separator that the first rows show. Raises Refused if they show two."""
+        text = self.decoded()
         try:
-            for character in self.uncommented(text).lstrip("\r\n"):
-                quoted ^= character == self.signs.quote
-                if not quoted and character in "\r\n":
-                    break
-                if not quoted and character in counts:
-                    counts[character] += 1
+            first = text.read(SAMPLE)
+            first += text.readline(LONGEST)
+            is_cut = bool(text.read(1))
         except UnicodeError:
             self.undecoded()
         text.detach()
-        return max(counts, key=counts.__getitem__)
-
-    def uncommented(self, text: TextIO) -> str:
-        """Returns the begin of a text, from the first line that isn't empty or a comment."""
-        line = text.readline(1 << 20)
-        while line and (not line.strip("\r\n") or self.signs.comment
-                        and line.startswith(self.signs.comment)):
-            line = text.readline(1 << 20)
-        return line + text.read(1 << 20)
+        found = separators.chosen(first, self.signs, is_cut, has_heading)
+        if isinstance(found, separators.Tie):
+            raise Refused(f"{self.path}: {found.told()}")
+        return found
 
     def undecoded(self) -> NoReturn:
         """Rejects the file at the first line that isn't in the encoding."""
         self.file.seek(0)
-        place = "one of its bytes"
+        place, wrong, codec = "one of its bytes", b"", self.encoding.removesuffix("-sig")
         if not self.encoding.lower().startswith(("utf-16", "utf-32")):
             for number, line in enumerate(self.file, 1):
                 try:
-                    line.decode(self.encoding)
+                    line.decode(codec, self.errors)
                 except UnicodeError as error:
                     # not every codec names the byte
                     is_named = isinstance(error, UnicodeDecodeError)
                     byte = f", byte {getattr(error, 'start', 0) + 1}" if is_named else ""
-                    place = f"line {number}{byte}"
+                    place, wrong = f"line {number}{byte}", line
                     break
-        raise Refused(f"{self.path}: {place} isn't {self.encoding.removesuffix('-sig')}: "
-                      f"it may be {self.guess()}: use --encoding {self.guess()}, or another one")
-
-    def guess(self) -> str:
-        """Returns the encoding that a file of bytes may have that are no UTF-8."""
-        self.file.seek(0)
-        for part in iter(lambda: self.file.read(1 << 20), b""):
-            if any(byte in part for byte in NO_CP1252):
-                return "latin-1"
-        return "cp1252"
+        raise Refused(f"{self.path}: {place} isn't {codec}: "
+                      f"{encodings.advice(self.file, codec, wrong)}")
 
     def reader(self, lines: Iterable[str]) -> Records:
-        return reader_of(lines, self.signs)
+        return self.reader_by(lines, self.signs, True)
 
-    def records(self) -> Iterator[tuple[int, list[str]]]:
+    def reader_by(self, lines: Iterable[str], signs: Signs, is_strict: bool) -> Records:
+        if signs.separator == " ":
+            lines = without_runs(lines, signs)
+        return reader_of(lines, signs, is_strict)
+
+    def records(self, is_strict: bool = True) -> Iterator[Record]:
         """Yields the records, each with the line at which it begins; an empty line is an empty
         record."""
+        try:
+            yield from self.records_by(self.signs, is_strict)
+        except UnicodeError:
+            self.undecoded()
+        except quoting.Unreadable as error:
+            if "field limit" in str(error):
+                raise Refused(f"{self.path}: line {error.line}, or one after it, has a field of "
+                              f"more than {MOST_CHARACTERS:,} characters, or one in quotes that "
+                              "doesn't end: use --quote none if fields have no quotation marks "
+                              "around them") from None
+            raise Refused(f"{self.path}: line {error.line}: {error}"
+                          f"{quoting.advice(self.records_by, self.signs, error)}") from None
+
+    def records_by(self, signs: Signs, is_strict: bool) -> Iterator[Record]:
+        """Yields the records as signs, and whether it is strict, have them read."""
         text, before = self.decoded(), 0
-        reader = self.reader(text)
+        reader = self.reader_by(text, signs, is_strict)
         try:
             for record in reader:
                 yield self.skipped + before + 1, record
                 before = reader.line_num
-        except UnicodeError:
-            self.undecoded()
         except csv.Error as error:
-            line = self.skipped + before + 1
-            if "field limit" in str(error):
-                raise Refused(f"{self.path}: line {line}, or one after it, has a field of more "
-                              f"than {MOST_CHARACTERS:,} characters, or one in quotes that "
-                              "doesn't end") from None
-            raise Refused(f"{self.path}: line {line}: {error}") from None
+            raise quoting.Unreadable(self.skipped + before + 1, error) from None
         finally:
-            text.detach()
+            # the file may be closed by now
+            with contextlib.suppress(ValueError):
+                text.detach()
 
     def refuse_nul(self, record: list[str], line: int) -> None:
         """Rejects a record with a NUL, unless the encoding was given."""

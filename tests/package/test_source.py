@@ -203,10 +203,11 @@ class Forms(unittest.TestCase):
         self.assertEqual(self.refused(b"a,b,c\n1,2\n1,2,3\n1\n2,3\n4\n"),
                          ": lines 2, 4 and 5 have 2, 1 and 2 fields, and the heading has 3: "
                          "--fill adds empty fields to short rows")
+        widen = ": --widen adds columns for long rows, and empty fields to the others"
         self.assertEqual(self.refused(b"a,b\n1,2\n1,2,3\n"),
-                         ": line 3 has 3 fields, and the heading has 2")
+                         f": line 3 has 3 fields, and the heading has 2{widen}")
         self.assertEqual(self.refused(b"a,b\n1,2\n1,2,3\n1\n", "--fill"),
-                         ": line 3 has 3 fields, and the heading has 2")
+                         f": line 3 has 3 fields, and the heading has 2{widen}")
         self.assertEqual(self.refused(b"1,2\n1\n", "--no-heading"),
                          ": line 2 has 1 field, and the first line has 2: "
                          "--fill adds empty fields to short rows")
@@ -228,7 +229,7 @@ class Forms(unittest.TestCase):
     def test_encodings(self):
         self.assertIn("line 2, byte 2 isn't utf-8: it may be cp1252: use --encoding cp1252",
                       self.refused(b"a\nG\xe4u\n"))
-        self.assertIn("it may be latin-1: use --encoding latin-1", self.refused(b"a\nG\xe4\x81\n"))
+        self.assertIn("it may be latin-1: use --encoding latin-1", self.refused(b"a\nG\xe4u\x81\n"))
         for name, mark in (("utf-16-le", b"\xff\xfe"), ("utf-16-be", b"\xfe\xff")):
             data = "a,b\n1,x\n2,y\n".encode(name)
             self.assertIn(f"it may be {name}: use --encoding {name}", self.refused(data))

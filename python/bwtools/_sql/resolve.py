@@ -240,7 +240,7 @@ class Resolver:
                                                     for each in commons.values())])
         source.table = table
         self.named.append(source)
-        return [Output(each.name, each.heading or each.name, each) for each in table.columns]
+        return [Output(each.name, each.heading, each) for each in table.columns]
 
     def common(self, common: Common) -> list[Output]:
         """Returns the columns of a query of WITH, which may read from itself."""

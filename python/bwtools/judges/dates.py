@@ -1,8 +1,9 @@
 """Dates and times: days since 1970, or seconds and their parts since then."""
 from __future__ import annotations
 
+import re
 from dataclasses import dataclass
-from typing import ClassVar, Sequence
+from typing import ClassVar, Optional, Sequence
 
 from ..kind import GREATEST, LEAST
 from ..kinds.dates import Dates
@@ -13,6 +14,9 @@ from .fields import Fields
 from .judge import matching, starting
 from .spellings import Spellings, spellings
 from .verdict import Decision, Question, Verdict
+
+# the format of dates that versions have too, and a text that is hardly one of these
+VERSIONS, FULL = "%d.%m.%y", re.compile(r"(?:[0-9]{2}\.){2}[0-9]{2}")
 
 
 @dataclass(frozen=True)
@@ -48,7 +52,18 @@ class DateJudge:
             return Question("{0} may be read in two ways", (found.first,), tuple(
                 option("--date", f"{heading}={form}{next(iter(found.betweens), '')}{clock}")
                 for form in formats) + keep)
+        version = version_in(column) if formats[0] == VERSIONS and not clock else None
+        if version:
+            return Question("{0} may be a date or a version", (version,),
+                            (option("--date", f"{heading}={VERSIONS}"), *keep))
         return decided(column, found, formats[0], clock)
+
+
+def version_in(column: Fields) -> Optional[str]:
+    """Returns a text whose day, month or year has one digit, as the numbers of versions may have,
+    if there is one."""
+    return next((text for texts in column.bare() for text in texts if not FULL.fullmatch(text)),
+                None)
 
 
 def is_same(formats: Sequence[str]) -> bool:

@@ -1,6 +1,8 @@
 """Numbers: whole numbers, decimals and floats, in one style."""
 from __future__ import annotations
 
+import decimal
+import itertools
 import math
 from dataclasses import dataclass
 from typing import ClassVar, Optional, Sequence, Union
@@ -12,10 +14,11 @@ from ..kinds.floats import Floats
 from ..kinds.styled import Numbers, Styled
 from ..kinds.whole import Whole
 from ..naming import option
-from ..numerals import SIMPLE, STARTS, ZEROS, is_number, like_number
-from ..rounding import Rounding
-from ..spans import Spans
+from ..numerals import SIMPLE, STARTS, WHOLE, ZEROS, is_number, like_number
+from ..rounding import SHORT, Rounding, change_in_double
+from ..spans import MOST_DIGITS, Spans
 from ..style import Style
+from ..wishes import BLANKS
 from ..telling import shown
 from .fields import Fields
 from .judge import matching, starting
@@ -63,8 +66,14 @@ class NumberJudge:
         if survey.zeros and not wishes.is_number:
             return with_zeros(survey, wishes.heading)
         is_wanted = wishes.is_number or wishes.digits is not None
-        if survey.has_codes_alone() and not column.plain.forms and not is_wanted:
-            return Question("{0} may be a code, or a number with a power of ten", (survey.first,),
+        if survey.phone and not is_wanted and not has_minus(column):
+            drop = option("--number", wishes.heading)
+            return Decision(None, f"{shown(survey.phone)} and others have a leading +, which "
+                                  f"{drop} drops")
+        is_either = survey.code and not survey.no_code and are_whole(column)
+        # if spellings are kept, it becomes a text in any case
+        if is_either and not is_wanted and not wishes.rules.keeps_spelling:
+            return Question("{0} may be a code, or a number with a power of ten", (survey.code,),
                             both(wishes.heading))
         sign = self.decimal_sign(column, signs)
         if isinstance(sign, Question):
@@ -93,9 +102,26 @@ class NumberJudge:
             return mark
         if len(signs) == 1:
             return next(iter(signs))
+        if mark == "." and is_separator and not signs:
+            # decimals have a comma only if something else separates the fields
+            return mark
+        # another column has it as the decimal sign
+        between = [] if mark in signs else [option("--thousands", mark)]
         return Question(f"{{0}} may be {text.replace(mark, '')} or {text.replace(mark, '.')}",
-                        (text,),
-                        (option("--thousands", mark), *both(heading)))
+                        (text,), (*between, *both(heading)))
+
+
+def has_minus(column: Fields) -> bool:
+    """Returns whether a number is spelled with a minus sign."""
+    spans = column.plain.spans
+    return spans.reach[1] < 0 or any(least < 0 for least, _ in spans.ends.values()) or \
+        any(text[0] == "-" for texts in column.bare() for text in texts)
+
+
+def are_whole(column: Fields) -> bool:
+    """Returns whether the fields that are stored as numbers are whole ones."""
+    spans = column.plain.spans
+    return not spans.is_float and not spans.digits
 
 
 def both(heading: str) -> tuple[str, str]:
@@ -132,6 +158,11 @@ def in_style(column: Fields, style: Style) -> Verdict:
             return Question("{0} is too large for a double", (text,),
                             (option("--null", f"{wishes.heading}={text}"),
                              option("--text", wishes.heading)))
+        text = None if wishes.is_number else no_double(column, style)
+        if text is not None:
+            near = f"{float(style.bare(text) or 0):.0f}"
+            return Question(f"{{0}} is no double: the nearest is {near}", (text,),
+                            (*digits_for(column, style), option("--text", wishes.heading)))
         number = Floats(0)
     return Decision(dressed(number, style))
 
@@ -165,6 +196,31 @@ def rounded(column: Fields, style: Style, digits: int) -> Verdict:
                          option("--text", column.wishes.heading)))
     number: Numbers = Decimals(digits, 0) if digits else Whole()
     return Decision(dressed(number, style), rounding=rounding)
+
+
+def no_double(column: Fields, style: Style) -> Optional[str]:
+    """Returns a whole number that isn't a double, such as an id, if there is one."""
+    whole = (texts for part, texts in column.each()
+             if part.kept and part.kept.form == "number" and not part.kept.digits)
+    for texts in itertools.chain(column.bare(), whole):
+        for text in (each.strip(BLANKS) for each in texts if len(each) > SHORT):
+            plain = style.bare(text) if style.mark not in text else None
+            if plain and WHOLE.fullmatch(plain) and change_in_double(plain):
+                return text
+    return None
+
+
+def digits_for(column: Fields, style: Style) -> tuple[str, ...]:
+    """Returns the option that gives numbers as many digits as they have, or rounds them to doubles
+    if so many don't fit 64 bits."""
+    needed, most, heading = 0, 0, column.wishes.heading
+    for texts in column.bare():
+        for number in (decimal.Decimal(style.bare(text) or 0) for text in texts):
+            needed = max(needed, -int(number.as_tuple().exponent))
+            most = max(most, number.adjusted() + 1 if number else 0)
+    does_fit = needed + most <= MOST_DIGITS
+    return (option("--digits", f"{heading}={needed}") if does_fit else
+            f"{option('--number', heading)}, which rounds it",)
 
 
 def too_large(column: Fields, style: Style) -> Optional[str]:

@@ -5,24 +5,29 @@ from __future__ import annotations
 from dataclasses import dataclass, field
 from typing import Sequence
 
-from ..numerals import CODE, LAKHS, SIMPLE, ZEROS, marks_of, parts_of
+from ..numerals import CODE, LAKHS, PHONE, SIMPLE, ZEROS, marks_of, parts_of
 from ..style import Style
+
+# a telephone number has so many digits
+LEAST_DIGITS = 7
 
 
 @dataclass
 class Survey:
     """The first text with each decimal sign, with each sign between thousands, with each mark that
-    may be either, and with each unit before and behind; the first with leading zeros; the lengths
-    of those without a sign; whether one is in brackets; and how many are codes such as 1E3, and how
-    many aren't."""
+    may be either, and with each unit before and behind; the first with leading zeros; the first
+    that may be a telephone number; the first code such as 1E3, and the first that is neither one
+    nor a whole number; the lengths of all; and whether one is in brackets."""
     decimals: dict[str, str] = field(default_factory=dict)
     groupings: dict[str, str] = field(default_factory=dict)
     eithers: dict[str, str] = field(default_factory=dict)
     affixes: dict[tuple[str, str], str] = field(default_factory=dict)
     zeros: str = ""
+    phone: str = ""
+    code: str = ""
+    no_code: str = ""
     lengths: set[int] = field(default_factory=set)
     has_brackets: bool = False
-    codes: tuple[int, int] = (0, 0)
 
     def add(self, texts: Sequence[str]) -> None:
         self.lengths.update(map(len, texts))
@@ -30,13 +35,17 @@ class Survey:
         if len(rest) < len(texts):
             simple = next(filter(SIMPLE.fullmatch, texts))
             self.affixes.setdefault(("", ""), simple)
-            self.codes = self.codes[0], self.codes[1] + len(texts) - len(rest)
         for text in rest:
             self.see(text)
 
     def see(self, text: str) -> None:
-        is_code = CODE.fullmatch(text) is not None
-        self.codes = self.codes[0] + is_code, self.codes[1] + (not is_code)
+        if CODE.fullmatch(text):
+            self.code = self.code or text
+        elif not text.isdecimal():
+            self.no_code = self.no_code or text
+        if not self.phone and text[0] == "+" and PHONE.fullmatch(text) and \
+                sum(map(str.isdecimal, text)) >= LEAST_DIGITS:
+            self.phone = text
         found = parts_of(text)
         marks = marks_of(found.body) if found else None
         if not found or not marks:
@@ -53,9 +62,6 @@ class Survey:
     @property
     def first(self) -> str:
         return next(iter(self.affixes.values()), "")
-
-    def has_codes_alone(self) -> bool:
-        return self.codes[0] > 0 and not self.codes[1]
 
     def decimal(self) -> str | None:
         """Returns the decimal sign that the column shows, or nothing if it shows none; None if it

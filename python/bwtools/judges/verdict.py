@@ -2,10 +2,15 @@
 from __future__ import annotations
 
 from dataclasses import dataclass
-from typing import Optional, Union
+from typing import TYPE_CHECKING, Optional, Union
 
 from ..kind import Kind
-from ..rounding import Rounding
+from ..kinds import Floats, Ranked, Styled, undressed
+from ..rounding import Rounding, change_in_double
+from ..style import DEFAULT
+
+if TYPE_CHECKING:
+    import decimal
 
 
 @dataclass(frozen=True)
@@ -17,6 +22,15 @@ class Decision:
     why: str = ""
     looks_like: str = ""
     rounding: Optional[Rounding] = None
+
+    def change(self, text: str) -> Optional[decimal.Decimal]:
+        """Returns by how much the number of a field that isn't null changes, if it does."""
+        if self.rounding:
+            return self.rounding.change(text)
+        if self.kind is None or not isinstance(undressed(self.kind), (Floats, Ranked)):
+            return None
+        style = self.kind.style if isinstance(self.kind, Styled) else DEFAULT
+        return change_in_double(style.bare(text) or "0")
 
 
 @dataclass(frozen=True)

@@ -173,7 +173,7 @@ def feed_of(source: Source, marked: Collection[int] = ()) -> Feed:
     if marked or source.fills or not is_plain(signs):
         return RecordFeed(source, marked, heading_of(width))
     heading = b"" if source.has_heading else heading_of(width, signs.separator, signs.quote)
-    if source.text.encoding != "utf-8-sig":
+    if source.text.encoding not in ("utf-8-sig", "utf-8") or source.text.errors != "strict":
         return DecodedFeed(source, heading)
     file = source.text.file
     return FileFeed(file, signs, start_of(source), size_of(file), heading)

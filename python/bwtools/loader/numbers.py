@@ -14,6 +14,7 @@ from ..judges.verdict import Decision
 from ..plain import Numbered, values_of
 from ..kind import Kind
 from ..kinds import Decimals, Floats, Ranked, Times, Whole, undressed
+from ..rounding import change_in_double
 from ..textual import Sorted
 from ..wishes import BLANKS
 
@@ -112,6 +113,8 @@ class Numbers:
         changed = changed_of(kept, kind, texts)
         if changed is not None:
             self.counts.changed += sum(itertools.compress(counts, changed))
+        if isinstance(kind, (Floats, Ranked)) and kept.form == "number":
+            self.count_rounded(texts, counts)
         if not kept.nulls:
             return list(numbers)
         rest = iter(numbers)
@@ -129,6 +132,15 @@ class Numbers:
         digits = kind.digits if isinstance(kind, (Decimals, Times)) else 0
         power = 10 ** (digits - kept.digits)
         return numbers if power == 1 else list(map(power.__mul__, numbers))
+
+    def count_rounded(self, texts: Sequence[str], counts: Sequence[int]) -> None:
+        """Counts the kept numbers that no double is, which aren't only spelled in another way."""
+        for text, count in zip(texts, counts):
+            change = change_in_double(text.strip(BLANKS).replace(",", "."))
+            if change:
+                self.counts.rounded += count
+                self.counts.changed -= count
+                self.counts.change = max(self.counts.change, change)
 
     def read(self, part: Part, texts: Sequence[str],
              counts: Sequence[int]) -> list[Optional[int]]:
@@ -151,13 +163,14 @@ class Numbers:
 
     def note(self, text: str, number: int, count: int) -> None:
         """Notes what changes of a field."""
-        kind, rounding, counts = self.decision.kind, self.decision.rounding, self.counts
+        kind, counts = self.decision.kind, self.counts
         assert kind is not None
-        change = rounding.change(text) if rounding else None
+        is_same = kind.text(number) == text
+        change = None if is_same else self.decision.change(text)
         if change:
             counts.rounded += count
             counts.change = max(counts.change, change)
-        elif kind.text(number) != text:
+        elif not is_same:
             counts.changed += count
         if number == 0 and text[:1] == "-" and isinstance(undressed(kind), (Floats, Ranked)):
             counts.zeros += count

@@ -34,7 +34,7 @@ def report_lines(columns: Sequence[Column], counts: Sequence[Counts],
 
 def notes(column: Column, numbers: Numbers) -> Iterator[str]:
     """Yields the notes on a column: why it is one of texts, and what isn't printed as it was."""
-    counts = numbers.counts
+    counts, is_float = numbers.counts, undressed(column.kind).plural == "floats"
     if column.why:
         yield f"texts{', though ' if column.looks_like else ': '}{column.why}"
     if column.looks_like:
@@ -43,6 +43,11 @@ def notes(column: Column, numbers: Numbers) -> Iterator[str]:
         for word, count in words_in(numbers):
             null = option('--null', f'{column.heading}={word}')
             yield f"{shown(word)} is a text in {counted(count, 'field')}, and null by {null}"
+    if "%y" in getattr(undressed(column.kind), "form", ""):
+        yield "years of 69 to 99 are 1969 to 1999, those of 00 to 68 are 2000 to 2068"
+    words = [shown(word) for word in counts.nulls if word]
+    if words and numbers.column.wishes.rules.keeps_spelling:
+        yield f"{', '.join(words)} can't be kept: a null comes back as an empty field"
     if counts.padded:
         yield f"blanks dropped in {counted(counts.padded, 'field')}"
     if counts.zeros:
@@ -51,9 +56,9 @@ def notes(column: Column, numbers: Numbers) -> Iterator[str]:
         # of an exponent of thousands no zeros are printed
         change = counts.change.normalize()
         told = f"{change:{'f' if change.adjusted() > -SHORT else '.0e'}}"
-        yield f"{counted(counts.rounded, 'field')} rounded, by at most {told}"
+        near = " to the nearest doubles" if is_float else ""
+        yield f"{counted(counts.rounded, 'field')} rounded{near}, by at most {told}"
     if counts.changed:
-        is_float = undressed(column.kind).plural == "floats"
         where = "in the shortest spelling" if is_float else "values kept"
         yield f"spelling changed in {counted(counts.changed, 'field')}, {where}"
 

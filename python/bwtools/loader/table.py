@@ -13,7 +13,7 @@ from typing import BinaryIO, Iterable, Iterator, List, Optional, Sequence
 
 from .. import command
 from ..column import Column
-from ..deciding import decide, refuse_heading
+from ..deciding import decide
 from ..judges.fields import Fields
 from ..judges.verdict import Decision
 from ..kind import GREATEST
@@ -138,13 +138,11 @@ class Table:
     def decide(self, coded: CodedFile, codes: Sequence[Codes]) -> None:
         """Decides what the columns are, and writes what their codes become."""
         fields = [each.fields for each in codes]
-        decisions = decide(self.source, fields)
+        decisions = decide(self.source, fields, self.given.heading is None)
         mixed = [place for place, decision in enumerate(decisions)
                  if codes[place].ends and not isinstance(decision.kind, Whole)]
         if mixed:
             raise Mixed(mixed)
-        if self.source.has_heading and self.given.heading is None:
-            refuse_heading(self.source, self.headings, fields, decisions)
         for name, column, decision in zip(names_of(self.headings), fields, decisions):
             self.add(name, column, decision)
         self.write_numbers(coded.parts, codes)
@@ -211,7 +209,7 @@ class Table:
         source, empty = self.source, self.coded.empty
         skipped = f"; {counted(empty, 'empty line')} skipped" if empty else ""
         print(f"{counted(self.rows, 'row')}, separated by {source.separator!r}, "
-              f"in {source.text.encoding.removesuffix('-sig')}{skipped}")
+              f"in {source.text.written[1]}{skipped}")
 
 
 def ends_of(parts: Sequence[Part], place: int) -> Optional[tuple[int, int]]:

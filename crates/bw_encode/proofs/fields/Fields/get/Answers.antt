@@ -1,7 +1,7 @@
 use Rattle.std.proofs.Common.{◌<◌, sym, ap, arith, length, List, ℕ}
 use Rattle.csv.specs.Records.{fields_of}
 use Rattle.csv.proofs.RecordFacts.{field-get, field-there}
-use Rattle.bw_encode.proofs.fields.Fields.field.Goals as goal
+use Rattle.bw_encode.proofs.fields.Fields.get.Goals as goal
 
 pub returns-in-Some : goal.returns-in-Some
 returns-in-Some c = let e = field-get (fields_of c.self.inside.record) c.args.place c.in-Some.field.now (sym c.in-Some.ensures.value) in let v = c.self.view_is in cc

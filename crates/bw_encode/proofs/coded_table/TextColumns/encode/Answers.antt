@@ -4,7 +4,7 @@ use Rattle.bw_encode.specs.Coded.{fields_in}
 use Rattle.bw_encode.specs.CodedTable.{HasRows}
 use Rattle.bw_encode.proofs.CodedTableLemmas.{are_encodings, coded_width, column_size, tall_coded}
 use Rattle.bw_encode.proofs.TableLemmas.{any_default}
-use Rattle.bw_encode.proofs.coded_table.TextColumns.coded.Goals as goal
+use Rattle.bw_encode.proofs.coded_table.TextColumns.encode.Goals as goal
 
 pub returns-clause-coded : goal.returns-clause-coded
 returns-clause-coded c =
