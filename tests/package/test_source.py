@@ -199,6 +199,11 @@ class Forms(unittest.TestCase):
                 b"#\n" * 9)
         self.assertEqual(columns_of(data, "--comment", "#"), [["1", "2"], ["x\n#\n", "y"]])
 
+    def test_ends_of_lines_in_records_that_are_picked(self):
+        for end in ("\n", "\r", "\r\n"):
+            self.assertEqual(columns_of(f'a,b,c\n1,"x{end}y",3\n2,z,4\n'.encode(), "--columns",
+                                        "a,b"), [["1", "2"], [f"x{end}y", "z"]])
+
     def test_ragged_rows(self):
         self.assertEqual(self.refused(b"a,b,c\n1,2\n1,2,3\n1\n2,3\n4\n"),
                          ": lines 2, 4 and 5 have 2, 1 and 2 fields, and the heading has 3: "
